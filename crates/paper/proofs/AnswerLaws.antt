@@ -1,0 +1,34 @@
+-- What makes the answer of a rule good: a rule on sums, or on products, is judged by its answers there alone, and a value is kept where
+-- the unreduced values agree modulo 2^64. Assumes nothing.
+use Prim.Native.Nat.{ℕ, _+_, _≤_}
+use mathlib.Core.List.{List}
+use Rattle.paper.specs.Limits.{modulus}
+use Rattle.paper.specs.Tree.{Tree, Forest, integer, symbol, sum, product, power, toList, weight}
+use Rattle.paper.specs.WellFormed.{WF}
+use Rattle.paper.specs.Rules.{Tried, onSumMembers, onProductMembers}
+use Rattle.paper.specs.Good.{Kept, GoodAnswer}
+use Rattle.paper.proofs.Congruence.{Agree}
+use Rattle.paper.proofs.Value.{exact}
+use Rattle.paper.proofs.KeptLaws.{value-of-exact}
+
+module _ (k : List Tree → Tried) where
+  pub on-sum-good : ((f : Forest) → WF (sum f) → GoodAnswer (sum f) (k (toList f))) → (t : Tree) → WF t → GoodAnswer t (onSumMembers k t)
+  unfolding onSumMembers
+  on-sum-good h (integer z) w = tt
+  on-sum-good h (symbol s) w = tt
+  on-sum-good h (sum f) w = h f w
+  on-sum-good h (product f) w = tt
+  on-sum-good h (power b e) w = tt
+
+  pub on-product-good : ((f : Forest) → WF (product f) → GoodAnswer (product f) (k (toList f))) → (t : Tree) → WF t
+      → GoodAnswer t (onProductMembers k t)
+  unfolding onProductMembers
+  on-product-good h (integer z) w = tt
+  on-product-good h (symbol s) w = tt
+  on-product-good h (sum f) w = tt
+  on-product-good h (product f) w = h f w
+  on-product-good h (power b e) w = tt
+
+-- u has the value of t where the unreduced values agree
+pub kept-agree : {n : ℕ} (t u : Tree) → ((ρ : ℕ → ℕ) → Agree modulus (exact u ρ) (exact t ρ)) → weight u + n ≤ weight t → Kept n t u
+kept-agree t u h l = record { value-kept = value-of-exact t u h; lighter = l }

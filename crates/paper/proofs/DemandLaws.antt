@@ -1,0 +1,214 @@
+-- The simplifier of the definitions meets the three demands: each field is read off the two cases of a call (CallLaws) and, where
+-- a run finished, off what a finished run gives (Simplified). And the demands leave no choice: two simplifiers that meet them
+-- answer alike and leave alike bytes. Assumes nothing.
+use Prim.Native.Nat.{ℕ, zero, suc, _+_, _*_, _≤_, _<_}
+use mathlib.Core.Path.{_≡_, refl, sym, ap, _∙_, subst}
+use mathlib.Core.List.{List, []}
+use mathlib.Core.Option.{Option, none, some}
+use mathlib.Core.Logic.{_↔_}
+use native.Mathlib.Omega.{arith}
+use lib.ListN.{length}
+use Rattle.paper.specs.Limits.{maxWeight, workBytes}
+use Rattle.paper.specs.Bytes.{Bytes, stretch}
+use Rattle.paper.specs.Tree.{Tree, weight, records, value}
+use Rattle.paper.specs.Table.{encode, treeOf}
+use Rattle.paper.specs.Verdict.{Verdict, accepted, refused, tableWeight}
+use Rattle.paper.specs.Rules.{editionOne}
+use Rattle.paper.specs.Driver.{Ran, done, over, simplify}
+use Rattle.paper.specs.Admits.{AdmitsNone}
+use Rattle.paper.specs.Answers.{Lent, Answer, Given, ran, judgement, refusal, ranAnswer, written, noted, outAfter, stepsAfter, workAfter}
+use Rattle.paper.specs.Answers.{lentAfter, simplifiedBy, simplified}
+use Rattle.paper.specs.Demands.{Simplifier, result, Refuses, LeavesAlone, Clears, RunsOver, Follows, Lightens, Finishes, KeepsValue, Demands}
+use Rattle.paper.proofs.ReadLaws.{tree-of-written}
+use Rattle.paper.proofs.AcceptedLaws.{Holds}
+use Rattle.paper.proofs.CallLaws.{TurnedDown, RunOn, Call, is-turned-down, is-run, call, refusal-number, refusal-place, result-written}
+use Rattle.paper.proofs.Simplified.{Finished, simplify-finished}
+
+same-tree : {o : Option Tree} {t u : Tree} → o ≡ some t → o ≡ some u → t ≡ u
+same-tree e h = cc
+
+-- ---- the judging half holds around any run
+module _ (run : Tree → Ran) where
+  -- a run's answer is no refusal 1 to 6
+  no-refusal : {A : Type 0} (w k p : ℕ) (r : Ran) → 1 ≤ k → k ≤ 6 → ranAnswer w r ≡ refusal k p → A
+  unfolding ranAnswer refusal
+  no-refusal w k p (done u ks o) h g e = absurd (let z : 0 ≡ k = ap (λ (a : Answer). a .number) e in omega arith)
+  no-refusal w k p (over j) h g e = absurd (let z : 7 ≡ k = refusal-number 7 j k p e in omega arith)
+
+  judges : Refuses (simplifiedBy run)
+  judges s b l k p h g = (there (call run s l b), back (call run s l b))
+    where
+      there : Call run s l → simplifiedBy run s l .answer ≡ refusal k p → judgement s l ≡ refused k p
+      there (is-turned-down d) e =
+          let x = sym (d .answer) ∙ e in
+          ap (λ n. refused n (judgement s l .place)) (refusal-number _ _ k p x) ∙ ap (refused k) (refusal-place _ _ k p x)
+      there (is-run r) e = no-refusal _ k p _ h g (sym (r .answer) ∙ e)
+
+      back : Call run s l → judgement s l ≡ refused k p → simplifiedBy run s l .answer ≡ refusal k p
+      back (is-turned-down d) e = d .answer ∙ ap (λ v. refusal (v .number) (v .place)) e
+      back (is-run r) e = absurd (let z : 0 ≡ k = ap (λ v. v .number) (sym (r .accepts) ∙ e) in omega arith)
+
+  leaves : LeavesAlone (simplifiedBy run)
+  leaves s b l k p h g e = go (call run s l b)
+    where
+      go : Call run s l → simplifiedBy run s l .lent ≡ l
+      go (is-turned-down d) = d .lent
+      go (is-run r) = no-refusal _ k p _ h g (sym (r .answer) ∙ e)
+
+  -- after 7: the call was accepted, and the run went over
+  pub record WentOver (s : List ℕ) (l : Lent) (p : ℕ) : Type 0 where
+    pub on : RunOn run s l
+    pub at : run (on .holds .tree) ≡ over p
+
+  ran-over : (w p : ℕ) (r : Ran) → ranAnswer w r ≡ refusal 7 p → r ≡ over p
+  unfolding ranAnswer refusal
+  ran-over w p (done u ks o) e = absurd (let z : _≡_ {A = ℕ} 0 7 = ap (λ (a : Answer). a .number) e in omega arith)
+  ran-over w p (over j) e = ap over (refusal-place 7 j 7 p e)
+
+  went-over : (s : List ℕ) → Bytes s → (l : Lent) (p : ℕ) → simplifiedBy run s l .answer ≡ refusal 7 p → WentOver s l p
+  went-over s b l p e = go (call run s l b)
+    where
+      go : Call run s l → WentOver s l p
+      go (is-turned-down d) =
+          absurd (let z : judgement s l .number ≡ 7 = refusal-number _ _ 7 p (sym (d .answer) ∙ e) in omega (arith, d .within))
+      go (is-run r) = record { on = r; at = ran-over _ p _ (sym (r .answer) ∙ e) }
+
+  clearing : Clears (simplifiedBy run)
+  unfolding lentAfter outAfter stepsAfter workAfter written noted
+  clearing s b l p e =
+      let x = went-over s b l p e in
+      let h = x .on .holds in
+      x .on .lent ∙ ap (λ r. lentAfter (ran (weight (h .tree)) r) l) (x .at)
+      ∙ ap (λ w. record { out = stretch (16 * w) [] (l .out); steps = stretch w [] (l .steps); work = stretch workBytes [] (l .work) }) (sym (h .weighs))
+
+-- ---- the running half
+runs-over : RunsOver simplified
+unfolding simplified ranAnswer
+runs-over s b l p = (there, λ x. back (call (simplify editionOne) s l b) (x .0) (x .1 .0) (x .1 .1) (x .1 .2))
+  where
+    there : simplified s l .answer ≡ refusal 7 p → (judgement s l ≡ accepted) × ((t : Tree) × (treeOf s ≡ some t) × (simplify editionOne t ≡ over p))
+    there e =
+        let x = went-over (simplify editionOne) s b l p e in
+        (x .on .accepts, (x .on .holds .tree, x .on .holds .read, x .at))
+
+    back : Call (simplify editionOne) s l → judgement s l ≡ accepted → (t : Tree) → treeOf s ≡ some t → simplify editionOne t ≡ over p
+        → simplified s l .answer ≡ refusal 7 p
+    back (is-turned-down d) j t e h = absurd (let z : judgement s l .number ≡ 0 = ap (λ v. v .number) j in omega (arith, d .number))
+    back (is-run r) j t e h =
+        r .answer ∙ ap (ranAnswer _) (ap (simplify editionOne) (same-tree (r .holds .read) e) ∙ h)
+
+follows : Follows simplified
+unfolding simplified ranAnswer lentAfter outAfter stepsAfter workAfter written noted
+follows s b l j t u ks o e h = go (call (simplify editionOne) s l b)
+  where
+    f : Tree → Ran
+    f = simplify editionOne
+
+    go : Call f s l → (simplified s l .answer ≡ ranAnswer (weight t) (done u ks o)) × (simplified s l .lent ≡ lentAfter (ran (weight t) (done u ks o)) l)
+    go (is-turned-down d) = absurd (let z : judgement s l .number ≡ 0 = ap (λ v. v .number) j in omega (arith, d .number))
+    go (is-run r) =
+        let x : r .holds .tree ≡ t = same-tree (r .holds .read) e in (
+          r .answer ∙ ap (λ a. ranAnswer (weight a) (f a)) x ∙ ap (ranAnswer (weight t)) h,
+          r .lent ∙ ap (λ a. lentAfter (ran (weight a) (f a)) l) x ∙ ap (λ a. lentAfter (ran (weight t) a) l) h,
+        )
+
+-- ---- an accepted call without refusal 7: its table's tree, the tree of its result, and what holds of the two
+pub record Done (s : List ℕ) (l : Lent) : Type 0 where
+  pub holds : Holds s
+  pub tree-out : Tree
+  pub steps : List ℕ
+  pub opened : ℕ
+  pub finished : Finished (holds .tree) tree-out steps opened
+  pub accepts : judgement s l ≡ accepted
+  pub answer : simplified s l .answer ≡ ranAnswer (weight (holds .tree)) (done tree-out steps opened)
+  pub written-bytes : result (simplified s l) ≡ encode tree-out
+  pub read-back : treeOf (result (simplified s l)) ≡ some tree-out
+
+pub call-done : (s : List ℕ) → Bytes s → (l : Lent) → simplified s l .answer .number ≡ 0 → Done s l
+unfolding simplified ranAnswer refusal lentAfter outAfter written
+call-done s b l e = go (call (simplify editionOne) s l b)
+  where
+    by-run : (r : RunOn (simplify editionOne) s l) (x : Ran) → simplify editionOne (r .holds .tree) ≡ x → Done s l
+    by-run r (over k) h =
+        absurd (let z : _≡_ {A = ℕ} 7 0 = sym (ap (λ a. a .number) (r .answer ∙ ap (ranAnswer (weight (r .holds .tree))) h)) ∙ e in omega arith)
+    by-run r (done u ks o) h =
+        let t : Tree = r .holds .tree in
+        let f : Finished t u ks o = simplify-finished t u ks o (r .holds .wf) h in
+        let a : simplified s l .answer ≡ ranAnswer (weight t) (done u ks o) = r .answer ∙ ap (ranAnswer (weight t)) h in
+        let g : simplified s l .lent ≡ lentAfter (ran (weight t) (done u ks o)) l = r .lent ∙ ap (λ x. lentAfter (ran (weight t) x) l) h in
+        let w : result (simplified s l) ≡ encode u =
+        result-written (simplified s l) (weight t) u (l .out) (ap (λ x. x .records-written) a) (ap (λ x. x .out) g) in
+        record {
+          holds = r .holds;
+          tree-out = u;
+          steps = ks;
+          opened = o;
+          finished = f;
+          accepts = r .accepts;
+          answer = a;
+          written-bytes = w;
+          read-back = ap treeOf w ∙ tree-of-written u (f .result-wf) (omega (arith, f .lightens, r .holds .light));
+        }
+
+    go : Call (simplify editionOne) s l → Done s l
+    go (is-turned-down d) = absurd (let z : judgement s l .number ≡ 0 = sym (ap (λ a. a .number) (d .answer)) ∙ e in omega (arith, d .number))
+    go (is-run r) = by-run r (simplify editionOne (r .holds .tree)) refl
+
+-- the simplifier of the definitions meets the demands
+pub simplified-meets : Demands simplified
+unfolding simplified ranAnswer
+simplified-meets =
+    record {
+      refuses = judges (simplify editionOne);
+      leaves-alone = leaves (simplify editionOne);
+      clears = clearing (simplify editionOne);
+      runs-over = runs-over;
+      follows = follows;
+      lightens = λ s b l e t u p q.
+          let d = call-done s b l e in
+          let a : simplified s l .answer .steps-taken ≡ length (d .steps) = ap (λ x. x .steps-taken) (d .answer) in
+          let o : simplified s l .answer .openings ≡ d .opened = ap (λ x. x .openings) (d .answer) in
+          let f = d .finished .lightens in
+          omega (arith, ap weight (same-tree p (d .holds .read)), ap weight (same-tree q (d .read-back)));
+      finishes = λ s b l e t u p q.
+          let d = call-done s b l e in
+          subst (AdmitsNone editionOne) (same-tree (d .read-back) q) (d .finished .admits-none);
+      keeps-value = λ s b l e t u p q ρ.
+          let d = call-done s b l e in
+          ap (λ x. value x ρ) (same-tree q (d .read-back)) ∙ d .finished .keeps-value ρ ∙ ap (λ x. value x ρ) (same-tree (d .holds .read) p);
+    }
+
+given-by : (g h : Given) → g .answer ≡ h .answer → g .lent ≡ h .lent → g ≡ h
+given-by g h x y = ap (λ a. record { answer = a; lent = g .lent }) x ∙ ap (λ a. record { answer = h .answer; lent = a }) y
+
+-- two simplifiers that meet the demands answer alike and leave alike bytes
+pub demands-once : (f g : Simplifier) → Demands f → Demands g → (s : List ℕ) → Bytes s → (l : Lent) → f s l ≡ g s l
+unfolding simplified
+demands-once f g p q s b l = alike f p ∙ sym (alike g q)
+  where
+    ours : Call (simplify editionOne) s l
+    ours = call (simplify editionOne) s l b
+
+    both : (h : Simplifier) → h s l .answer ≡ simplified s l .answer → h s l .lent ≡ simplified s l .lent → h s l ≡ simplified s l
+    both h x y = given-by (h s l) (simplified s l) x y
+
+    by-run : (h : Simplifier) → Demands h → (r : RunOn (simplify editionOne) s l) (x : Ran) → simplify editionOne (r .holds .tree) ≡ x → h s l ≡ simplified s l
+    by-run h d r (over k) e =
+        let x = d .runs-over s b l k .1 (r .accepts, (r .holds .tree, r .holds .read, e)) in
+        let y = simplified-meets .runs-over s b l k .1 (r .accepts, (r .holds .tree, r .holds .read, e)) in
+        both h (x ∙ sym y) (d .clears s b l k x ∙ sym (simplified-meets .clears s b l k y))
+    by-run h d r (done u ks o) e =
+        let x = d .follows s b l (r .accepts) (r .holds .tree) u ks o (r .holds .read) e in
+        let y = simplified-meets .follows s b l (r .accepts) (r .holds .tree) u ks o (r .holds .read) e in
+        both h (x .0 ∙ sym (y .0)) (x .1 ∙ sym (y .1))
+
+    by-call : (h : Simplifier) → Demands h → Call (simplify editionOne) s l → h s l ≡ simplified s l
+    by-call h d (is-turned-down t) =
+        let k = judgement s l .number in
+        let n = judgement s l .place in
+        let x = d .refuses s b l k n (t .number) (t .within) .1 refl in
+        both h (x ∙ sym (t .answer)) (d .leaves-alone s b l k n (t .number) (t .within) x ∙ sym (t .lent))
+    by-call h d (is-run r) = by-run h d r (simplify editionOne (r .holds .tree)) refl
+
+    alike : (h : Simplifier) → Demands h → h s l ≡ simplified s l
+    alike h d = by-call h d ours

@@ -1,0 +1,263 @@
+-- Gathering: opening a sum among a sum's members, or a product among a product's, keeps the value and takes one off the weight
+-- for each opening; and since what is opened has two members or more, a gathered list never has fewer than two. Each is one
+-- induction on the list, over either kind of node. Assumes nothing.
+use Prim.Native.Nat.{ℕ, zero, suc, _+_, _*_, _≤_, _<_}
+use mathlib.Core.Path.{_≡_, refl, sym, ap, _∙_, subst}
+use mathlib.Core.List.{List, [], _∷_, _++_}
+use mathlib.Core.Option.{Option, none, some}
+use native.Mathlib.Omega.{arith}
+use lib.ListN.{length, length-append}
+use lib.IntN.{pos}
+use Rattle.paper.specs.Limits.{modulus}
+use Rattle.paper.specs.Tree.{Tree, Forest, integer, symbol, sum, product, power, toList, ofList, weight}
+use Rattle.paper.specs.WellFormed.{WF, WFl}
+use Rattle.paper.specs.Rules.{collapse, sumOf, productOf}
+use Rattle.paper.specs.Driver.{members, asSum, asProduct, openOne, opened, baseFrom, gather}
+use Rattle.paper.specs.Good.{Kept}
+use Rattle.paper.proofs.Congruence.{Agree, agree-refl, agree-of, agree-trans, agree-add, agree-mul, agree-pow}
+use Rattle.paper.proofs.Value.{exact, total, multiplied, total-append, multiplied-append, sum-list, product-list, weights-list, weight-pos}
+use Rattle.paper.proofs.KeptLaws.{value-of-exact, kept-exact}
+use Rattle.paper.proofs.WFLaws.{wf-list, wf-append, count-list, of-to-list, sumOf-wf, productOf-wf}
+use Rattle.paper.proofs.OutcomeLaws.{sumOf-exact, sumOf-weight, productOf-exact, productOf-weight}
+
+-- ---- opening, over either kind: `inside` gives the members of a node of that kind
+-- a fold over lists, g being what one tree counts for, that counts a node of the kind for what its members count for
+pub record Folds (inside : Tree → Option (List Tree)) (op : ℕ → ℕ → ℕ) (F : List Tree → ℕ) (g : Tree → ℕ) : Type 0 where
+  pub first : (t : Tree) (l : List Tree) → F (t ∷ l) ≡ op (g t) (F l)
+  pub append : (l m : List Tree) → F (l ++ m) ≡ op (F l) (F m)
+  pub node : (t : Tree) (l : List Tree) → inside t ≡ some l → F l ≡ g t
+
+module _ {inside : Tree → Option (List Tree)} {op : ℕ → ℕ → ℕ} {F : List Tree → ℕ} {g : Tree → ℕ} (folds : Folds inside op F g) where
+  openOne-folds : (t : Tree) (o : Option (List Tree)) (r : List Tree × ℕ) → inside t ≡ o → F (openOne o t r .0) ≡ op (g t) (F (r .0))
+  unfolding openOne
+  openOne-folds t none r e = folds .first t (r .0)
+  openOne-folds t (some l) r e = folds .append l (r .0) ∙ ap (λ n. op n (F (r .0))) (folds .node t l e)
+
+  pub opened-folds : (l : List Tree) → F (opened inside l .0) ≡ F l
+  unfolding opened
+  opened-folds [] = refl
+  opened-folds (t ∷ l) =
+      openOne-folds t (inside t) (opened inside l) refl ∙ ap (op (g t)) (opened-folds l) ∙ sym (folds .first t l)
+
+-- a node of the kind weighs one more than its members, and where it is well-formed has two or more of them, well-formed
+pub record Opens (inside : Tree → Option (List Tree)) : Type 0 where
+  pub heavier : (t : Tree) (l : List Tree) → inside t ≡ some l → weight t ≡ 1 + total weight l
+  pub wf-members : (t : Tree) (l : List Tree) → inside t ≡ some l → WF t → WFl l × (2 ≤ length l)
+
+module _ {inside : Tree → Option (List Tree)} (opens : Opens inside) where
+  openOne-weight : (t : Tree) (o : Option (List Tree)) (r : List Tree × ℕ) → inside t ≡ o
+      → total weight (openOne o t r .0) + openOne o t r .1 ≡ weight t + (total weight (r .0) + r .1)
+  unfolding openOne total
+  openOne-weight t none r e = omega arith
+  openOne-weight t (some l) r e = omega (arith, total-append weight l (r .0), opens .heavier t l e)
+
+  -- each opening takes one off the weight
+  pub opened-weight : (l : List Tree) → total weight (opened inside l .0) + opened inside l .1 ≡ total weight l
+  unfolding opened total
+  opened-weight [] = refl
+  opened-weight (t ∷ l) = openOne-weight t (inside t) (opened inside l) refl ∙ ap (λ n. weight t + n) (opened-weight l)
+
+  openOne-wf : (t : Tree) (o : Option (List Tree)) (r : List Tree × ℕ) → inside t ≡ o → WF t → WFl (r .0)
+      → WFl (openOne o t r .0) × (1 + length (r .0) ≤ length (openOne o t r .0))
+  unfolding openOne
+  openOne-wf t none r e w v = ((w, v), omega arith)
+  openOne-wf t (some l) r e w v =
+      let m = opens .wf-members t l e w in
+      (wf-append l (r .0) (m .0) v, omega (arith, length-append l (r .0), m .1))
+
+  -- opening leaves well-formed members, and no fewer of them
+  pub opened-wf : (l : List Tree) → WFl l → WFl (opened inside l .0) × (length l ≤ length (opened inside l .0))
+  unfolding opened
+  opened-wf [] w = (tt, omega arith)
+  opened-wf (t ∷ l) w =
+      let ih = opened-wf l (w .1) in
+      let o = openOne-wf t (inside t) (opened inside l) refl (w .0) (ih .0) in
+      (o .0, omega (arith, o .1, ih .1))
+
+some-inj : {l m : List Tree} → _≡_ {A = Option (List Tree)} (some l) (some m) → l ≡ m
+some-inj e = cc
+
+none-some {ℓ} : {X : Type ℓ} {l : List Tree} → none ≡ some l → X
+none-some e = absurd (let z : _≡_ {A = ℕ} 0 1 = cc in omega arith)
+
+-- ---- the two kinds
+-- what holds of the members of a sum holds wherever asSum gives members; the same of a product
+as-sum : (Q : Tree → List Tree → Type 0) → ((f : Forest) → Q (sum f) (toList f)) → (t : Tree) (l : List Tree) → asSum t ≡ some l → Q t l
+unfolding asSum
+as-sum Q h (integer z) l e = none-some e
+as-sum Q h (symbol s) l e = none-some e
+as-sum Q h (sum f) l e = subst (Q (sum f)) (some-inj e) (h f)
+as-sum Q h (product f) l e = none-some e
+as-sum Q h (power b x) l e = none-some e
+
+as-product : (Q : Tree → List Tree → Type 0) → ((f : Forest) → Q (product f) (toList f)) → (t : Tree) (l : List Tree) → asProduct t ≡ some l → Q t l
+unfolding asProduct
+as-product Q h (integer z) l e = none-some e
+as-product Q h (symbol s) l e = none-some e
+as-product Q h (sum f) l e = none-some e
+as-product Q h (product f) l e = subst (Q (product f)) (some-inj e) (h f)
+as-product Q h (power b x) l e = none-some e
+
+pub sums-open : Opens asSum
+unfolding weight
+sums-open =
+    record {
+      heavier = as-sum (λ t l. weight t ≡ 1 + total weight l) (λ f. ap (λ n. 1 + n) (sym (weights-list f)));
+      wf-members = as-sum (λ t l. WF t → WFl l × (2 ≤ length l)) (λ f w. (wf-list f (w .1), omega (arith, count-list f, w .0)));
+    }
+
+pub products-open : Opens asProduct
+unfolding weight
+products-open =
+    record {
+      heavier = as-product (λ t l. weight t ≡ 1 + total weight l) (λ f. ap (λ n. 1 + n) (sym (weights-list f)));
+      wf-members = as-product (λ t l. WF t → WFl l × (2 ≤ length l)) (λ f w. (wf-list f (w .1), omega (arith, count-list f, w .0)));
+    }
+
+sums-fold : (ρ : ℕ → ℕ) → Folds asSum _+_ (total (λ t. exact t ρ)) (λ t. exact t ρ)
+unfolding exact total
+sums-fold ρ =
+    record {
+      first = λ t l. refl;
+      append = total-append (λ t. exact t ρ);
+      node = as-sum (λ t l. total (λ t. exact t ρ) l ≡ exact t ρ) (λ f. sum-list f ρ);
+    }
+
+products-fold : (ρ : ℕ → ℕ) → Folds asProduct _*_ (multiplied (λ t. exact t ρ)) (λ t. exact t ρ)
+unfolding exact multiplied
+products-fold ρ =
+    record {
+      first = λ t l. refl;
+      append = multiplied-append (λ t. exact t ρ);
+      node = as-product (λ t l. multiplied (λ t. exact t ρ) l ≡ exact t ρ) (λ f. product-list f ρ);
+    }
+
+-- ---- members and their results, one by one
+-- each tree of the second list has the value of its fellow in the first, and all together weigh at least k less
+pub data Kepts : ℕ → List Tree → List Tree → Type 0 where
+  nothing : Kepts 0 [] []
+  more : {j k : ℕ} {t u : Tree} {l m : List Tree} → Kept j t u → Kepts k l m → Kepts (j + k) (t ∷ l) (u ∷ m)
+
+kepts-total : {k : ℕ} {l m : List Tree} → Kepts k l m → (ρ : ℕ → ℕ) → Agree modulus (total (λ t. exact t ρ) m) (total (λ t. exact t ρ) l)
+unfolding total
+kepts-total nothing ρ = agree-refl
+kepts-total (more h r) ρ = agree-add (kept-exact h ρ) (kepts-total r ρ)
+
+kepts-multiplied : {k : ℕ} {l m : List Tree} → Kepts k l m → (ρ : ℕ → ℕ)
+    → Agree modulus (multiplied (λ t. exact t ρ) m) (multiplied (λ t. exact t ρ) l)
+unfolding multiplied
+kepts-multiplied nothing ρ = agree-refl
+kepts-multiplied (more h r) ρ = agree-mul (kept-exact h ρ) (kepts-multiplied r ρ)
+
+kepts-weight : {k : ℕ} {l m : List Tree} → Kepts k l m → total weight m + k ≤ total weight l
+unfolding total
+kepts-weight nothing = omega arith
+kepts-weight (more h r) = omega (arith, h .lighter, kepts-weight r)
+
+pub kepts-length : {k : ℕ} {l m : List Tree} → Kepts k l m → length m ≡ length l
+kepts-length nothing = refl
+kepts-length (more h r) = ap suc (kepts-length r)
+
+-- ---- the gathered node
+leaf : {k : ℕ} {l : List Tree} → Kepts k [] l → k ≡ 0
+leaf nothing = refl
+
+-- a power's exponent weighs 1, so its result can't have lost any weight
+power-kept : (b x : Tree) (e k : ℕ) (l : List Tree) → weight x ≡ 1 → Kepts k (b ∷ x ∷ []) l → Kept (k + 0) (power b e) (power (baseFrom b l) e)
+unfolding baseFrom exact weight
+power-kept b x e k l w (more {u = u} h (more {u = y} h′ r)) =
+    record {
+      value-kept = value-of-exact (power b e) (power u e) (λ ρ. agree-pow e (kept-exact h ρ));
+      lighter = omega (arith, leaf r, h .lighter, h′ .lighter, weight-pos y);
+    }
+
+-- the gathered node keeps the value, and weighs less by what its members lost and by one for each opening
+pub gather-kept : (t : Tree) (l : List Tree) (k : ℕ) → Kepts k (members t) l → Kept (k + gather t l .1) t (gather t l .0)
+unfolding gather members exact weight
+gather-kept (integer z) l k h = record { value-kept = λ ρ. refl; lighter = omega (arith, leaf h) }
+gather-kept (symbol s) l k h = record { value-kept = λ ρ. refl; lighter = omega (arith, leaf h) }
+gather-kept (sum f) l k h =
+    let m = opened asSum l .0 in
+    record {
+      value-kept = value-of-exact (sum f) (sumOf m)
+          (λ ρ. agree-trans (agree-of (sumOf-exact m ρ ∙ opened-folds (sums-fold ρ) l)) (agree-trans (kepts-total h ρ) (agree-of (sum-list f ρ))));
+      lighter = omega (arith, sumOf-weight m, opened-weight sums-open l, kepts-weight h, weights-list f);
+    }
+gather-kept (product f) l k h =
+    let m = opened asProduct l .0 in
+    record {
+      value-kept = value-of-exact (product f) (productOf m)
+          (λ ρ. agree-trans (agree-of (productOf-exact m ρ ∙ opened-folds (products-fold ρ) l)) (agree-trans (kepts-multiplied h ρ) (agree-of (product-list f ρ))));
+      lighter = omega (arith, productOf-weight m, opened-weight products-open l, kepts-weight h, weights-list f);
+    }
+gather-kept (power b e) l k h = power-kept b (integer (pos e)) e k l (unfold weight in refl) h
+
+pub members-wf : (t : Tree) → WF t → WFl (members t)
+unfolding members
+members-wf (integer z) w = tt
+members-wf (symbol s) w = tt
+members-wf (sum f) w = wf-list f (w .1)
+members-wf (product f) w = wf-list f (w .1)
+members-wf (power b e) w = (w .0, (w .2, tt))
+
+baseFrom-wf : (b : Tree) (l : List Tree) → WF b → WFl l → WF (baseFrom b l)
+unfolding baseFrom
+baseFrom-wf b [] w v = w
+baseFrom-wf b (u ∷ l) w v = v .0
+
+-- the gathered node is well-formed
+pub gather-wf : (t : Tree) (l : List Tree) → WF t → WFl l → WF (gather t l .0)
+unfolding gather
+gather-wf (integer z) l w v = w
+gather-wf (symbol s) l w v = w
+gather-wf (sum f) l w v = sumOf-wf (opened asSum l .0) (opened-wf sums-open l v .0)
+gather-wf (product f) l w v = productOf-wf (opened asProduct l .0) (opened-wf products-open l v .0)
+gather-wf (power b e) l w v = (baseFrom-wf b l (w .0) v, w .1, w .2)
+
+-- the list that is gathered: what the members' results become, where a sum's or a product's are opened
+unfoldable pub gatheredList : Tree → List Tree → List Tree
+gatheredList (integer z) l = l
+gatheredList (symbol s) l = l
+gatheredList (sum f) l = opened asSum l .0
+gatheredList (product f) l = opened asProduct l .0
+gatheredList (power b e) l = l
+
+-- a gathered sum or product has two members or more: the collapse of a gathered list never happens
+pub gathers-two : (t : Tree) (l : List Tree) (k : ℕ) → WF t → 0 < length (members t) → WFl l → Kepts k (members t) l → 2 ≤ length (gatheredList t l)
+unfolding gatheredList members
+gathers-two (integer z) l k w m v h = absurd (omega arith)
+gathers-two (symbol s) l k w m v h = absurd (omega arith)
+gathers-two (sum f) l k w m v h = omega (arith, opened-wf sums-open l v .1, kepts-length h, count-list f, w .0)
+gathers-two (product f) l k w m v h = omega (arith, opened-wf products-open l v .1, kepts-length h, count-list f, w .0)
+gathers-two (power b e) l k w m v h = omega (arith, kepts-length h)
+
+-- ---- where nothing is opened, gathering a node's own members gives the node back
+openOne-none : (t : Tree) (o : Option (List Tree)) (r : List Tree × ℕ) → openOne o t r .1 ≡ 0 → (r .1 ≡ 0) × (openOne o t r .0 ≡ t ∷ r .0)
+unfolding openOne
+openOne-none t none r e = (e, refl)
+openOne-none t (some l) r e = absurd (omega arith)
+
+pub opened-none : (inside : Tree → Option (List Tree)) (l : List Tree) → opened inside l .1 ≡ 0 → opened inside l .0 ≡ l
+unfolding opened
+opened-none inside [] e = refl
+opened-none inside (t ∷ l) e =
+    let o = openOne-none t (inside t) (opened inside l) e in
+    o .1 ∙ ap (λ m. t ∷ m) (opened-none inside l (o .0))
+
+collapse-none : (emptied : Tree) (node : Forest → Tree) (l : List Tree) → 2 ≤ length l → collapse emptied node l ≡ node (ofList l)
+unfolding collapse
+collapse-none emptied node [] h = absurd (omega arith)
+collapse-none emptied node (t ∷ []) h = absurd (omega arith)
+collapse-none emptied node (t ∷ u ∷ l) h = refl
+
+pub gather-same : (t : Tree) → WF t → gather t (members t) .1 ≡ 0 → gather t (members t) .0 ≡ t
+unfolding gather members baseFrom sumOf productOf
+gather-same (integer z) w e = refl
+gather-same (symbol s) w e = refl
+gather-same (sum f) w e =
+    ap sumOf (opened-none asSum (toList f) e)
+    ∙ collapse-none (integer (pos 0)) sum (toList f) (omega (arith, count-list f, w .0)) ∙ ap sum (of-to-list f)
+gather-same (product f) w e =
+    ap productOf (opened-none asProduct (toList f) e)
+    ∙ collapse-none (integer (pos 1)) product (toList f) (omega (arith, count-list f, w .0)) ∙ ap product (of-to-list f)
+gather-same (power b x) w e = refl

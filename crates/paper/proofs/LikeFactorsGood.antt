@@ -1,0 +1,29 @@
+-- Step 6, "combine like factors", is a good rule: the product that it gives is well-formed, has the value of the product it was given,
+-- and weighs less by one at least, since it applies only where something was removed. Assumes nothing.
+use native.Mathlib.Omega.{arith}
+use Rattle.paper.specs.Tree.{Forest, product, toList, weight}
+use Rattle.paper.specs.WellFormed.{WF}
+use Rattle.paper.specs.Rules.{productOf, combine, factorOf, mergeFactors, fromFactor, combineLikeFactors}
+use Rattle.paper.specs.Good.{Good, GoodAnswer}
+use Rattle.paper.proofs.Value.{weights-list}
+use Rattle.paper.proofs.WFLaws.{wf-list}
+use Rattle.paper.proofs.OutcomeLaws.{combine-good}
+use Rattle.paper.proofs.AnswerLaws.{on-product-good, kept-agree}
+use Rattle.paper.proofs.LikeFactors.{like-factors-exact}
+use Rattle.paper.proofs.LikeFactorsWF.{like-factors-wf}
+use Rattle.paper.proofs.LikeFactorsWeight.{like-factors-weight}
+
+members-good : (f : Forest) → WF (product f) → GoodAnswer (product f) (combine productOf factorOf mergeFactors fromFactor (toList f))
+unfolding weight
+members-good f w =
+    combine-good factorOf mergeFactors fromFactor (product f) productOf (toList f)
+    (λ inside removed. (
+      like-factors-wf (toList f) (wf-list f (w .1)) inside,
+      kept-agree (product f) _ (like-factors-exact f)
+          (omega (arith, removed, like-factors-weight (toList f) (wf-list f (w .1)), weights-list f)),
+    ))
+
+-- step 6 is a good rule
+pub like-factors-good : Good (record { number = 6; try = combineLikeFactors })
+unfolding combineLikeFactors
+like-factors-good = record { good = on-product-good _ members-good }

@@ -1,0 +1,131 @@
+-- Step 2 keeps the value. A member is its coefficient times its rest; two terms with equal rests are the sum of their coefficients
+-- times that rest, and the word of a sum, or product, of integers is that of their words modulo 2^64; so the terms that come out of
+-- the walk have the sum of those that went in. Assumes nothing.
+use Prim.Native.Nat.{ℕ, _+_, _*_}
+use mathlib.Core.Path.{_≡_, refl, sym, ap, _∙_, subst}
+use mathlib.Core.Bool.{Bool, true, false}
+use mathlib.Core.List.{List, [], _∷_, _++_}
+use mathlib.Core.Option.{Option, none, some, Option·some-injective, Option·none-ne-some}
+use native.Mathlib.Omega.{arith}
+use lib.IntN.{ℤ, pos}
+use Rattle.paper.specs.Limits.{modulus}
+use Rattle.paper.specs.Bytes.{word}
+use Rattle.paper.specs.Tree.{Tree, Forest, integer, symbol, sum, product, power, toList, ofList, value}
+use Rattle.paper.specs.Equal.{equal, eqZ}
+use Rattle.paper.specs.Rules.{sumOf, asInteger, Term, term, behind, orFirst, firstInteger, productTerm, termOf}
+use Rattle.paper.specs.Rules.{added, addIf, mergeTerms, times, timesUnless, fromTerm}
+use Rattle.paper.proofs.Congruence.{Agree, agree-refl, agree-of, agree-trans, agree-add, agree-mul, word-add, word-mul}
+use Rattle.paper.proofs.Value.{exact, exactProduct, value-exact, total, multiplied, multiplied-append}
+use Rattle.paper.proofs.Value.{sum-list, product-list, list-product}
+use Rattle.paper.proofs.Tests.{eqZ-true}
+use Rattle.paper.proofs.Bags.{Taken, here, there}
+use Rattle.paper.proofs.EqualView.{equal-exact, taken-multiplied}
+use Rattle.paper.proofs.WalkLaws.{Respects, plus-laws}
+use Rattle.paper.proofs.OutcomeLaws.{sumOf-exact, productOf-exact, total-fold, comeOut, combine-keeps}
+
+-- the first integer member and the others: it is taken out of the members
+abbrev pub TakenOut : List Tree → Option (ℤ × List Tree) → Type 0
+TakenOut l none = Unit {0}
+TakenOut l (some r) = Taken (integer (r .0)) l (r .1)
+
+pub firstInteger-taken : (l : List Tree) → TakenOut l (firstInteger l)
+unfolding firstInteger orFirst asInteger behind
+firstInteger-taken [] = tt
+firstInteger-taken (t ∷ l) = go t (firstInteger l) (firstInteger-taken l)
+  where
+    later : (t : Tree) (r : Option (ℤ × List Tree)) → TakenOut l r → TakenOut (t ∷ l) (behind t r)
+    later t none h = tt
+    later t (some r) h = there h
+
+    go : (t : Tree) (r : Option (ℤ × List Tree)) → TakenOut l r → TakenOut (t ∷ l) (orFirst (asInteger t) t l r)
+    go (integer z) r h = here
+    go (symbol s) r h = later (symbol s) r h
+    go (sum f) r h = later (sum f) r h
+    go (product f) r h = later (product f) r h
+    go (power b e) r h = later (power b e) r h
+
+-- where two terms merge, their rests are equal and the coefficients are added
+pub mergeTerms-some : (c x d : Term) → mergeTerms c x ≡ some d → (equal (c .rest) (x .rest) ≡ true) × (added c x ≡ d)
+unfolding mergeTerms addIf
+mergeTerms-some c x d h = go (equal (c .rest) (x .rest)) h
+  where
+    go : (b : Bool) → addIf b c x ≡ some d → (b ≡ true) × (added c x ≡ d)
+    go true h = (refl, Option·some-injective (added c x) d h)
+    go false h = absurd (Option·none-ne-some d h)
+
+agree-plus : Respects _+_ (Agree modulus)
+agree-plus = record { of = λ e. agree-of e; then = λ p q. agree-trans p q; both = λ p q. agree-add p q }
+
+module _ (ρ : ℕ → ℕ) where
+  abbrev unreduced : Tree → ℕ
+  unreduced t = exact t ρ
+
+  -- what a term stands for
+  unfoldable worth : Term → ℕ
+  worth c = word (c .coefficient) * unreduced (c .rest)
+
+  productTerm-worth : (f : Forest) (r : Option (ℤ × List Tree)) → TakenOut (toList f) r → worth (productTerm f r) ≡ exactProduct f ρ
+  unfolding worth productTerm term word exact
+  productTerm-worth f none h = omega arith
+  productTerm-worth f (some r) h =
+      ap (λ n. word (r .0) * n) (productOf-exact (r .1) ρ) ∙ sym (taken-multiplied unreduced h) ∙ product-list f ρ
+
+  termOf-worth : (t : Tree) → worth (termOf t) ≡ unreduced t
+  unfolding worth termOf term word exact
+  termOf-worth (integer z) = omega arith
+  termOf-worth (symbol s) = omega arith
+  termOf-worth (sum f) = omega arith
+  termOf-worth (product f) = productTerm-worth f (firstInteger (toList f)) (firstInteger-taken (toList f))
+  termOf-worth (power b e) = omega arith
+
+  added-worth : (c x : Term) → equal (c .rest) (x .rest) ≡ true → Agree modulus (worth (added c x)) (worth c + worth x)
+  unfolding worth added
+  added-worth c x s =
+      agree-trans (agree-mul (word-add (c .coefficient) (x .coefficient)) (agree-refl {a = unreduced (c .rest)}))
+      (agree-of (omega (arith, ap (λ n. word (x .coefficient) * n) (equal-exact (c .rest) (x .rest) ρ s))))
+
+  mergeTerms-worth : (c x d : Term) → mergeTerms c x ≡ some d → Agree modulus (worth d) (worth c + worth x)
+  mergeTerms-worth c x d h =
+      let m = mergeTerms-some c x d h in
+      subst (λ d. Agree modulus (worth d) (worth c + worth x)) (m .1) (added-worth c x (m .0))
+
+  times-worth : (z : ℤ) (t : Tree) → Agree modulus (unreduced (times z t .0)) (word z * unreduced t)
+  unfolding times exact ofList multiplied
+  times-worth z (integer y) = word-mul z y
+  times-worth z (symbol s) = agree-of (omega arith)
+  times-worth z (sum f) = agree-of (omega arith)
+  times-worth z (product f) =
+      agree-of
+      (list-product (toList f ++ (integer z ∷ [])) ρ
+      ∙ multiplied-append unreduced (toList f) (integer z ∷ [])
+      ∙ last (multiplied unreduced (toList f)) (word z)
+      ∙ ap (λ n. word z * n) (product-list f ρ))
+    where
+      last : (a b : ℕ) → a * (b * 1) ≡ b * a
+      last a b = omega arith
+  times-worth z (power b e) = agree-of (omega arith)
+
+  fromTerm-worth : (c : Term) → Agree modulus (unreduced (fromTerm c .0)) (worth c)
+  unfolding fromTerm timesUnless worth word
+  fromTerm-worth c = go (eqZ (c .coefficient) (pos 1)) refl
+    where
+      go : (b : Bool) → eqZ (c .coefficient) (pos 1) ≡ b → Agree modulus (unreduced (timesUnless b c .0)) (worth c)
+      go true e = agree-of (sym (ap (λ z. word z * unreduced (c .rest)) (eqZ-true (c .coefficient) (pos 1) e) ∙ omega arith))
+      go false e = times-worth (c .coefficient) (c .rest)
+
+  -- the members that come out have the sum of the members that went in, modulo 2^64
+  like-terms-total : (l : List Tree) → Agree modulus (total unreduced (comeOut termOf mergeTerms fromTerm l)) (total unreduced l)
+  like-terms-total l =
+      let out = comeOut termOf mergeTerms fromTerm l in
+      agree-trans (agree-of (total-fold unreduced out))
+      (agree-trans (combine-keeps termOf mergeTerms fromTerm plus-laws agree-plus unreduced worth termOf-worth mergeTerms-worth fromTerm-worth l)
+      (agree-of (sym (total-fold unreduced l))))
+
+-- step 2 keeps the value
+pub like-terms-value : (f : Forest) (ρ : ℕ → ℕ) → value (sumOf (comeOut termOf mergeTerms fromTerm (toList f))) ρ ≡ value (sum f) ρ
+unfolding exact
+like-terms-value f ρ =
+    let out = comeOut termOf mergeTerms fromTerm (toList f) in
+    value-exact (sumOf out) ρ
+    ∙ agree-trans (agree-of (sumOf-exact out ρ)) (agree-trans (like-terms-total ρ (toList f)) (agree-of (sum-list f ρ))) .agree
+    ∙ sym (value-exact (sum f) ρ)

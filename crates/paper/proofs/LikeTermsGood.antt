@@ -1,0 +1,31 @@
+-- Step 2, "combine like terms", is a good rule: the sum that it gives is well-formed, has the value of the sum it was given, and weighs
+-- less by one at least, since it applies only where something was removed. Assumes nothing.
+use native.Mathlib.Omega.{arith}
+use Rattle.paper.specs.Tree.{Forest, sum, toList, weight}
+use Rattle.paper.specs.WellFormed.{WF}
+use Rattle.paper.specs.Rules.{sumOf, combine, termOf, mergeTerms, fromTerm, combineLikeTerms}
+use Rattle.paper.specs.Good.{Good, GoodAnswer}
+use Rattle.paper.proofs.Value.{weights-list}
+use Rattle.paper.proofs.WFLaws.{wf-list}
+use Rattle.paper.proofs.OutcomeLaws.{combine-good}
+use Rattle.paper.proofs.AnswerLaws.{on-sum-good}
+use Rattle.paper.proofs.LikeTerms.{like-terms-value}
+use Rattle.paper.proofs.LikeTermsWF.{like-terms-wf}
+use Rattle.paper.proofs.LikeTermsWeight.{like-terms-weight}
+
+members-good : (f : Forest) → WF (sum f) → GoodAnswer (sum f) (combine sumOf termOf mergeTerms fromTerm (toList f))
+unfolding weight
+members-good f w =
+    combine-good termOf mergeTerms fromTerm (sum f) sumOf (toList f)
+    (λ inside removed. (
+      like-terms-wf (toList f) (wf-list f (w .1)) inside,
+      record {
+        value-kept = like-terms-value f;
+        lighter = omega (arith, removed, like-terms-weight (toList f) (wf-list f (w .1)), weights-list f);
+      },
+    ))
+
+-- step 2 is a good rule
+pub like-terms-good : Good (record { number = 2; try = combineLikeTerms })
+unfolding combineLikeTerms
+like-terms-good = record { good = on-sum-good _ members-good }

@@ -1,0 +1,102 @@
+-- Step 2 keeps trees well-formed. The rest of a term is well-formed all along, and its coefficient is in range where its flag says
+-- so: this holds of the terms of well-formed members, and a merge keeps it; so where the flags of the members that come out say that
+-- all are in range, all are well-formed. Assumes nothing.
+use Prim.Native.Nat.{_^_}
+use mathlib.Core.Path.{_≡_, subst}
+use mathlib.Core.Bool.{Bool, true, false, _&&_}
+use mathlib.Core.List.{List, [], _∷_, _++_}
+use mathlib.Core.Option.{Option, none, some}
+use native.Mathlib.Omega.{arith}
+use lib.ListN.{length-append}
+use lib.IntN.{ℤ, pos, _+ℤ_, _*ℤ_}
+use lib.Signed.{mag}
+use lib.Dec.{lit<}
+use borrow.Author.Tests.{ltb-true}
+use Rattle.paper.specs.Tree.{Tree, Forest, integer, symbol, sum, product, power, toList, ofList, count}
+use Rattle.paper.specs.WellFormed.{InRange, WF, WFl}
+use Rattle.paper.specs.Equal.{eqZ}
+use Rattle.paper.specs.Rules.{fits, sumOf, Term, term, firstInteger, productTerm, termOf}
+use Rattle.paper.specs.Rules.{added, mergeTerms, times, timesUnless, fromTerm}
+use Rattle.paper.proofs.Tests.{and-left, and-right}
+use Rattle.paper.proofs.Bags.{Taken, here, there}
+use Rattle.paper.proofs.WFLaws.{wf-list, list-wf, count-list, list-count, wf-append, sumOf-wf, productOf-wf}
+use Rattle.paper.proofs.OutcomeLaws.{comeOut, stayInRange, combine-wf}
+use Rattle.paper.proofs.LikeTerms.{TakenOut, firstInteger-taken, mergeTerms-some}
+
+-- the rest is well-formed, and the coefficient is in range where the flag says so
+pub record TermWF (c : Term) : Type 0 where
+  pub rest-wf : WF (c .rest)
+  pub coefficient-in-range : c .inRange ≡ true → InRange (c .coefficient)
+
+fits-true : (z : ℤ) → fits z ≡ true → InRange z
+unfolding fits
+fits-true z h = ltb-true (mag z) (2 ^ 63) h
+
+-- ---- splitting
+term-wf : (z : ℤ) (t : Tree) → InRange z → WF t → TermWF (term z t)
+unfolding term
+term-wf z t r w = record { rest-wf = w; coefficient-in-range = λ h. r }
+
+one-in-range : InRange (pos 1)
+one-in-range = lit< tt
+
+taken-wf : {u : Tree} {l m : List Tree} → Taken u l m → WFl l → WF u × WFl m
+taken-wf here w = w
+taken-wf (there r) w = let v = taken-wf r (w .1) in (v .0, (w .0, v .1))
+
+productTerm-wf : (f : Forest) (r : Option (ℤ × List Tree)) → WF (product f) → TakenOut (toList f) r → TermWF (productTerm f r)
+unfolding productTerm
+productTerm-wf f none w h = term-wf (pos 1) (product f) one-in-range w
+productTerm-wf f (some r) w h = let v = taken-wf h (wf-list f (w .1)) in term-wf (r .0) _ (v .0) (productOf-wf (r .1) (v .1))
+
+pub termOf-wf : (t : Tree) → WF t → TermWF (termOf t)
+unfolding termOf
+termOf-wf (integer z) w = term-wf z (integer (pos 1)) w one-in-range
+termOf-wf (symbol s) w = term-wf (pos 1) (symbol s) one-in-range w
+termOf-wf (sum f) w = term-wf (pos 1) (sum f) one-in-range w
+termOf-wf (product f) w = productTerm-wf f (firstInteger (toList f)) w (firstInteger-taken (toList f))
+termOf-wf (power b e) w = term-wf (pos 1) (power b e) one-in-range w
+
+-- ---- merging
+added-wf : (c x : Term) → TermWF c → TermWF (added c x)
+unfolding added
+added-wf c x q =
+    record {
+      rest-wf = q .rest-wf;
+      coefficient-in-range = λ h. fits-true (c .coefficient +ℤ x .coefficient) (and-right (c .inRange && x .inRange) _ h);
+    }
+
+mergeTerms-wf : (c x d : Term) → TermWF c → TermWF x → mergeTerms c x ≡ some d → TermWF d
+mergeTerms-wf c x d q p h = subst TermWF (mergeTerms-some c x d h .1) (added-wf c x q)
+
+-- ---- putting together
+times-wf : (z : ℤ) (t : Tree) → InRange z → WF t → times z t .1 ≡ true → WF (times z t .0)
+unfolding times ofList count
+times-wf z (integer y) r w h = fits-true (z *ℤ y) h
+times-wf z (symbol s) r w h = (omega arith, (r, (w, tt)))
+times-wf z (sum f) r w h = (omega arith, (r, (w, tt)))
+times-wf z (product f) r w h = (
+  omega (arith, list-count (toList f ++ last), length-append (toList f) last, count-list f, w .0),
+  list-wf (toList f ++ last) (wf-append (toList f) last (wf-list f (w .1)) (r, tt)),
+)
+  where
+    last : List Tree
+    last = integer z ∷ []
+times-wf z (power b e) r w h = (omega arith, (r, (w, tt)))
+
+fromTerm-wf : (c : Term) → TermWF c → fromTerm c .1 ≡ true → WF (fromTerm c .0)
+unfolding fromTerm timesUnless
+fromTerm-wf c q h = go (eqZ (c .coefficient) (pos 1)) h
+  where
+    go : (b : Bool) → timesUnless b c .1 ≡ true → WF (timesUnless b c .0)
+    go true h = q .rest-wf
+    go false h =
+        times-wf (c .coefficient) (c .rest) (q .coefficient-in-range (and-left (c .inRange) _ h)) (q .rest-wf)
+        (and-right (c .inRange) _ h)
+
+-- step 2 keeps the tree well-formed, where all that comes out is in range
+pub like-terms-wf : (l : List Tree) → WFl l → stayInRange termOf mergeTerms fromTerm l
+    → WF (sumOf (comeOut termOf mergeTerms fromTerm l))
+like-terms-wf l w h =
+    sumOf-wf (comeOut termOf mergeTerms fromTerm l)
+    (combine-wf termOf mergeTerms fromTerm TermWF termOf-wf mergeTerms-wf fromTerm-wf l w h)

@@ -1,0 +1,127 @@
+-- Step 2 lowers the weight by at least as many as it removes, on well-formed trees. A term costs what its rest weighs (3 at least if
+-- that is no integer) and what a coefficient other than 1 adds (2 at most, nothing to an integer). A merge saves a whole rest, which
+-- costs more than any coefficient can add; splitting a well-formed member and putting a member together cost nothing.
+-- Assumes nothing.
+use Prim.Native.Nat.{ℕ, _+_, _≤_}
+use mathlib.Core.Path.{_≡_, refl, subst}
+use mathlib.Core.Bool.{Bool, true, false}
+use mathlib.Core.List.{List, [], _∷_, _++_}
+use mathlib.Core.Option.{Option, none, some}
+use native.Mathlib.Omega.{arith}
+use lib.IntN.{ℤ, pos, _+ℤ_}
+use Rattle.paper.specs.Tree.{Tree, Forest, integer, symbol, sum, product, power, toList, ofList, weight}
+use Rattle.paper.specs.WellFormed.{WF, WFl}
+use Rattle.paper.specs.Equal.{eqZ}
+use Rattle.paper.specs.Rules.{asInteger, collapse, sumOf, productOf, Term, term, firstInteger, productTerm, termOf}
+use Rattle.paper.specs.Rules.{added, mergeTerms, times, timesUnless, fromTerm}
+use Rattle.paper.proofs.Value.{total, total-append, weights-list, list-weights}
+use Rattle.paper.proofs.Bulk.{atLeast, bulk, weight-bulk, bulk-wf}
+use Rattle.paper.proofs.Bags.{Taken}
+use Rattle.paper.proofs.EqualView.{Same, s-integer, s-symbol, s-sum, s-product, s-power, same-view, taken-total}
+use Rattle.paper.proofs.OutcomeLaws.{sumOf-weight, walked, comeOut, combine-lowers}
+use Rattle.paper.proofs.LikeTerms.{TakenOut, firstInteger-taken, mergeTerms-some}
+use Rattle.paper.proofs.LikeTermsWF.{termOf-wf}
+
+-- what the coefficient adds, where the flag says whether it is 1
+unfoldable extra : Bool → Tree → ℕ
+extra true t = 0
+extra false (integer z) = 0
+extra false (symbol s) = 2
+extra false (sum f) = 2
+extra false (product f) = 1
+extra false (power b e) = 2
+
+unfoldable cost : Term → ℕ
+cost c = bulk (c .rest) + extra (eqZ (c .coefficient) (pos 1)) (c .rest)
+
+extra-two : (b : Bool) (t : Tree) → extra b t ≤ 2
+unfolding extra
+extra-two true t = omega arith
+extra-two false (integer z) = omega arith
+extra-two false (symbol s) = omega arith
+extra-two false (sum f) = omega arith
+extra-two false (product f) = omega arith
+extra-two false (power b e) = omega arith
+
+extra-integer : (b : Bool) (z : ℤ) → extra b (integer z) ≡ 0
+unfolding extra
+extra-integer true z = refl
+extra-integer false z = refl
+
+-- ---- merging: the rest that is saved costs more than the coefficient adds
+saved : (b : Bool) {t u : Tree} → Same t u → extra b t + 1 ≤ bulk u
+unfolding bulk atLeast asInteger weight
+saved b (s-integer {z}) = omega (arith, extra-integer b z)
+saved b (s-symbol {s}) = omega (arith, extra-two b (symbol s))
+saved b (s-sum {f} r) = omega (arith, extra-two b (sum f))
+saved b (s-product {f} r) = omega (arith, extra-two b (product f))
+saved b (s-power {a = a} {e = e} r) = omega (arith, extra-two b (power a e))
+
+mergeTerms-cost : (c x d : Term) → mergeTerms c x ≡ some d → cost d + 1 ≤ cost c + cost x
+unfolding cost added
+mergeTerms-cost c x d h =
+    let m = mergeTerms-some c x d h in
+    let one = eqZ (c .coefficient +ℤ x .coefficient) (pos 1) in
+    subst (λ d. cost d + 1 ≤ cost c + cost x) (m .1) (omega (arith, saved one (same-view (c .rest) (x .rest) (m .0))))
+
+-- ---- putting together: a member weighs no more than its term costs
+times-cost : (z : ℤ) (t : Tree) → weight (times z t .0) ≤ weight t + extra false t
+unfolding times extra weight ofList total
+times-cost z (integer y) = omega arith
+times-cost z (symbol s) = omega arith
+times-cost z (sum f) = omega arith
+times-cost z (product f) = omega (arith, list-weights (toList f ++ last), total-append weight (toList f) last, weights-list f, alone)
+  where
+    last : List Tree
+    last = integer z ∷ []
+
+    alone : total weight (integer z ∷ []) ≡ 1
+    alone = refl
+times-cost z (power b e) = omega arith
+
+fromTerm-cost : (c : Term) → weight (fromTerm c .0) ≤ cost c
+unfolding fromTerm cost timesUnless
+fromTerm-cost c = go (eqZ (c .coefficient) (pos 1))
+  where
+    go : (b : Bool) → weight (timesUnless b c .0) ≤ bulk (c .rest) + extra b (c .rest)
+    go true = omega (arith, weight-bulk (c .rest))
+    go false = omega (arith, times-cost (c .coefficient) (c .rest), weight-bulk (c .rest))
+
+productOf-extra : (b : Bool) (l : List Tree) → weight (productOf l) + extra b (productOf l) ≤ 2 + total weight l
+unfolding productOf collapse total weight ofList extra
+productOf-extra b [] = omega (arith, extra-integer b (pos 1))
+productOf-extra b (t ∷ []) = omega (arith, extra-two b t)
+productOf-extra true (t ∷ u ∷ l) = omega (arith, list-weights l)
+productOf-extra false (t ∷ u ∷ l) = omega (arith, list-weights l)
+
+productTerm-cost : (f : Forest) (r : Option (ℤ × List Tree)) → TakenOut (toList f) r → WF (productTerm f r .rest)
+    → cost (productTerm f r) ≤ weight (product f)
+unfolding productTerm cost term eqZ extra weight
+productTerm-cost f none h w = omega (arith, bulk-wf (product f) w)
+productTerm-cost f (some r) h w =
+    omega (
+      arith,
+      bulk-wf (productOf (r .1)) w,
+      productOf-extra (eqZ (r .0) (pos 1)) (r .1),
+      taken-total weight h,
+      weights-list f,
+    )
+
+termOf-cost : (t : Tree) → WF t → cost (termOf t) ≤ weight t
+unfolding termOf cost term eqZ bulk atLeast asInteger extra weight
+termOf-cost (integer z) w = omega (arith, extra-integer (eqZ z (pos 1)) (pos 1))
+termOf-cost (symbol s) w = omega arith
+termOf-cost (sum f) w = omega (arith, bulk-wf (sum f) w)
+termOf-cost (product f) w =
+    productTerm-cost f (firstInteger (toList f)) (firstInteger-taken (toList f)) (termOf-wf (product f) w .rest-wf)
+termOf-cost (power b e) w = omega (arith, bulk-wf (power b e) w)
+
+-- step 2 lowers the weight by at least as many as it removes
+pub like-terms-weight : (l : List Tree) → WFl l
+    → weight (sumOf (comeOut termOf mergeTerms fromTerm l)) + walked termOf mergeTerms fromTerm l .removed ≤ 1 + total weight l
+like-terms-weight l w =
+    omega (
+      arith,
+      sumOf-weight (comeOut termOf mergeTerms fromTerm l),
+      combine-lowers termOf mergeTerms fromTerm cost termOf-cost mergeTerms-cost fromTerm-cost l w,
+    )

@@ -1,0 +1,390 @@
+-- Refusals 1 to 5 are given exactly as the paper's table of refusals says, with the place that it names, the lowest number winning.
+-- For each number the test and the place of the checker are shown to be the condition and the place in words; the checker goes
+-- through the tests in order and stops at the first that holds. Assumes nothing.
+use Prim.Native.Nat.{ℕ, zero, suc, _+_, _-_, _*_, _/_, _%_, _^_, _<_, _≤_, min}
+use mathlib.Core.Path.{_≡_, refl, sym, ap, _∙_, subst}
+use mathlib.Core.Bool.{Bool, true, false, cond, _&&_, _||_, not}
+use mathlib.Core.List.{List}
+use mathlib.Core.Logic.{_⊎_, inl, inr, _↔_}
+use native.Mathlib.Nat.{eq-or-lt-of-le}
+use native.Mathlib.Omega.{arith}
+use borrow.Author.Tests.{eq-eqb, ne-eqb, lt-ltb, eqb-true, eqb-false, ltb-true, ltb-false, not-true}
+use lib.Dec.{eqb, ltb, leb→le, le→leb, lit<}
+use lib.ListN.{length, getD}
+use lib.IntN.{pos, negsuc}
+use lib.Signed.{_≤ℤ_}
+use mir.Syntax.{w64}
+use mir.Facts.{toZ-pos}
+use Rattle.paper.specs.Limits.{maxWeight, maxBytes}
+use Rattle.paper.specs.Record.{kind, countIn, bits, mayBe, stray, isNode, flaw, isFlawed}
+use Rattle.paper.specs.Verdict.{Verdict, refused, accepted, recordsIn, badLength, firstFlawed, tableWeight, treeEnd, isPositive}
+use Rattle.paper.specs.Verdict.{badExponent, firstBadExponent, judgeRecords, verdict}
+use Rattle.paper.specs.Refusals.{First, BadLength, is-zero, no-multiple, is-over, Flawed, kind-over, byte-other, count-under}
+use Rattle.paper.specs.Refusals.{BadShape, records-end, tree-ends, Exponent, after-base, AtLeastOne}
+use Rattle.paper.specs.Refusals.{Applies, refusal-1, refusal-2, refusal-3, refusal-4, refusal-5, Refuses}
+use Rattle.paper.proofs.Tests.{true-not-false, not-so, and-both, or-either, or-left, or-right}
+use Rattle.paper.proofs.EncodeLaws.{signed-negative}
+use Rattle.paper.proofs.SpanLaws.{spans-end}
+use Rattle.paper.proofs.FirstLaws.{All, all-one, all-both, first, first-true, first-before, first-is, first-flawed, isStray, first-stray}
+use Rattle.paper.proofs.FirstLaws.{bad-exponent-first, bad-exponent-some}
+use Rattle.paper.proofs.RecordLaws.{flawed-tests, positive-kind}
+
+-- 1: a length is bad as the paper says
+length-words : (s : List ℕ) → badLength (length s) ≡ true → BadLength s
+unfolding badLength
+length-words s h = go (or-either (eqb m 0 || not (eqb (m % 16) 0)) (ltb maxBytes m) h)
+  where
+    m : ℕ
+    m = length s
+
+    either : (eqb m 0 ≡ true) ⊎ (not (eqb (m % 16) 0) ≡ true) → BadLength s
+    either (inl e) = is-zero (eqb-true m 0 e)
+    either (inr e) = no-multiple (λ k q. eqb-false (m % 16) 0 (not-true (eqb (m % 16) 0) e) (omega arith))
+
+    go : ((eqb m 0 || not (eqb (m % 16) 0)) ≡ true) ⊎ (ltb maxBytes m ≡ true) → BadLength s
+    go (inl e) = either (or-either (eqb m 0) (not (eqb (m % 16) 0)) e)
+    go (inr e) = is-over (ltb-true maxBytes m e)
+
+words-length : (s : List ℕ) → BadLength s → badLength (length s) ≡ true
+unfolding badLength
+words-length s (is-zero e) = rw e
+words-length s (no-multiple h) =
+    let m = length s in
+    let q : eqb (m % 16) 0 ≡ false = ne-eqb (m % 16) 0 (λ e. h (m / 16) (omega arith)) in
+    or-left (eqb m 0 || not (eqb (m % 16) 0)) (ltb maxBytes m) (or-right (eqb m 0) (not (eqb (m % 16) 0)) (ap not q))
+words-length s (is-over l) =
+    let m = length s in
+    or-right (eqb m 0 || not (eqb (m % 16) 0)) (ltb maxBytes m) (lt-ltb maxBytes m l)
+
+-- 2: a record is flawed as the paper says
+module _ (s : List ℕ) (i : ℕ) where
+  over : Bool
+  over = ltb 4 (kind s i)
+
+  under : Bool
+  under = isNode (kind s i) && ltb (countIn s i) 2
+
+  at-byte : ℕ
+  at-byte = stray s i (kind s i) 0 16
+
+  three-tests : isFlawed (flaw s i) ≡ (over || ltb at-byte 16 || under)
+  unfolding flaw over under at-byte
+  three-tests = flawed-tests over (ltb at-byte 16) under at-byte
+
+  -- the first stray byte is one, and comes no later than any
+  stray-words : at-byte < 16 → Flawed s i
+  unfolding at-byte isStray
+  stray-words l =
+      let q : at-byte ≡ first (isStray s i (kind s i)) 0 16 = first-stray s i (kind s i) 0 16 in
+      let t : isStray s i (kind s i) at-byte ≡ true = rw q (first-true (isStray s i (kind s i)) 0 16 (omega arith)) in
+      let p = and-both (not (eqb (getD s (i * 16 + at-byte) 0) 0)) (eqb (mayBe (kind s i) at-byte) 0) t in
+      byte-other at-byte l
+      (eqb-false (getD s (i * 16 + at-byte) 0) 0 (not-true (eqb (getD s (i * 16 + at-byte) 0) 0) (p .0)))
+      (eqb-true (mayBe (kind s i) at-byte) 0 (p .1))
+
+  words-stray : (j : ℕ) → j < 16 → ¬ (getD s (i * 16 + j) 0 ≡ 0) → mayBe (kind s i) j ≡ 0 → at-byte < 16
+  unfolding at-byte isStray
+  words-stray j l x m = go (ltb at-byte 16) refl
+    where
+      p : ℕ → Bool
+      p = isStray s i (kind s i)
+
+      q : at-byte ≡ first p 0 16
+      q = first-stray s i (kind s i) 0 16
+
+      t : p j ≡ true
+      t = rw (ne-eqb (getD s (i * 16 + j) 0) 0 x, eq-eqb (mayBe (kind s i) j) 0 m)
+
+      go : (b : Bool) → ltb at-byte 16 ≡ b → at-byte < 16
+      go true e = ltb-true at-byte 16 e
+      go false e = absurd (true-not-false t (first-before p 0 16 j (omega arith) (omega (arith, q, ltb-false at-byte 16 e))))
+
+  node-words : isNode (kind s i) ≡ true → (kind s i ≡ 2) ⊎ (kind s i ≡ 3)
+  unfolding isNode
+  node-words e = go (or-either (eqb (kind s i) 2) (eqb (kind s i) 3) e)
+    where
+      go : (eqb (kind s i) 2 ≡ true) ⊎ (eqb (kind s i) 3 ≡ true) → (kind s i ≡ 2) ⊎ (kind s i ≡ 3)
+      go (inl e) = inl (eqb-true (kind s i) 2 e)
+      go (inr e) = inr (eqb-true (kind s i) 3 e)
+
+  words-node : (kind s i ≡ 2) ⊎ (kind s i ≡ 3) → isNode (kind s i) ≡ true
+  unfolding isNode
+  words-node (inl e) = rw e
+  words-node (inr e) = rw e
+
+  flaw-words : isFlawed (flaw s i) ≡ true → Flawed s i
+  unfolding over under
+  flaw-words h = go (or-either (over || ltb at-byte 16) under (sym three-tests ∙ h))
+    where
+      first-two : (over ≡ true) ⊎ (ltb at-byte 16 ≡ true) → Flawed s i
+      first-two (inl e) = kind-over (ltb-true 4 (kind s i) e)
+      first-two (inr e) = stray-words (ltb-true at-byte 16 e)
+
+      go : ((over || ltb at-byte 16) ≡ true) ⊎ (under ≡ true) → Flawed s i
+      go (inl e) = first-two (or-either over (ltb at-byte 16) e)
+      go (inr e) =
+          let p = and-both (isNode (kind s i)) (ltb (countIn s i) 2) e in
+          count-under (node-words (p .0)) (ltb-true (countIn s i) 2 (p .1))
+
+  words-flaw : Flawed s i → isFlawed (flaw s i) ≡ true
+  unfolding over under
+  words-flaw (kind-over l) = three-tests ∙ or-left (over || ltb at-byte 16) under (or-left over (ltb at-byte 16) (lt-ltb 4 (kind s i) l))
+  words-flaw (byte-other j l x m) =
+      three-tests ∙ or-left (over || ltb at-byte 16) under (or-right over (ltb at-byte 16) (lt-ltb at-byte 16 (words-stray j l x m)))
+  words-flaw (count-under k l) =
+      three-tests ∙ or-right (over || ltb at-byte 16) under (rw (words-node k, lt-ltb (countIn s i) 2 l))
+
+-- and the first flawed record is the first such
+flawed-words : (s : List ℕ) (n p : ℕ) → firstFlawed s 0 n < n → firstFlawed s 0 n ≡ p → First (λ i. (i < n) × Flawed s i) p
+flawed-words s n p l e =
+    let t : ℕ → Bool = λ j. isFlawed (flaw s j) in
+    let q : first t 0 n ≡ p = sym (first-flawed s 0 n) ∙ e in (
+      (omega arith, flaw-words s p (rw q at (first-true t 0 n (omega arith)))),
+      λ j u x. true-not-false (words-flaw s j (x .1)) (first-before t 0 n j (omega arith) (omega arith)),
+    )
+
+words-flawed : (s : List ℕ) (n p : ℕ) → First (λ i. (i < n) × Flawed s i) p → firstFlawed s 0 n ≡ p
+words-flawed s n p h =
+    first-flawed s 0 n
+    ∙ first-is (λ j. isFlawed (flaw s j)) 0 n p (omega arith) (omega (arith, h .0 .0))
+    (λ j u v. not-so (isFlawed (flaw s j)) (λ e. h .1 j v (omega (arith, h .0 .0), flaw-words s j e)))
+    (λ l. words-flaw s p (h .0 .1))
+
+-- 4: where the tree that begins the records ends
+shape-words : (s : List ℕ) (n p : ℕ) → ¬ (treeEnd s n 0 ≡ n) → min (treeEnd s n 0) n ≡ p → BadShape s n p
+shape-words s n p h q = go (ltb n (treeEnd s n 0)) refl
+  where
+    go : (b : Bool) → ltb n (treeEnd s n 0) ≡ b → BadShape s n p
+    go true e =
+        let l = ltb-true n (treeEnd s n 0) e in
+        records-end (λ x a. let y = spans-end s n 0 x (omega arith) .0 a in omega (arith, y .0, y .1)) (omega arith)
+    go false e =
+        let l = ltb-false n (treeEnd s n 0) e in
+        tree-ends (spans-end s n 0 p (omega arith) .1 (omega arith, omega arith)) (omega arith)
+
+words-shape : (s : List ℕ) (n p : ℕ) → BadShape s n p → (¬ (treeEnd s n 0 ≡ n)) × (min (treeEnd s n 0) n ≡ p)
+words-shape s n p (records-end h q) = go (ltb n (treeEnd s n 0)) refl
+  where
+    go : (b : Bool) → ltb n (treeEnd s n 0) ≡ b → (¬ (treeEnd s n 0 ≡ n)) × (min (treeEnd s n 0) n ≡ p)
+    go true e = let l = ltb-true n (treeEnd s n 0) e in omega arith
+    go false e = absurd (h (treeEnd s n 0) (spans-end s n 0 (treeEnd s n 0) (omega arith) .1 (refl, ltb-false n (treeEnd s n 0) e)))
+words-shape s n p (tree-ends h l) = let x = spans-end s n 0 p (omega arith) .0 h in omega (arith, x .0)
+
+-- 5: "an integer record of at least 1"
+positive-words : (s : List ℕ) (e : ℕ) → isPositive s e ≡ true → AtLeastOne s e
+positive-words s e h =
+    let p = positive-kind s e h in
+    (p .0, rw (toZ-pos w64 {n = bits s e} (p .2)) (record { le = le→leb 1 (bits s e) (p .1) }))
+
+words-positive : (s : List ℕ) (e : ℕ) → AtLeastOne s e → isPositive s e ≡ true
+unfolding isPositive
+words-positive s e h = go (ltb (bits s e) (2 ^ 63)) refl
+  where
+    go : (b : Bool) → ltb (bits s e) (2 ^ 63) ≡ b → isPositive s e ≡ true
+    go true q =
+        let z : pos 1 ≤ℤ pos (bits s e) = rw (toZ-pos w64 {n = bits s e} (ltb-true (bits s e) (2 ^ 63) q)) at (h .1) in
+        rw (h .0, lt-ltb 0 (bits s e) (leb→le 1 (bits s e) (z .le)), q)
+    go false q =
+        let z : pos 1 ≤ℤ negsuc (2 ^ 64 - suc (bits s e)) = rw (signed-negative (bits s e) (ltb-false (bits s e) (2 ^ 63) q)) at (h .1) in
+        absurd (z .le)
+
+-- e is an exponent that is no such record
+abbrev BadExponent : List ℕ → ℕ → ℕ → Type 0
+BadExponent s n e = Exponent s n e × ¬ AtLeastOne s e
+
+-- the exponent that belongs to record i
+exponent-words : (s : List ℕ) (n i : ℕ) → i < n → badExponent s n i < n → BadExponent s n (badExponent s n i)
+unfolding badExponent
+exponent-words s n i u l = go (eqb (kind s i) 4) refl (ltb e n) refl (isPositive s e) refl l
+  where
+    e : ℕ
+    e = treeEnd s n (i + 1)
+
+    go : (a : Bool) → eqb (kind s i) 4 ≡ a → (b : Bool) → ltb e n ≡ b → (c : Bool) → isPositive s e ≡ c
+        → cond a (cond (b && not c) e n) n < n → BadExponent s n (cond a (cond (b && not c) e n) n)
+    go true k true v false x l =
+        let v′ = ltb-true e n v in (
+          after-base i u (eqb-true (kind s i) 4 k) (spans-end s n (i + 1) e (omega arith) .1 (refl, omega arith)) v′,
+          λ y. true-not-false (words-positive s e y) x,
+        )
+    go true k true v true x l = absurd (omega arith)
+    go true k false v c x l = absurd (omega arith)
+    go false k b v c x l = absurd (omega arith)
+
+words-exponent : (s : List ℕ) (n e : ℕ) → BadExponent s n e → (i : ℕ) × (i < n) × (badExponent s n i ≡ e)
+unfolding badExponent
+words-exponent s n e h = go (h .0)
+  where
+    bad : isPositive s e ≡ false
+    bad = not-so (isPositive s e) (λ p. h .1 (positive-words s e p))
+
+    go : Exponent s n e → (i : ℕ) × (i < n) × (badExponent s n i ≡ e)
+    go (after-base i u k a l) =
+        let q : treeEnd s n (i + 1) ≡ e = spans-end s n (i + 1) e (omega arith) .0 a .0 in
+        (i, u, rw (k, q, lt-ltb e n l, bad))
+
+-- and the first bad exponent is the first such
+exponents-words : (s : List ℕ) (n p : ℕ) → firstBadExponent s n 0 n < n → firstBadExponent s n 0 n ≡ p → First (BadExponent s n) p
+exponents-words s n p l q =
+    let r = bad-exponent-some s n 0 n l in
+    let b : badExponent s n (r .0) ≡ p = r .3 ∙ q in (
+      rw b at (exponent-words s n (r .0) (omega (arith, r .2)) (omega arith)),
+      λ j v x. let y = words-exponent s n j x in
+          omega (arith, y .2, bad-exponent-first s n 0 n (y .0) (omega arith) (omega (arith, y .1))),
+    )
+
+exponent-lt : (s : List ℕ) (n e : ℕ) → Exponent s n e → e < n
+exponent-lt s n e (after-base i u k a l) = l
+
+words-exponents : (s : List ℕ) (n p : ℕ) → First (BadExponent s n) p → (firstBadExponent s n 0 n < n) × (firstBadExponent s n 0 n ≡ p)
+words-exponents s n p h = (small, go (eq-or-lt-of-le none-before))
+  where
+    q : ℕ
+    q = firstBadExponent s n 0 n
+
+    none-before : q ≤ p
+    none-before =
+        let y = words-exponent s n p (h .0) in
+        omega (arith, y .2, bad-exponent-first s n 0 n (y .0) (omega arith) (omega (arith, y .1)))
+
+    small : q < n
+    small = omega (arith, none-before, exponent-lt s n p (h .0 .0))
+
+    go : (q ≡ p) ⊎ (q < p) → q ≡ p
+    go (inl e) = e
+    go (inr l) = absurd (h .1 q l (exponents-words s n q small refl .0))
+
+-- the checker's five tests and places, by number
+test : List ℕ → ℕ → Bool
+test s zero = false
+test s (suc zero) = badLength (length s)
+test s (suc (suc zero)) = ltb (firstFlawed s 0 (recordsIn s)) (recordsIn s)
+test s (suc (suc (suc zero))) = ltb maxWeight (tableWeight s)
+test s (suc (suc (suc (suc zero)))) = not (eqb (treeEnd s (recordsIn s) 0) (recordsIn s))
+test s (suc (suc (suc (suc (suc zero))))) = ltb (firstBadExponent s (recordsIn s) 0 (recordsIn s)) (recordsIn s)
+test s (suc (suc (suc (suc (suc (suc k)))))) = false
+
+place : List ℕ → ℕ → ℕ
+place s zero = 0
+place s (suc zero) = 0
+place s (suc (suc zero)) = firstFlawed s 0 (recordsIn s)
+place s (suc (suc (suc zero))) = 0
+place s (suc (suc (suc (suc zero)))) = min (treeEnd s (recordsIn s) 0) (recordsIn s)
+place s (suc (suc (suc (suc (suc zero))))) = firstBadExponent s (recordsIn s) 0 (recordsIn s)
+place s (suc (suc (suc (suc (suc (suc k)))))) = 0
+
+-- the test of number k holds exactly when refusal k applies, at its place
+test-words : (s : List ℕ) (k : ℕ) → test s k ≡ true → Applies s k (place s k)
+unfolding test place
+test-words s zero h = absurd (true-not-false h refl)
+test-words s (suc zero) h = refusal-1 (length-words s h)
+test-words s (suc (suc zero)) h =
+    refusal-2 (flawed-words s (recordsIn s) (firstFlawed s 0 (recordsIn s)) (ltb-true (firstFlawed s 0 (recordsIn s)) (recordsIn s) h) refl)
+test-words s (suc (suc (suc zero))) h = refusal-3 (ltb-true maxWeight (tableWeight s) h)
+test-words s (suc (suc (suc (suc zero)))) h =
+    let n = recordsIn s in
+    refusal-4 (shape-words s n (min (treeEnd s n 0) n) (eqb-false (treeEnd s n 0) n (not-true (eqb (treeEnd s n 0) n) h)) refl)
+test-words s (suc (suc (suc (suc (suc zero))))) h =
+    let n = recordsIn s in
+    refusal-5 (exponents-words s n (firstBadExponent s n 0 n) (ltb-true (firstBadExponent s n 0 n) n h) refl)
+test-words s (suc (suc (suc (suc (suc (suc k)))))) h = absurd (true-not-false h refl)
+
+words-test : (s : List ℕ) (k p : ℕ) → Applies s k p → (test s k ≡ true) × (place s k ≡ p) × (0 < k) × (k < 6)
+unfolding test place
+words-test s k p (refusal-1 h) = (words-length s h, refl, lit< tt, lit< tt)
+words-test s k p (refusal-2 {p = q} h) =
+    let n = recordsIn s in
+    let e : firstFlawed s 0 n ≡ q = words-flawed s n q h in
+    (lt-ltb (firstFlawed s 0 n) n (omega (arith, h .0 .0)), e, lit< tt, lit< tt)
+words-test s k p (refusal-3 h) = (lt-ltb maxWeight (tableWeight s) h, refl, lit< tt, lit< tt)
+words-test s k p (refusal-4 {p = q} h) =
+    let n = recordsIn s in
+    let e = words-shape s n q h in
+    (ap not (ne-eqb (treeEnd s n 0) n (e .0)), e .1, lit< tt, lit< tt)
+words-test s k p (refusal-5 {p = q} h) =
+    let n = recordsIn s in
+    let e = words-exponents s n q h in
+    (lt-ltb (firstBadExponent s n 0 n) n (e .0), e .1, lit< tt, lit< tt)
+
+-- tests in order: the first that holds gives its number and its place
+module _ (t : ℕ → Bool) (at : ℕ → ℕ) where
+  ladder : ℕ → ℕ → Verdict
+  ladder zero i = accepted
+  ladder (suc f) i = cond (t i) (refused i (at i)) (ladder f (i + 1))
+
+  ladder-down : (f i k p : ℕ) → 0 < k → ladder f i ≡ refused k p → (t k ≡ true) × (at k ≡ p) × All (λ j. t j ≡ false) i k
+  unfolding ladder
+  ladder-down zero i k p l e = absurd (omega (arith, ap (λ (v : Verdict). v .number) e))
+  ladder-down (suc f) i k p l e = go (t i) refl (ladder-down f (i + 1) k p l) e
+    where
+      go : (b : Bool) → t i ≡ b → (ladder f (i + 1) ≡ refused k p → (t k ≡ true) × (at k ≡ p) × All (λ j. t j ≡ false) (i + 1) k)
+          → cond b (refused i (at i)) (ladder f (i + 1)) ≡ refused k p → (t k ≡ true) × (at k ≡ p) × All (λ j. t j ≡ false) i k
+      go true b ih e =
+          let n : i ≡ k = ap (λ (v : Verdict). v .number) e in
+          let q : at i ≡ p = ap (λ (v : Verdict). v .place) e in
+          (subst (λ (x : ℕ). t x ≡ true) n b, subst (λ (x : ℕ). at x ≡ p) n q, λ j u v. absurd (omega arith))
+      go false b ih e =
+          let r = ih e in
+          (r .0, r .1, all-both (λ j. t j ≡ false) i (i + 1) k (all-one (λ j. t j ≡ false) i b) (r .2))
+
+  ladder-up : (f i k : ℕ) → i ≤ k → k < i + f → t k ≡ true → All (λ j. t j ≡ false) i k → ladder f i ≡ refused k (at k)
+  unfolding ladder
+  ladder-up zero i k u v h a = absurd (omega arith)
+  ladder-up (suc f) i k u v h a = go (t i) refl (eq-or-lt-of-le u) (λ l. ladder-up f (i + 1) k l (omega arith) h (λ j x y. a j (omega arith) y))
+    where
+      go : (b : Bool) → t i ≡ b → (i ≡ k) ⊎ (i < k) → (i + 1 ≤ k → ladder f (i + 1) ≡ refused k (at k))
+          → cond b (refused i (at i)) (ladder f (i + 1)) ≡ refused k (at k)
+      go true e (inl q) ih = ap (λ (x : ℕ). refused x (at x)) q
+      go true e (inr l) ih = absurd (true-not-false e (a i (omega arith) l))
+      go false e (inl q) ih = absurd (true-not-false h (subst (λ (x : ℕ). t x ≡ false) q e))
+      go false e (inr l) ih = ih (omega arith)
+
+  none-holds : (f i : ℕ) → 0 < i → ladder f i ≡ accepted → All (λ j. t j ≡ false) i (i + f)
+  unfolding ladder
+  none-holds zero i l e = λ j u v. absurd (omega arith)
+  none-holds (suc f) i l e = go (t i) refl (none-holds f (i + 1) (omega arith)) e
+    where
+      go : (b : Bool) → t i ≡ b → (ladder f (i + 1) ≡ accepted → All (λ j. t j ≡ false) (i + 1) (i + 1 + f))
+          → cond b (refused i (at i)) (ladder f (i + 1)) ≡ accepted → All (λ j. t j ≡ false) i (i + suc f)
+      go true b ih e = absurd (omega (arith, ap (λ (v : Verdict). v .number) e))
+      go false b ih e =
+          let q : i + suc f ≡ i + 1 + f = omega arith in
+          rw q (all-both (λ j. t j ≡ false) i (i + 1) (i + 1 + f) (all-one (λ j. t j ≡ false) i b) (ih e))
+
+  holds-none : (f i : ℕ) → All (λ j. t j ≡ false) i (i + f) → ladder f i ≡ accepted
+  unfolding ladder
+  holds-none zero i a = refl
+  holds-none (suc f) i a = rw (a i (omega arith) (omega arith)) (holds-none f (i + 1) (λ j u v. a j (omega arith) (omega arith)))
+
+-- the checker is these five tests in order
+verdict-ladder : (s : List ℕ) → verdict s ≡ ladder (test s) (place s) 5 1
+unfolding verdict judgeRecords tableWeight ladder test place
+verdict-ladder s = refl
+
+-- a refusal is given exactly when the paper's table says so, and at the place that it says
+pub refusal-exactly : (s : List ℕ) (k p : ℕ) → 0 < k → (verdict s ≡ refused k p) ↔ Refuses s k p
+refusal-exactly s k p l = (down, up)
+  where
+    down : verdict s ≡ refused k p → Refuses s k p
+    down h =
+        let r = ladder-down (test s) (place s) 5 1 k p l (sym (verdict-ladder s) ∙ h) in
+        record {
+          applies = subst (λ (q : ℕ). Applies s k q) (r .1) (test-words s k (r .0));
+          lowest = λ j q u x. let y = words-test s j q x in true-not-false (y .0) (r .2 j (y .2) u);
+        }
+
+    up : Refuses s k p → verdict s ≡ refused k p
+    up h =
+        let y = words-test s k p (h .applies) in
+        verdict-ladder s
+        ∙ ladder-up (test s) (place s) 5 1 k (y .2) (y .3) (y .0)
+        (λ j u v. not-so (test s j) (λ e. h .lowest j (place s j) v (test-words s j e)))
+        ∙ ap (refused k) (y .1)
+
+-- and none is given exactly when none applies
+pub accepted-exactly : (s : List ℕ) → (verdict s ≡ accepted) ↔ ((k p : ℕ) → ¬ Applies s k p)
+accepted-exactly s = (
+  λ h k p x. let y = words-test s k p x in
+      true-not-false (y .0) (none-holds (test s) (place s) 5 1 (lit< tt) (sym (verdict-ladder s) ∙ h) k (y .2) (y .3)),
+  λ h. verdict-ladder s ∙ holds-none (test s) (place s) 5 1 (λ j u v. not-so (test s j) (λ e. h j (place s j) (test-words s j e))),
+)

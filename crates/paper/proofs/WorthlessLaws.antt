@@ -1,0 +1,197 @@
+-- The worthless simplifiers are turned away, each at the field that the paper names for it: one small table apiece that breaks
+-- the field. The tables are the records of a tree (TableLaws), the lent areas have just the room that 6 asks for, and what the
+-- simplifier makes of them is read off the cases of a call (CallLaws). Assumes nothing.
+use Prim.Native.Nat.{ℕ, zero, suc, _+_, _*_, _≤_, _<_}
+use mathlib.Core.Path.{_≡_, refl, sym, ap, _∙_, subst}
+use mathlib.Core.List.{List, [], _∷_}
+use mathlib.Core.Option.{Option, none, some}
+use native.Mathlib.Omega.{arith}
+use lib.ListN.{length, replicate, length-replicate}
+use lib.IntN.{pos, negsuc}
+use lib.Dec.{lit<, lit≤}
+use Rattle.paper.specs.Limits.{maxWeight, workBytes}
+use Rattle.paper.specs.Bytes.{Bytes, word, stretch}
+use Rattle.paper.specs.Tree.{Tree, Forest, integer, symbol, sum, product, power, nil, cons, weight, records, value}
+use Rattle.paper.specs.WellFormed.{WF}
+use Rattle.paper.specs.Table.{encode, treeOf}
+use Rattle.paper.specs.Verdict.{accepted, refused, tableWeight, verdict}
+use Rattle.paper.specs.Rules.{editionOne}
+use Rattle.paper.specs.Driver.{Ran, done, over, no-rule, out-of-range, step, ask, simplify}
+use Rattle.paper.specs.Admits.{AdmitsNone, admits-none}
+use Rattle.paper.specs.Answers.{Lent, Answer, ran, judgement, cramped, refusal, ranAnswer, written, noted, outAfter, lentAfter, simplifiedBy, simplified}
+use Rattle.paper.specs.Demands.{Simplifier, result, Refuses, RunsOver, Follows, Finishes, KeepsValue}
+use Rattle.paper.specs.Worthless.{refusesAll, returnsZero, returnsInput, gatheredOnce, firstPass, passesOnce, oneStepMore, oneOpeningMore, inventsSteps, inventsOpenings}
+use Rattle.paper.proofs.EncodeLaws.{encode-bytes}
+use Rattle.paper.proofs.TableLaws.{encode-weight, written-accepted}
+use Rattle.paper.proofs.ReadLaws.{tree-of-written}
+use Rattle.paper.proofs.AcceptedLaws.{Holds}
+use Rattle.paper.proofs.CallLaws.{TurnedDown, RunOn, Call, is-turned-down, is-run, call, accepted-judgement, refusal-number, result-written}
+use Rattle.paper.proofs.Computes.{trees-compute, driver-computes}
+use Rattle.paper.proofs.Takeover.{Room, of-room}
+
+-- areas with just enough room for a weight
+areas : ℕ → Lent
+areas w = record { out = replicate (16 * w) 0; steps = replicate w 0; work = replicate workBytes 0 }
+
+areas-room : (w : ℕ) → Room w (areas w)
+unfolding areas
+areas-room w =
+    record {
+      out-room = omega (arith, length-replicate {A = ℕ} (16 * w) 0);
+      steps-room = omega (arith, length-replicate {A = ℕ} w 0);
+      work-room = omega (arith, length-replicate {A = ℕ} workBytes 0);
+    }
+
+-- the table of a well-formed, light tree, with such areas, is accepted
+module _ (t : Tree) (w : WF t) (light : weight t ≤ maxWeight) where
+  tree-accepted : judgement (encode t) (areas (weight t)) ≡ accepted
+  tree-accepted =
+      accepted-judgement (encode t) (areas (weight t)) (written-accepted t w light)
+      (ap (λ n. cramped n (areas (weight t))) (encode-weight t) ∙ of-room (weight t) (areas (weight t)) (areas-room (weight t)))
+
+  same-tree : {o : Option Tree} {x y : Tree} → o ≡ some x → o ≡ some y → x ≡ y
+  same-tree e h = cc
+
+  -- a simplifier around a run that ends on t with u answers with u's records
+  record Gives (run : Tree → Ran) (u : Tree) (ks : List ℕ) (o : ℕ) : Type 0 where
+    answer : simplifiedBy run (encode t) (areas (weight t)) .answer ≡ ranAnswer (weight t) (done u ks o)
+    bytes : result (simplifiedBy run (encode t) (areas (weight t))) ≡ encode u
+
+  gives : (run : Tree → Ran) (u : Tree) (ks : List ℕ) (o : ℕ) → run t ≡ done u ks o → Gives run u ks o
+  unfolding ranAnswer lentAfter outAfter written
+  gives run u ks o e = go (call run (encode t) (areas (weight t)) (encode-bytes t))
+    where
+      s : List ℕ
+      s = encode t
+
+      l : Lent
+      l = areas (weight t)
+
+      go : Call run s l → Gives run u ks o
+      go (is-turned-down d) = absurd (let z : judgement s l .number ≡ 0 = ap (λ v. v .number) tree-accepted in omega (arith, d .number))
+      go (is-run r) =
+          let x : r .holds .tree ≡ t = same-tree (r .holds .read) (tree-of-written t w light) in
+          let a : simplifiedBy run s l .answer ≡ ranAnswer (weight t) (done u ks o) =
+          r .answer ∙ ap (λ y. ranAnswer (weight y) (run y)) x ∙ ap (ranAnswer (weight t)) e in
+          let g : simplifiedBy run s l .lent ≡ lentAfter (ran (weight t) (done u ks o)) l =
+          r .lent ∙ ap (λ y. lentAfter (ran (weight y) (run y)) l) x ∙ ap (λ y. lentAfter (ran (weight t) y) l) e in
+          record {
+            answer = a;
+            bytes = result-written (simplifiedBy run s l) (weight t) u (l .out) (ap (λ y. y .records-written) a) (ap (λ y. y .out) g);
+          }
+
+-- ---- the tables: 1; a + (-1)*a, which takes two steps
+one : Tree
+one = integer (pos 1)
+
+one-wf : WF one
+unfolding one
+one-wf = lit< tt
+
+one-light : weight one ≤ maxWeight
+unfolding one weight
+one-light = lit≤ tt
+
+difference : Tree
+difference = sum (cons (symbol 0) (cons (product (cons (integer (negsuc 0)) (cons (symbol 0) nil))) nil))
+
+difference-wf : WF difference
+unfolding difference trees-compute
+difference-wf = (lit≤ tt, (lit< tt, ((lit≤ tt, (lit< tt, (lit< tt, tt))), tt)))
+
+difference-light : weight difference ≤ maxWeight
+unfolding difference weight
+difference-light = lit≤ tt
+
+-- what the first step makes of it
+once : Tree
+once = product (cons (integer (pos 0)) (cons (symbol 0) nil))
+
+-- ---- "One that refuses everything: by the exact conditions of 1 to 6 in demand 1 and of 7 in demand 2."
+pub refusing-is-refused : (k : ℕ) → 1 ≤ k → k ≤ 6 → ¬ Refuses (refusesAll k)
+unfolding refusesAll
+refusing-is-refused k h g r =
+    let e = r (encode one) (encode-bytes one) (areas (weight one)) k 0 h g .0 refl in
+    let z : 0 ≡ k = ap (λ v. v .number) (sym (tree-accepted one one-wf one-light) ∙ e) in
+    omega arith
+
+pub refusing-7-is-refused : ¬ RunsOver (refusesAll 7)
+unfolding refusesAll driver-computes one
+refusing-7-is-refused r =
+    let x = r (encode one) (encode-bytes one) (areas (weight one)) 0 .0 refl in
+    let e : x .1 .0 ≡ one = same-tree one one-wf one-light (x .1 .1) (tree-of-written one one-wf one-light) in
+    no (sym (ap (simplify editionOne) e) ∙ x .1 .2)
+  where
+    no : done one [] 0 ≡ over 0 → ⊥
+    no e = let z : _≡_ {A = ℕ} 0 1 = cc in omega arith
+
+-- ---- "One that returns 0 for all: by the value in demand 3."
+pub zero-is-refused : ¬ KeepsValue returnsZero
+unfolding returnsZero trees-compute one ranAnswer
+zero-is-refused k =
+    let g = gives one one-wf one-light (λ t. done (integer (pos 0)) [] 0) (integer (pos 0)) [] 0 refl in
+    let b = ap treeOf (g .bytes) ∙ tree-of-written (integer (pos 0)) (lit< tt) (lit≤ tt) in
+    let v = k (encode one) (encode-bytes one) (areas (weight one)) (ap (λ y. y .number) (g .answer)) one (integer (pos 0))
+    (tree-of-written one one-wf one-light) b (λ n. 0) in
+    let z : _≡_ {A = ℕ} 0 1 = v in omega arith
+
+-- ---- a tree that admits a rule is no finished one
+admits-a-rule : (t u : Tree) (k : ℕ) → ask editionOne t ≡ step k u → ¬ AdmitsNone editionOne t
+admits-a-rule t u k e (admits-none a o ms) = let z : step k u ≡ no-rule = sym e ∙ a in let y : _≡_ {A = ℕ} 0 1 = cc in omega arith
+
+-- "One that returns its input: by "admits no rule"."
+pub input-is-refused : ¬ Finishes returnsInput
+unfolding returnsInput ranAnswer
+input-is-refused f =
+    let g = gives difference difference-wf difference-light (λ t. done t [] 0) difference [] 0 refl in
+    let r = tree-of-written difference difference-wf difference-light in
+    let a = f (encode difference) (encode-bytes difference) (areas (weight difference)) (ap (λ y. y .number) (g .answer)) difference difference r
+    (ap treeOf (g .bytes) ∙ r) in
+    admits-a-rule difference once 2 first-step a
+  where
+    first-step : ask editionOne difference ≡ step 2 once
+    first-step = unfold difference once driver-computes in refl
+
+-- "One that makes a first pass and then stops: the same clause, over the rules above."
+pub pass-is-refused : ¬ Finishes passesOnce
+unfolding passesOnce ranAnswer
+pass-is-refused f =
+    let g = gives difference difference-wf difference-light (λ t. firstPass editionOne (weight t) t) once (2 ∷ []) 0 passed in
+    let r = tree-of-written once once-wf once-light in
+    let a = f (encode difference) (encode-bytes difference) (areas (weight difference)) (ap (λ y. y .number) (g .answer)) difference once
+    (tree-of-written difference difference-wf difference-light) (ap treeOf (g .bytes) ∙ r) in
+    admits-a-rule once (integer (pos 0)) 3 second-step a
+  where
+    passed : firstPass editionOne (weight difference) difference ≡ done once (2 ∷ []) 0
+    passed = unfold difference once firstPass driver-computes trees-compute in refl
+
+    second-step : ask editionOne once ≡ step 3 (integer (pos 0))
+    second-step = unfold once driver-computes in refl
+
+    once-wf : WF once
+    once-wf = unfold once trees-compute in (lit≤ tt, (lit< tt, (lit< tt, tt)))
+
+    once-light : weight once ≤ maxWeight
+    once-light = unfold once weight in (lit≤ tt)
+
+-- ---- "Invented steps or openings fall to demand 2, since both are those of the driver."
+module _ where
+  ran-one : simplify editionOne one ≡ done one [] 0
+  unfolding one driver-computes
+  ran-one = refl
+
+  pub steps-are-refused : ¬ Follows inventsSteps
+  unfolding inventsSteps oneStepMore ranAnswer
+  steps-are-refused f =
+      let g = gives one one-wf one-light (λ t. oneStepMore (simplify editionOne t)) one (1 ∷ []) 0 (ap oneStepMore ran-one) in
+      let x = f (encode one) (encode-bytes one) (areas (weight one)) (tree-accepted one one-wf one-light) one one [] 0
+      (tree-of-written one one-wf one-light) ran-one .0 in
+      let z : _≡_ {A = ℕ} 0 1 = ap (λ y. y .steps-taken) (sym x ∙ g .answer) in omega arith
+
+  pub openings-are-refused : ¬ Follows inventsOpenings
+  unfolding inventsOpenings oneOpeningMore ranAnswer
+  openings-are-refused f =
+      let g = gives one one-wf one-light (λ t. oneOpeningMore (simplify editionOne t)) one [] 1 (ap oneOpeningMore ran-one) in
+      let x = f (encode one) (encode-bytes one) (areas (weight one)) (tree-accepted one one-wf one-light) one one [] 0
+      (tree-of-written one one-wf one-light) ran-one .0 in
+      let z : _≡_ {A = ℕ} 0 1 = ap (λ y. y .openings) (sym x ∙ g .answer) in omega arith

@@ -1,0 +1,175 @@
+-- The whole answer of each public function, and every lent byte afterwards, as functions of the bytes handed in.
+use Prim.Native.Nat.{ℕ, zero, suc, _+_, _*_}
+use mathlib.Core.Bool.{Bool, true, false, cond, _||_, not}
+use mathlib.Core.List.{List, [], _∷_}
+use mathlib.Core.Option.{Option, none, some}
+use lib.ListN.{length}
+use lib.Dec.{eqb, ltb}
+use Rattle.paper.specs.Limits.{workBytes, registerBytes}
+use Rattle.paper.specs.Bytes.{le8, stretch}
+use Rattle.paper.specs.Tree.{Tree, weight, records, value}
+use Rattle.paper.specs.Equal.{equal}
+use Rattle.paper.specs.Table.{encode, treeOf}
+use Rattle.paper.specs.Verdict.{Verdict, accepted, refused, isAccepted, tableWeight, verdict}
+use Rattle.paper.specs.Rules.{editionOne}
+use Rattle.paper.specs.Driver.{Ran, done, over, simplify}
+
+-- ---- the checker of tables answers `verdict`
+
+-- ---- weight and value: "answer 1 to 5 alike (weight and value 0 when refused)"
+pub record Measured : Type 0 where
+  pub number : ℕ
+  pub place : ℕ
+  pub result : ℕ
+
+unfoldable pub measured : Verdict → ℕ → Measured
+measured v n = record { number = v .number; place = v .place; result = cond (isAccepted v) n 0 }
+
+unfoldable pub weighed : List ℕ → Measured
+weighed s = measured (verdict s) (tableWeight s)
+
+-- "the registers come as 2,048 bytes, symbol 0 first, little-endian"
+unfoldable pub register : List ℕ → ℕ → ℕ
+register regs k = le8 regs (k * 8)
+
+unfoldable pub treeValue : Option Tree → (ℕ → ℕ) → ℕ
+treeValue none ρ = 0
+treeValue (some t) ρ = value t ρ
+
+-- "any other length is 6, place 0, after 1 to 5"
+unfoldable pub registersVerdict : List ℕ → List ℕ → Verdict
+registersVerdict s regs = cond (isAccepted (verdict s)) (cond (eqb (length regs) registerBytes) accepted (refused 6 0)) (verdict s)
+
+unfoldable pub valued : List ℕ → List ℕ → Measured
+valued s regs = measured (registersVerdict s regs) (treeValue (treeOf s) (register regs))
+
+-- ---- "The equality test judges the first table by 1 to 5, then the second, and returns number, place and which table it
+-- refuses (1 or 2, and 0 for neither); its yes or no is no after a refusal."
+pub record Compared : Type 0 where
+  pub number : ℕ
+  pub place : ℕ
+  pub which : ℕ
+  pub yes : Bool
+
+unfoldable pub turnedDown : Verdict → ℕ → Compared
+turnedDown v k = record { number = v .number; place = v .place; which = k; yes = false }
+
+unfoldable pub equalTrees : Option Tree → Option Tree → Bool
+equalTrees none u = false
+equalTrees (some t) none = false
+equalTrees (some t) (some u) = equal t u
+
+unfoldable pub compared : List ℕ → List ℕ → Compared
+compared a b =
+    cond (isAccepted (verdict a))
+    (cond (isAccepted (verdict b))
+    (record { number = 0; place = 0; which = 0; yes = equalTrees (treeOf a) (treeOf b) })
+    (turnedDown (verdict b) 2))
+    (turnedDown (verdict a) 1)
+
+-- ---- the simplifier: "is lent a table, and `out`, `steps` and `work` to write"
+pub record Lent : Type 0 where
+  pub out : List ℕ
+  pub steps : List ℕ
+  pub work : List ℕ
+
+-- "the records written, the steps, the openings, and both weights"
+pub record Answer : Type 0 where
+  pub number : ℕ
+  pub place : ℕ
+  pub records-written : ℕ
+  pub steps-taken : ℕ
+  pub openings : ℕ
+  pub weight-in : ℕ
+  pub weight-out : ℕ
+
+-- 6: "`out` under 16 x W bytes, `steps` under W, or `work` under 65,536"
+unfoldable pub cramped : ℕ → Lent → Bool
+cramped w l = ltb (length (l .out)) (16 * w) || ltb (length (l .steps)) w || ltb (length (l .work)) workBytes
+
+-- 1 to 6: "The lowest number wins."
+unfoldable pub judgement : List ℕ → Lent → Verdict
+judgement s l = cond (isAccepted (verdict s)) (cond (cramped (tableWeight s) l) (refused 6 0) accepted) (verdict s)
+
+-- what becomes of a call: refused by 1 to 6; or W, and the run on the table's tree
+pub data Outcome : Type 0 where
+  turned-down : Verdict → Outcome
+  ran : ℕ → Ran → Outcome
+
+-- (an accepted table always holds a tree: proofs/AcceptedLaws)
+unfoldable pub runOn : (Tree → Ran) → ℕ → Option Tree → Outcome
+runOn run w none = turned-down (refused 4 0)
+runOn run w (some t) = ran w (run t)
+
+unfoldable pub outcomeOf : (Tree → Ran) → List ℕ → Lent → Outcome
+outcomeOf run s l = cond (isAccepted (judgement s l)) (runOn run (tableWeight s) (treeOf s)) (turned-down (judgement s l))
+
+-- "A refusal returns number and place, all other numbers zero."
+unfoldable pub refusal : ℕ → ℕ → Answer
+refusal k p =
+    record {
+      number = k;
+      place = p;
+      records-written = 0;
+      steps-taken = 0;
+      openings = 0;
+      weight-in = 0;
+      weight-out = 0;
+    }
+
+-- "An accepted call returns 0, place 0, the records written, the steps, the openings, and both weights."
+unfoldable pub ranAnswer : ℕ → Ran → Answer
+ranAnswer w (done u ks o) =
+    record {
+      number = 0;
+      place = 0;
+      records-written = records u;
+      steps-taken = length ks;
+      openings = o;
+      weight-in = w;
+      weight-out = weight u;
+    }
+ranAnswer w (over k) = refusal 7 k
+
+unfoldable pub answerOf : Outcome → Answer
+answerOf (turned-down v) = refusal (v .number) (v .place)
+answerOf (ran w r) = ranAnswer w r
+
+-- "It writes the tree to `out` and the step numbers, one byte each, to `steps`, and zeros up to 16 x W and W bytes. After 7 these
+-- two stretches are zeros throughout."
+unfoldable pub written : Ran → List ℕ
+written (done u ks o) = encode u
+written (over k) = []
+
+unfoldable pub noted : Ran → List ℕ
+noted (done u ks o) = ks
+noted (over k) = []
+
+unfoldable pub outAfter : Outcome → List ℕ → List ℕ
+outAfter (turned-down v) old = old
+outAfter (ran w r) old = stretch (16 * w) (written r) old
+
+unfoldable pub stepsAfter : Outcome → List ℕ → List ℕ
+stepsAfter (turned-down v) old = old
+stepsAfter (ran w r) old = stretch w (noted r) old
+
+-- "In both cases the first 65,536 bytes of `work` are zero."
+unfoldable pub workAfter : Outcome → List ℕ → List ℕ
+workAfter (turned-down v) old = old
+workAfter (ran w r) old = stretch workBytes [] old
+
+unfoldable pub lentAfter : Outcome → Lent → Lent
+lentAfter x l = record { out = outAfter x (l .out); steps = stepsAfter x (l .steps); work = workAfter x (l .work) }
+
+-- what a simplifier gives: its answer, and the lent areas afterwards
+pub record Given : Type 0 where
+  pub answer : Answer
+  pub lent : Lent
+
+-- a simplifier that judges, reads and writes as the paper says, around any run
+unfoldable pub simplifiedBy : (Tree → Ran) → List ℕ → Lent → Given
+simplifiedBy run s l = record { answer = answerOf (outcomeOf run s l); lent = lentAfter (outcomeOf run s l) l }
+
+-- the simplifier: the run is the driver's, over the rules of edition one
+unfoldable pub simplified : List ℕ → Lent → Given
+simplified = simplifiedBy (simplify editionOne)

@@ -1,0 +1,84 @@
+-- The three demands as one record with named fields, over the behaviour of any simplifier: what it answers, and what it leaves
+-- in the lent areas, for every table of bytes and all lent areas.
+use Prim.Native.Nat.{ℕ, _+_, _*_, _≤_}
+use mathlib.Core.Path.{_≡_}
+use mathlib.Core.Logic.{_↔_}
+use mathlib.Core.List.{List, []}
+use mathlib.Core.Option.{some}
+use lib.ListN.{length, take}
+use Rattle.paper.specs.Limits.{workBytes}
+use Rattle.paper.specs.Bytes.{Bytes, stretch}
+use Rattle.paper.specs.Tree.{Tree, weight, value, records}
+use Rattle.paper.specs.Table.{encode, treeOf}
+use Rattle.paper.specs.Verdict.{accepted, refused, tableWeight}
+use Rattle.paper.specs.Rules.{editionOne}
+use Rattle.paper.specs.Driver.{done, over, simplify}
+use Rattle.paper.specs.Admits.{AdmitsNone}
+use Rattle.paper.specs.Answers.{Lent, Answer, refusal, Given, judgement}
+
+abbrev pub Simplifier : Type 0
+Simplifier = List ℕ → Lent → Given
+
+-- the bytes of the result: the records written
+unfoldable pub result : Given → List ℕ
+result g = take (16 * g .answer .records-written) (g .lent .out)
+
+module _ (f : Simplifier) where
+  -- ---- demand 1: "gives each refusal exactly when the paper says so": k from 1 to 6, at place p
+  abbrev pub Refuses : Type 0
+  Refuses =
+      (s : List ℕ) → Bytes s → (l : Lent) (k p : ℕ) → 1 ≤ k → k ≤ 6
+      → (f s l .answer ≡ refusal k p) ↔ (judgement s l ≡ refused k p)
+
+  -- "refusals 1 to 6 change no lent byte"
+  abbrev pub LeavesAlone : Type 0
+  LeavesAlone =
+      (s : List ℕ) → Bytes s → (l : Lent) (k p : ℕ) → 1 ≤ k → k ≤ 6 → f s l .answer ≡ refusal k p → f s l .lent ≡ l
+
+  -- "7 leaves the stated zeros", and bytes past the stretches as they were
+  abbrev pub Clears : Type 0
+  Clears =
+      (s : List ℕ) → Bytes s → (l : Lent) (p : ℕ) → f s l .answer ≡ refusal 7 p
+      → f s l .lent ≡ record { out = stretch (16 * tableWeight s) [] (l .out); steps = stretch (tableWeight s) [] (l .steps); work = stretch workBytes [] (l .work) }
+
+  -- ---- demand 2: 7 exactly when the run on the table's tree meets an integer outside the range, p steps being completed
+  abbrev pub RunsOver : Type 0
+  RunsOver =
+      (s : List ℕ) → Bytes s → (l : Lent) (p : ℕ)
+      → (f s l .answer ≡ refusal 7 p) ↔ ((judgement s l ≡ accepted) × ((t : Tree) × (treeOf s ≡ some t) × (simplify editionOne t ≡ over p)))
+
+  -- "Records and trees translate as the paper says, both ways. Tree, steps and openings are those of its rules, followed in order."
+  abbrev pub Follows : Type 0
+  Follows =
+      (s : List ℕ) → Bytes s → (l : Lent) → judgement s l ≡ accepted
+      → (t u : Tree) (ks : List ℕ) (o : ℕ) → treeOf s ≡ some t → simplify editionOne t ≡ done u ks o
+      → (f s l .answer ≡ record { number = 0; place = 0; records-written = records u; steps-taken = length ks; openings = o; weight-in = weight t; weight-out = weight u })
+      × (f s l .lent ≡ record { out = stretch (16 * weight t) (encode u) (l .out); steps = stretch (weight t) ks (l .steps); work = stretch workBytes [] (l .work) })
+
+  -- ---- demand 3, of an accepted call: the table's tree is t, and u is the tree of the result
+  abbrev pub Accepted : (List ℕ → Lent → Tree → Tree → Type 0) → Type 0
+  Accepted Q =
+      (s : List ℕ) → Bytes s → (l : Lent) → f s l .answer .number ≡ 0
+      → (t u : Tree) → treeOf s ≡ some t → treeOf (result (f s l)) ≡ some u → Q s l t u
+
+  -- "steps + openings ≤ weight in − weight out"
+  abbrev pub Lightens : Type 0
+  Lightens = Accepted (λ s l t u. f s l .answer .steps-taken + f s l .answer .openings + weight u ≤ weight t)
+
+  -- "the output admits no rule and no opening"
+  abbrev pub Finishes : Type 0
+  Finishes = Accepted (λ s l t u. AdmitsNone editionOne u)
+
+  -- "the value modulo 2^64 is kept under every assignment"
+  abbrev pub KeepsValue : Type 0
+  KeepsValue = Accepted (λ s l t u. (ρ : ℕ → ℕ) → value u ρ ≡ value t ρ)
+
+pub record Demands (f : Simplifier) : Type 0 where
+  pub refuses : Refuses f
+  pub leaves-alone : LeavesAlone f
+  pub clears : Clears f
+  pub runs-over : RunsOver f
+  pub follows : Follows f
+  pub lightens : Lightens f
+  pub finishes : Finishes f
+  pub keeps-value : KeepsValue f

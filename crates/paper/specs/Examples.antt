@@ -1,0 +1,98 @@
+-- "Marked * are the ones for the proved table": the starred examples of the paper, as one table. Letters a, b, c are symbols 0,
+-- 1, 2. proofs/Starred proves the whole table by one statement.
+use Prim.Native.Nat.{ℕ}
+use mathlib.Core.List.{List, [], _∷_}
+use lib.IntN.{pos, negsuc}
+use Rattle.paper.specs.Tree.{Tree, Forest, integer, symbol, sum, product, power, ofList, weight}
+use Rattle.paper.specs.Rules.{editionOne}
+use Rattle.paper.specs.Driver.{Ran, done, over, simplify}
+
+-- a tree, what the driver makes of it, and both weights (0 after a refusal)
+pub record Example : Type 0 where
+  pub given : Tree
+  pub answer : Ran
+  pub weight-in : ℕ
+  pub weight-out : ℕ
+
+abbrev a : Tree
+a = symbol 0
+
+abbrev b : Tree
+b = symbol 1
+
+abbrev c : Tree
+c = symbol 2
+
+abbrev i : ℕ → Tree
+i n = integer (pos n)
+
+abbrev plus : List Tree → Tree
+plus l = sum (ofList l)
+
+abbrev times : List Tree → Tree
+times l = product (ofList l)
+
+-- the tree, its weight, the result, its steps, its openings, the result's weight
+abbrev gives : Tree → ℕ → Tree → List ℕ → ℕ → ℕ → Example
+gives t w u s o v = record { given = t; answer = done u s o; weight-in = w; weight-out = v }
+
+unfoldable pub examples : List Example
+examples =
+    -- 1. a + a gives 2*a
+    gives (plus (a ∷ a ∷ [])) 7 (times (i 2 ∷ a ∷ [])) (2 ∷ []) 0 5
+    -- 2. (a*b)*a gives a^2 * b
+    ∷ gives (times (times (a ∷ b ∷ []) ∷ a ∷ [])) 11 (times (power a 2 ∷ b ∷ [])) (6 ∷ []) 1 9
+    -- 3. a + (-1)*a gives 0
+    ∷ gives (plus (a ∷ times (integer (negsuc 0) ∷ a ∷ []) ∷ [])) 9 (i 0) (2 ∷ 3 ∷ []) 0 1
+    -- 4. a+a+b+c gives 2*a + c + b
+    ∷ gives (plus (a ∷ a ∷ b ∷ c ∷ [])) 13 (plus (times (i 2 ∷ a ∷ []) ∷ c ∷ b ∷ [])) (2 ∷ []) 0 12
+    -- 5. a*b + b*a gives a*b*2
+    ∷ gives (plus (times (a ∷ b ∷ []) ∷ times (b ∷ a ∷ []) ∷ [])) 15 (times (a ∷ b ∷ i 2 ∷ [])) (2 ∷ []) 0 8
+    -- 6. 2 * 2^3 gives 2^4, which stays
+    ∷ gives (times (i 2 ∷ power (i 2) 3 ∷ [])) 5 (power (i 2) 4) (6 ∷ []) 0 3
+    -- 7. 2^3 * 5^3 gives 10^3
+    ∷ gives (times (power (i 2) 3 ∷ power (i 5) 3 ∷ [])) 7 (power (i 10) 3) (6 ∷ []) 0 3
+    -- 8. 0+0 gives 0; 1*1 gives 1
+    ∷ gives (plus (i 0 ∷ i 0 ∷ [])) 3 (i 0) (1 ∷ []) 0 1
+    ∷ gives (times (i 1 ∷ i 1 ∷ [])) 3 (i 1) (4 ∷ []) 0 1
+    -- 9. (2^63 - 1) + 1 is refused: 7, place 0. 0 * (2^63 - 1) * 2 gives 0
+    ∷ record { given = plus (i 9223372036854775807 ∷ i 1 ∷ []); answer = over 0; weight-in = 3; weight-out = 0 }
+    ∷ gives (times (i 0 ∷ i 9223372036854775807 ∷ i 2 ∷ [])) 4 (i 0) (3 ∷ []) 0 1
+    -- 10. (a*b)^1 * c * c * a gives a^2 * b * c^2
+    ∷ gives (times (power (times (a ∷ b ∷ [])) 1 ∷ c ∷ c ∷ a ∷ [])) 19 (times (power a 2 ∷ b ∷ power c 2 ∷ [])) (6 ∷ 6 ∷ []) 1 14
+    -- 12. 2*3*a + 2*3*a gives 12*a
+    ∷ gives (plus (times (i 2 ∷ i 3 ∷ a ∷ []) ∷ times (i 2 ∷ i 3 ∷ a ∷ []) ∷ [])) 13 (times (i 12 ∷ a ∷ [])) (2 ∷ 6 ∷ []) 0 5
+    ∷ []
+
+-- "Programs that would look right": "a+a+b+a would leave its first step with a second a and list step 2 twice; the rules give it
+-- once". The other four look right but for examples 4, 5, 2 and 6. Besides, the late ranges and the changed base of step 6.
+unfoldable pub lookalikes : List Example
+lookalikes =
+    gives (plus (a ∷ a ∷ b ∷ a ∷ [])) 13 (plus (times (i 3 ∷ a ∷ []) ∷ b ∷ [])) (2 ∷ []) 0 9
+    -- a*a + 2^62*4 + b is 7 at 1, not at 0: nothing is removed in the sum, so no range is judged there
+    ∷ record {
+      given = plus (times (a ∷ a ∷ []) ∷ times (i 4611686018427387904 ∷ i 4 ∷ []) ∷ b ∷ []);
+      answer = over 1;
+      weight-in = 14;
+      weight-out = 0;
+    }
+    -- a + a + 2^62*4 is 7 at 0
+    ∷ record { given = plus (a ∷ a ∷ times (i 4611686018427387904 ∷ i 4 ∷ []) ∷ []); answer = over 0; weight-in = 10; weight-out = 0 }
+    -- 2 * 2^3 * 3^4 is one step, 6^4; 2 * 6^2 * 3 is two, 6^3
+    ∷ gives (times (i 2 ∷ power (i 2) 3 ∷ power (i 3) 4 ∷ [])) 8 (power (i 6) 4) (6 ∷ []) 0 3
+    ∷ gives (times (i 2 ∷ power (i 6) 2 ∷ i 3 ∷ [])) 6 (power (i 6) 3) (6 ∷ 6 ∷ []) 0 3
+    ∷ []
+
+unfoldable pub outWeight : Ran → ℕ
+outWeight (done t s o) = weight t
+outWeight (over k) = 0
+
+-- what the definitions give for a tree
+unfoldable pub computed : Tree → Example
+computed t =
+    record {
+      given = t;
+      answer = simplify editionOne t;
+      weight-in = weight t;
+      weight-out = outWeight (simplify editionOne t);
+    }

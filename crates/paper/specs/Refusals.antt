@@ -1,0 +1,60 @@
+-- "What is refused, and in which order": refusals 1 to 5 of a table in the paper's words, without the functions that find them.
+use Prim.Native.Nat.{ℕ, suc, _+_, _*_, _<_}
+use mathlib.Core.Path.{_≡_}
+use mathlib.Core.List.{List}
+use mathlib.Core.Logic.{_⊎_}
+use lib.ListN.{length, getD}
+use lib.IntN.{pos}
+use lib.Signed.{_≤ℤ_}
+use Rattle.paper.specs.Limits.{maxWeight, maxBytes}
+use Rattle.paper.specs.Bytes.{signed}
+use Rattle.paper.specs.Record.{kind, countIn, bits, mayBe, arity}
+use Rattle.paper.specs.Verdict.{recordsIn, tableWeight}
+
+-- "first such": P holds at p and nowhere before it
+abbrev pub First : (ℕ → Type 0) → ℕ → Type 0
+First P p = P p × ((j : ℕ) → j < p → ¬ P j)
+
+-- 1: "length is zero, no multiple of 16, or over 49,152 bytes"
+pub data BadLength (s : List ℕ) : Type 0 where
+  is-zero : length s ≡ 0 → BadLength s
+  no-multiple : ((m : ℕ) → ¬ (length s ≡ 16 * m)) → BadLength s
+  is-over : maxBytes < length s → BadLength s
+
+-- 2: record i has "a kind over 4, a byte other than zero that must be zero, or a sum or product count under 2"
+pub data Flawed (s : List ℕ) (i : ℕ) : Type 0 where
+  kind-over : 4 < kind s i → Flawed s i
+  byte-other : (j : ℕ) → j < 16 → ¬ (getD s (i * 16 + j) 0 ≡ 0) → mayBe (kind s i) j ≡ 0 → Flawed s i
+  count-under : (kind s i ≡ 2) ⊎ (kind s i ≡ 3) → countIn s i < 2 → Flawed s i
+
+-- of n records, those from i up to e are k trees one after the other: no tree takes no record; a tree is its first record and then
+-- as many trees as that record has members
+pub data Spans (s : List ℕ) (n : ℕ) : ℕ → ℕ → ℕ → Type 0 where
+  no-tree : {i : ℕ} → Spans s n i 0 i
+  one-tree : {i k m e : ℕ} → i < n → Spans s n (i + 1) (arity s i) m → Spans s n m k e → Spans s n i (suc k) e
+
+-- 4: "the records end before the tree, or the tree before the records", with the place
+pub data BadShape (s : List ℕ) (n p : ℕ) : Type 0 where
+  records-end : ((e : ℕ) → ¬ Spans s n 0 1 e) → p ≡ n → BadShape s n p
+  tree-ends : Spans s n 0 1 p → p < n → BadShape s n p
+
+-- record e is an exponent: it comes right after the base of a power
+pub data Exponent (s : List ℕ) (n e : ℕ) : Type 0 where
+  after-base : (i : ℕ) → i < n → kind s i ≡ 4 → Spans s n (i + 1) 1 e → e < n → Exponent s n e
+
+-- "integer record of at least 1"
+abbrev pub AtLeastOne : List ℕ → ℕ → Type 0
+AtLeastOne s e = (kind s e ≡ 0) × (pos 1 ≤ℤ signed (bits s e))
+
+-- the table of refusals: number, "given exactly when", place; each by itself, whatever the others are
+pub data Applies (s : List ℕ) : ℕ → ℕ → Type 0 where
+  refusal-1 : BadLength s → Applies s 1 0
+  refusal-2 : {p : ℕ} → First (λ i. (i < recordsIn s) × Flawed s i) p → Applies s 2 p
+  refusal-3 : maxWeight < tableWeight s → Applies s 3 0
+  refusal-4 : {p : ℕ} → BadShape s (recordsIn s) p → Applies s 4 p
+  refusal-5 : {p : ℕ} → First (λ e. Exponent s (recordsIn s) e × ¬ AtLeastOne s e) p → Applies s 5 p
+
+-- "The lowest number wins."
+pub record Refuses (s : List ℕ) (k p : ℕ) : Type 0 where
+  pub applies : Applies s k p
+  pub lowest : (j q : ℕ) → j < k → ¬ Applies s j q

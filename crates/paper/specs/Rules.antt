@@ -1,0 +1,247 @@
+-- "The rules, each tried on one node": steps 1, 2, 3, 4 and 6.
+use Prim.Native.Nat.{ℕ, zero, suc, _+_, _^_}
+use mathlib.Core.Bool.{Bool, true, false, _&&_, _||_}
+use mathlib.Core.List.{List, [], _∷_, _++_, map}
+use mathlib.Core.Option.{Option, none, some}
+use lib.ListN.{length}
+use lib.IntN.{ℤ, pos, negsuc, _+ℤ_, _*ℤ_}
+use lib.Signed.{mag}
+use lib.Dec.{eqb, ltb}
+use Rattle.paper.specs.Tree.{Tree, Forest, integer, symbol, sum, product, power, toList, ofList}
+use Rattle.paper.specs.Equal.{equal, eqZ}
+use Rattle.paper.specs.Walk.{walk}
+
+-- what a rule answers at a node
+pub data Tried : Type 0 where
+  does-not-apply : Tried
+  applies : Tree → Tried
+  range-exceeded : Tried
+
+pub record Rule : Type 0 where
+  pub number : ℕ
+  pub try : Tree → Tried
+
+-- "the signed 64-bit range"
+unfoldable pub fits : ℤ → Bool
+fits z = ltb (mag z) (2 ^ 63)
+
+-- ---- "An emptied sum becomes 0, an emptied product 1, a single member itself."
+unfoldable pub collapse : Tree → (Forest → Tree) → List Tree → Tree
+collapse emptied node [] = emptied
+collapse emptied node (t ∷ []) = t
+collapse emptied node (t ∷ u ∷ l) = node (ofList (t ∷ u ∷ l))
+
+unfoldable pub sumOf : List Tree → Tree
+sumOf l = collapse (integer (pos 0)) sum l
+
+unfoldable pub productOf : List Tree → Tree
+productOf l = collapse (integer (pos 1)) product l
+
+-- ---- a rule on a sum, a rule on a product
+unfoldable pub onSumMembers : (List Tree → Tried) → Tree → Tried
+onSumMembers k (integer z) = does-not-apply
+onSumMembers k (symbol s) = does-not-apply
+onSumMembers k (sum f) = k (toList f)
+onSumMembers k (product f) = does-not-apply
+onSumMembers k (power b e) = does-not-apply
+
+unfoldable pub onProductMembers : (List Tree → Tried) → Tree → Tried
+onProductMembers k (integer z) = does-not-apply
+onProductMembers k (symbol s) = does-not-apply
+onProductMembers k (sum f) = does-not-apply
+onProductMembers k (product f) = k (toList f)
+onProductMembers k (power b e) = does-not-apply
+
+-- ---- members that are a certain integer
+unfoldable pub asInteger : Tree → Option ℤ
+asInteger (integer z) = some z
+asInteger (symbol s) = none
+asInteger (sum f) = none
+asInteger (product f) = none
+asInteger (power b e) = none
+
+unfoldable pub isThe : ℤ → Tree → Bool
+isThe z t = elim (asInteger t) [ none ↦ false | some y ↦ eqZ y z ]
+
+unfoldable pub unless : Bool → Tree → List Tree → List Tree
+unless true t l = l
+unless false t l = t ∷ l
+
+unfoldable pub dropAll : (Tree → Bool) → List Tree → List Tree
+dropAll p [] = []
+dropAll p (t ∷ l) = unless (p t) t (dropAll p l)
+
+unfoldable pub anyOf : (Tree → Bool) → List Tree → Bool
+anyOf p [] = false
+anyOf p (t ∷ l) = p t || anyOf p l
+
+unfoldable pub appliesIf : Bool → Tree → Tried
+appliesIf true t = applies t
+appliesIf false t = does-not-apply
+
+-- step 1: "if a member is integer 0, drop all such"
+unfoldable pub addZero : Tree → Tried
+addZero = onSumMembers (λ l. appliesIf (anyOf (isThe (pos 0)) l) (sumOf (dropAll (isThe (pos 0)) l)))
+
+-- step 3: "a member is integer 0: the whole is 0"
+unfoldable pub multiplyZero : Tree → Tried
+multiplyZero = onProductMembers (λ l. appliesIf (anyOf (isThe (pos 0)) l) (integer (pos 0)))
+
+-- step 4: "drop all members that are integer 1"
+unfoldable pub multiplyOne : Tree → Tried
+multiplyOne = onProductMembers (λ l. appliesIf (anyOf (isThe (pos 1)) l) (productOf (dropAll (isThe (pos 1)) l)))
+
+-- ---- what a walk gives. "If nothing was removed, the rule does not apply, the sum stays as it was, and no range is judged."
+-- "In a step that applies, every partial sum and product, in the order named, must be in range": each part, and each member
+-- rebuilt from one, carries whether all its partial results were in range; numbers go on unbounded meanwhile.
+unfoldable pub allInRange : List (Tree × Bool) → Bool
+allInRange [] = true
+allInRange (r ∷ l) = r .1 && allInRange l
+
+unfoldable pub rebuilt : (List Tree → Tree) → List (Tree × Bool) → Bool → Tried
+rebuilt node l true = applies (node (map (λ r. r .0) l))
+rebuilt node l false = range-exceeded
+
+unfoldable pub outcome : (List Tree → Tree) → List (Tree × Bool) → ℕ → Tried
+outcome node l zero = does-not-apply
+outcome node l (suc n) = rebuilt node l (allInRange l)
+
+module _ {P : Type 0} where
+  unfoldable pub combine : (List Tree → Tree) → (Tree → P) → (P → P → Option P) → (P → Tree × Bool) → List Tree → Tried
+  combine node split merge join l =
+      let w = walk merge (length l) (map split l) in
+      outcome node (map join (w .parts)) (w .removed)
+
+-- ---- step 2: "Each member has a coefficient and a rest"
+pub record Term : Type 0 where
+  pub coefficient : ℤ
+  pub rest : Tree
+  pub inRange : Bool
+
+unfoldable pub term : ℤ → Tree → Term
+term z t = record { coefficient = z; rest = t; inRange = true }
+
+-- "its first integer member and the product of the others in order": that integer, and the others
+unfoldable pub behind : Tree → Option (ℤ × List Tree) → Option (ℤ × List Tree)
+behind t none = none
+behind t (some r) = some (r .0, t ∷ r .1)
+
+unfoldable pub orFirst : Option ℤ → Tree → List Tree → Option (ℤ × List Tree) → Option (ℤ × List Tree)
+orFirst (some z) t l r = some (z, l)
+orFirst none t l r = behind t r
+
+unfoldable pub firstInteger : List Tree → Option (ℤ × List Tree)
+firstInteger [] = none
+firstInteger (t ∷ l) = orFirst (asInteger t) t l (firstInteger l)
+
+-- "or 1 and itself if it has no integer member"
+unfoldable pub productTerm : Forest → Option (ℤ × List Tree) → Term
+productTerm f none = term (pos 1) (product f)
+productTerm f (some r) = term (r .0) (productOf (r .1))
+
+-- "an integer n has (n, 1); a product has ..; everything else has 1 and itself"
+unfoldable pub termOf : Tree → Term
+termOf (integer z) = term z (integer (pos 1))
+termOf (symbol s) = term (pos 1) (symbol s)
+termOf (sum f) = term (pos 1) (sum f)
+termOf (product f) = productTerm f (firstInteger (toList f))
+termOf (power b e) = term (pos 1) (power b e)
+
+-- "Where equal, add the coefficient to the current one"
+unfoldable pub added : Term → Term → Term
+added c x =
+    record {
+      coefficient = c .coefficient +ℤ x .coefficient;
+      rest = c .rest;
+      inRange = c .inRange && x .inRange && fits (c .coefficient +ℤ x .coefficient);
+    }
+
+unfoldable pub addIf : Bool → Term → Term → Option Term
+addIf true c x = some (added c x)
+addIf false c x = none
+
+unfoldable pub mergeTerms : Term → Term → Option Term
+mergeTerms c x = addIf (equal (c .rest) (x .rest)) c x
+
+-- "coefficient times rest: two integers multiply; a product rest gets the coefficient appended last; any other rest R becomes
+-- the product (coefficient, R)", and whether that is in range
+unfoldable pub times : ℤ → Tree → Tree × Bool
+times z (integer y) = (integer (z *ℤ y), fits (z *ℤ y))
+times z (symbol s) = (product (ofList (integer z ∷ symbol s ∷ [])), true)
+times z (sum f) = (product (ofList (integer z ∷ sum f ∷ [])), true)
+times z (product f) = (product (ofList (toList f ++ (integer z ∷ []))), true)
+times z (power b e) = (product (ofList (integer z ∷ power b e ∷ [])), true)
+
+-- "the current member becomes its rest if the coefficient is 1, else coefficient times rest"
+unfoldable pub timesUnless : Bool → Term → Tree × Bool
+timesUnless true c = (c .rest, c .inRange)
+timesUnless false c = (times (c .coefficient) (c .rest) .0, c .inRange && times (c .coefficient) (c .rest) .1)
+
+unfoldable pub fromTerm : Term → Tree × Bool
+fromTerm c = timesUnless (eqZ (c .coefficient) (pos 1)) c
+
+unfoldable pub combineLikeTerms : Tree → Tried
+combineLikeTerms = onSumMembers (combine sumOf termOf mergeTerms fromTerm)
+
+-- ---- step 6: "Each member has a base and an exponent: a power its own, else itself and 1."
+pub record Factor : Type 0 where
+  pub base : Tree
+  pub exponent : ℕ
+  pub inRange : Bool
+
+unfoldable pub factor : Tree → ℕ → Factor
+factor b e = record { base = b; exponent = e; inRange = true }
+
+unfoldable pub factorOf : Tree → Factor
+factorOf (integer z) = factor (integer z) 1
+factorOf (symbol s) = factor (symbol s) 1
+factorOf (sum f) = factor (sum f) 1
+factorOf (product f) = factor (product f) 1
+factorOf (power b e) = factor b e
+
+-- "if the bases are equal, add the exponents"
+unfoldable pub raiseIf : Bool → Factor → Factor → Option Factor
+raiseIf true c x =
+    some
+    (record {
+      base = c .base;
+      exponent = c .exponent + x .exponent;
+      inRange = c .inRange && x .inRange && ltb (c .exponent + x .exponent) (2 ^ 63);
+    })
+raiseIf false c x = none
+
+unfoldable pub bothIntegers : Option ℤ → Option ℤ → Option ℤ
+bothIntegers none y = none
+bothIntegers (some a) none = none
+bothIntegers (some a) (some b) = some (a *ℤ b)
+
+-- "If the exponents are equal and both bases are integers, multiply the bases; else ..": z is the product of two integer bases
+unfoldable pub multiplyIf : Bool → Option ℤ → Factor → Factor → Option Factor
+multiplyIf true (some z) c x = some (record { base = integer z; exponent = c .exponent; inRange = c .inRange && x .inRange && fits z })
+multiplyIf true none c x = raiseIf (equal (c .base) (x .base)) c x
+multiplyIf false z c x = raiseIf (equal (c .base) (x .base)) c x
+
+unfoldable pub mergeFactors : Factor → Factor → Option Factor
+mergeFactors c x =
+    multiplyIf (eqb (c .exponent) (x .exponent)) (bothIntegers (asInteger (c .base)) (asInteger (x .base))) c x
+
+-- "An exponent 1 leaves the base alone."
+unfoldable pub powerUnless : Bool → Factor → Tree × Bool
+powerUnless true c = (c .base, c .inRange)
+powerUnless false c = (power (c .base) (c .exponent), c .inRange)
+
+unfoldable pub fromFactor : Factor → Tree × Bool
+fromFactor c = powerUnless (eqb (c .exponent) 1) c
+
+unfoldable pub combineLikeFactors : Tree → Tried
+combineLikeFactors = onProductMembers (combine productOf factorOf mergeFactors fromFactor)
+
+-- ---- edition one, in the paper's order. "Step 5 .. is never given here."
+unfoldable pub editionOne : List Rule
+editionOne =
+    record { number = 1; try = addZero }
+    ∷ record { number = 2; try = combineLikeTerms }
+    ∷ record { number = 3; try = multiplyZero }
+    ∷ record { number = 4; try = multiplyOne }
+    ∷ record { number = 6; try = combineLikeFactors }
+    ∷ []

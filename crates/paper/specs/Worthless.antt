@@ -1,0 +1,54 @@
+-- "Four worthless simplifiers must be turned away", and invented steps and openings too. Each is refuted at the field that the
+-- paper names for it (proofs/WorthlessLaws).
+use Prim.Native.Nat.{ℕ, zero, suc, _+_}
+use mathlib.Core.List.{List, [], _∷_}
+use lib.IntN.{pos}
+use Rattle.paper.specs.Tree.{Tree, integer, weight}
+use Rattle.paper.specs.Rules.{Rule, editionOne}
+use Rattle.paper.specs.Driver.{Ran, done, over, Rans, dones, overs, ask, step, out-of-range, no-rule, each, members, gather, simplify}
+use Rattle.paper.specs.Answers.{Given, refusal, simplifiedBy}
+use Rattle.paper.specs.Demands.{Simplifier}
+
+-- one that refuses everything, with refusal k
+unfoldable pub refusesAll : ℕ → Simplifier
+refusesAll k s l = record { answer = refusal k 0; lent = l }
+
+-- one that returns 0 for all
+unfoldable pub returnsZero : Simplifier
+returnsZero = simplifiedBy (λ t. done (integer (pos 0)) [] 0)
+
+-- one that returns its input
+unfoldable pub returnsInput : Simplifier
+returnsInput = simplifiedBy (λ t. done t [] 0)
+
+-- one that makes a first pass and then stops: it never begins again
+unfoldable pub gatheredOnce : Tree → Rans → Ran
+gatheredOnce t (overs k) = over k
+gatheredOnce t (dones l s o) = done (gather t l .0) s (o + gather t l .1)
+
+unfoldable pub firstPass : List Rule → ℕ → Tree → Ran
+firstPass rs zero t = done t [] 0
+firstPass rs (suc n) t =
+    elim (ask rs t) [
+      | step k u ↦ done u (k ∷ []) 0
+      | out-of-range ↦ over 0
+      | no-rule ↦ gatheredOnce t (each (λ u. firstPass rs n u) (members t))
+    ]
+
+unfoldable pub passesOnce : Simplifier
+passesOnce = simplifiedBy (λ t. firstPass editionOne (weight t) t)
+
+-- invented steps, invented openings
+unfoldable pub oneStepMore : Ran → Ran
+oneStepMore (done u ks o) = done u (1 ∷ ks) o
+oneStepMore (over k) = over k
+
+unfoldable pub oneOpeningMore : Ran → Ran
+oneOpeningMore (done u ks o) = done u ks (suc o)
+oneOpeningMore (over k) = over k
+
+unfoldable pub inventsSteps : Simplifier
+inventsSteps = simplifiedBy (λ t. oneStepMore (simplify editionOne t))
+
+unfoldable pub inventsOpenings : Simplifier
+inventsOpenings = simplifiedBy (λ t. oneOpeningMore (simplify editionOne t))
