@@ -36,6 +36,7 @@ pub mod RecordLaws
 pub mod VerdictLaws
 pub mod TableLaws
 pub mod AcceptedLaws
+pub mod Seen
 pub mod Refusals
 pub mod MayLaws
 pub mod CallLaws

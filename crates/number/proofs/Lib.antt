@@ -1,0 +1,3 @@
+pub mod NumLaws
+pub mod ModLaws
+pub mod Unique

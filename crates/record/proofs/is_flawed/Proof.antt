@@ -1,0 +1,38 @@
+-- `record::is_flawed` meets its contract: in each arm both sides are one value. Assumes nothing.
+use borrow.Author.Needs.{needs}
+use Rattle.paper.specs.Record.{isFlawed}
+use Rattle.record.proofs.is_flawed.Statement.{statement}
+use Rattle.record.proofs.is_flawed.Tie as tie
+
+enum-told : tie.Need-enum-told
+enum-told c = search needs
+
+enum-told-2 : tie.Need-enum-told-2
+enum-told-2 c = search needs
+
+enum-told-3 : tie.Need-enum-told-3
+enum-told-3 c = search needs
+
+enum-told-4 : tie.Need-enum-told-4
+enum-told-4 c = search needs
+
+returns : tie.Need-returns
+unfolding isFlawed
+returns c = cc
+
+returns-2 : tie.Need-returns-2
+unfolding isFlawed
+returns-2 c = cc
+
+returns-3 : tie.Need-returns-3
+unfolding isFlawed
+returns-3 c = cc
+
+returns-4 : tie.Need-returns-4
+unfolding isFlawed
+returns-4 c = cc
+
+pub is-flawed-spec : {M : Type 1} → statement M
+is-flawed-spec =
+    tie.close
+    (tie.spec enum-told enum-told-2 enum-told-3 enum-told-4 returns returns-2 returns-3 returns-4)

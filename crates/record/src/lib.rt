@@ -1,0 +1,171 @@
+// One record of a table: its fields, its number of members, and what is wrong with it.
+ghost use mathlib.Core.Path.{_≡_};
+ghost use Prim.Native.Nat.{_+_, _*_, _<_, _≤_};
+ghost use lib.ListN.{length};
+ghost use Rattle.paper.specs.Record.{kind, countIn, bits, symbolIn, stray, flaw, arity, isFlawed};
+ghost use Rattle.paper.specs.Verdict.{isPositive};
+ghost use Rattle.paper.specs.Table.{recordOf};
+ghost use Rattle.stretch.specs.Put.{put};
+ghost use Rattle.record.specs.Flaw.{flawOf};
+
+// Which bytes of a record may be other than zero (1), by kind and byte.
+const MAY: [[u8; 16]; 5] = [
+    [1, 0, 0, 0, 0, 0, 0, 0, 1, 1, 1, 1, 1, 1, 1, 1],
+    [1, 0, 0, 0, 0, 0, 0, 0, 1, 0, 0, 0, 0, 0, 0, 0],
+    [1, 0, 1, 1, 0, 0, 0, 0, 0, 0, 0, 0, 0, 0, 0, 0],
+    [1, 0, 1, 1, 0, 0, 0, 0, 0, 0, 0, 0, 0, 0, 0, 0],
+    [1, 0, 0, 0, 0, 0, 0, 0, 0, 0, 0, 0, 0, 0, 0, 0],
+];
+
+// What is wrong with a record: nothing, its kind, the lowest byte that must be zero and is not, or its count.
+pub enum Flaw {
+    Sound,
+    Kind,
+    Byte(usize),
+    Count,
+}
+
+// The kind of record i.
+pub fn kind(s: &[u8], i: usize) -> u8
+    requires { ⌜ i * 16 + 16 ≤ length (now s) ⌝ }
+    ensures { λ r. ⌜ r ≡ kind (now (s .entry)) i ⌝ }
+{
+    s[i * 16]
+}
+
+// The number of members that record i gives, for a sum or a product.
+pub fn count(s: &[u8], i: usize) -> usize
+    requires { ⌜ i * 16 + 16 ≤ length (now s) ⌝ }
+    ensures { λ r. ⌜ (r ≡ countIn (now (s .entry)) i) × (r < 65536) ⌝ }
+{
+    number::read2(s, i * 16 + 2)
+}
+
+// The 64 bits of record i, for an integer.
+pub fn bits(s: &[u8], i: usize) -> u64
+    requires { ⌜ i * 16 + 16 ≤ length (now s) ⌝ }
+    ensures { λ r. ⌜ r ≡ bits (now (s .entry)) i ⌝ }
+{
+    number::read8(s, i * 16 + 8)
+}
+
+// The symbol of record i.
+pub fn symbol(s: &[u8], i: usize) -> u8
+    requires { ⌜ i * 16 + 16 ≤ length (now s) ⌝ }
+    ensures { λ r. ⌜ r ≡ symbolIn (now (s .entry)) i ⌝ }
+{
+    s[i * 16 + 8]
+}
+
+// The number of members of record i, whatever its kind.
+pub fn arity(s: &[u8], i: usize) -> usize
+    requires { ⌜ i * 16 + 16 ≤ length (now s) ⌝ }
+    ensures { λ r. ⌜ (r ≡ arity (now (s .entry)) i) × (r < 65536) ⌝ }
+{
+    let k = kind(s, i);
+    if k < 2 {
+        return 0;
+    }
+    if k == 4 {
+        return 2;
+    }
+    count(s, i)
+}
+
+// Record i is an integer of at least 1.
+pub fn is_positive(s: &[u8], i: usize) -> bool
+    requires { ⌜ i * 16 + 16 ≤ length (now s) ⌝ }
+    ensures { λ r. ⌜ r ≡ isPositive (now (s .entry)) i ⌝ }
+{
+    if 0 < kind(s, i) {
+        return false;
+    }
+    let v = bits(s, i);
+    if v < 1 {
+        return false;
+    }
+    v < 0x8000_0000_0000_0000
+}
+
+// The lowest byte of record i, of kind k, that is other than zero and must be zero; 16 where there is none.
+fn stray(s: &[u8], i: usize, k: usize) -> usize
+    requires { ⌜ (i * 16 + 16 ≤ length (now s)) × (k < 5) ⌝ }
+    ensures { λ r. ⌜ r ≡ stray (now (s .entry)) i k 0 16 ⌝ }
+{
+    let mut j = 0;
+    while j < 16 {
+        if s[i * 16 + j] != 0 {
+            if MAY[k][j] == 0 {
+                return j;
+            }
+        }
+        j += 1;
+    }
+    j
+}
+
+// What is wrong with record i.
+pub fn judge_record(s: &[u8], i: usize) -> Flaw
+    requires { ⌜ i * 16 + 16 ≤ length (now s) ⌝ }
+    ensures { λ r. ⌜ flawOf r ≡ flaw (now (s .entry)) i ⌝ }
+{
+    let k = kind(s, i) as usize;
+    if 4 < k {
+        return Flaw::Kind;
+    }
+    let j = stray(s, i, k);
+    if j < 16 {
+        return Flaw::Byte(j);
+    }
+    if k < 2 {
+        return Flaw::Sound;
+    }
+    if k == 4 {
+        return Flaw::Sound;
+    }
+    if count(s, i) < 2 {
+        return Flaw::Count;
+    }
+    Flaw::Sound
+}
+
+// Record i anew: its kind, its number of members, and the number in its bytes 8-15; all other bytes of d stay.
+pub fn write_record(d: &mut [u8], i: usize, kind: u8, count: usize, bits: u64)
+    requires { ⌜ i * 16 + 16 ≤ length (now d) ⌝ }
+    ensures { λ _. ⌜ now (d .exit) ≡ put (now (d .entry)) (i * 16) (recordOf kind count bits) ⌝ }
+{
+    let lo = (count % 256) as u8;
+    let hi = (count / 256 % 256) as u8;
+    let b = number::bytes8(bits);
+    let r = [
+        kind,
+        0,
+        lo,
+        hi,
+        0,
+        0,
+        0,
+        0,
+        b[0],
+        b[1],
+        b[2],
+        b[3],
+        b[4],
+        b[5],
+        b[6],
+        b[7],
+    ];
+    stretch::copy_bytes(d, i * 16, &r, 0, 16);
+}
+
+// Something is wrong with the record.
+pub fn is_flawed(f: Flaw) -> bool
+    ensures { λ r. ⌜ r ≡ isFlawed (flawOf f) ⌝ }
+{
+    match f {
+        Flaw::Sound => false,
+        Flaw::Kind => true,
+        Flaw::Byte(_) => true,
+        Flaw::Count => true,
+    }
+}

@@ -1,0 +1,64 @@
+-- `stretch::shift_left` meets its contract: after j turns the first j bytes of the part, as it was at entry, are put; the byte that
+-- a turn reads lies past them, so it is still the entry's. Assumes nothing.
+use mathlib.Core.Path.{_≡_, refl, sym}
+use Prim.Native.Nat.{_-_, _≤_}
+use native.Mathlib.Omega.{arith}
+use borrow.Author.Needs.{needs}
+use lib.ListN.{length, length-set}
+use Rattle.stretch.specs.Put.{part, put}
+use Rattle.stretch.proofs.Laws.{put-none, part-none, left-turn}
+use Rattle.stretch.proofs.shift_left.Statement.{statement}
+use Rattle.stretch.proofs.shift_left.Tie as tie
+
+abbrev Inv-loop : tie.InvT-loop
+Inv-loop d₀ to from n j₀ d j = (j ≤ n) × (length d ≡ length d₀) × (d ≡ put d₀ to (part d₀ from j))
+
+abbrev μ-loop : tie.MeasureT-loop
+μ-loop d₀ to from n j₀ d j = n - j
+
+loop-holds : tie.Need-loop-holds Inv-loop μ-loop
+loop-holds c = (search needs, refl, sym (rw part-none (put-none _ _)))
+
+add-d : tie.Need-add-d Inv-loop μ-loop
+add-d c = omega arith
+
+slice-read-d : tie.Need-slice-read-d Inv-loop μ-loop
+slice-read-d c = omega arith
+
+add-d-2 : tie.Need-add-d-2 Inv-loop μ-loop
+add-d-2 c = omega arith
+
+slice-write-d : tie.Need-slice-write-d Inv-loop μ-loop
+slice-write-d c = omega arith
+
+add-j : tie.Need-add-j Inv-loop μ-loop
+add-j c = omega arith
+
+loop-less : tie.Need-loop-less Inv-loop μ-loop
+loop-less c = omega arith
+
+loop-again : tie.Need-loop-again Inv-loop μ-loop
+loop-again c = (search needs, simp length-set (omega arith), rw (c .before .before .loop .inv .2) (left-turn _ _ _ _ (omega arith) (omega arith)))
+
+same-length : tie.Need-same-length Inv-loop μ-loop
+same-length c = c .before .loop .inv .1
+
+returns : tie.Need-returns Inv-loop μ-loop
+returns c = let e : c .before .loop .j ≡ c .before .before .args .n = omega arith in rw e at (c .before .loop .inv .2)
+
+pub shift-left-spec : {M : Type 1} → statement M
+shift-left-spec =
+    tie.close
+    (tie.spec
+    Inv-loop
+    μ-loop
+    loop-holds
+    add-d
+    slice-read-d
+    add-d-2
+    slice-write-d
+    add-j
+    loop-less
+    loop-again
+    same-length
+    returns)
