@@ -1,0 +1,44 @@
+-- One record of each definition that goes through the records of a table, as a loop takes it. Assumes nothing.
+use Prim.Native.Nat.{ℕ, suc, _+_, _-_, _<_, _≤_}
+use mathlib.Core.Path.{_≡_, refl, _∙_}
+use mathlib.Core.Bool.{true, false, cond}
+use mathlib.Core.List.{List}
+use native.Mathlib.Omega.{arith}
+use borrow.Author.Tests.{eq-eqb, ne-eqb}
+use lib.Dec.{eqb}
+use Rattle.paper.specs.Record.{kind, flaw, isFlawed, arity, weightFrom}
+use Rattle.paper.specs.Verdict.{firstFlawed, skip}
+
+module _ (s : List ℕ) (n i : ℕ) where
+  flawed-step : i < n → firstFlawed s i (n - i) ≡ cond (isFlawed (flaw s i)) i (firstFlawed s (i + 1) (n - (i + 1)))
+  unfolding firstFlawed
+  flawed-step h = let left : n - i ≡ suc (n - (i + 1)) = omega arith in rw left refl
+
+  pub flawed-here : i < n → isFlawed (flaw s i) ≡ true → firstFlawed s i (n - i) ≡ i
+  flawed-here h e = flawed-step h ∙ rw e
+
+  pub flawed-later : i < n → isFlawed (flaw s i) ≡ false → firstFlawed s i (n - i) ≡ firstFlawed s (i + 1) (n - (i + 1))
+  flawed-later h e = flawed-step h ∙ rw e
+
+  pub flawed-done : n ≤ i → firstFlawed s i (n - i) ≡ i
+  unfolding firstFlawed
+  flawed-done h = let none : n - i ≡ 0 = omega arith in rw none refl
+
+  weight-step : i < n → weightFrom s i (n - i) ≡ cond (eqb (kind s i) 1) 3 1 + weightFrom s (i + 1) (n - (i + 1))
+  unfolding weightFrom
+  weight-step h = let left : n - i ≡ suc (n - (i + 1)) = omega arith in rw left refl
+
+  pub weight-symbol : i < n → kind s i ≡ 1 → weightFrom s i (n - i) ≡ 3 + weightFrom s (i + 1) (n - (i + 1))
+  weight-symbol h e = weight-step h ∙ rw (eq-eqb (kind s i) 1 e)
+
+  pub weight-other : i < n → (kind s i ≡ 1 → ⊥) → weightFrom s i (n - i) ≡ 1 + weightFrom s (i + 1) (n - (i + 1))
+  weight-other h e = weight-step h ∙ rw (ne-eqb (kind s i) 1 e)
+
+  pub weight-done : n ≤ i → weightFrom s i (n - i) ≡ 0
+  unfolding weightFrom
+  weight-done h = let none : n - i ≡ 0 = omega arith in rw none refl
+
+  -- a record is one of the trees that are owed, and owes its members
+  pub skip-step : (owed : ℕ) → 0 < owed → i < n → skip s n (n - i) owed i ≡ skip s n (n - (i + 1)) (owed - 1 + arity s i) (i + 1)
+  unfolding skip
+  skip-step owed o h = let left : n - i ≡ suc (n - (i + 1)) = omega arith in rw (left, ne-eqb owed 0 (λ e. omega arith)) refl

@@ -1,0 +1,50 @@
+-- Two answers that meet the contract of `check`, or of `weight`, as the check reads it from the source, are the same: the paper's
+-- numbers tell every answer of the code from every other. Assumes nothing.
+use Prim.Native.Nat.{ℕ, zero, suc}
+use mathlib.Core.Path.{_≡_, refl, sym, ap, _∙_}
+use borrow.Fn.Kinds.{Dens, endedOf}
+use contract.Lifetimes.{Lfts}
+use denote.Triple.Clauses.{AtExit}
+use Rattle.paper.specs.Verdict.{Verdict}
+use Rattle.paper.specs.Answers as paper
+use Rattle.table.specs.Judged.{standsFor}
+use Rattle.table.specs.Measured.{says}
+use Rattle.table.specs.declared.Judged.{Judged}
+use Rattle.table.specs.declared.Judged.the-variants.{Fine, Length, Record, Heavy, Shape, Exponent}
+use Rattle.table.specs.declared.Measured.{Measured}
+use Rattle.table.proofs.check.Reads as check-reads
+use Rattle.table.proofs.check.Kinds as check-kinds
+use Rattle.table.proofs.weight.Reads as weight-reads
+use Rattle.table.proofs.weight.Kinds as weight-kinds
+
+-- the answer that has this number, at this place
+answer : ℕ → ℕ → Judged
+answer zero p = Fine
+answer (suc zero) p = Length
+answer (suc (suc zero)) p = Record p
+answer (suc (suc (suc zero))) p = Heavy
+answer (suc (suc (suc (suc zero)))) p = Shape p
+answer (suc (suc (suc (suc (suc k))))) p = Exponent p
+
+answer-stands : (r : Judged) → answer (standsFor r .number) (standsFor r .place) ≡ r
+unfolding answer
+answer-stands Fine = refl
+answer-stands Length = refl
+answer-stands (Record p) = refl
+answer-stands Heavy = refl
+answer-stands (Shape p) = refl
+answer-stands (Exponent p) = refl
+
+stands-once : (r r′ : Judged) → standsFor r ≡ standsFor r′ → r ≡ r′
+stands-once r r′ e = sym (answer-stands r) ∙ ap (λ (v : Verdict). answer (v .number) (v .place)) e ∙ answer-stands r′
+
+says-once : (r r′ : Measured) → says r ≡ says r′ → r ≡ r′
+says-once r r′ e = ap (λ (m : paper.Measured). record { number = m .number; place = m .place; result = m .result }) e
+
+pub check-once : (κs : Lfts 1) (a : Dens κs check-kinds.ps) (r r′ : Judged) (x x′ : AtExit (endedOf 1 check-kinds.ps check-kinds.r) κs)
+    → check-reads.Post κs a r x → check-reads.Post κs a r′ x′ → r ≡ r′
+check-once κs a r r′ x x′ p p′ = stands-once r r′ (p ∙ sym p′)
+
+pub weight-once : (κs : Lfts 1) (a : Dens κs weight-kinds.ps) (r r′ : Measured) (x x′ : AtExit (endedOf 1 weight-kinds.ps weight-kinds.r) κs)
+    → weight-reads.Post κs a r x → weight-reads.Post κs a r′ x′ → r ≡ r′
+weight-once κs a r r′ x x′ p p′ = says-once r r′ (p ∙ sym p′)

@@ -1,0 +1,126 @@
+-- `table::judge_records` meets its contract: each return is one case of the definition, by what was found before it.
+-- Assumes nothing.
+use Prim.Native.Nat.{_≤_, min}
+use mathlib.Core.Path.{_≡_, sym, ap, _∙_}
+use native.Mathlib.Omega.{arith}
+use borrow.Author.Needs.{needs}
+use Rattle.paper.specs.Verdict.{refused, treeEnd}
+use Rattle.table.specs.declared.Walked.the-variants.{Bad, Ends}
+use Rattle.table.proofs.JudgeLaws.{records-within, flawed, heavy, shapeless, exponent, fine}
+use Rattle.table.proofs.judge_records.Statement.{statement}
+use Rattle.table.proofs.judge_records.Tie as tie
+
+first-flawed-requires : tie.Need-first-flawed-requires
+first-flawed-requires c κs = let a = c .before in records-within (a .args .s .now) (a .args .n) (a .pre .0)
+
+returns : tie.Need-returns
+returns c =
+    let first = c .before .first-flawed in
+    let a = c .before .before .before .args in
+    sym (flawed (a .s .now) (a .n) (first .result) (first .ensures) (c .if1 .taken))
+
+weight-of-requires : tie.Need-weight-of-requires
+weight-of-requires c κs = let a = c .before .before .before in records-within (a .args .s .now) (a .args .n) (a .pre .0)
+
+returns-2 : tie.Need-returns-2
+returns-2 c =
+    let weight = c .before .weight-of in
+    let sound = c .before .before .if1 .left in
+    let first = c .before .before .before .first-flawed in
+    let a = c .before .before .before .before .before .args in
+    sym (heavy (a .s .now) (a .n) (first .result) (first .ensures) sound (weight .result) (weight .ensures) (c .if2 .taken))
+
+tree-end-requires : tie.Need-tree-end-requires
+tree-end-requires c κs = let a = c .before .before .before .before .before in (records-within (a .args .s .now) (a .args .n) (a .pre .0), a .pre .1)
+
+returns-3 : tie.Need-returns-3
+returns-3 c =
+    let at = c .before in
+    let end = at .tree-end in
+    let light = at .before .if2 .left in
+    let weight = at .before .before .weight-of in
+    let sound = at .before .before .before .if1 .left in
+    let first = at .before .before .before .before .first-flawed in
+    let a = at .before .before .before .before .before .before .args in
+    let least : end .result ≡ min (end .result) (a .n) = omega arith in
+    ap (refused 4) least
+    ∙ sym (shapeless (a .s .now) (a .n) (first .result) (first .ensures) sound (weight .result) (weight .ensures) light
+    (end .result) (end .ensures) (λ e. omega arith))
+
+returns-4 : tie.Need-returns-4
+returns-4 c =
+    let at = c .before .before in
+    let end = at .tree-end in
+    let light = at .before .if2 .left in
+    let weight = at .before .before .weight-of in
+    let sound = at .before .before .before .if1 .left in
+    let first = at .before .before .before .before .first-flawed in
+    let a = at .before .before .before .before .before .before .args in
+    let least : a .n ≡ min (end .result) (a .n) = omega arith in
+    ap (refused 4) least
+    ∙ sym (shapeless (a .s .now) (a .n) (first .result) (first .ensures) sound (weight .result) (weight .ensures) light
+    (end .result) (end .ensures) (λ e. omega arith))
+
+walk-requires : tie.Need-walk-requires
+walk-requires c κs =
+    let end = c .before .before .tree-end .ensures in
+    let a = c .before .before .before .before .before .before .before .before in
+    let within : treeEnd (a .args .s .now) (a .args .n) 0 ≤ a .args .n = omega arith in
+    rw (a .pre .0) at within
+
+enum-known-x : tie.Need-enum-known-x
+enum-known-x c = search needs
+
+enum-told : tie.Need-enum-told
+enum-told c = search needs
+
+returns-5 : tie.Need-returns-5
+returns-5 c =
+    let at = c .before .before .before .before .before .before in
+    let end = at .tree-end in
+    let light = at .before .if2 .left in
+    let weight = at .before .before .weight-of in
+    let sound = at .before .before .before .if1 .left in
+    let first = at .before .before .before .before .first-flawed in
+    let a = at .before .before .before .before .before .before .args in
+    let records = at .before .before .before .before .before .before .pre .0 in
+    let whole : treeEnd (a .s .now) (a .n) 0 ≡ a .n = omega arith in
+    let walk = c .before .before .before .walk in
+    let x = c .before .x .given .0 .0 in
+    let r : walk .result ≡ Bad x = cc in
+    let told = rw (← records) at (sym (walk .ensures) ∙ r) in
+    sym (exponent (a .s .now) (a .n) (first .result) (first .ensures) sound (weight .result) (weight .ensures) light whole x told)
+
+returns-6 : tie.Need-returns-6
+returns-6 c =
+    let at = c .before .before .before .before .before in
+    let end = at .tree-end in
+    let light = at .before .if2 .left in
+    let weight = at .before .before .weight-of in
+    let sound = at .before .before .before .if1 .left in
+    let first = at .before .before .before .before .first-flawed in
+    let a = at .before .before .before .before .before .before .args in
+    let records = at .before .before .before .before .before .before .pre .0 in
+    let whole : treeEnd (a .s .now) (a .n) 0 ≡ a .n = omega arith in
+    let walk = c .before .before .walk in
+    let x = c .enum-told .given .0 .0 in
+    let r : walk .result ≡ Ends x = cc in
+    let told = rw (← records) at (sym (walk .ensures) ∙ r) in
+    sym (fine (a .s .now) (a .n) (first .result) (first .ensures) sound (weight .result) (weight .ensures) light whole x told)
+
+pub judge-records-spec : {M : Type 1} → statement M
+judge-records-spec =
+    tie.close
+    (tie.spec
+    first-flawed-requires
+    returns
+    weight-of-requires
+    returns-2
+    tree-end-requires
+    returns-3
+    returns-4
+    walk-requires
+    enum-known-x
+    enum-told
+    returns-5
+    returns-6)

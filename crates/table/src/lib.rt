@@ -1,0 +1,222 @@
+// The checker of tables, which judges refusals 1 to 5, and the weight of a table.
+ghost use mathlib.Core.Path.{_≡_};
+ghost use Prim.Native.Nat.{_+_, _*_, _≤_};
+ghost use lib.ListN.{length};
+ghost use Rattle.paper.specs.Record.{weightFrom};
+ghost use Rattle.paper.specs.Verdict.{recordsIn, firstFlawed, treeEnd, judgeRecords, verdict};
+ghost use Rattle.paper.specs.Answers.{weighed};
+ghost use Rattle.table.specs.Judged.{standsFor, verdictOf};
+ghost use Rattle.table.specs.Measured.{says};
+ghost use Rattle.table.specs.Walked.{walked};
+
+// The checker's answer: nothing is refused, or which refusal it is, with the record where it has one.
+pub enum Judged {
+    Fine,
+    Length,
+    Record(usize),
+    Heavy,
+    Shape(usize),
+    Exponent(usize),
+}
+
+// The paper's number and place of a refusal; 0 and 0 where nothing is refused.
+pub struct Fault {
+    pub number: u32,
+    pub place: usize,
+}
+
+// The weight of a table, and what was refused.
+pub struct Measured {
+    pub number: u32,
+    pub place: usize,
+    pub result: u64,
+}
+
+// The answer of a walk over a tree: its first bad exponent, or the record after it.
+enum Walked {
+    Bad(usize),
+    Ends(usize),
+}
+
+// The first flawed record of the n; n where there is none.
+fn first_flawed(s: &[u8], n: usize) -> usize
+    requires { ⌜ n * 16 ≤ length (now s) ⌝ }
+    ensures { λ r. ⌜ r ≡ firstFlawed (now (s .entry)) 0 n ⌝ }
+{
+    let mut i = 0;
+    while i < n {
+        if record::is_flawed(record::judge_record(s, i)) {
+            return i;
+        }
+        i += 1;
+    }
+    i
+}
+
+// The weight of the n records.
+fn weight_of(s: &[u8], n: usize) -> usize
+    requires { ⌜ n * 16 ≤ length (now s) ⌝ }
+    ensures { λ r. ⌜ r ≡ weightFrom (now (s .entry)) 0 n ⌝ }
+{
+    let mut i = 0;
+    let mut w = 0;
+    while i < n {
+        if record::kind(s, i) == 1 {
+            w += 3;
+        } else {
+            w += 1;
+        }
+        i += 1;
+    }
+    w
+}
+
+// The record after the tree at record 0; n + 1 where the n records end before it. Counts the trees that are owed.
+fn tree_end(s: &[u8], n: usize) -> usize
+    requires { ⌜ (n * 16 ≤ length (now s)) × (n ≤ 3072) ⌝ }
+    ensures { λ r. ⌜ r ≡ treeEnd (now (s .entry)) n 0 ⌝ }
+{
+    let mut i = 0;
+    let mut owed = 1;
+    while i < n {
+        if owed < 1 {
+            return i;
+        }
+        owed = owed - 1 + record::arity(s, i);
+        i += 1;
+    }
+    if owed < 1 {
+        return n;
+    }
+    n + 1
+}
+
+// Walks the tree at record i, which ends within the records: a power's base, and then the exponent after it; a node's members.
+fn walk(s: &[u8], i: usize) -> Walked
+    requires { ⌜ treeEnd (now s) (recordsIn (now s)) i ≤ recordsIn (now s) ⌝ }
+    ensures { λ r. ⌜ r ≡ walked (now (s .entry)) (recordsIn (now (s .entry))) 1 i ⌝ }
+{
+    let k = record::kind(s, i);
+    if k < 2 {
+        return Walked::Ends(i + 1);
+    }
+    if k == 4 {
+        match walk(s, i + 1) {
+            Walked::Bad(b) => {
+                return Walked::Bad(b);
+            }
+            Walked::Ends(e) => {
+                if record::is_positive(s, e) {
+                    return Walked::Ends(e + 1);
+                }
+                return Walked::Bad(e);
+            }
+        }
+    }
+    let mut left = record::count(s, i);
+    let mut at = i + 1;
+    while 0 < left {
+        match walk(s, at) {
+            Walked::Bad(b) => {
+                return Walked::Bad(b);
+            }
+            Walked::Ends(e) => {
+                at = e;
+            }
+        }
+        left -= 1;
+    }
+    Walked::Ends(at)
+}
+
+// Refusals 2 to 5 of the n records of a table, the lowest number first.
+fn judge_records(s: &[u8], n: usize) -> Judged
+    requires { ⌜ (n ≡ recordsIn (now s)) × (n ≤ 3072) ⌝ }
+    ensures { λ r. ⌜ standsFor r ≡ judgeRecords (now (s .entry)) n ⌝ }
+{
+    let f = first_flawed(s, n);
+    if f < n {
+        return Judged::Record(f);
+    }
+    if 3072 < weight_of(s, n) {
+        return Judged::Heavy;
+    }
+    let e = tree_end(s, n);
+    if e < n {
+        return Judged::Shape(e);
+    }
+    if n < e {
+        return Judged::Shape(n);
+    }
+    match walk(s, 0) {
+        Walked::Bad(x) => Judged::Exponent(x),
+        Walked::Ends(_) => Judged::Fine,
+    }
+}
+
+// The checker of tables: refusals 1 to 5, the lowest number first.
+pub fn check(s: &[u8]) -> Judged
+    ensures { λ r. ⌜ standsFor r ≡ verdict (now (s .entry)) ⌝ }
+{
+    if s.len() < 1 {
+        return Judged::Length;
+    }
+    if 0 < s.len() % 16 {
+        return Judged::Length;
+    }
+    if 49152 < s.len() {
+        return Judged::Length;
+    }
+    judge_records(s, s.len() / 16)
+}
+
+// The paper's number and place of the checker's answer.
+pub fn fault_of(j: Judged) -> Fault
+    ensures { λ r. ⌜ verdictOf r ≡ standsFor j ⌝ }
+{
+    match j {
+        Judged::Fine => Fault {
+            number: 0,
+            place: 0,
+        },
+        Judged::Length => Fault {
+            number: 1,
+            place: 0,
+        },
+        Judged::Record(p) => Fault {
+            number: 2,
+            place: p,
+        },
+        Judged::Heavy => Fault {
+            number: 3,
+            place: 0,
+        },
+        Judged::Shape(p) => Fault {
+            number: 4,
+            place: p,
+        },
+        Judged::Exponent(p) => Fault {
+            number: 5,
+            place: p,
+        },
+    }
+}
+
+// The weight of a table; 0 where the table is refused.
+pub fn weight(s: &[u8]) -> Measured
+    ensures { λ r. ⌜ says r ≡ weighed (now (s .entry)) ⌝ }
+{
+    let f = fault_of(check(s));
+    if 0 < f.number {
+        return Measured {
+            number: f.number,
+            place: f.place,
+            result: 0,
+        };
+    }
+    Measured {
+        number: f.number,
+        place: f.place,
+        result: weight_of(s, s.len() / 16) as u64,
+    }
+}
