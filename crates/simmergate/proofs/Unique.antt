@@ -1,0 +1,25 @@
+-- Two returns and two answer slices that meet the contract of a call, as the check reads it from the source, are the same: each
+-- contract gives the return and every byte of the slice. Assumes nothing.
+use Prim.Native.Nat.{ℕ}
+use mathlib.Core.Path.{_≡_, sym, _∙_}
+use borrow.Fn.Kinds.{Dens, endedOf}
+use contract.Lifetimes.{Lfts}
+use denote.Triple.Clauses.{AtExit}
+use Rattle.simmergate.proofs.simmergate_check.Reads as check-reads
+use Rattle.simmergate.proofs.simmergate_check.Kinds as check-kinds
+use Rattle.simmergate.proofs.simmergate_weight.Reads as weight-reads
+use Rattle.simmergate.proofs.simmergate_weight.Kinds as weight-kinds
+use Rattle.simmergate.proofs.simmergate_value.Reads as value-reads
+use Rattle.simmergate.proofs.simmergate_value.Kinds as value-kinds
+
+pub check-once : (κs : Lfts 2) (a : Dens κs check-kinds.ps) (r r′ : ℕ) (x x′ : AtExit (endedOf 2 check-kinds.ps check-kinds.r) κs)
+    → check-reads.Post κs a r x → check-reads.Post κs a r′ x′ → (r ≡ r′) × (x .1 .0 .now ≡ x′ .1 .0 .now)
+check-once κs a r r′ x x′ p p′ = (p .0 ∙ sym (p′ .0), p .1 ∙ sym (p′ .1))
+
+pub weight-once : (κs : Lfts 2) (a : Dens κs weight-kinds.ps) (r r′ : ℕ) (x x′ : AtExit (endedOf 2 weight-kinds.ps weight-kinds.r) κs)
+    → weight-reads.Post κs a r x → weight-reads.Post κs a r′ x′ → (r ≡ r′) × (x .1 .0 .now ≡ x′ .1 .0 .now)
+weight-once κs a r r′ x x′ p p′ = (p .0 ∙ sym (p′ .0), p .1 ∙ sym (p′ .1))
+
+pub value-once : (κs : Lfts 3) (a : Dens κs value-kinds.ps) (r r′ : ℕ) (x x′ : AtExit (endedOf 3 value-kinds.ps value-kinds.r) κs)
+    → value-reads.Post κs a r x → value-reads.Post κs a r′ x′ → (r ≡ r′) × (x .1 .1 .0 .now ≡ x′ .1 .1 .0 .now)
+value-once κs a r r′ x x′ p p′ = (p .0 ∙ sym (p′ .0), p .1 ∙ sym (p′ .1))

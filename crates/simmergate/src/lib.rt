@@ -1,0 +1,63 @@
+// The entry points for C. Each call returns the refusal number and writes the numbers of its answer to a lent slice.
+ghost use mathlib.Core.Path.{_≡_};
+ghost use mathlib.Core.List.{_++_};
+ghost use Prim.Native.Nat.{_*_, _≤_};
+ghost use lib.ListN.{length, drop};
+ghost use Rattle.paper.specs.Calls.{eights, checkReturns, checkAnswers, weightReturns, weightAnswers, valueReturns, valueAnswers};
+
+// Writes the numbers of an answer, eight bytes each, at the front of the slice; its bytes past them stay.
+fn write_numbers(answer: &mut [u8], numbers: &[u64])
+    requires { ⌜ 8 * length (now numbers) ≤ length (now answer) ⌝ }
+    ensures { λ _. ⌜ now (answer .exit) ≡ eights (now (numbers .entry)) ++ drop (8 * length (now (numbers .entry))) (now (answer .entry)) ⌝ }
+{
+    let mut i: usize = 0;
+    while i < numbers.len() {
+        number::write8(answer, i * 8, numbers[i]);
+        i += 1;
+    }
+}
+
+// Judges a table. The answer: number, place.
+#[no_mangle]
+pub extern "C" fn simmergate_check(table: &[u8], answer: &mut [u8]) -> u32
+    ensures { λ r. ⌜ r ≡ checkReturns (now (table .entry)) (now (answer .entry)) ⌝ }
+    ensures { λ _. ⌜ now (answer .exit) ≡ checkAnswers (now (table .entry)) (now (answer .entry)) ⌝ }
+{
+    if answer.len() < 16 {
+        return 6;
+    }
+    let f = table::fault_of(table::check(table));
+    let numbers = [f.number as u64, f.place as u64];
+    write_numbers(answer, &numbers);
+    f.number
+}
+
+// Weighs a table. The answer: number, place, weight.
+#[no_mangle]
+pub extern "C" fn simmergate_weight(table: &[u8], answer: &mut [u8]) -> u32
+    ensures { λ r. ⌜ r ≡ weightReturns (now (table .entry)) (now (answer .entry)) ⌝ }
+    ensures { λ _. ⌜ now (answer .exit) ≡ weightAnswers (now (table .entry)) (now (answer .entry)) ⌝ }
+{
+    if answer.len() < 24 {
+        return 6;
+    }
+    let w = table::weight(table);
+    let numbers = [w.number as u64, w.place as u64, w.result];
+    write_numbers(answer, &numbers);
+    w.number
+}
+
+// Evaluates a table under registers. The answer: number, place, value.
+#[no_mangle]
+pub extern "C" fn simmergate_value(table: &[u8], registers: &[u8], answer: &mut [u8]) -> u32
+    ensures { λ r. ⌜ r ≡ valueReturns (now (table .entry)) (now (registers .entry)) (now (answer .entry)) ⌝ }
+    ensures { λ _. ⌜ now (answer .exit) ≡ valueAnswers (now (table .entry)) (now (registers .entry)) (now (answer .entry)) ⌝ }
+{
+    if answer.len() < 24 {
+        return 6;
+    }
+    let v = value::value(table, registers);
+    let numbers = [v.number as u64, v.place as u64, v.result];
+    write_numbers(answer, &numbers);
+    v.number
+}

@@ -1,0 +1,4 @@
+pub mod TreeLaws
+pub mod MemberLaws
+pub mod AnswerLaws
+pub mod Unique

@@ -1,0 +1,156 @@
+-- Adding up, or multiplying, the values of members one after the other, as a loop does: what is gathered so far, joined with what the
+-- members left would give, stays what all of them give, since the operation modulo 2^64 may be grouped as one likes. Once, for an
+-- operation and what it gives for the members. Assumes nothing.
+use Prim.Native.Nat.{ℕ, suc, _+_, _-_, _*_, _%_, _<_, _≤_}
+use mathlib.Core.Path.{_≡_, refl, sym, ap, _∙_}
+use mathlib.Core.List.{List}
+use native.Mathlib.Nat.{mod-eq-of-lt, mul-assoc}
+use native.Mathlib.Omega.{arith}
+use Rattle.paper.specs.Limits.{modulus}
+use Rattle.paper.specs.Tree.{Tree, Forest, nil, cons, count, records, recordses, value, sumValue, productValue}
+use Rattle.paper.proofs.Stands.{first-member, other-members}
+use Rattle.paper.proofs.Congruence.{agree-refl, agree-sym, agree-trans, agree-mod, agree-mul, agree-of}
+use Rattle.paper.proofs.Value.{sumValue-exact, productValue-exact}
+use Rattle.value.specs.declared.Valued.{Valued}
+use Rattle.value.specs.Standing.{Standing, Members, SomeTree, SomeMembers}
+use Rattle.value.specs.Evaluated.{Evaluated}
+
+-- the first of members that are left, and the others
+pub record First (s : List ℕ) (at n : ℕ) (f : Forest) : Type 0 where
+  pub tree : Tree
+  pub others : Forest
+  pub all : f ≡ cons tree others
+  pub standing : Standing s at tree
+  pub there : Members s (at + records tree) n others
+
+pub first : {s : List ℕ} {at n : ℕ} (f : Forest) → Members s at (suc n) f → First s at n f
+unfolding count records
+first nil m = absurd (omega (arith, m .counted))
+first (cons t f) m = record {
+  tree = t;
+  others = f;
+  all = refl;
+  standing = record { wf = m .wf .0; small = omega (arith, m .small); stands = first-member t f (m .stand) };
+  there = record { wf = m .wf .1; counted = omega (arith, m .counted); small = omega (arith, m .small); stand = other-members t f (m .stand) };
+}
+
+no-members : {s : List ℕ} {at : ℕ} (f : Forest) → Members s at 0 f → f ≡ nil
+unfolding count
+no-members nil m = refl
+no-members (cons t f) m = absurd (omega (arith, m .counted))
+
+-- `op` gathers, from `unit` on, what `whole` gives for the members
+pub record Gathers (op : ℕ → ℕ → ℕ) (unit : ℕ) (ρ : ℕ → ℕ) (whole : Forest → ℕ) : Type 0 where
+  pub none : whole nil ≡ unit
+  pub one-more : (t : Tree) (f : Forest) → whole (cons t f) ≡ op (value t ρ) (whole f) % modulus
+  pub before : (v : ℕ) → op unit v ≡ v
+  pub after : (v : ℕ) → op v unit ≡ v
+  pub small : (f : Forest) → whole f < modulus
+  pub grouped : (a v w : ℕ) → op (op a v % modulus) w % modulus ≡ op a (op v w % modulus) % modulus
+
+-- of the members f from record i on, `left` are left from record `at` on, and `total` is gathered from the others
+pub record Left (op : ℕ → ℕ → ℕ) (whole : Forest → ℕ) (s : List ℕ) (i total at left : ℕ) (f : Forest) : Type 0 where
+  pub rest : Forest
+  pub there : Members s at left rest
+  pub gathered : op total (whole rest) % modulus ≡ whole f
+  pub sized : at + recordses rest ≡ i + recordses f
+
+-- what a loop over the n members from record i on keeps, whichever they are
+pub record Gathering (op : ℕ → ℕ → ℕ) (whole : Forest → ℕ) (s : List ℕ) (i n total at left : ℕ) : Type 0 where
+  pub ahead : i ≤ at
+  pub fits : total < modulus
+  pub each : (f : Forest) → Members s i n f → Left op whole s i total at left f
+
+module _ {op : ℕ → ℕ → ℕ} {unit : ℕ} {ρ : ℕ → ℕ} {whole : Forest → ℕ} (o : Gathers op unit ρ whole) {s : List ℕ} {i : ℕ} where
+  all-left : (n : ℕ) (f : Forest) → Members s i n f → Left op whole s i unit i n f
+  all-left n f m = record {
+    rest = f;
+    there = m;
+    gathered = ap (λ (v : ℕ). v % modulus) (o .before (whole f)) ∙ mod-eq-of-lt (o .small f);
+    sized = refl;
+  }
+
+  one-fewer : (f : Forest) (total next at n : ℕ) (r : Valued) → Left op whole s i total at (suc n) f
+      → ((t : Tree) → Standing s at t → Evaluated at (records t) (value t ρ) r)
+      → next ≡ op total (r .value) % modulus → Left op whole s i next (r .end) n f
+  unfolding records
+  one-fewer f total next at n r l g e =
+      let m = first (l .rest) (l .there) in
+      let v = g (m .tree) (m .standing) in
+      record {
+        rest = m .others;
+        there = rw (v .end) (m .there);
+        gathered =
+            ap (λ (n : ℕ). op n (whole (m .others)) % modulus) (e ∙ ap (λ (x : ℕ). op total x % modulus) (v .value))
+            ∙ o .grouped total (value (m .tree) ρ) (whole (m .others))
+            ∙ ap (λ (x : ℕ). op total x % modulus) (sym (o .one-more (m .tree) (m .others)) ∙ ap whole (sym (m .all)))
+            ∙ l .gathered;
+        sized = omega (arith, l .sized, v .end, ap recordses (m .all));
+      }
+
+  none-left : (f : Forest) (total at : ℕ) → total < modulus → Left op whole s i total at 0 f
+      → Evaluated i (recordses f) (whole f) (record { value = total; end = at })
+  unfolding records
+  none-left f total at h l =
+      let e = no-members (l .rest) (l .there) in
+      record {
+        value =
+            sym (mod-eq-of-lt h)
+            ∙ ap (λ (x : ℕ). x % modulus) (sym (o .after total) ∙ ap (op total) (sym (o .none) ∙ ap whole (sym e)))
+            ∙ l .gathered;
+        end = omega (arith, l .sized, ap recordses e);
+      }
+
+  -- the loop's turns: at the start all are left; a member stands at `at` while one is left; each turn leaves one fewer
+  pub begins : (n : ℕ) → unit < modulus → Gathering op whole s i n unit i n
+  begins n h = record { ahead = omega arith; fits = h; each = all-left n }
+
+  module _ {n total at left : ℕ} (l : Gathering op whole s i n total at left) where
+    pub member-there : SomeMembers s i n → 0 < left → SomeTree s at
+    member-there m h =
+        let e : left ≡ suc (left - 1) = omega arith in
+        let k = l .each (m .0) (m .1) in
+        let q = first (k .rest) (rw e at (k .there)) in
+        (q .tree, q .standing)
+
+    pub goes-on : SomeMembers s i n → 0 < left → (r : Valued)
+        → ((t : Tree) → Standing s at t → Evaluated at (records t) (value t ρ) r) → (next : ℕ) → next ≡ op total (r .value) % modulus
+        → Gathering op whole s i n next (r .end) (left - 1)
+    goes-on m h r g next e =
+        let d : left ≡ suc (left - 1) = omega arith in
+        let q = member-there m h in
+        record {
+          ahead = omega (arith, l .ahead, g (q .0) (q .1) .end);
+          fits = rw e (omega arith);
+          each = λ f k. one-fewer f total next at (left - 1) r (rw d at (l .each f k)) g e;
+        }
+
+    pub ends : left ≤ 0 → (f : Forest) → Members s i n f → Evaluated i (recordses f) (whole f) (record { value = total; end = at })
+    ends h f m =
+        let d : left ≡ 0 = omega arith in
+        none-left f total at (l .fits) (rw d at (l .each f m))
+
+module _ (ρ : ℕ → ℕ) where
+  pub sums : Gathers _+_ 0 ρ (λ f. sumValue f ρ)
+  unfolding value
+  sums = record {
+    none = refl;
+    one-more = λ t f. refl;
+    before = λ v. omega arith;
+    after = λ v. omega arith;
+    small = λ f. rw (sumValue-exact f ρ) (omega arith);
+    grouped = λ a v w. omega arith;
+  }
+
+  pub products : Gathers _*_ 1 ρ (λ f. productValue f ρ)
+  unfolding value
+  products = record {
+    none = refl;
+    one-more = λ t f. refl;
+    before = λ v. omega arith;
+    after = λ v. omega arith;
+    small = λ f. rw (productValue-exact f ρ) (omega arith);
+    grouped = λ a v w. (agree-trans
+        (agree-mul (agree-mod (a * v)) (agree-refl {a = w}))
+        (agree-trans (agree-of (mul-assoc a v w)) (agree-mul (agree-refl {a = a}) (agree-sym (agree-mod (v * w)))))) .agree;
+  }

@@ -1,0 +1,71 @@
+-- `value::value` meets its contract: the refusals are the checker's, and 6; the tree that an accepted table holds stands at its
+-- record 0, so that what is returned is that tree's value, the array being the registers. Assumes nothing.
+use mathlib.Core.Path.{_∙_}
+use native.Mathlib.Omega.{arith}
+use borrow.Author.Needs.{needs}
+use Rattle.paper.specs.Answers.{register}
+use Rattle.paper.proofs.AcceptedLaws.{accepted-holds}
+use Rattle.value.specs.Evaluated.{held}
+use Rattle.value.proofs.AnswerLaws.{are-bytes, holds-standing, same-value, told-accepted, refused-table, refused-registers, value-told}
+use Rattle.value.proofs.value.Statement.{statement}
+use Rattle.value.proofs.value.Tie as tie
+
+check-requires : tie.Need-check-requires
+check-requires c κs = search needs
+
+fault-of-requires : tie.Need-fault-of-requires
+fault-of-requires c κs = search needs
+
+returns : tie.Need-returns
+returns c =
+    let fault = c .before .before .fault-of in
+    let a = c .before .before .before .before .before .before .args in
+    let told = fault .ensures ∙ c .before .before .before .check .ensures in
+    refused-table (a .s .now) (a .registers .now) (fault .result .number) (fault .result .place) told (omega arith)
+
+returns-2 : tie.Need-returns-2
+returns-2 c =
+    let fault = c .before .before .before .fault-of in
+    let a = c .before .before .before .before .before .before .before .args in
+    let told = fault .ensures ∙ c .before .before .before .before .check .ensures in
+    let fine = told-accepted (a .s .now) (fault .result .number) (fault .result .place) told (omega arith) in
+    refused-registers (a .s .now) (a .registers .now) fine (c .if2 .taken)
+
+fill-requires : tie.Need-fill-requires
+fill-requires c κs = search needs
+
+value-at-requires : tie.Need-value-at-requires
+value-at-requires c κs =
+    let fault = c .before .before .before .before .before .fault-of in
+    let known = c .before .before .before .before .before .before .before .before in
+    let s = known .before .args .s .now in
+    let told = fault .ensures ∙ c .before .before .before .before .before .before .check .ensures in
+    let fine = told-accepted s (fault .result .number) (fault .result .place) told (omega arith) in
+    let h = accepted-holds s (are-bytes s (known .shared-slice-known .given)) fine in
+    (h .tree, holds-standing s h)
+
+returns-3 : tie.Need-returns-3
+returns-3 c =
+    let fault = c .before .before .before .before .before .before .fault-of in
+    let known = c .before .before .before .before .before .before .before .before .before in
+    let s = known .before .args .s .now in
+    let registers = known .before .args .registers .now in
+    let told = fault .ensures ∙ c .before .before .before .before .before .before .before .check .ensures in
+    let fine = told-accepted s (fault .result .number) (fault .result .place) told (omega arith) in
+    let h = accepted-holds s (are-bytes s (known .shared-slice-known .given)) fine in
+    let v = c .value-at .ensures (h .tree) (holds-standing s h) .value in
+    let regs = c .before .before .fill in
+    let told-value = v ∙ same-value (held (regs .result)) (register registers) (regs .ensures) (h .tree) (h .wf) in
+    value-told s registers h fine (c .before .before .before .if2 .left) (c .value-at .result .value) told-value
+
+pub value-spec : {M : Type 1} → statement M
+value-spec =
+    tie.close
+    (tie.spec
+    check-requires
+    fault-of-requires
+    returns
+    returns-2
+    fill-requires
+    value-at-requires
+    returns-3)

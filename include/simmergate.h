@@ -1,0 +1,47 @@
+/* Simmergate: formulas as tables of records, judged, weighed and evaluated.
+
+   A table holds records of 16 bytes, the tree in the order parent, then members from first to last; numbers are little-endian. Byte 0 is the
+   kind (0 integer, 1 symbol, 2 sum, 3 product, 4 power), bytes 2-3 the number of members of a sum or a product, bytes 8-15 the integer,
+   byte 8 the symbol; all other bytes are zero. A power has its base and then its exponent, an integer of at least 1.
+
+   Every call returns the refusal number, 0 where nothing is refused, and writes the numbers of its answer to `answer`, 8 bytes each,
+   little-endian, in the order named at the call. The first two are always the refusal number and its place, a record counted from 0; after a
+   refusal all other numbers are 0. The lowest number wins:
+
+     number   given exactly when                                                               place
+     1        the table's length is zero, no multiple of 16, or over 49,152 bytes              0
+     2        a record has a kind over 4, a byte other than zero that must be zero, or a       first such record
+              sum or product count under 2
+     3        the table weighs over 3,072                                                      0
+     4        the records end before the tree, or the tree before the records                  number of records; or
+                                                                                               first record too many
+     5        an exponent is no integer record of at least 1                                   first such exponent record
+     6        a lent area has the wrong length: the registers are not 2,048 bytes              0
+     7        (given by no call of this edition)
+
+   Where `answer` is too short for the numbers, a call returns 6 before all else and changes nothing. Bytes of `answer` past the numbers never
+   change, and no call changes a byte of any other area.
+
+   All lengths are in bytes. The areas of one call must not overlap; a pointer may be anything where its length is 0, and needs no alignment.
+   Nothing is allocated, nothing is kept between calls, and calls on different areas may run at the same time. */
+#ifndef SIMMERGATE_H
+#define SIMMERGATE_H
+
+#include <stddef.h>
+#include <stdint.h>
+
+/* Bytes of stack that a call needs at the most. The deepest tables that are accepted, 1,535 nodes one inside the other, were measured on
+   x86-64 to need 145,752 bytes in simmergate_check, 145,768 in simmergate_weight and 196,824 in simmergate_value. */
+#define SIMMERGATE_STACK 204800
+
+/* Judges a table. The answer, 16 bytes: refusal number, place. */
+uint32_t simmergate_check(const uint8_t *table, size_t table_bytes, uint8_t *answer, size_t answer_bytes);
+
+/* Weighs a table: its number of records, and 2 for each symbol record. The answer, 24 bytes: refusal number, place, weight. */
+uint32_t simmergate_weight(const uint8_t *table, size_t table_bytes, uint8_t *answer, size_t answer_bytes);
+
+/* Evaluates a table modulo 2^64. `registers` is 256 numbers of 8 bytes, symbol 0 first: 2,048 bytes, any other length being refused by 6 after
+   1 to 5. The answer, 24 bytes: refusal number, place, value. */
+uint32_t simmergate_value(const uint8_t *table, size_t table_bytes, const uint8_t *registers, size_t registers_bytes, uint8_t *answer, size_t answer_bytes);
+
+#endif

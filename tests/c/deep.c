@@ -1,0 +1,102 @@
+/* The deepest tables that are accepted, 1,535 nodes one inside the other, checked, weighed and evaluated on a stack of 1 MiB that lies
+   behind a page that nothing may touch. The stack is painted before each call, and what is painted over is what the call needed. */
+#include "../../include/simmergate.h"
+#include "own.h"
+#include <pthread.h>
+#include <stdio.h>
+#include <stdlib.h>
+#include <string.h>
+
+int mprotect(void *, size_t, int);
+
+enum { PAGE = 4096, STACK = 1 << 20, PAINT = 0xe5, DEPTH = 1535 };
+
+static uint8_t area[PAGE + STACK] __attribute__((aligned(PAGE)));
+static uint8_t *const stack = area + PAGE;
+
+static uint8_t table[MOST_BYTES], registers[8 * REGISTERS], answer[24];
+static size_t bytes;
+static uint32_t returned;
+
+static void *nothing(void *unused) { return unused; }
+static void *check(void *unused) { returned = simmergate_check(table, bytes, answer, sizeof answer); return unused; }
+static void *weigh(void *unused) { returned = simmergate_weight(table, bytes, answer, sizeof answer); return unused; }
+static void *evaluate(void *unused) { returned = simmergate_value(table, bytes, registers, sizeof registers, answer, sizeof answer); return unused; }
+
+/* Bytes of the stack that a thread uses. */
+static size_t used(void *(*call)(void *)) {
+    pthread_attr_t attributes;
+    pthread_t thread;
+    memset(stack, PAINT, STACK);
+    if (pthread_attr_init(&attributes) || pthread_attr_setstack(&attributes, stack, STACK)
+        || pthread_create(&thread, &attributes, call, NULL) || pthread_join(thread, NULL)) {
+        printf("deep: no thread on a stack of %d bytes\n", STACK);
+        exit(1);
+    }
+    size_t i = 0;
+    while (stack[i] == PAINT) i++;
+    return STACK - i;
+}
+
+static void put(unsigned kind, unsigned count, uint64_t number) {
+    uint8_t *r = table + bytes;
+    memset(r, 0, RECORD);
+    r[0] = (uint8_t)kind;
+    r[2] = (uint8_t)count;
+    own_bytes(r + 8, number);
+    bytes += RECORD;
+}
+
+/* DEPTH nodes of the kinds a and b by turns, each the first member of the one around it, or the last. */
+static void nest(unsigned a, unsigned b, int first) {
+    bytes = 0;
+    for (int d = 0; d < DEPTH; d++) {
+        unsigned k = d % 2 ? b : a;
+        put(k, k == 4 ? 0 : 2, 0);
+        if (k != 4 && !first) put(0, 0, 3 + (uint64_t)d);
+    }
+    put(0, 0, 3);
+    for (int d = DEPTH - 1; d >= 0; d--) {
+        unsigned k = d % 2 ? b : a;
+        if (k == 4 || first) put(0, 0, 3 + (uint64_t)d);
+    }
+}
+
+static void differ(const char *call, unsigned a, unsigned b, uint64_t expected, uint64_t got) {
+    printf("deep: %s of %d nested nodes of kinds %u and %u gives %llu, not %llu\n", call, DEPTH, a, b, (unsigned long long)got, (unsigned long long)expected);
+    exit(1);
+}
+
+int main(void) {
+    static const unsigned kinds[][3] = {{4, 4, 0}, {2, 2, 0}, {2, 2, 1}, {3, 3, 0}, {3, 3, 1}, {2, 3, 0}, {3, 2, 1}, {4, 2, 0}, {4, 3, 1}};
+    size_t shapes = sizeof kinds / sizeof *kinds, most[3] = {0, 0, 0};
+    uint64_t own_registers[REGISTERS] = {0};
+    if (mprotect(area, PAGE, 0)) {
+        printf("deep: no page to guard the stack\n");
+        return 1;
+    }
+    used(nothing);
+    size_t thread = used(nothing);
+    for (size_t i = 0; i < shapes; i++) {
+        unsigned a = kinds[i][0], b = kinds[i][1];
+        nest(a, b, kinds[i][2] != 0);
+        void *(*calls[3])(void *) = {check, weigh, evaluate};
+        for (int k = 0; k < 3; k++) {
+            size_t n = used(calls[k]) - thread;
+            if (n > most[k]) most[k] = n;
+            if (returned != 0) differ("the return", a, b, 0, returned);
+            if (k == 1 && own_number(answer + 16) != bytes / RECORD) differ("the weight", a, b, bytes / RECORD, own_number(answer + 16));
+            uint64_t v = own_value(table, own_registers);
+            if (k == 2 && own_number(answer + 16) != v) differ("the value", a, b, v, own_number(answer + 16));
+        }
+    }
+    size_t need = most[0] > most[1] ? most[0] : most[1];
+    if (most[2] > need) need = most[2];
+    if (need > SIMMERGATE_STACK) {
+        printf("deep: a call needs %zu bytes of stack, and the header says %d\n", need, SIMMERGATE_STACK);
+        return 1;
+    }
+    printf("deep: %zu shapes of %d nested nodes on a stack of 1 MiB: check needs %zu bytes of it, weight %zu, value %zu; the header says %d\n", shapes, DEPTH,
+           most[0], most[1], most[2], SIMMERGATE_STACK);
+    return 0;
+}

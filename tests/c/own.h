@@ -1,0 +1,26 @@
+/* The paper read plainly in C, for the tests: it shares nothing with the proved code. */
+#ifndef OWN_H
+#define OWN_H
+#include <stddef.h>
+#include <stdint.h>
+
+enum { RECORD = 16, MOST_BYTES = 49152, MOST_WEIGHT = 3072, REGISTERS = 256 };
+
+struct verdict {
+    uint64_t number, place;
+};
+
+/* Refusals 1 to 5 of a table; 0, 0 where there is none. */
+struct verdict own_check(const uint8_t *table, size_t bytes);
+
+/* The weight of the records of a table. */
+uint64_t own_weight(const uint8_t *table, size_t bytes);
+
+/* The value of a table that is not refused. */
+uint64_t own_value(const uint8_t *table, const uint64_t *registers);
+
+/* The number in eight bytes, and a number as eight bytes. */
+uint64_t own_number(const uint8_t *bytes);
+void own_bytes(uint8_t *bytes, uint64_t number);
+
+#endif
