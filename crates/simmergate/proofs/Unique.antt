@@ -11,6 +11,8 @@ use Rattle.simmergate.proofs.simmergate_weight.Reads as weight-reads
 use Rattle.simmergate.proofs.simmergate_weight.Kinds as weight-kinds
 use Rattle.simmergate.proofs.simmergate_value.Reads as value-reads
 use Rattle.simmergate.proofs.simmergate_value.Kinds as value-kinds
+use Rattle.simmergate.proofs.simmergate_equal.Reads as equal-reads
+use Rattle.simmergate.proofs.simmergate_equal.Kinds as equal-kinds
 
 pub check-once : (κs : Lfts 2) (a : Dens κs check-kinds.ps) (r r′ : ℕ) (x x′ : AtExit (endedOf 2 check-kinds.ps check-kinds.r) κs)
     → check-reads.Post κs a r x → check-reads.Post κs a r′ x′ → (r ≡ r′) × (x .1 .0 .now ≡ x′ .1 .0 .now)
@@ -23,3 +25,7 @@ weight-once κs a r r′ x x′ p p′ = (p .0 ∙ sym (p′ .0), p .1 ∙ sym (
 pub value-once : (κs : Lfts 3) (a : Dens κs value-kinds.ps) (r r′ : ℕ) (x x′ : AtExit (endedOf 3 value-kinds.ps value-kinds.r) κs)
     → value-reads.Post κs a r x → value-reads.Post κs a r′ x′ → (r ≡ r′) × (x .1 .1 .0 .now ≡ x′ .1 .1 .0 .now)
 value-once κs a r r′ x x′ p p′ = (p .0 ∙ sym (p′ .0), p .1 ∙ sym (p′ .1))
+
+pub equal-once : (κs : Lfts 3) (a : Dens κs equal-kinds.ps) (r r′ : ℕ) (x x′ : AtExit (endedOf 3 equal-kinds.ps equal-kinds.r) κs)
+    → equal-reads.Post κs a r x → equal-reads.Post κs a r′ x′ → (r ≡ r′) × (x .1 .1 .0 .now ≡ x′ .1 .1 .0 .now)
+equal-once κs a r r′ x x′ p p′ = (p .0 ∙ sym (p′ .0), p .1 ∙ sym (p′ .1))

@@ -3,7 +3,8 @@ ghost use mathlib.Core.Path.{_≡_};
 ghost use mathlib.Core.List.{_++_};
 ghost use Prim.Native.Nat.{_*_, _≤_};
 ghost use lib.ListN.{length, drop};
-ghost use Rattle.paper.specs.Calls.{eights, checkReturns, checkAnswers, weightReturns, weightAnswers, valueReturns, valueAnswers};
+ghost use Rattle.paper.specs.Equal.{one};
+ghost use Rattle.paper.specs.Calls.{eights, checkReturns, checkAnswers, weightReturns, weightAnswers, valueReturns, valueAnswers, equalReturns, equalAnswers};
 
 // Writes the numbers of an answer, eight bytes each, at the front of the slice; its bytes past them stay.
 fn write_numbers(answer: &mut [u8], numbers: &[u64])
@@ -15,6 +16,13 @@ fn write_numbers(answer: &mut [u8], numbers: &[u64])
         number::write8(answer, i * 8, numbers[i]);
         i += 1;
     }
+}
+
+// Yes is 1, no is 0.
+fn number_of(yes: bool) -> u64
+    ensures { λ r. ⌜ r ≡ one yes ⌝ }
+{
+    if yes { 1 } else { 0 }
 }
 
 // Judges a table. The answer: number, place.
@@ -60,4 +68,20 @@ pub extern "C" fn simmergate_value(table: &[u8], registers: &[u8], answer: &mut 
     let numbers = [v.number as u64, v.place as u64, v.result];
     write_numbers(answer, &numbers);
     v.number
+}
+
+// Compares the trees of two tables. The answer: number, place, which table is refused, yes (1) or no (0).
+#[no_mangle]
+pub extern "C" fn simmergate_equal(a: &[u8], b: &[u8], answer: &mut [u8]) -> u32
+    ensures { λ r. ⌜ r ≡ equalReturns (now (a .entry)) (now (b .entry)) (now (answer .entry)) ⌝ }
+    ensures { λ _. ⌜ now (answer .exit) ≡ equalAnswers (now (a .entry)) (now (b .entry)) (now (answer .entry)) ⌝ }
+{
+    if answer.len() < 32 {
+        return 6;
+    }
+    let c = equal::equal(a, b);
+    let yes = number_of(c.yes);
+    let numbers = [c.number as u64, c.place as u64, c.which as u64, yes];
+    write_numbers(answer, &numbers);
+    c.number
 }

@@ -1,0 +1,183 @@
+-- Members matched one after the other: each takes an equal one away from those that are unmarked, so what is left to match says what
+-- the whole does; equally many on both sides, none is left in the end. Assumes nothing.
+use Prim.Native.Nat.{ℕ, _+_, _-_, _≤_, _<_}
+use mathlib.Core.Path.{_≡_, refl, sym, ap, _∙_, subst}
+use mathlib.Core.Bool.{Bool, true, false}
+use mathlib.Core.List.{List, [], _∷_}
+use mathlib.Core.Option.{none, some}
+use native.Mathlib.Omega.{arith}
+use borrow.Author.Tests.{eq-eqb, ne-eqb}
+use lib.ListN.{length, getD}
+use Rattle.paper.specs.Record.{countIn}
+use Rattle.paper.specs.Tree.{Tree, Forest, nil, cons, records, recordses, toList}
+use Rattle.paper.specs.Equal.{removeFirst, goOn, isEmpty, sameBag, equal}
+use Rattle.paper.proofs.Bags.{First, removeFirst-first}
+use Rattle.paper.proofs.EncodeLaws.{count-records}
+use Rattle.paper.proofs.WFLaws.{count-list}
+use Rattle.split.specs.Standing.{TreeIn, TreesIn, SomeTree}
+use Rattle.split.proofs.StandingLaws.{FirstOf, first-of, none-of}
+use Rattle.equal.specs.Matching.{matchOf, without, unmarked, Takeable, Matchable}
+use Rattle.equal.proofs.SameLaws.{taken-length, Nodes}
+use Rattle.equal.proofs.MarkLaws.{unmarked-all}
+use Rattle.equal.specs.declared.Match.{Match}
+
+-- ---- the trees of a row without the one at a record
+pub without-later : (i x : ℕ) (f : Forest) → x < i → without i x f ≡ toList f
+unfolding without toList
+without-later i x nil l = refl
+without-later i x (cons t f) l =
+    rw (ne-eqb i x (λ e. omega arith)) (ap (λ (k : List Tree). t ∷ k) (without-later (i + records t) x f (omega arith)))
+
+module _ (i x : ℕ) (t : Tree) (f : Forest) where
+  pub without-here : i ≡ x → without i x (cons t f) ≡ without (i + records t) x f
+  unfolding without
+  without-here e = rw (eq-eqb i x e) refl
+
+  pub without-other : (i ≡ x → ⊥) → without i x (cons t f) ≡ t ∷ without (i + records t) x f
+  unfolding without
+  without-other e = rw (ne-eqb i x e) refl
+
+-- ---- one tree matched
+bag-none : (t : Tree) (l k : List Tree) → removeFirst (equal t) k ≡ none → sameBag equal (t ∷ l) k ≡ false
+unfolding sameBag goOn
+bag-none t l k e = rw e
+
+bag-more : (t : Tree) (l k m : List Tree) → removeFirst (equal t) k ≡ some m → sameBag equal (t ∷ l) k ≡ sameBag equal l m
+unfolding sameBag goOn
+bag-more t l k m e = rw e refl
+
+bag-end : (k : List Tree) → length k ≡ 0 → sameBag equal [] k ≡ true
+unfolding sameBag isEmpty
+bag-end [] e = refl
+bag-end (t ∷ k) e = absurd (omega arith)
+
+removed-length : (p : Tree → Bool) (l m : List Tree) → removeFirst p l ≡ some m → length l ≡ 1 + length m
+removed-length p l m e = taken-length (subst (First p l) e (removeFirst-first p l) .2)
+
+-- the trees of f matched so far: those from record `at` on are left, equally many as are unmarked, and say what the whole does
+pub record Matched (a : List ℕ) (i x : ℕ) (us₀ us : List ℕ) (f g : Forest) (at left : ℕ) : Type 0 where
+  pub rest : Forest
+  pub stand : TreesIn a at left rest
+  pub ends : at + recordses rest ≡ i + recordses f
+  pub as-many : length (without at x rest) ≡ length (unmarked us 0 g)
+  pub same : sameBag equal (without at x rest) (unmarked us 0 g) ≡ sameBag equal (without i x f) (unmarked us₀ 0 g)
+
+module _ {a : List ℕ} {i x : ℕ} {f g : Forest} where
+  pub matched-start : {n : ℕ} (us : List ℕ) → TreesIn a i n f → length (without i x f) ≡ length (unmarked us 0 g) → Matched a i x us us f g i n
+  matched-start us h l = record { rest = f; stand = h; ends = refl; as-many = l; same = refl }
+
+  module _ {us₀ us : List ℕ} {at left : ℕ} (h : Matched a i x us₀ us f g at left) where
+    pub matched-done : left ≡ 0 → (sameBag equal (without i x f) (unmarked us₀ 0 g) ≡ true) × (at ≡ i + recordses f)
+    unfolding without records
+    matched-done e =
+        let z : h .rest ≡ nil = none-of (h .rest) (h .stand) e in
+        let w : without at x (h .rest) ≡ [] = ap (without at x) z in
+        let r : recordses (h .rest) ≡ 0 = ap recordses z in
+        let l : length (without at x (h .rest)) ≡ 0 = ap length w in
+        (sym (h .same) ∙ ap (λ k. sameBag equal k (unmarked us 0 g)) w ∙ bag-end (unmarked us 0 g) (omega (arith, h .as-many)), omega (arith, h .ends))
+
+    module _ (l : 0 < left) where
+      next : FirstOf a at left (h .rest)
+      next = first-of (h .rest) (h .stand) l
+
+      pub matched-tree : SomeTree a at
+      matched-tree = record { tree = next .tree; there = next .there }
+
+      pub matched-takeable : {b : List ℕ} {j m : ℕ} (room : ℕ) → TreesIn b j m g → recordses g < room → Takeable a at b j m room
+      matched-takeable room o r =
+          record { one = next .tree; others = g; one-there = next .there; others-there = o; enough = r }
+
+      after : at + records (next .tree) + recordses (next .others) ≡ i + recordses f
+      unfolding records
+      after = omega (arith, h .ends, ap recordses (next .whole))
+
+      -- the one that is left out
+      pub matched-out : at ≡ x → (y : ℕ) → ((t : Tree) → TreeIn a at t → y ≡ at + records t) → Matched a i x us₀ us f g y (left - 1)
+      matched-out e y to =
+          let w : without at x (h .rest) ≡ without (at + records (next .tree)) x (next .others)
+          = ap (without at x) (next .whole) ∙ without-here at x (next .tree) (next .others) e in
+          rw (to (next .tree) (next .there))
+          (record {
+            rest = next .others;
+            stand = next .after;
+            ends = after;
+            as-many = ap length (sym w) ∙ h .as-many;
+            same = ap (λ k. sameBag equal k (unmarked us 0 g)) (sym w) ∙ h .same;
+          })
+
+      module _ (n : at ≡ x → ⊥) where
+        first : without at x (h .rest) ≡ next .tree ∷ without (at + records (next .tree)) x (next .others)
+        first = ap (without at x) (next .whole) ∙ without-other at x (next .tree) (next .others) n
+
+        -- one that equals no unmarked one
+        pub matched-none : ((t : Tree) → TreeIn a at t → removeFirst (equal t) (unmarked us 0 g) ≡ none)
+            → sameBag equal (without i x f) (unmarked us₀ 0 g) ≡ false
+        matched-none r =
+            sym (h .same)
+            ∙ ap (λ k. sameBag equal k (unmarked us 0 g)) first
+            ∙ bag-none (next .tree) (without (at + records (next .tree)) x (next .others)) (unmarked us 0 g) (r (next .tree) (next .there))
+
+        -- one that took an equal one
+        pub matched-more : (vs : List ℕ) (y : ℕ)
+            → ((t : Tree) → TreeIn a at t → (y ≡ at + records t) × (removeFirst (equal t) (unmarked us 0 g) ≡ some (unmarked vs 0 g)))
+            → Matched a i x us₀ vs f g y (left - 1)
+        matched-more vs y r =
+            let t = next .tree in
+            let k : List Tree = without (at + records t) x (next .others) in
+            let q = r t (next .there) in
+            rw (q .0)
+            (record {
+              rest = next .others;
+              stand = next .after;
+              ends = after;
+              as-many = omega (arith, ap length first, h .as-many, removed-length (equal t) (unmarked us 0 g) (unmarked vs 0 g) (q .1));
+              same =
+                  sym (bag-more t k (unmarked us 0 g) (unmarked vs 0 g) (q .1))
+                  ∙ ap (λ z. sameBag equal z (unmarked us 0 g)) (sym first)
+                  ∙ h .same;
+            })
+
+-- ---- two sums, or two products, none of their members left out and none marked
+module _ {a : List ℕ} {i : ℕ} {b : List ℕ} {j : ℕ} {t u : Tree} (q : Nodes a i b j t u)
+    (n : ℕ) (one : n ≡ countIn a i) (other : n ≡ countIn b j) where
+  ones-there : TreesIn a (i + 1) n (q .ones)
+  ones-there = subst (λ k. TreesIn a (i + 1) k (q .ones)) (sym one) (q .ones-there)
+
+  others-there : TreesIn b (j + 1) n (q .others)
+  others-there = subst (λ k. TreesIn b (j + 1) k (q .others)) (sym other) (q .others-there)
+
+  -- there is room for the marks
+  pub nodes-room : (room : ℕ) → records u ≤ room → n ≤ room
+  nodes-room room l = omega (arith, q .other-size, others-there .counted, count-records (q .others))
+
+  module _ (us : List ℕ) (zero-marks : (k : ℕ) → k < n → getD us k 0 ≡ 0) where
+    all-ones : without (i + 1) 0 (q .ones) ≡ toList (q .ones)
+    all-ones = without-later (i + 1) 0 (q .ones) (omega arith)
+
+    all-others : unmarked us 0 (q .others) ≡ toList (q .others)
+    all-others = unmarked-all us 0 n (q .others) (λ k p l. zero-marks k l) (omega (arith, others-there .counted))
+
+    as-many : length (without (i + 1) 0 (q .ones)) ≡ length (unmarked us 0 (q .others))
+    as-many =
+        omega
+        (arith, ap length all-ones, ap length all-others, count-list (q .ones), count-list (q .others), ones-there .counted, others-there .counted)
+
+    pub nodes-matchable : records u ≤ length us → Matchable a (i + 1) n 0 b (j + 1) n us
+    nodes-matchable l =
+        record {
+          ones = q .ones;
+          others = q .others;
+          ones-there = ones-there;
+          others-there = others-there;
+          enough = omega (arith, q .other-size);
+          as-many = as-many;
+        }
+
+    -- what the comparison of the members answers is what that of the trees does
+    pub nodes-same : (r : Match)
+        → ((f g : Forest) → TreesIn a (i + 1) n f → TreesIn b (j + 1) n g → length (without (i + 1) 0 f) ≡ length (unmarked us 0 g)
+        → r ≡ matchOf (sameBag equal (without (i + 1) 0 f) (unmarked us 0 g)) (i + 1 + recordses f))
+        → r ≡ matchOf (equal t u) (i + records t)
+    nodes-same r told =
+        let e : i + 1 + recordses (q .ones) ≡ i + records t = omega (arith, q .size) in
+        told (q .ones) (q .others) ones-there others-there as-many ∙ rw (all-ones, all-others, q .same, e) refl

@@ -1,0 +1,284 @@
+-- Two trees that stand in tables, compared by their first records: of different kinds they are not equal; leaves are equal where
+-- their numbers are, powers where bases and exponents are, sums and products where their members are the same multiset. By the
+-- evidence of equality, and by cases on the tree that a record tells. Assumes nothing.
+use Prim.Native.Nat.{ℕ, _+_, _-_, _*_, _≤_, _<_}
+use mathlib.Core.Path.{_≡_, refl, sym, ap, _∙_, subst}
+use mathlib.Core.Bool.{Bool, true, false, _&&_}
+use mathlib.Core.List.{List}
+use native.Mathlib.Omega.{arith}
+use borrow.Author.Tests.{eq-eqb, ne-eqb}
+use lib.ListN.{length}
+use lib.Dec.{eqb}
+use lib.IntN.{ℤ}
+use Rattle.paper.specs.Bytes.{word, signed}
+use Rattle.paper.specs.Record.{kind, countIn, bits}
+use Rattle.paper.specs.Table.{encode}
+use Rattle.paper.specs.Tree.{Tree, Forest, integer, symbol, sum, product, power, count, records, recordses, toList}
+use Rattle.paper.specs.WellFormed.{InRange}
+use Rattle.paper.specs.Equal.{eqZ, equal, sameBag, onInteger, onSymbol, onSum, onProduct, onPower}
+use Rattle.paper.proofs.Tests.{not-so, eqZ-self}
+use Rattle.paper.proofs.EncodeLaws.{signed-word, bits-there}
+use Rattle.paper.proofs.EqualView.{Same, Sames, Taken, here, there, s-integer, s-symbol, s-sum, s-product, s-power, s-nil, s-cons}
+use Rattle.paper.proofs.EqualView.{same-view, matched-view, same-records}
+use Rattle.paper.proofs.Equality.{matched-bag}
+use Rattle.paper.proofs.WFLaws.{count-list}
+use Rattle.paper.proofs.Seen.{Seen, an-integer, a-symbol, a-sum, a-product, a-power, seen-sum, seen-product, seen-power}
+use Rattle.split.specs.Standing.{TreeIn, TreesIn}
+use Rattle.split.proofs.StandingLaws.{seen, tree-within, sum-trees, product-trees, power-tree}
+use Rattle.equal.specs.Matching.{matchOf, Comparable}
+use Rattle.equal.specs.declared.Match.{Match}
+use Rattle.equal.specs.declared.Match.the-variants.{Different, Ends}
+
+-- the paper's number of a tree's kind
+unfoldable pub number : Tree → ℕ
+number (integer z) = 0
+number (symbol v) = 1
+number (sum f) = 2
+number (product f) = 3
+number (power b e) = 4
+
+pub kind-number : {s : List ℕ} {i : ℕ} {t : Tree} → Seen s i t → kind s i ≡ number t
+unfolding number
+kind-number (an-integer e b w) = e
+kind-number (a-symbol e b w) = e
+kind-number (a-sum e n c w m) = e
+kind-number (a-product e n c w m) = e
+kind-number (a-power e w m p q o y z) = e
+
+pub same-number : {t u : Tree} → Same t u → number t ≡ number u
+unfolding number
+same-number s-integer = refl
+same-number s-symbol = refl
+same-number (s-sum r) = refl
+same-number (s-product r) = refl
+same-number (s-power r) = refl
+
+pub taken-length : {u : Tree} {l m : List Tree} → Taken u l m → length l ≡ 1 + length m
+taken-length here = omega arith
+taken-length (there r) = omega (arith, taken-length r)
+
+sames-count : {f : Forest} {l : List Tree} → Sames f l → count f ≡ length l
+unfolding count
+sames-count s-nil = refl
+sames-count (s-cons r k s) = omega (arith, sames-count s, taken-length k)
+
+-- the number of a symbol, read as that of an integer
+symbol-bits : {s : List ℕ} {i v : ℕ} → TreeIn s i (symbol v) → v < 256 → bits s i ≡ v
+unfolding encode
+symbol-bits {s} {i} {v} h l = bits-there s i 1 0 v (h .stands .after) (h .stands .there) (omega arith)
+
+-- two powers, and what stands for their bases and exponents
+record Powers (a : List ℕ) (i : ℕ) (b : List ℕ) (j : ℕ) (t u : Tree) : Type 0 where
+  pub base : Tree
+  pub exponent : ℕ
+  pub other-base : Tree
+  pub other-exponent : ℕ
+  pub whole : t ≡ power base exponent
+  pub other-whole : u ≡ power other-base other-exponent
+  pub there : TreeIn a (i + 1) base
+  pub other-there : TreeIn b (j + 1) other-base
+  pub exponent-bits : bits a (i + 1 + records base) ≡ exponent
+  pub other-exponent-bits : bits b (j + 1 + records other-base) ≡ other-exponent
+  pub size : records t ≡ 2 + records base
+  pub other-size : records u ≡ 2 + records other-base
+
+-- two powers with equal bases, that of the first ending before record e: equal where their exponents are
+pub record PowersEnd (a : List ℕ) (i : ℕ) (b : List ℕ) (j : ℕ) (t u : Tree) (e : ℕ) : Type 0 where
+  pub ahead : i < e
+  pub one-within : e * 16 + 16 ≤ length a
+  pub other-within : (j + (e - i)) * 16 + 16 ≤ length b
+  pub size : e + 1 ≡ i + records t
+  pub yes-if : bits a e ≡ bits b (j + (e - i)) → equal t u ≡ true
+  pub no-if : (bits a e ≡ bits b (j + (e - i)) → ⊥) → equal t u ≡ false
+
+-- two sums, or two products, and their members
+pub record Nodes (a : List ℕ) (i : ℕ) (b : List ℕ) (j : ℕ) (t u : Tree) : Type 0 where
+  pub ones : Forest
+  pub others : Forest
+  pub ones-there : TreesIn a (i + 1) (countIn a i) ones
+  pub others-there : TreesIn b (j + 1) (countIn b j) others
+  pub same : equal t u ≡ sameBag equal (toList ones) (toList others)
+  pub size : records t ≡ 1 + recordses ones
+  pub other-size : records u ≡ 1 + recordses others
+
+-- what an answer tells of the test
+pub match-ends : (q : Bool) (x e : ℕ) → matchOf q x ≡ Ends e → (q ≡ true) × (e ≡ x)
+match-ends true x e h = (refl, cc)
+match-ends false x e h = let z : _≡_ {A = ℕ} 0 1 = cc in absurd (omega arith)
+
+pub match-differs : (q : Bool) (x : ℕ) → matchOf q x ≡ Different → q ≡ false
+match-differs true x h = let z : _≡_ {A = ℕ} 0 1 = cc in absurd (omega arith)
+match-differs false x h = refl
+
+pub is-equal : {q : Bool} {x e : ℕ} → q ≡ true → x ≡ e → Ends x ≡ matchOf q e
+is-equal {q} {x} {e} h r = rw (h, r)
+
+pub is-different : {q : Bool} (e : ℕ) → q ≡ false → Different ≡ matchOf q e
+is-different {q} e h = rw h
+
+-- members that are the same multiset are equally many
+pub bag-lengths : (f : Forest) (l : List Tree) → sameBag equal (toList f) l ≡ true → count f ≡ length l
+bag-lengths f l e = sames-count (matched-view f l (matched-bag f l ∙ e))
+
+module _ {a : List ℕ} {i : ℕ} {b : List ℕ} {j : ℕ} {t u : Tree} (h : TreeIn a i t) (g : TreeIn b j u) where
+  -- ---- kinds
+  pub kinds-differ : (kind a i ≡ kind b j → ⊥) → equal t u ≡ false
+  kinds-differ n =
+      not-so (equal t u) (λ e. n (kind-number (seen h) ∙ same-number (same-view t u e) ∙ sym (kind-number (seen g))))
+
+  -- ---- leaves
+  module _ (k : kind a i ≡ kind b j) (l : kind a i < 2) where
+    pub leaf-records : records t ≡ 1
+    unfolding records
+    leaf-records = by t (seen h)
+      where
+        by : (t : Tree) → Seen a i t → records t ≡ 1
+        by (integer z) q = refl
+        by (symbol v) q = refl
+        by (sum f) (a-sum e n c w m) = absurd (omega arith)
+        by (product f) (a-product e n c w m) = absurd (omega arith)
+        by (power b x) (a-power e w m p q o y z) = absurd (omega arith)
+
+    pub leaves-equal : bits a i ≡ bits b j → equal t u ≡ true
+    unfolding equal onInteger onSymbol
+    leaves-equal e = by t u h g (seen h) (seen g)
+      where
+        integers : (z y : ℤ) → InRange z → InRange y → word z ≡ word y → eqZ z y ≡ true
+        integers z y v w q = subst (λ x. eqZ z x ≡ true) (sym (signed-word z v) ∙ ap signed q ∙ signed-word y w) (eqZ-self z)
+
+        by : (t u : Tree) → TreeIn a i t → TreeIn b j u → Seen a i t → Seen b j u → equal t u ≡ true
+        by (integer z) (integer y) h g (an-integer c d v) (an-integer p q w) = integers z y v w (sym d ∙ e ∙ q)
+        by (integer z) (symbol y) h g (an-integer c d v) (a-symbol p q w) = absurd (omega arith)
+        by (integer z) (sum y) h g (an-integer c d v) (a-sum p n o w m) = absurd (omega arith)
+        by (integer z) (product y) h g (an-integer c d v) (a-product p n o w m) = absurd (omega arith)
+        by (integer z) (power y f) h g (an-integer c d v) (a-power p w m o q n r x) = absurd (omega arith)
+        by (symbol z) (integer y) h g (a-symbol c d v) (an-integer p q w) = absurd (omega arith)
+        by (symbol z) (symbol y) h g (a-symbol c d v) (a-symbol p q w) =
+            eq-eqb z y (sym (symbol-bits h v) ∙ e ∙ symbol-bits g w)
+        by (symbol z) (sum y) h g (a-symbol c d v) (a-sum p n o w m) = absurd (omega arith)
+        by (symbol z) (product y) h g (a-symbol c d v) (a-product p n o w m) = absurd (omega arith)
+        by (symbol z) (power y f) h g (a-symbol c d v) (a-power p w m o q n r x) = absurd (omega arith)
+        by (sum f) u h g (a-sum c n o w m) q = absurd (omega arith)
+        by (product f) u h g (a-product c n o w m) q = absurd (omega arith)
+        by (power d x) u h g (a-power c w m o q n r y) s = absurd (omega arith)
+
+    pub leaves-differ : (bits a i ≡ bits b j → ⊥) → equal t u ≡ false
+    leaves-differ n = not-so (equal t u) (λ e. by (same-view t u e) h g (seen h) (seen g))
+      where
+        by : {t u : Tree} → Same t u → TreeIn a i t → TreeIn b j u → Seen a i t → Seen b j u → ⊥
+        by s-integer h g (an-integer c d v) (an-integer p q w) = n (d ∙ sym q)
+        by s-symbol h g (a-symbol c d v) (a-symbol p q w) = n (symbol-bits h v ∙ sym (symbol-bits g w))
+        by (s-sum r) h g (a-sum c d o w m) q = absurd (omega arith)
+        by (s-product r) h g (a-product c d o w m) q = absurd (omega arith)
+        by (s-power r) h g (a-power c w m o q d x y) s = absurd (omega arith)
+
+  -- ---- powers
+  powers : kind a i ≡ kind b j → kind a i ≡ 4 → Powers a i b j t u
+  unfolding records
+  powers k l =
+      let p = seen-power (seen h) l in
+      let q = seen-power (seen g) (sym k ∙ l) in
+      record {
+        base = p .0;
+        exponent = p .1;
+        other-base = q .0;
+        other-exponent = q .1;
+        whole = p .2;
+        other-whole = q .2;
+        there = power-tree (subst (TreeIn a i) (p .2) h);
+        other-there = power-tree (subst (TreeIn b j) (q .2) g);
+        exponent-bits = p .3 .exponent-bits;
+        other-exponent-bits = q .3 .exponent-bits;
+        size = ap records (p .2);
+        other-size = ap records (q .2);
+      }
+
+  module _ (p : Powers a i b j t u) where
+    powers-are : equal t u ≡ equal (p .base) (p .other-base) && eqb (p .exponent) (p .other-exponent)
+    unfolding equal onPower
+    powers-are = rw (p .whole, p .other-whole)
+
+    bases-differ : equal (p .base) (p .other-base) ≡ false → equal t u ≡ false
+    bases-differ e = powers-are ∙ rw e
+
+    bases-equal : (e : ℕ) → equal (p .base) (p .other-base) ≡ true → e ≡ i + 1 + records (p .base) → PowersEnd a i b j t u e
+    bases-equal e q x =
+        let r : records (p .base) ≡ records (p .other-base) = same-records (same-view (p .base) (p .other-base) q) in
+        let y : j + (e - i) ≡ j + 1 + records (p .other-base) = omega arith in
+        let m : bits a e ≡ p .exponent = ap (bits a) x ∙ p .exponent-bits in
+        let n : bits b (j + (e - i)) ≡ p .other-exponent = ap (bits b) y ∙ p .other-exponent-bits in
+        record {
+          ahead = omega arith;
+          one-within = omega (arith, tree-within h, p .size);
+          other-within = omega (arith, tree-within g, p .other-size);
+          size = omega (arith, p .size);
+          yes-if = λ z. powers-are ∙ rw (q, eq-eqb (p .exponent) (p .other-exponent) (sym m ∙ z ∙ n));
+          no-if = λ z. powers-are ∙ rw (q, ne-eqb (p .exponent) (p .other-exponent) (λ w. z (m ∙ w ∙ sym n)));
+        }
+
+  -- by what the comparison of the bases answers
+  module _ (k : kind a i ≡ kind b j) (l : kind a i ≡ 4) where
+    pub powers-pair : (room : ℕ) → records u ≤ room → Comparable a (i + 1) b (j + 1) room
+    powers-pair room r =
+        let p = powers k l in
+        record {
+          one = p .base;
+          other = p .other-base;
+          one-there = p .there;
+          other-there = p .other-there;
+          enough = omega (arith, p .other-size);
+        }
+
+    module _ (r : Match) (told : (v w : Tree) → TreeIn a (i + 1) v → TreeIn b (j + 1) w → r ≡ matchOf (equal v w) (i + 1 + records v)) where
+      answered : r ≡ matchOf (equal (powers k l .base) (powers k l .other-base)) (i + 1 + records (powers k l .base))
+      answered = let p = powers k l in told (p .base) (p .other-base) (p .there) (p .other-there)
+
+      pub powers-differ : r ≡ Different → equal t u ≡ false
+      powers-differ e =
+          let p = powers k l in
+          bases-differ p (match-differs (equal (p .base) (p .other-base)) (i + 1 + records (p .base)) (sym answered ∙ e))
+
+      pub powers-end : (e : ℕ) → r ≡ Ends e → PowersEnd a i b j t u e
+      powers-end e q =
+          let p = powers k l in
+          let m = match-ends (equal (p .base) (p .other-base)) (i + 1 + records (p .base)) e (sym answered ∙ q) in
+          bases-equal p e (m .0) (m .1)
+
+  -- ---- sums and products
+  pub nodes : kind a i ≡ kind b j → 2 ≤ kind a i → (kind a i ≡ 4 → ⊥) → Nodes a i b j t u
+  unfolding equal onSum onProduct records
+  nodes k l n = by t h (seen h)
+    where
+      by : (t : Tree) → TreeIn a i t → Seen a i t → Nodes a i b j t u
+      by (integer z) h (an-integer c d v) = absurd (omega arith)
+      by (symbol z) h (a-symbol c d v) = absurd (omega arith)
+      by (sum f) h (a-sum c d o w m) =
+          let q = seen-sum (seen g) (sym k ∙ c) in
+          record {
+            ones = f;
+            others = q .0;
+            ones-there = sum-trees h;
+            others-there = sum-trees (subst (TreeIn b j) (q .1) g);
+            same = ap (equal (sum f)) (q .1) ∙ matched-bag f (toList (q .0));
+            size = refl;
+            other-size = ap records (q .1);
+          }
+      by (product f) h (a-product c d o w m) =
+          let q = seen-product (seen g) (sym k ∙ c) in
+          record {
+            ones = f;
+            others = q .0;
+            ones-there = product-trees h;
+            others-there = product-trees (subst (TreeIn b j) (q .1) g);
+            same = ap (equal (product f)) (q .1) ∙ matched-bag f (toList (q .0));
+            size = refl;
+            other-size = ap records (q .1);
+          }
+      by (power z x) h (a-power c w m o q d y v) = absurd (n c)
+
+  pub counts-differ : Nodes a i b j t u → (countIn a i ≡ countIn b j → ⊥) → equal t u ≡ false
+  counts-differ q n =
+      not-so (equal t u)
+      (λ e. n
+      (sym (q .ones-there .counted) ∙ bag-lengths (q .ones) (toList (q .others)) (sym (q .same) ∙ e) ∙ count-list (q .others)
+      ∙ q .others-there .counted))

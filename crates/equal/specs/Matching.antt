@@ -1,0 +1,58 @@
+-- What matching compares and answers: the trees of a row without one of them, those that are not marked, and what the code asks for.
+use Prim.Native.Nat.{ℕ, _+_, _≤_, _<_}
+use mathlib.Core.Path.{_≡_}
+use mathlib.Core.Bool.{Bool, true, false, cond}
+use mathlib.Core.List.{List, [], _∷_}
+use mathlib.Core.Option.{none, some}
+use lib.ListN.{length, getD}
+use lib.Dec.{eqb}
+use Rattle.paper.specs.Tree.{Tree, Forest, nil, cons, records, recordses}
+use Rattle.paper.specs.Equal.{removeFirst, equal}
+use Rattle.split.specs.Standing.{TreeIn, TreesIn}
+use Rattle.equal.specs.declared.Match.{Match}
+use Rattle.equal.specs.declared.Match.the-variants.{Different, Ends}
+
+-- the answer of a comparison: equal, the first tree ending before record e; or not
+abbrev pub matchOf : Bool → ℕ → Match
+matchOf true e = Ends e
+matchOf false e = Different
+
+-- the trees of f, which stand from record i on, without the one at record x
+unfoldable pub without : ℕ → ℕ → Forest → List Tree
+without i x nil = []
+without i x (cons t f) = cond (eqb i x) (without (i + records t) x f) (t ∷ without (i + records t) x f)
+
+-- the trees of f that are not used yet: those whose mark, from mark k on, is 0
+unfoldable pub unmarked : List ℕ → ℕ → Forest → List Tree
+unmarked us k nil = []
+unmarked us k (cons t f) = cond (eqb (getD us k 0) 0) (t ∷ unmarked us (k + 1) f) (unmarked us (k + 1) f)
+
+-- two trees stand in the tables, and there is room for the marks: a byte for each record of the second
+pub record Comparable (a : List ℕ) (i : ℕ) (b : List ℕ) (j room : ℕ) : Type 0 where
+  pub one : Tree
+  pub other : Tree
+  pub one-there : TreeIn a i one
+  pub other-there : TreeIn b j other
+  pub enough : records other ≤ room
+
+-- a tree stands in the one table, m trees in the other
+pub record Takeable (a : List ℕ) (i : ℕ) (b : List ℕ) (j m room : ℕ) : Type 0 where
+  pub one : Tree
+  pub others : Forest
+  pub one-there : TreeIn a i one
+  pub others-there : TreesIn b j m others
+  pub enough : recordses others < room
+
+-- what taking the first unmarked tree of g that equals t answers: that there is none, or that it is marked now
+abbrev pub Took : Tree → Forest → List ℕ → List ℕ → ℕ → Match → Type 0
+Took t g us us′ e Different = removeFirst (equal t) (unmarked us 0 g) ≡ none
+Took t g us us′ e (Ends x) = (x ≡ e) × (removeFirst (equal t) (unmarked us 0 g) ≡ some (unmarked us′ 0 g))
+
+-- n trees stand in the one table, m in the other; without the one at record x, and without the marked ones, there are as many
+pub record Matchable (a : List ℕ) (i n x : ℕ) (b : List ℕ) (j m : ℕ) (us : List ℕ) : Type 0 where
+  pub ones : Forest
+  pub others : Forest
+  pub ones-there : TreesIn a i n ones
+  pub others-there : TreesIn b j m others
+  pub enough : recordses others < length us
+  pub as-many : length (without i x ones) ≡ length (unmarked us 0 others)

@@ -1,0 +1,3 @@
+pub mod StandingLaws
+pub mod OwedLaws
+pub mod SplitLaws

@@ -1,0 +1,80 @@
+-- Trees that stand in a table, for code: where their records lie, what the first record tells, and that where trees stand their
+-- members do. Each is a law of the records of trees, with the bounds carried along. Assumes nothing.
+use Prim.Native.Nat.{ℕ, _+_, _-_, _*_, _≤_, _<_}
+use mathlib.Core.Path.{_≡_, refl, sym}
+use mathlib.Core.List.{List}
+use native.Mathlib.Omega.{arith}
+use lib.ListN.{length}
+use Rattle.paper.specs.Record.{countIn}
+use Rattle.paper.specs.Tree.{Tree, Forest, sum, product, power, nil, cons, count, records, recordses}
+use Rattle.paper.proofs.EncodeLaws.{records-pos}
+use Rattle.paper.proofs.Stands.{first-member, other-members}
+use Rattle.paper.proofs.Seen.{Seen, see, a-sum, a-product, a-power, SeenPower, stands-within}
+use Rattle.split.specs.Standing.{TreeIn, TreesIn}
+
+module _ {s : List ℕ} {i : ℕ} {t : Tree} (h : TreeIn s i t) where
+  -- its records lie in the table, and it has one or more
+  pub tree-within : (i + records t) * 16 ≤ length s
+  tree-within = stands-within s i t (h .stands)
+
+  pub record-within : i * 16 + 16 ≤ length s
+  record-within = omega (arith, tree-within, records-pos t)
+
+  -- what its first record tells
+  pub seen : Seen s i t
+  seen = see s i t (h .wf) (h .few) (h .stands)
+
+-- the members of a sum and of a product, and the base of a power
+module _ {s : List ℕ} {i : ℕ} where
+  sum-seen : {f : Forest} → Seen s i (sum f) → recordses f < 65536 → TreesIn s (i + 1) (countIn s i) f
+  sum-seen (a-sum k n c w m) l = record { counted = sym n; wf = w; few = l; stand = m }
+
+  product-seen : {f : Forest} → Seen s i (product f) → recordses f < 65536 → TreesIn s (i + 1) (countIn s i) f
+  product-seen (a-product k n c w m) l = record { counted = sym n; wf = w; few = l; stand = m }
+
+  power-seen : {b : Tree} {e : ℕ} → Seen s i (power b e) → SeenPower s i b e
+  power-seen (a-power k w b p q x y z) =
+      record { base-wf = w; base = b; least = p; most = q; exponent = x; exponent-kind = y; exponent-bits = z }
+
+  pub sum-trees : {f : Forest} → TreeIn s i (sum f) → TreesIn s (i + 1) (countIn s i) f
+  unfolding records
+  sum-trees h = sum-seen (seen h) (omega (arith, h .few))
+
+  pub product-trees : {f : Forest} → TreeIn s i (product f) → TreesIn s (i + 1) (countIn s i) f
+  unfolding records
+  product-trees h = product-seen (seen h) (omega (arith, h .few))
+
+  pub power-parts : {b : Tree} {e : ℕ} → TreeIn s i (power b e) → SeenPower s i b e
+  power-parts h = power-seen (seen h)
+
+  pub power-tree : {b : Tree} {e : ℕ} → TreeIn s i (power b e) → TreeIn s (i + 1) b
+  unfolding records
+  power-tree h = record { wf = h .wf .0; few = omega (arith, h .few); stands = power-parts h .base }
+
+-- the first of trees that stand one after the other, and the others
+pub record FirstOf (s : List ℕ) (i n : ℕ) (f : Forest) : Type 0 where
+  pub tree : Tree
+  pub others : Forest
+  pub whole : f ≡ cons tree others
+  pub there : TreeIn s i tree
+  pub after : TreesIn s (i + records tree) (n - 1) others
+
+module _ {s : List ℕ} {i n : ℕ} where
+  pub first-tree : {t : Tree} {f : Forest} → TreesIn s i n (cons t f) → TreeIn s i t
+  unfolding records
+  first-tree {t} {f} h = record { wf = h .wf .0; few = omega (arith, h .few); stands = first-member t f (h .stand) }
+
+  pub other-trees : {t : Tree} {f : Forest} → TreesIn s i n (cons t f) → TreesIn s (i + records t) (n - 1) f
+  unfolding records count
+  other-trees {t} {f} h =
+      record { counted = omega (arith, h .counted); wf = h .wf .1; few = omega (arith, h .few); stand = other-members t f (h .stand) }
+
+  pub first-of : (f : Forest) → TreesIn s i n f → 0 < n → FirstOf s i n f
+  unfolding count
+  first-of nil h l = absurd (omega (arith, h .counted))
+  first-of (cons t f) h l = record { tree = t; others = f; whole = refl; there = first-tree h; after = other-trees h }
+
+  pub none-of : (f : Forest) → TreesIn s i n f → n ≡ 0 → f ≡ nil
+  unfolding count
+  none-of nil h e = refl
+  none-of (cons t f) h e = absurd (omega (arith, h .counted))

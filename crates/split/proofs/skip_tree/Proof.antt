@@ -1,0 +1,68 @@
+-- `split::skip_tree` meets its contract. The loop's invariant: for each tree that stands at the record, the trees owed end where it
+-- does; so few are owed that their number fits. Assumes nothing.
+use Prim.Native.Nat.{_+_, _-_, _*_, _≤_}
+use native.Mathlib.Omega.{arith}
+use lib.ListN.{length}
+use Rattle.paper.specs.Tree.{Tree}
+use Rattle.split.specs.Standing.{TreeIn}
+use Rattle.split.proofs.OwedLaws.{Owed, owed-one, owed-within, owed-step, owed-none}
+use Rattle.split.proofs.skip_tree.Statement.{statement}
+use Rattle.split.proofs.skip_tree.Tie as tie
+
+abbrev Inv-loop : tie.InvT-loop
+Inv-loop s i at₀ owed₀ at owed = (i ≤ at) × (owed ≤ 1 + 65535 * (at - i)) × ((t : Tree) → TreeIn s i t → Owed s i t at owed)
+
+abbrev μ-loop : tie.MeasureT-loop
+μ-loop s i at₀ owed₀ at owed = length s - at
+
+loop-holds : tie.Need-loop-holds Inv-loop μ-loop
+loop-holds c = (omega arith, omega arith, λ t h. owed-one h)
+
+sub-owed : tie.Need-sub-owed Inv-loop μ-loop
+sub-owed c = omega arith
+
+arity-requires : tie.Need-arity-requires Inv-loop μ-loop
+arity-requires c κs =
+    let some = c .before .before .before .pre in
+    owed-within (some .there) (c .before .loop .inv .2 (some .tree) (some .there)) (c .loop-test .taken) .0
+
+add-owed : tie.Need-add-owed Inv-loop μ-loop
+add-owed c =
+    let some = c .before .before .before .before .pre in
+    let w = owed-within (some .there) (c .before .before .loop .inv .2 (some .tree) (some .there)) (c .before .loop-test .taken) in
+    omega (arith, w .1)
+
+add-at : tie.Need-add-at Inv-loop μ-loop
+add-at c =
+    let some = c .before .before .before .before .pre in
+    omega (arith, owed-within (some .there) (c .before .before .loop .inv .2 (some .tree) (some .there)) (c .before .loop-test .taken) .0)
+
+loop-less : tie.Need-loop-less Inv-loop μ-loop
+loop-less c =
+    let some = c .before .before .before .before .pre in
+    omega (arith, owed-within (some .there) (c .before .before .loop .inv .2 (some .tree) (some .there)) (c .before .loop-test .taken) .0)
+
+loop-again : tie.Need-loop-again Inv-loop μ-loop
+loop-again c = (
+  omega arith,
+  omega arith,
+  λ t h. rw (c .arity .ensures .0) (owed-step (c .before .before .loop .inv .2 t h) (c .before .loop-test .taken)),
+)
+
+returns : tie.Need-returns Inv-loop μ-loop
+returns c = λ t h. owed-none (c .before .loop .inv .2 t h) (omega arith)
+
+pub skip-tree-spec : {M : Type 1} → statement M
+skip-tree-spec =
+    tie.close
+    (tie.spec
+    Inv-loop
+    μ-loop
+    loop-holds
+    sub-owed
+    arity-requires
+    add-owed
+    add-at
+    loop-less
+    loop-again
+    returns)
