@@ -22,9 +22,10 @@ use Rattle.paper.specs.Refusals.{Spans, no-tree, one-tree}
 use Rattle.paper.specs.WellFormed.{WF, WFs}
 use Rattle.paper.specs.Table.{recordOf, encode, encodes, treeOf}
 use Rattle.paper.proofs.Congruence.{word-lt}
-use Rattle.paper.proofs.EncodeLaws.{record-length, encode-length, records-pos, signed-in-range, word-signed, kind-there, bits-there}
+use Rattle.paper.proofs.EncodeLaws.{record-length, encode-length, records-pos, signed-in-range, word-signed, kind-there, bits-there, records-weight}
 use Rattle.paper.proofs.ReadLaws.{tree-of-written}
-use Rattle.paper.proofs.Stands.{Stands, stands-both, first-member, other-members}
+use Rattle.paper.specs.Standing.{TreeIn}
+use Rattle.paper.proofs.Stands.{Stands, stands-both, first-member, other-members, stands-whole}
 use Rattle.paper.proofs.Stands.{sum-record, product-record, power-record}
 use Rattle.paper.proofs.SkipLaws.{end-step}
 use Rattle.paper.proofs.SpanLaws.{spans-within, spans-skip, spans-end}
@@ -253,3 +254,8 @@ written-read s b h t r =
     let q : treeOf s ≡ some (k .tree) = k .read in
     let e : t ≡ k .tree = cc in
     ap encode e ∙ sym (k .written)
+
+-- the tree that an accepted table holds stands in it
+pub holds-tree : (s : List ℕ) (h : Holds s) → TreeIn s 0 (h .tree)
+holds-tree s h =
+    record { wf = h .wf; few = omega (arith, h .light, records-weight (h .tree)); stands = rw (h .written) (stands-whole _) }

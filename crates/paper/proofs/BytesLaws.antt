@@ -9,6 +9,8 @@ use native.Mathlib.Omega.{arith}
 use lib.Dec.{lit<}
 use lib.ListN.{length, getD, take, drop, List·getD-append}
 use lib.Seq.{getD-append-add, getD-drop}
+use mir.Syntax.{w8}
+use mir.Val.{Fits}
 use Rattle.paper.specs.Bytes.{Bytes, le, bytes, le2, le8}
 
 -- writing, then reading: the number
@@ -120,3 +122,8 @@ le8-append s q a h =
       List·getD-append s q 0 (a + 6) (omega arith),
       List·getD-append s q 0 (a + 7) (omega arith),
     )
+
+-- the elements of a slice of u8 are bytes
+pub are-bytes : (s : List ℕ) → ((k : ℕ) → Fits w8 (getD s k 0)) → Bytes s
+are-bytes [] h = tt
+are-bytes (x ∷ s) h = (h 0 .fits, are-bytes s (λ k. h (suc k)))

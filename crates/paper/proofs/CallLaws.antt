@@ -62,6 +62,11 @@ judgement-plain s l =
 pub verdict-accepted : (s : List ℕ) → isAccepted (verdict s) ≡ true → verdict s ≡ accepted
 verdict-accepted s e = verdict-plain s .0 e
 
+-- a checker's answer with number 0 accepts
+pub told-accepted : (s : List ℕ) (k p : ℕ) → refused k p ≡ verdict s → k ≤ 0 → verdict s ≡ accepted
+unfolding isAccepted
+told-accepted s k p e h = verdict-accepted s (rw (← e, eq-eqb k 0 (omega arith)))
+
 -- a judgement is accepted only where the verdict is, and there is room
 pub judgement-accepted : (s : List ℕ) (l : Lent) → judgement s l ≡ accepted → (verdict s ≡ accepted) × (cramped (tableWeight s) l ≡ false)
 unfolding judgement isAccepted

@@ -9,12 +9,8 @@ use lib.ListN.{length, drop}
 use lib.Seq.{drop-at, drop-drop}
 use Rattle.paper.specs.Tree.{Tree, Forest, sum, product, power, cons, count, records}
 use Rattle.paper.specs.Table.{recordOf, encode, encodes}
+pub use Rattle.paper.specs.Standing.{Stands}
 use Rattle.paper.proofs.EncodeLaws.{record-length, encode-length}
-
--- the bytes p stand in the table s from record i on
-pub record Stands (s : List ℕ) (i : ℕ) (p : List ℕ) : Type 0 where
-  pub after : List ℕ
-  pub there : drop (i * 16) s ≡ p ++ after
 
 pub stands-whole : (p : List ℕ) → Stands p 0 p
 stands-whole p = record { after = []; there = sym (append-nil p) }

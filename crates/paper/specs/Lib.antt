@@ -7,6 +7,7 @@ pub mod Verdict
 pub mod Refusals
 pub mod WellFormed
 pub mod Table
+pub mod Standing
 pub mod Walk
 pub mod Rules
 pub mod Driver

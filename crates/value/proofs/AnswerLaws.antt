@@ -1,37 +1,17 @@
 -- The evaluator's answer, case by case. An accepted table holds a tree, whose records are the table and whose value is the answer;
 -- only the registers of its symbols, which are below 256, count. Assumes nothing.
-use Prim.Native.Nat.{ℕ, suc, _%_, _^_, _<_, _≤_}
+use Prim.Native.Nat.{ℕ, _%_, _^_, _<_}
 use mathlib.Core.Path.{_≡_, refl, ap}
-use mathlib.Core.List.{List, [], _∷_}
+use mathlib.Core.List.{List}
 use native.Mathlib.Omega.{arith}
-use borrow.Author.Tests.{eq-eqb, ne-eqb}
-use lib.ListN.{length, getD}
-use mir.Syntax.{w8}
-use mir.Val.{Fits}
+use borrow.Author.Tests.{ne-eqb}
+use lib.ListN.{length}
 use Rattle.paper.specs.Limits.{modulus}
-use Rattle.paper.specs.Bytes.{Bytes}
 use Rattle.paper.specs.Tree.{Tree, Forest, integer, symbol, sum, product, power, nil, cons, value, sumValue, productValue}
 use Rattle.paper.specs.WellFormed.{WF, WFs}
 use Rattle.paper.specs.Verdict.{accepted, refused, isAccepted, verdict}
 use Rattle.paper.specs.Answers.{measured, register, treeValue, registersVerdict, valued}
-use Rattle.paper.proofs.EncodeLaws.{records-weight}
-use Rattle.paper.proofs.Stands.{stands-whole}
 use Rattle.paper.proofs.AcceptedLaws.{Holds}
-use Rattle.paper.proofs.CallLaws.{verdict-accepted}
-use Rattle.value.specs.Standing.{Standing}
-
--- the elements of a slice of u8 are bytes
-pub are-bytes : (s : List ℕ) → ((k : ℕ) → Fits w8 (getD s k 0)) → Bytes s
-are-bytes [] h = tt
-are-bytes (x ∷ s) h = (h 0 .fits, are-bytes s (λ k. h (suc k)))
-
--- the tree that an accepted table holds stands in it
-pub holds-standing : (s : List ℕ) (h : Holds s) → Standing s 0 (h .tree)
-holds-standing s h = record {
-  wf = h .wf;
-  small = omega (arith, h .light, records-weight (h .tree));
-  stands = rw (h .written) (stands-whole _);
-}
 
 -- the value depends on the registers of symbols below 256 only
 module _ (ρ σ : ℕ → ℕ) (same : (k : ℕ) → k < 256 → ρ k ≡ σ k) where
@@ -52,11 +32,6 @@ module _ (ρ σ : ℕ → ℕ) (same : (k : ℕ) → k < 256 → ρ k ≡ σ k) 
     same-product : (f : Forest) → WFs f → productValue f ρ ≡ productValue f σ
     same-product nil w = refl
     same-product (cons t f) w = rw (same-value t (w .0), same-product f (w .1))
-
--- a checker's answer with number 0 accepts
-pub told-accepted : (s : List ℕ) (k p : ℕ) → refused k p ≡ verdict s → k ≤ 0 → verdict s ≡ accepted
-unfolding isAccepted
-told-accepted s k p e h = verdict-accepted s (rw (← e, eq-eqb k 0 (omega arith)))
 
 -- ---- the answer: refused by 1 to 5, by 6, or the tree's value
 pub refused-table : (s regs : List ℕ) (k p : ℕ) → refused k p ≡ verdict s → 0 < k

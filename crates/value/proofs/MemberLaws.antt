@@ -12,7 +12,7 @@ use Rattle.paper.proofs.Stands.{first-member, other-members}
 use Rattle.paper.proofs.Congruence.{agree-refl, agree-sym, agree-trans, agree-mod, agree-mul, agree-of}
 use Rattle.paper.proofs.Value.{sumValue-exact, productValue-exact}
 use Rattle.value.specs.declared.Valued.{Valued}
-use Rattle.value.specs.Standing.{Standing, Members, SomeTree, SomeMembers}
+use Rattle.paper.specs.Standing.{TreeIn, TreesIn, SomeTree, SomeTrees}
 use Rattle.value.specs.Evaluated.{Evaluated}
 
 -- the first of members that are left, and the others
@@ -20,21 +20,21 @@ pub record First (s : List ℕ) (at n : ℕ) (f : Forest) : Type 0 where
   pub tree : Tree
   pub others : Forest
   pub all : f ≡ cons tree others
-  pub standing : Standing s at tree
-  pub there : Members s (at + records tree) n others
+  pub standing : TreeIn s at tree
+  pub there : TreesIn s (at + records tree) n others
 
-pub first : {s : List ℕ} {at n : ℕ} (f : Forest) → Members s at (suc n) f → First s at n f
+pub first : {s : List ℕ} {at n : ℕ} (f : Forest) → TreesIn s at (suc n) f → First s at n f
 unfolding count records
 first nil m = absurd (omega (arith, m .counted))
 first (cons t f) m = record {
   tree = t;
   others = f;
   all = refl;
-  standing = record { wf = m .wf .0; small = omega (arith, m .small); stands = first-member t f (m .stand) };
-  there = record { wf = m .wf .1; counted = omega (arith, m .counted); small = omega (arith, m .small); stand = other-members t f (m .stand) };
+  standing = record { wf = m .wf .0; few = omega (arith, m .few); stands = first-member t f (m .stand) };
+  there = record { wf = m .wf .1; counted = omega (arith, m .counted); few = omega (arith, m .few); stand = other-members t f (m .stand) };
 }
 
-no-members : {s : List ℕ} {at : ℕ} (f : Forest) → Members s at 0 f → f ≡ nil
+no-members : {s : List ℕ} {at : ℕ} (f : Forest) → TreesIn s at 0 f → f ≡ nil
 unfolding count
 no-members nil m = refl
 no-members (cons t f) m = absurd (omega (arith, m .counted))
@@ -51,7 +51,7 @@ pub record Gathers (op : ℕ → ℕ → ℕ) (unit : ℕ) (ρ : ℕ → ℕ) (w
 -- of the members f from record i on, `left` are left from record `at` on, and `total` is gathered from the others
 pub record Left (op : ℕ → ℕ → ℕ) (whole : Forest → ℕ) (s : List ℕ) (i total at left : ℕ) (f : Forest) : Type 0 where
   pub rest : Forest
-  pub there : Members s at left rest
+  pub there : TreesIn s at left rest
   pub gathered : op total (whole rest) % modulus ≡ whole f
   pub sized : at + recordses rest ≡ i + recordses f
 
@@ -59,10 +59,10 @@ pub record Left (op : ℕ → ℕ → ℕ) (whole : Forest → ℕ) (s : List �
 pub record Gathering (op : ℕ → ℕ → ℕ) (whole : Forest → ℕ) (s : List ℕ) (i n total at left : ℕ) : Type 0 where
   pub ahead : i ≤ at
   pub fits : total < modulus
-  pub each : (f : Forest) → Members s i n f → Left op whole s i total at left f
+  pub each : (f : Forest) → TreesIn s i n f → Left op whole s i total at left f
 
 module _ {op : ℕ → ℕ → ℕ} {unit : ℕ} {ρ : ℕ → ℕ} {whole : Forest → ℕ} (o : Gathers op unit ρ whole) {s : List ℕ} {i : ℕ} where
-  all-left : (n : ℕ) (f : Forest) → Members s i n f → Left op whole s i unit i n f
+  all-left : (n : ℕ) (f : Forest) → TreesIn s i n f → Left op whole s i unit i n f
   all-left n f m = record {
     rest = f;
     there = m;
@@ -71,7 +71,7 @@ module _ {op : ℕ → ℕ → ℕ} {unit : ℕ} {ρ : ℕ → ℕ} {whole : For
   }
 
   one-fewer : (f : Forest) (total next at n : ℕ) (r : Valued) → Left op whole s i total at (suc n) f
-      → ((t : Tree) → Standing s at t → Evaluated at (records t) (value t ρ) r)
+      → ((t : Tree) → TreeIn s at t → Evaluated at (records t) (value t ρ) r)
       → next ≡ op total (r .value) % modulus → Left op whole s i next (r .end) n f
   unfolding records
   one-fewer f total next at n r l g e =
@@ -106,26 +106,26 @@ module _ {op : ℕ → ℕ → ℕ} {unit : ℕ} {ρ : ℕ → ℕ} {whole : For
   begins n h = record { ahead = omega arith; fits = h; each = all-left n }
 
   module _ {n total at left : ℕ} (l : Gathering op whole s i n total at left) where
-    pub member-there : SomeMembers s i n → 0 < left → SomeTree s at
+    pub member-there : SomeTrees s i n → 0 < left → SomeTree s at
     member-there m h =
         let e : left ≡ suc (left - 1) = omega arith in
-        let k = l .each (m .0) (m .1) in
+        let k = l .each (m .trees) (m .there) in
         let q = first (k .rest) (rw e at (k .there)) in
-        (q .tree, q .standing)
+        record { tree = q .tree; there = q .standing }
 
-    pub goes-on : SomeMembers s i n → 0 < left → (r : Valued)
-        → ((t : Tree) → Standing s at t → Evaluated at (records t) (value t ρ) r) → (next : ℕ) → next ≡ op total (r .value) % modulus
+    pub goes-on : SomeTrees s i n → 0 < left → (r : Valued)
+        → ((t : Tree) → TreeIn s at t → Evaluated at (records t) (value t ρ) r) → (next : ℕ) → next ≡ op total (r .value) % modulus
         → Gathering op whole s i n next (r .end) (left - 1)
     goes-on m h r g next e =
         let d : left ≡ suc (left - 1) = omega arith in
         let q = member-there m h in
         record {
-          ahead = omega (arith, l .ahead, g (q .0) (q .1) .end);
+          ahead = omega (arith, l .ahead, g (q .tree) (q .there) .end);
           fits = rw e (omega arith);
           each = λ f k. one-fewer f total next at (left - 1) r (rw d at (l .each f k)) g e;
         }
 
-    pub ends : left ≤ 0 → (f : Forest) → Members s i n f → Evaluated i (recordses f) (whole f) (record { value = total; end = at })
+    pub ends : left ≤ 0 → (f : Forest) → TreesIn s i n f → Evaluated i (recordses f) (whole f) (record { value = total; end = at })
     ends h f m =
         let d : left ≡ 0 = omega arith in
         none-left f total at (l .fits) (rw d at (l .each f m))

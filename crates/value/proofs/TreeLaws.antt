@@ -13,28 +13,28 @@ use Rattle.paper.proofs.EncodeLaws.{records-pos}
 use Rattle.paper.proofs.Seen.{Seen, see, SeenMembers, SeenPower, seen-kind, stands-within}
 use Rattle.paper.proofs.Seen.{seen-integer, seen-symbol, seen-sum, seen-product, seen-power}
 use Rattle.value.specs.declared.Valued.{Valued}
-use Rattle.value.specs.Standing.{Standing, Members, SomeTree, SomeMembers}
+use Rattle.paper.specs.Standing.{TreeIn, TreesIn, SomeTree, SomeTrees}
 use Rattle.value.specs.Evaluated.{Evaluated}
 
 module _ {s : List ℕ} {i : ℕ} where
-  seen : (t : Tree) → Standing s i t → Seen s i t
-  seen t h = see s i t (h .wf) (h .small) (h .stands)
+  seen : (t : Tree) → TreeIn s i t → Seen s i t
+  seen t h = see s i t (h .wf) (h .few) (h .stands)
 
   -- the records of a standing tree lie inside the table, and its kind is one of the five
   pub inside : SomeTree s i → i * 16 + 16 ≤ length s
-  inside h = omega (arith, stands-within s i (h .0) (h .1 .stands), records-pos (h .0))
+  inside h = omega (arith, stands-within s i (h .tree) (h .there .stands), records-pos (h .tree))
 
   pub last-kind : SomeTree s i → 4 ≤ kind s i → kind s i ≡ 4
-  last-kind h l = omega (arith, seen-kind (seen (h .0) (h .1)))
+  last-kind h l = omega (arith, seen-kind (seen (h .tree) (h .there)))
 
-  pub integer-value : (ρ : ℕ → ℕ) (t : Tree) → Standing s i t → kind s i ≡ 0 → (r : Valued) → r .value ≡ bits s i → r .end ≡ i + 1
+  pub integer-value : (ρ : ℕ → ℕ) (t : Tree) → TreeIn s i t → kind s i ≡ 0 → (r : Valued) → r .value ≡ bits s i → r .end ≡ i + 1
       → Evaluated i (records t) (value t ρ) r
   unfolding value records
   integer-value ρ t h k r v e =
       let q = seen-integer (seen t h) k in
       rw (q .1) (record { value = v ∙ q .2; end = e })
 
-  pub symbol-value : (ρ : ℕ → ℕ) (t : Tree) → Standing s i t → kind s i ≡ 1 → (r : Valued) → r .value ≡ ρ (symbolIn s i)
+  pub symbol-value : (ρ : ℕ → ℕ) (t : Tree) → TreeIn s i t → kind s i ≡ 1 → (r : Valued) → r .value ≡ ρ (symbolIn s i)
       → r .value < modulus → r .end ≡ i + 1 → Evaluated i (records t) (value t ρ) r
   unfolding value records
   symbol-value ρ t h k r v l e =
@@ -44,59 +44,59 @@ module _ {s : List ℕ} {i : ℕ} where
 
   -- the members of a sum or a product, n being the count of its record
   module _ {n : ℕ} (c : n ≡ countIn s i) where
-    members : (f : Forest) → SeenMembers s i f → recordses f < 65536 → Members s (i + 1) n f
-    members f m l = record { wf = m .wf; counted = sym (m .counted) ∙ sym c; small = l; stand = m .stand }
+    members : (f : Forest) → SeenMembers s i f → recordses f < 65536 → TreesIn s (i + 1) n f
+    members f m l = record { wf = m .wf; counted = sym (m .counted) ∙ sym c; few = l; stand = m .stand }
 
-    pub sum-there : SomeTree s i → kind s i ≡ 2 → SomeMembers s (i + 1) n
+    pub sum-there : SomeTree s i → kind s i ≡ 2 → SomeTrees s (i + 1) n
     unfolding records
     sum-there h k =
-        let q = seen-sum (seen (h .0) (h .1)) k in
-        (q .0, members (q .0) (q .2) (omega (arith, ap records (q .1), h .1 .small)))
+        let q = seen-sum (seen (h .tree) (h .there)) k in
+        record { trees = q .0; there = members (q .0) (q .2) (omega (arith, ap records (q .1), h .there .few)) }
 
-    pub sum-value : (ρ : ℕ → ℕ) (t : Tree) → Standing s i t → kind s i ≡ 2 → (r : Valued)
-        → ((f : Forest) → Members s (i + 1) n f → Evaluated (i + 1) (recordses f) (sumValue f ρ) r)
+    pub sum-value : (ρ : ℕ → ℕ) (t : Tree) → TreeIn s i t → kind s i ≡ 2 → (r : Valued)
+        → ((f : Forest) → TreesIn s (i + 1) n f → Evaluated (i + 1) (recordses f) (sumValue f ρ) r)
         → Evaluated i (records t) (value t ρ) r
     unfolding value records
     sum-value ρ t h k r g =
         let q = seen-sum (seen t h) k in
-        let m = g (q .0) (members (q .0) (q .2) (omega (arith, ap records (q .1), h .small))) in
+        let m = g (q .0) (members (q .0) (q .2) (omega (arith, ap records (q .1), h .few))) in
         rw (q .1) (record { value = m .value; end = omega (arith, m .end) })
 
-    pub product-there : SomeTree s i → kind s i ≡ 3 → SomeMembers s (i + 1) n
+    pub product-there : SomeTree s i → kind s i ≡ 3 → SomeTrees s (i + 1) n
     unfolding records
     product-there h k =
-        let q = seen-product (seen (h .0) (h .1)) k in
-        (q .0, members (q .0) (q .2) (omega (arith, ap records (q .1), h .1 .small)))
+        let q = seen-product (seen (h .tree) (h .there)) k in
+        record { trees = q .0; there = members (q .0) (q .2) (omega (arith, ap records (q .1), h .there .few)) }
 
-    pub product-value : (ρ : ℕ → ℕ) (t : Tree) → Standing s i t → kind s i ≡ 3 → (r : Valued)
-        → ((f : Forest) → Members s (i + 1) n f → Evaluated (i + 1) (recordses f) (productValue f ρ) r)
+    pub product-value : (ρ : ℕ → ℕ) (t : Tree) → TreeIn s i t → kind s i ≡ 3 → (r : Valued)
+        → ((f : Forest) → TreesIn s (i + 1) n f → Evaluated (i + 1) (recordses f) (productValue f ρ) r)
         → Evaluated i (records t) (value t ρ) r
     unfolding value records
     product-value ρ t h k r g =
         let q = seen-product (seen t h) k in
-        let m = g (q .0) (members (q .0) (q .2) (omega (arith, ap records (q .1), h .small))) in
+        let m = g (q .0) (members (q .0) (q .2) (omega (arith, ap records (q .1), h .few))) in
         rw (q .1) (record { value = m .value; end = omega (arith, m .end) })
 
   -- the base of a power, and the exponent after it
-  base : (t b : Tree) (e : ℕ) → Standing s i t → t ≡ power b e → SeenPower s i b e → Standing s (i + 1) b
+  base : (t b : Tree) (e : ℕ) → TreeIn s i t → t ≡ power b e → SeenPower s i b e → TreeIn s (i + 1) b
   unfolding records
-  base t b e h q p = record { wf = p .base-wf; small = omega (arith, ap records q, h .small); stands = p .base }
+  base t b e h q p = record { wf = p .base-wf; few = omega (arith, ap records q, h .few); stands = p .base }
 
   pub base-there : SomeTree s i → kind s i ≡ 4 → SomeTree s (i + 1)
   base-there h k =
-      let q = seen-power (seen (h .0) (h .1)) k in
-      (q .0, base (h .0) (q .0) (q .1) (h .1) (q .2) (q .3))
+      let q = seen-power (seen (h .tree) (h .there)) k in
+      record { tree = q .0; there = base (h .tree) (q .0) (q .1) (h .there) (q .2) (q .3) }
 
   module _ (ρ : ℕ → ℕ) (k : kind s i ≡ 4) (r : Valued)
-      (g : (b : Tree) → Standing s (i + 1) b → Evaluated (i + 1) (records b) (value b ρ) r) where
+      (g : (b : Tree) → TreeIn s (i + 1) b → Evaluated (i + 1) (records b) (value b ρ) r) where
     pub exponent-inside : SomeTree s i → r .end * 16 + 16 ≤ length s
     unfolding records
     exponent-inside h =
-        let q = seen-power (seen (h .0) (h .1)) k in
-        let b = g (q .0) (base (h .0) (q .0) (q .1) (h .1) (q .2) (q .3)) in
-        omega (arith, b .end, ap records (q .2), stands-within s i (h .0) (h .1 .stands))
+        let q = seen-power (seen (h .tree) (h .there)) k in
+        let b = g (q .0) (base (h .tree) (q .0) (q .1) (h .there) (q .2) (q .3)) in
+        omega (arith, b .end, ap records (q .2), stands-within s i (h .tree) (h .there .stands))
 
-    pub power-value : (t : Tree) → Standing s i t → (u : Valued) → u .value ≡ r .value ^ bits s (r .end) % modulus
+    pub power-value : (t : Tree) → TreeIn s i t → (u : Valued) → u .value ≡ r .value ^ bits s (r .end) % modulus
         → u .end ≡ r .end + 1 → Evaluated i (records t) (value t ρ) u
     unfolding value records
     power-value t h u v e =

@@ -6,7 +6,7 @@ ghost use lib.ListN.{length, getD};
 ghost use Rattle.paper.specs.Tree.{Tree, Forest, records, recordses, value, sumValue, productValue};
 ghost use Rattle.paper.specs.Answers.{register, valued};
 ghost use Rattle.table.specs.Measured.{says};
-ghost use Rattle.value.specs.Standing.{Standing, Members, SomeTree, SomeMembers};
+ghost use Rattle.paper.specs.Standing.{TreeIn, TreesIn, SomeTree, SomeTrees};
 ghost use Rattle.value.specs.Evaluated.{Evaluated, held};
 
 // The value of what stands from a record on, and the record after it.
@@ -38,8 +38,8 @@ fn register_of(regs: &[u64; 256], symbol: u8) -> u64
 
 // The sum of the values of the n trees from record i on.
 fn sum_at(s: &[u8], i: usize, n: usize, regs: &[u64; 256]) -> Valued
-    requires { ⌜ SomeMembers (now s) i n ⌝ }
-    ensures { λ r. ⌜ ((f : Forest) → Members (now (s .entry)) i n f
+    requires { ⌜ SomeTrees (now s) i n ⌝ }
+    ensures { λ r. ⌜ ((f : Forest) → TreesIn (now (s .entry)) i n f
         → Evaluated i (recordses f) (sumValue f (held (now (regs .entry)))) r) ⌝ }
 {
     let mut total: u64 = 0;
@@ -59,8 +59,8 @@ fn sum_at(s: &[u8], i: usize, n: usize, regs: &[u64; 256]) -> Valued
 
 // The product of the values of the n trees from record i on.
 fn product_at(s: &[u8], i: usize, n: usize, regs: &[u64; 256]) -> Valued
-    requires { ⌜ SomeMembers (now s) i n ⌝ }
-    ensures { λ r. ⌜ ((f : Forest) → Members (now (s .entry)) i n f
+    requires { ⌜ SomeTrees (now s) i n ⌝ }
+    ensures { λ r. ⌜ ((f : Forest) → TreesIn (now (s .entry)) i n f
         → Evaluated i (recordses f) (productValue f (held (now (regs .entry)))) r) ⌝ }
 {
     let mut total: u64 = 1;
@@ -81,7 +81,7 @@ fn product_at(s: &[u8], i: usize, n: usize, regs: &[u64; 256]) -> Valued
 // The value of the tree at record i: an integer's is its bits, a symbol's its register, and the others' come from their members.
 fn value_at(s: &[u8], i: usize, regs: &[u64; 256]) -> Valued
     requires { ⌜ SomeTree (now s) i ⌝ }
-    ensures { λ r. ⌜ ((t : Tree) → Standing (now (s .entry)) i t
+    ensures { λ r. ⌜ ((t : Tree) → TreeIn (now (s .entry)) i t
         → Evaluated i (records t) (value t (held (now (regs .entry)))) r) ⌝ }
 {
     let k = record::kind(s, i);

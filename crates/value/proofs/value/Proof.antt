@@ -4,9 +4,11 @@ use mathlib.Core.Path.{_∙_}
 use native.Mathlib.Omega.{arith}
 use borrow.Author.Needs.{needs}
 use Rattle.paper.specs.Answers.{register}
-use Rattle.paper.proofs.AcceptedLaws.{accepted-holds}
+use Rattle.paper.proofs.AcceptedLaws.{accepted-holds, holds-tree}
 use Rattle.value.specs.Evaluated.{held}
-use Rattle.value.proofs.AnswerLaws.{are-bytes, holds-standing, same-value, told-accepted, refused-table, refused-registers, value-told}
+use Rattle.value.proofs.AnswerLaws.{same-value, refused-table, refused-registers, value-told}
+use Rattle.paper.proofs.BytesLaws.{are-bytes}
+use Rattle.paper.proofs.CallLaws.{told-accepted}
 use Rattle.value.proofs.value.Statement.{statement}
 use Rattle.value.proofs.value.Tie as tie
 
@@ -42,7 +44,7 @@ value-at-requires c κs =
     let told = fault .ensures ∙ c .before .before .before .before .before .before .check .ensures in
     let fine = told-accepted s (fault .result .number) (fault .result .place) told (omega arith) in
     let h = accepted-holds s (are-bytes s (known .shared-slice-known .given)) fine in
-    (h .tree, holds-standing s h)
+    record { tree = h .tree; there = holds-tree s h }
 
 returns-3 : tie.Need-returns-3
 returns-3 c =
@@ -53,7 +55,7 @@ returns-3 c =
     let told = fault .ensures ∙ c .before .before .before .before .before .before .before .check .ensures in
     let fine = told-accepted s (fault .result .number) (fault .result .place) told (omega arith) in
     let h = accepted-holds s (are-bytes s (known .shared-slice-known .given)) fine in
-    let v = c .value-at .ensures (h .tree) (holds-standing s h) .value in
+    let v = c .value-at .ensures (h .tree) (holds-tree s h) .value in
     let regs = c .before .before .fill in
     let told-value = v ∙ same-value (held (regs .result)) (register registers) (regs .ensures) (h .tree) (h .wf) in
     value-told s registers h fine (c .before .before .before .if2 .left) (c .value-at .result .value) told-value

@@ -1,0 +1,37 @@
+-- Bytes and trees that stand in a table from a record on: what code that reads trees from records asks for, and what its promises
+-- speak of.
+use Prim.Native.Nat.{ℕ, _*_, _<_}
+use mathlib.Core.Path.{_≡_}
+use mathlib.Core.List.{List, _++_}
+use lib.ListN.{drop}
+use Rattle.paper.specs.Tree.{Tree, Forest, count, records, recordses}
+use Rattle.paper.specs.WellFormed.{WF, WFs}
+use Rattle.paper.specs.Table.{encode, encodes}
+
+-- the bytes p stand in the table s from record i on
+pub record Stands (s : List ℕ) (i : ℕ) (p : List ℕ) : Type 0 where
+  pub after : List ℕ
+  pub there : drop (i * 16) s ≡ p ++ after
+
+-- the well-formed tree t stands at record i of the table s
+pub record TreeIn (s : List ℕ) (i : ℕ) (t : Tree) : Type 0 where
+  pub wf : WF t
+  pub few : records t < 65536
+  pub stands : Stands s i (encode t)
+
+-- the n well-formed trees f stand one after the other from record i of the table s on
+pub record TreesIn (s : List ℕ) (i n : ℕ) (f : Forest) : Type 0 where
+  pub counted : count f ≡ n
+  pub wf : WFs f
+  pub few : recordses f < 65536
+  pub stand : Stands s i (encodes f)
+
+-- some tree stands at record i of the table s
+pub record SomeTree (s : List ℕ) (i : ℕ) : Type 0 where
+  pub tree : Tree
+  pub there : TreeIn s i tree
+
+-- some n trees stand from record i of the table s on
+pub record SomeTrees (s : List ℕ) (i n : ℕ) : Type 0 where
+  pub trees : Forest
+  pub there : TreesIn s i n trees
