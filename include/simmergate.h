@@ -1,4 +1,4 @@
-/* Simmergate: formulas as tables of records, judged, weighed and evaluated.
+/* Simmergate: formulas as tables of records, judged, weighed, evaluated and compared.
 
    A table holds records of 16 bytes, the tree in the order parent, then members from first to last; numbers are little-endian. Byte 0 is the
    kind (0 integer, 1 symbol, 2 sum, 3 product, 4 power), bytes 2-3 the number of members of a sum or a product, bytes 8-15 the integer,
@@ -6,7 +6,8 @@
 
    Every call returns the refusal number, 0 where nothing is refused, and writes the numbers of its answer to `answer`, 8 bytes each,
    little-endian, in the order named at the call. The first two are always the refusal number and its place, a record counted from 0; after a
-   refusal all other numbers are 0. The lowest number wins:
+   refusal all other numbers are 0, but for the one of simmergate_equal that says which table is refused. The lowest number wins; of two
+   tables, the first is judged by 1 to 5 before the second:
 
      number   given exactly when                                                               place
      1        the table's length is zero, no multiple of 16, or over 49,152 bytes              0
@@ -31,8 +32,9 @@
 #include <stdint.h>
 
 /* Bytes of stack that a call needs at the most. The deepest tables that are accepted, 1,535 nodes one inside the other, were measured on
-   x86-64 to need 145,752 bytes in simmergate_check, 145,768 in simmergate_weight and 196,824 in simmergate_value. */
-#define SIMMERGATE_STACK 204800
+   x86-64 to need 145,752 bytes in simmergate_check, 145,768 in simmergate_weight, 196,824 in simmergate_value and 369,896 in
+   simmergate_equal. */
+#define SIMMERGATE_STACK 376832
 
 /* Judges a table. The answer, 16 bytes: refusal number, place. */
 uint32_t simmergate_check(const uint8_t *table, size_t table_bytes, uint8_t *answer, size_t answer_bytes);
@@ -43,5 +45,10 @@ uint32_t simmergate_weight(const uint8_t *table, size_t table_bytes, uint8_t *an
 /* Evaluates a table modulo 2^64. `registers` is 256 numbers of 8 bytes, symbol 0 first: 2,048 bytes, any other length being refused by 6 after
    1 to 5. The answer, 24 bytes: refusal number, place, value. */
 uint32_t simmergate_value(const uint8_t *table, size_t table_bytes, const uint8_t *registers, size_t registers_bytes, uint8_t *answer, size_t answer_bytes);
+
+/* Compares the trees of two tables: integers and symbols by number, powers by base and exponent, sums and products by their members in any order,
+   each as often in the one as in the other; nothing is opened first. The first table is judged before the second. The answer, 32 bytes: refusal
+   number, place, which table is refused (1, 2, or 0 for neither), yes 1 or no 0; no after a refusal. */
+uint32_t simmergate_equal(const uint8_t *a, size_t a_bytes, const uint8_t *b, size_t b_bytes, uint8_t *answer, size_t answer_bytes);
 
 #endif

@@ -1,5 +1,5 @@
-/* The deepest tables that are accepted, 1,535 nodes one inside the other, checked, weighed and evaluated on a stack of 1 MiB that lies
-   behind a page that nothing may touch. The stack is painted before each call, and what is painted over is what the call needed. */
+/* The deepest tables that are accepted, 1,535 nodes one inside the other, checked, weighed, evaluated and compared on a stack of 1 MiB that
+   lies behind a page that nothing may touch. The stack is painted before each call, and what is painted over is what the call needed. */
 #include "../../include/simmergate.h"
 #include "own.h"
 #include <pthread.h>
@@ -14,14 +14,15 @@ enum { PAGE = 4096, STACK = 1 << 20, PAINT = 0xe5, DEPTH = 1535 };
 static uint8_t area[PAGE + STACK] __attribute__((aligned(PAGE)));
 static uint8_t *const stack = area + PAGE;
 
-static uint8_t table[MOST_BYTES], registers[8 * REGISTERS], answer[24];
-static size_t bytes;
+static uint8_t table[MOST_BYTES], second[MOST_BYTES], registers[8 * REGISTERS], answer[32];
+static size_t bytes, second_bytes;
 static uint32_t returned;
 
 static void *nothing(void *unused) { return unused; }
 static void *check(void *unused) { returned = simmergate_check(table, bytes, answer, sizeof answer); return unused; }
 static void *weigh(void *unused) { returned = simmergate_weight(table, bytes, answer, sizeof answer); return unused; }
 static void *evaluate(void *unused) { returned = simmergate_value(table, bytes, registers, sizeof registers, answer, sizeof answer); return unused; }
+static void *compare(void *unused) { returned = simmergate_equal(table, bytes, second, second_bytes, answer, sizeof answer); return unused; }
 
 /* Bytes of the stack that a thread uses. */
 static size_t used(void *(*call)(void *)) {
@@ -47,15 +48,15 @@ static void put(unsigned kind, unsigned count, uint64_t number) {
     bytes += RECORD;
 }
 
-/* DEPTH nodes of the kinds a and b by turns, each the first member of the one around it, or the last. */
-static void nest(unsigned a, unsigned b, int first) {
+/* DEPTH nodes of the kinds a and b by turns, each the first member of the one around it, or the last; and the innermost leaf. */
+static void nest(unsigned a, unsigned b, int first, uint64_t innermost) {
     bytes = 0;
     for (int d = 0; d < DEPTH; d++) {
         unsigned k = d % 2 ? b : a;
         put(k, k == 4 ? 0 : 2, 0);
         if (k != 4 && !first) put(0, 0, 3 + (uint64_t)d);
     }
-    put(0, 0, 3);
+    put(0, 0, innermost);
     for (int d = DEPTH - 1; d >= 0; d--) {
         unsigned k = d % 2 ? b : a;
         if (k == 4 || first) put(0, 0, 3 + (uint64_t)d);
@@ -69,7 +70,7 @@ static void differ(const char *call, unsigned a, unsigned b, uint64_t expected, 
 
 int main(void) {
     static const unsigned kinds[][3] = {{4, 4, 0}, {2, 2, 0}, {2, 2, 1}, {3, 3, 0}, {3, 3, 1}, {2, 3, 0}, {3, 2, 1}, {4, 2, 0}, {4, 3, 1}};
-    size_t shapes = sizeof kinds / sizeof *kinds, most[3] = {0, 0, 0};
+    size_t shapes = sizeof kinds / sizeof *kinds, most[4] = {0, 0, 0, 0}, need = 0;
     uint64_t own_registers[REGISTERS] = {0};
     if (mprotect(area, PAGE, 0)) {
         printf("deep: no page to guard the stack\n");
@@ -79,7 +80,8 @@ int main(void) {
     size_t thread = used(nothing);
     for (size_t i = 0; i < shapes; i++) {
         unsigned a = kinds[i][0], b = kinds[i][1];
-        nest(a, b, kinds[i][2] != 0);
+        int first = kinds[i][2] != 0;
+        nest(a, b, first, 3);
         void *(*calls[3])(void *) = {check, weigh, evaluate};
         for (int k = 0; k < 3; k++) {
             size_t n = used(calls[k]) - thread;
@@ -89,14 +91,25 @@ int main(void) {
             uint64_t v = own_value(table, own_registers);
             if (k == 2 && own_number(answer + 16) != v) differ("the value", a, b, v, own_number(answer + 16));
         }
+        /* compared with a copy, with the deep member on the other side, and with another innermost leaf */
+        for (int k = 0; k < 3; k++) {
+            nest(a, b, k == 1 ? !first : first, k == 2 ? 2 : 3);
+            memcpy(second, table, bytes);
+            second_bytes = bytes;
+            nest(a, b, first, 3);
+            size_t n = used(compare) - thread;
+            if (n > most[3]) most[3] = n;
+            if (returned != 0) differ("the return", a, b, 0, returned);
+            if (own_number(answer + 24) != (k < 2)) differ("the comparison", a, b, k < 2, own_number(answer + 24));
+        }
     }
-    size_t need = most[0] > most[1] ? most[0] : most[1];
-    if (most[2] > need) need = most[2];
+    for (int k = 0; k < 4; k++)
+        if (most[k] > need) need = most[k];
     if (need > SIMMERGATE_STACK) {
         printf("deep: a call needs %zu bytes of stack, and the header says %d\n", need, SIMMERGATE_STACK);
         return 1;
     }
-    printf("deep: %zu shapes of %d nested nodes on a stack of 1 MiB: check needs %zu bytes of it, weight %zu, value %zu; the header says %d\n", shapes, DEPTH,
-           most[0], most[1], most[2], SIMMERGATE_STACK);
+    printf("deep: %zu shapes of %d nested nodes on a stack of 1 MiB: check needs %zu bytes of it, weight %zu, value %zu, equal %zu; the header says %d\n",
+           shapes, DEPTH, most[0], most[1], most[2], most[3], SIMMERGATE_STACK);
     return 0;
 }

@@ -1,0 +1,416 @@
+-- The parts of members, as the code holds them: what is read off a member's records shows the paper's part of it, and a part that
+-- takes up a later one shows what the paper's part becomes, or leaves the range with it. A base that is an integer is compared by its
+-- bits, any other by its records. By cases on the tests. Assumes nothing.
+use Prim.Native.Nat.{ℕ, _+_, _-_, _*_, _^_, _<_, _≤_}
+use mathlib.Core.Path.{_≡_, refl, sym, ap, _∙_, subst}
+use mathlib.Core.Bool.{Bool, true, false, _&&_, cond}
+use mathlib.Core.List.{List}
+use mathlib.Core.Option.{Option, none, some}
+use native.Mathlib.Omega.{arith}
+use borrow.Author.Tests.{eq-eqb, ne-eqb, ltb-true}
+use lib.Dec.{eqb, ltb}
+use lib.ListN.{length}
+use lib.IntN.{ℤ, pos, negsuc, _+ℤ_, _*ℤ_}
+use Rattle.paper.specs.Bytes.{word, signed}
+use Rattle.paper.specs.Tree.{Tree, Forest, integer, symbol, sum, product, power, records, toList}
+use Rattle.paper.specs.WellFormed.{InRange}
+use Rattle.paper.specs.Record.{kind, bits}
+use Rattle.paper.specs.Equal.{equal, eqZ, onInteger}
+use Rattle.paper.specs.Rules.{fits, asInteger, Term, term, firstInteger, productTerm, termOf, added, addIf, mergeTerms}
+use Rattle.paper.specs.Rules.{Factor, factor, factorOf, raiseIf, bothIntegers, multiplyIf, mergeFactors}
+use Rattle.paper.proofs.Congruence.{word-lt}
+use Rattle.paper.proofs.EncodeLaws.{signed-word, word-signed}
+use Rattle.paper.proofs.Tests.{eqZ-true, eqZ-self, not-so}
+use Rattle.paper.proofs.Seen.{Seen, an-integer, a-symbol, a-sum, a-product, a-power}
+use Rattle.number.specs.declared.Num.{Num}
+use Rattle.number.specs.declared.Num.the-variants.{Is, Out}
+use Rattle.number.specs.Num.{numOf}
+use Rattle.number.proofs.NumLaws.{numOf-is, numOf-is-out, add-exponents}
+use Rattle.split.specs.Standing.{TreeIn, SomeTree}
+use Rattle.split.proofs.StandingLaws.{seen}
+use Rattle.split.proofs.SplitLaws.{base-power, base-itself}
+use Rattle.equal.specs.declared.Match.the-variants.{Different, Ends}
+use Rattle.equal.specs.Matching.{matchOf}
+use Rattle.part.specs.Like.{Like, split}
+use Rattle.part.specs.Part.{Sized, ShowsTerm, ShowsPower, ShowsNumber, Shows, MergedIs}
+use Rattle.part.specs.declared.Part.the-variants as part
+use Rattle.part.specs.declared.Merged.{Merged}
+
+pub sized : (s : List ℕ) (i k : ℕ) (t : Tree) → TreeIn s i t → k ≡ records t → Sized s i k t
+sized s i k t h e = record { there = h; size = e }
+
+-- ---- the first part of a member
+productTerm-good : (f : Forest) (r : Option (ℤ × List Tree)) → productTerm f r .inRange ≡ true
+unfolding productTerm term
+productTerm-good f none = refl
+productTerm-good f (some r) = refl
+
+termOf-good : (t : Tree) → termOf t .inRange ≡ true
+unfolding termOf term
+termOf-good (integer z) = refl
+termOf-good (symbol s) = refl
+termOf-good (sum f) = refl
+termOf-good (product f) = productTerm-good f (firstInteger (toList f))
+termOf-good (power b e) = refl
+
+factorOf-good : (t : Tree) → factorOf t .inRange ≡ true
+unfolding factorOf factor
+factorOf-good (integer z) = refl
+factorOf-good (symbol s) = refl
+factorOf-good (sum f) = refl
+factorOf-good (product f) = refl
+factorOf-good (power b e) = refl
+
+pub term-part : (s : List ℕ) (n i : ℕ) (t : Tree) → TreeIn s i t → signed n ≡ termOf t .coefficient → n < 2 ^ 64
+    → ShowsTerm s n i (termOf t)
+term-part s n i t h e l =
+    record { member = t; there = h; rest = refl; coefficient = sym e; bits = l; good = termOf-good t }
+
+-- an integer that stands at a record, by its bits
+pub integer-there : (s : List ℕ) (i : ℕ) (t : Tree) → TreeIn s i t → kind s i ≤ 0 → (t ≡ integer (signed (bits s i))) × (bits s i < 2 ^ 64)
+integer-there s i t h k = go (seen h)
+  where
+    go : {t : Tree} → Seen s i t → (t ≡ integer (signed (bits s i))) × (bits s i < 2 ^ 64)
+    go (an-integer {z = z} e b w) = (ap integer (sym (ap signed b ∙ signed-word z w)), omega (arith, word-lt z))
+    go (a-symbol e v w) = absurd (omega arith)
+    go (a-sum e n c w m) = absurd (omega arith)
+    go (a-product e n c w m) = absurd (omega arith)
+    go (a-power e w b p q x y v) = absurd (omega arith)
+
+pub no-integer-there : (s : List ℕ) (i : ℕ) (t : Tree) → TreeIn s i t → 0 < kind s i → asInteger t ≡ none
+unfolding asInteger
+no-integer-there s i t h k = go (seen h)
+  where
+    go : {t : Tree} → Seen s i t → asInteger t ≡ none
+    go (an-integer e b w) = absurd (omega arith)
+    go (a-symbol e v w) = refl
+    go (a-sum e n c w m) = refl
+    go (a-product e n c w m) = refl
+    go (a-power e w b p q x y v) = refl
+
+pub number-part : (s : List ℕ) (e j v : ℕ) (t : Tree) → TreeIn s j (factorOf t .base) → kind s j ≤ 0 → v ≡ bits s j
+    → e ≡ factorOf t .exponent → e < 2 ^ 63 → ShowsNumber e v (factorOf t)
+number-part s e j v t h k q x m =
+    let z = integer-there s j (factorOf t .base) h k in
+    record {
+      base = z .0 ∙ ap (λ n. integer (signed n)) (sym q);
+      bits = omega (arith, z .1);
+      exponent = sym x;
+      most = m;
+      good = factorOf-good t;
+    }
+
+-- the base of a power has two records fewer, any other base is the member itself
+power-size : (s : List ℕ) (i : ℕ) (t : Tree) → TreeIn s i t → kind s i ≡ 4 → records t ≡ 2 + records (factorOf t .base)
+unfolding records factorOf factor
+power-size s i t h k = go (seen h)
+  where
+    go : {t : Tree} → Seen s i t → records t ≡ 2 + records (factorOf t .base)
+    go (an-integer e b w) = absurd (omega arith)
+    go (a-symbol e v w) = absurd (omega arith)
+    go (a-sum e n c w m) = absurd (omega arith)
+    go (a-product e n c w m) = absurd (omega arith)
+    go (a-power e w b p q x y v) = refl
+
+other-size : (s : List ℕ) (i : ℕ) (t : Tree) → TreeIn s i t → (kind s i ≡ 4 → ⊥) → records t ≡ records (factorOf t .base)
+unfolding records factorOf factor
+other-size s i t h k = go (seen h)
+  where
+    go : {t : Tree} → Seen s i t → records t ≡ records (factorOf t .base)
+    go (an-integer e b w) = refl
+    go (a-symbol e v w) = refl
+    go (a-sum e n c w m) = refl
+    go (a-product e n c w m) = refl
+    go (a-power e w b p q x y v) = absurd (k e)
+
+pub base-size : (t : Tree) → records (factorOf t .base) ≤ records t
+unfolding records factorOf factor
+base-size (integer z) = omega arith
+base-size (symbol s) = omega arith
+base-size (sum f) = omega arith
+base-size (product f) = omega arith
+base-size (power b e) = omega arith
+
+module _ (s : List ℕ) (e i k : ℕ) (t : Tree) (h : Sized s i k t) (other : asInteger (factorOf t .base) ≡ none)
+    (x : e ≡ factorOf t .exponent) (m : e < 2 ^ 63) where
+  pub power-part : kind s i ≡ 4 → ShowsPower s e (i + 1) (k - 2) (factorOf t)
+  power-part q =
+      let z = power-size s i t (h .there) q in
+      record {
+        sized = record { there = base-power t (h .there) q; size = omega (arith, h .size) };
+        other = other;
+        exponent = sym x;
+        most = m;
+        good = factorOf-good t;
+      }
+
+  pub base-part : (kind s i ≡ 4 → ⊥) → ShowsPower s e i k (factorOf t)
+  base-part q =
+      let z = other-size s i t (h .there) q in
+      record {
+        sized = record { there = base-itself t (h .there) q; size = omega (arith, h .size) };
+        other = other;
+        exponent = sym x;
+        most = m;
+        good = factorOf-good t;
+      }
+
+pub power-two : (s : List ℕ) (i k : ℕ) (t : Tree) → Sized s i k t → kind s i ≡ 4 → 2 ≤ k
+power-two s i k t h q = omega (arith, h .size, power-size s i t (h .there) q)
+
+-- ---- terms that meet
+module _ (s : List ℕ) (n i : ℕ) (c : Term) (h : ShowsTerm s n i c) (u : Tree) where
+  abbrev same : Bool
+  same = equal (termOf (h .member) .rest) (termOf u .rest)
+
+  rests : equal (c .rest) (termOf u .rest) ≡ same
+  rests = ap (λ r. equal r (termOf u .rest)) (h .rest)
+
+  pub term-apart : same ≡ false → mergeTerms c (termOf u) ≡ none
+  unfolding mergeTerms addIf
+  term-apart e = rw (rests ∙ e) refl
+
+  takes : same ≡ true → mergeTerms c (termOf u) ≡ some (added c (termOf u))
+  unfolding mergeTerms addIf
+  takes e = rw (rests ∙ e) refl
+
+  module _ (m : ℕ) (other : signed m ≡ termOf u .coefficient) (e : same ≡ true) where
+    total : c .coefficient +ℤ termOf u .coefficient ≡ signed n +ℤ signed m
+    total = rw (h .coefficient, sym other) refl
+
+    pub term-into : (v : ℕ) → numOf (signed n +ℤ signed m) ≡ Is v
+        → (d : Term) × (mergeTerms c (termOf u) ≡ some d) × ShowsTerm s v i d
+    unfolding added
+    term-into v q =
+        let z = numOf-is (signed n +ℤ signed m) v q in
+        let l = word-lt (signed n +ℤ signed m) in (
+          added c (termOf u),
+          takes e,
+          record {
+            member = h .member;
+            there = h .there;
+            rest = h .rest;
+            coefficient = total ∙ sym (z .2);
+            bits = omega (arith, z .1);
+            good = rw (h .good, termOf-good u, ap fits total ∙ z .0) refl;
+          },
+        )
+
+    pub term-over : numOf (signed n +ℤ signed m) ≡ Out → (d : Term) × (mergeTerms c (termOf u) ≡ some d) × (d .inRange ≡ false)
+    unfolding added
+    term-over q = (
+      added c (termOf u),
+      takes e,
+      rw (h .good, termOf-good u, ap fits total ∙ numOf-is-out (signed n +ℤ signed m) q) refl,
+    )
+
+-- ---- factors that meet
+raised : Factor → Factor → Factor
+raised c x =
+    record {
+      base = c .base;
+      exponent = c .exponent + x .exponent;
+      inRange = c .inRange && x .inRange && ltb (c .exponent + x .exponent) (2 ^ 63);
+    }
+
+-- the sum of two exponents, judged
+exponents : (e f : ℕ) → e < 2 ^ 63 → f < 2 ^ 63 → (v : ℕ) → numOf (signed e +ℤ signed f) ≡ Is v → (ltb (e + f) (2 ^ 63) ≡ true) × (v ≡ e + f)
+exponents e f h k v q = by (ltb (e + f) (2 ^ 63)) refl
+  where
+    by : (t : Bool) → ltb (e + f) (2 ^ 63) ≡ t → (ltb (e + f) (2 ^ 63) ≡ true) × (v ≡ e + f)
+    by true p =
+        let z : Is v ≡ Is (e + f) = sym q ∙ add-exponents e f h k ∙ ap (λ t. cond t (Is (e + f)) Out) p in
+        (p, cc)
+    by false p =
+        let z : Is v ≡ Out = sym q ∙ add-exponents e f h k ∙ ap (λ t. cond t (Is (e + f)) Out) p in
+        absurd (let o : _≡_ {A = ℕ} 0 1 = cc in omega arith)
+
+exponents-out : (e f : ℕ) → e < 2 ^ 63 → f < 2 ^ 63 → numOf (signed e +ℤ signed f) ≡ Out → ltb (e + f) (2 ^ 63) ≡ false
+exponents-out e f h k q = by (ltb (e + f) (2 ^ 63)) refl
+  where
+    by : (t : Bool) → ltb (e + f) (2 ^ 63) ≡ t → ltb (e + f) (2 ^ 63) ≡ false
+    by true p =
+        let z : Out ≡ Is (e + f) = sym q ∙ add-exponents e f h k ∙ ap (λ t. cond t (Is (e + f)) Out) p in
+        absurd (let o : _≡_ {A = ℕ} 0 1 = cc in omega arith)
+    by false p = p
+
+-- where the bases are not both integers, only equal bases merge
+by-base : (c x : Factor) → bothIntegers (asInteger (c .base)) (asInteger (x .base)) ≡ none → mergeFactors c x ≡ raiseIf (equal (c .base) (x .base)) c x
+unfolding mergeFactors multiplyIf
+by-base c x n = go (eqb (c .exponent) (x .exponent)) _ n
+  where
+    go : (b : Bool) (w : Option ℤ) → w ≡ none → multiplyIf b w c x ≡ raiseIf (equal (c .base) (x .base)) c x
+    go true none e = refl
+    go true (some z) e = absurd (let o : _≡_ {A = ℕ} 0 1 = cc in omega arith)
+    go false w e = refl
+
+module _ (s : List ℕ) (e i k : ℕ) (c : Factor) (h : ShowsPower s e i k c) (u : Tree) where
+  one-way : mergeFactors c (factorOf u) ≡ raiseIf (equal (c .base) (factorOf u .base)) c (factorOf u)
+  unfolding bothIntegers
+  one-way = by-base c (factorOf u) (rw (h .other) refl)
+
+  pub power-apart : equal (c .base) (factorOf u .base) ≡ false → mergeFactors c (factorOf u) ≡ none
+  unfolding raiseIf
+  power-apart q = one-way ∙ rw q refl
+
+  module _ (f : ℕ) (other : f ≡ factorOf u .exponent) (small : f < 2 ^ 63) (q : equal (c .base) (factorOf u .base) ≡ true) where
+    exponent-sum : c .exponent + factorOf u .exponent ≡ e + f
+    exponent-sum = omega (arith, h .exponent)
+
+    pub power-into : (v : ℕ) → numOf (signed e +ℤ signed f) ≡ Is v
+        → (d : Factor) × (mergeFactors c (factorOf u) ≡ some d) × ShowsPower s v i k d
+    unfolding raiseIf raised
+    power-into v r =
+        let z = exponents e f (h .most) small v r in (
+          raised c (factorOf u),
+          one-way ∙ rw q refl,
+          record {
+            sized = h .sized;
+            other = h .other;
+            exponent = omega (arith, exponent-sum, z .1);
+            most = omega (arith, z .1, ltb-true (e + f) (2 ^ 63) (z .0));
+            good = rw (h .good, factorOf-good u, exponent-sum, z .0) refl;
+          },
+        )
+
+    pub power-over : numOf (signed e +ℤ signed f) ≡ Out → (d : Factor) × (mergeFactors c (factorOf u) ≡ some d) × (d .inRange ≡ false)
+    unfolding raiseIf raised
+    power-over r = (
+      raised c (factorOf u),
+      one-way ∙ rw q refl,
+      rw (h .good, factorOf-good u, exponent-sum, exponents-out e f (h .most) small r) refl,
+    )
+
+-- ---- an integer base that meets another base
+other-than : (z : ℤ) (t : Tree) → asInteger t ≡ none → equal (integer z) t ≡ false
+unfolding equal onInteger asInteger
+other-than z (integer y) e = absurd (let o : _≡_ {A = ℕ} 0 1 = cc in omega arith)
+other-than z (symbol s) e = refl
+other-than z (sum f) e = refl
+other-than z (product f) e = refl
+other-than z (power b x) e = refl
+
+pub same-bits : (v w : ℕ) → v < 2 ^ 64 → w < 2 ^ 64 → signed v ≡ signed w → v ≡ w
+same-bits v w h k e = sym (word-signed v h) ∙ ap word e ∙ word-signed w k
+
+multiplied : Factor → Factor → ℤ → Factor
+multiplied c x z = record { base = integer z; exponent = c .exponent; inRange = c .inRange && x .inRange && fits z }
+
+module _ (e v : ℕ) (c : Factor) (h : ShowsNumber e v c) (u : Tree) where
+  pub number-apart : asInteger (factorOf u .base) ≡ none → mergeFactors c (factorOf u) ≡ none
+  unfolding bothIntegers raiseIf asInteger
+  number-apart n =
+      by-base c (factorOf u) (rw (h .base, n) refl)
+      ∙ rw (ap (λ b. equal b (factorOf u .base)) (h .base) ∙ other-than (signed v) (factorOf u .base) n) refl
+
+  module _ (w f : ℕ) (base : factorOf u .base ≡ integer (signed w)) (small : w < 2 ^ 64) (exponent : f ≡ factorOf u .exponent)
+      (most : f < 2 ^ 63) where
+    by-integers : mergeFactors c (factorOf u) ≡ multiplyIf (eqb e f) (some (signed v *ℤ signed w)) c (factorOf u)
+    unfolding mergeFactors bothIntegers asInteger
+    by-integers = rw (h .base, base, h .exponent, exponent) refl
+
+    pub number-times : (x : ℕ) → e ≡ f → numOf (signed v *ℤ signed w) ≡ Is x
+        → (d : Factor) × (mergeFactors c (factorOf u) ≡ some d) × ShowsNumber e x d
+    unfolding multiplyIf multiplied
+    number-times x q r =
+        let z = numOf-is (signed v *ℤ signed w) x r in
+        let l = word-lt (signed v *ℤ signed w) in (
+          multiplied c (factorOf u) (signed v *ℤ signed w),
+          by-integers ∙ rw (eq-eqb e f q) refl,
+          record {
+            base = ap integer (sym (z .2));
+            bits = omega (arith, z .1);
+            exponent = h .exponent;
+            most = h .most;
+            good = rw (h .good, factorOf-good u, z .0) refl;
+          },
+        )
+
+    pub number-times-over : e ≡ f → numOf (signed v *ℤ signed w) ≡ Out
+        → (d : Factor) × (mergeFactors c (factorOf u) ≡ some d) × (d .inRange ≡ false)
+    unfolding multiplyIf multiplied
+    number-times-over q r = (
+      multiplied c (factorOf u) (signed v *ℤ signed w),
+      by-integers ∙ rw (eq-eqb e f q) refl,
+      rw (h .good, factorOf-good u, numOf-is-out (signed v *ℤ signed w) r) refl,
+    )
+
+    module _ (apart : e ≡ f → ⊥) where
+      by-bits : mergeFactors c (factorOf u) ≡ raiseIf (eqZ (signed v) (signed w)) c (factorOf u)
+      unfolding multiplyIf equal onInteger
+      by-bits =
+          by-integers
+          ∙ rw (ne-eqb e f apart) refl
+          ∙ ap (λ b. raiseIf b c (factorOf u)) (ap (λ b. equal b (factorOf u .base)) (h .base) ∙ ap (equal (integer (signed v))) base)
+
+      pub number-other : (v ≡ w → ⊥) → mergeFactors c (factorOf u) ≡ none
+      unfolding raiseIf
+      number-other n =
+          by-bits
+          ∙ rw (not-so (eqZ (signed v) (signed w)) (λ t. n (same-bits v w (h .bits) small (eqZ-true (signed v) (signed w) t)))) refl
+
+      merges : v ≡ w → mergeFactors c (factorOf u) ≡ some (raised c (factorOf u))
+      unfolding raiseIf raised
+      merges q = by-bits ∙ rw (ap (λ b. eqZ (signed v) (signed b)) (sym q) ∙ eqZ-self (signed v)) refl
+
+      number-sum : c .exponent + factorOf u .exponent ≡ e + f
+      number-sum = omega (arith, h .exponent)
+
+      pub number-raised : (x : ℕ) → v ≡ w → numOf (signed e +ℤ signed f) ≡ Is x
+          → (d : Factor) × (mergeFactors c (factorOf u) ≡ some d) × ShowsNumber x v d
+      unfolding raised
+      number-raised x q r =
+          let z = exponents e f (h .most) most x r in (
+            raised c (factorOf u),
+            merges q,
+            record {
+              base = h .base;
+              bits = h .bits;
+              exponent = omega (arith, number-sum, z .1);
+              most = omega (arith, z .1, ltb-true (e + f) (2 ^ 63) (z .0));
+              good = rw (h .good, factorOf-good u, number-sum, z .0) refl;
+            },
+          )
+
+      pub number-raised-over : v ≡ w → numOf (signed e +ℤ signed f) ≡ Out
+          → (d : Factor) × (mergeFactors c (factorOf u) ≡ some d) × (d .inRange ≡ false)
+      unfolding raised
+      number-raised-over q r = (
+        raised c (factorOf u),
+        merges q,
+        rw (h .good, factorOf-good u, number-sum, exponents-out e f (h .most) most r) refl,
+      )
+
+-- ---- what the code's answers say
+pub unmatched : (b : Bool) (e : ℕ) → matchOf b e ≡ Different → b ≡ false
+unmatched true e q = absurd (let o : _≡_ {A = ℕ} 0 1 = cc in omega arith)
+unmatched false e q = refl
+
+pub matched : (b : Bool) (e x : ℕ) → matchOf b e ≡ Ends x → b ≡ true
+matched true e x q = refl
+matched false e x q = absurd (let o : _≡_ {A = ℕ} 0 1 = cc in omega arith)
+
+module _ (s : List ℕ) (t : Tree) (r : Merged) where
+  pub of-term : (n i : ℕ) → ((c : Term) → ShowsTerm s n i c → MergedIs true s c (termOf t) r)
+      → (b : Bool) (x : Like b) → Shows b s (part.Term n i) x → MergedIs b s x (split b t) r
+  of-term n i f true x h = f x h
+  of-term n i f false x h = absurd h
+
+  pub of-power : (e i k : ℕ) → ((c : Factor) → ShowsPower s e i k c → MergedIs false s c (factorOf t) r)
+      → (b : Bool) (x : Like b) → Shows b s (part.Power e i k) x → MergedIs b s x (split b t) r
+  of-power e i k f true x h = absurd h
+  of-power e i k f false x h = f x h
+
+  pub of-number : (e v : ℕ) → ((c : Factor) → ShowsNumber e v c → MergedIs false s c (factorOf t) r)
+      → (b : Bool) (x : Like b) → Shows b s (part.Number e v) x → MergedIs b s x (split b t) r
+  of-number e v f true x h = absurd h
+  of-number e v f false x h = f x h
+
+-- a part that stands in a record, and a later member
+pub term-stands : (s : List ℕ) (n i : ℕ) (b : Bool) (x : Like b) → Shows b s (part.Term n i) x → SomeTree s i
+term-stands s n i true x h = record { tree = h .member; there = h .there }
+term-stands s n i false x h = absurd h
+
+pub power-stands : (s : List ℕ) (e i k : ℕ) (b : Bool) (x : Like b) → Shows b s (part.Power e i k) x → SomeTree s i
+power-stands s e i k true x h = absurd h
+power-stands s e i k false x h = record { tree = x .base; there = h .sized .there }

@@ -1,0 +1,131 @@
+// The part of a member that the walk of step 2 or of step 6 compares: coefficient and rest, or base and exponent. Where a part takes
+// up a later one it changes; nothing is written.
+ghost use mathlib.Core.Path.{_≡_};
+ghost use mathlib.Core.Bool.{Bool, true, false};
+ghost use Prim.Native.Nat.{ℕ, _≤_};
+ghost use lib.ListN.{length};
+ghost use Rattle.paper.specs.Tree.{Tree, records};
+ghost use Rattle.paper.specs.Rules.{Term, termOf, Factor, factorOf};
+ghost use Rattle.split.specs.Standing.{TreeIn, SomeTree};
+ghost use Rattle.equal.specs.Matching.{Comparable};
+ghost use Rattle.part.specs.Like.{Like, split};
+ghost use Rattle.part.specs.Part.{Sized, Shows, ShowsTerm, ShowsPower, ShowsNumber, From, MergedIs, IntoFrom, Mergeable};
+
+// A term's coefficient, and the record of the member whose rest is its rest; a factor's exponent, and the record and the size of its
+// base; a factor's exponent and the bits of its integer base.
+pub enum Part {
+    Term(u64, usize),
+    Power(u64, usize, usize),
+    Number(u64, u64),
+}
+
+// Whether a part takes up a later one: it does not; it does, and what it becomes; it does, and leaves the range.
+pub enum Merged {
+    Apart,
+    Into(Part),
+    Over,
+}
+
+// The part of the member of `size` records at record `at`, of a sum (terms) or of a product.
+pub fn part_of(s: &[u8], at: usize, size: usize, terms: bool) -> Part
+    requires { ⌜ ((t : Tree) × Sized (now s) at size t) ⌝ }
+    ensures { λ r. ⌜ ((t : Tree) → Sized (now (s .entry)) at size t → Shows terms (now (s .entry)) r (split terms t)) ⌝ }
+    ensures place { λ r. ⌜ ((p : ℕ) → p ≤ at → From p r) ⌝ }
+{
+    if terms {
+        return Part::Term(split::coefficient(s, at), at);
+    }
+    let e = split::exponent(s, at);
+    let b = split::base(s, at);
+    if record::kind(s, b) < 1 {
+        return Part::Number(e, record::bits(s, b));
+    }
+    if record::kind(s, at) == 4 {
+        return Part::Power(e, at + 1, size - 2);
+    }
+    Part::Power(e, at, size)
+}
+
+// The term with the coefficient n and the rest of the member at record i, where it meets the member at record `at`.
+fn merge_term(s: &[u8], n: u64, i: usize, at: usize, marks: &mut [u8]) -> Merged
+    requires { ⌜ Comparable (now s) i (now s) at (length (now marks)) ⌝ }
+    ensures { λ r. ⌜ ((c : Term) (t : Tree) → ShowsTerm (now (s .entry)) n i c → TreeIn (now (s .entry)) at t
+        → MergedIs true (now (s .entry)) c (termOf t) r) ⌝ }
+    ensures place { λ r. ⌜ ((p : ℕ) → p ≤ i → IntoFrom p r) ⌝ }
+{
+    if equal::same_rest(s, i, at, marks) {
+        let sum = number::add(n, split::coefficient(s, at));
+        match sum {
+            number::Num::Is(v) => Merged::Into(Part::Term(v, i)),
+            number::Num::Out => Merged::Over,
+        }
+    } else {
+        Merged::Apart
+    }
+}
+
+// The factor with the exponent e and the base at record i, no integer, where it meets the member at record `at`.
+fn merge_power(s: &[u8], e: u64, i: usize, k: usize, at: usize, marks: &mut [u8]) -> Merged
+    requires { ⌜ Comparable (now s) i (now s) at (length (now marks)) ⌝ }
+    ensures { λ r. ⌜ ((c : Factor) (t : Tree) → ShowsPower (now (s .entry)) e i k c → TreeIn (now (s .entry)) at t
+        → MergedIs false (now (s .entry)) c (factorOf t) r) ⌝ }
+    ensures place { λ r. ⌜ ((p : ℕ) → p ≤ i → IntoFrom p r) ⌝ }
+{
+    let j = split::base(s, at);
+    let found = equal::same_tree(s, i, s, j, marks);
+    match found {
+        equal::Match::Different => Merged::Apart,
+        equal::Match::Ends(_) => {
+            let sum = number::add(e, split::exponent(s, at));
+            match sum {
+                number::Num::Is(f) => Merged::Into(Part::Power(f, i, k)),
+                number::Num::Out => Merged::Over,
+            }
+        }
+    }
+}
+
+// The factor with the exponent e and the integer base v, where it meets the member at record `at`: equal exponents multiply the bases,
+// equal bases add the exponents.
+fn merge_number(s: &[u8], e: u64, v: u64, at: usize) -> Merged
+    requires { ⌜ SomeTree (now s) at ⌝ }
+    ensures { λ r. ⌜ ((c : Factor) (t : Tree) → ShowsNumber e v c → TreeIn (now (s .entry)) at t
+        → MergedIs false (now (s .entry)) c (factorOf t) r) ⌝ }
+    ensures place { λ r. ⌜ ((p : ℕ) → IntoFrom p r) ⌝ }
+{
+    let j = split::base(s, at);
+    if 0 < record::kind(s, j) {
+        return Merged::Apart;
+    }
+    let w = record::bits(s, j);
+    let f = split::exponent(s, at);
+    if e == f {
+        let product = number::mul(v, w);
+        return match product {
+            number::Num::Is(x) => Merged::Into(Part::Number(e, x)),
+            number::Num::Out => Merged::Over,
+        };
+    }
+    if v != w {
+        return Merged::Apart;
+    }
+    let sum = number::add(e, f);
+    match sum {
+        number::Num::Is(x) => Merged::Into(Part::Number(x, v)),
+        number::Num::Out => Merged::Over,
+    }
+}
+
+// The current part, where it meets the member at record `at`.
+pub fn merge(s: &[u8], c: Part, at: usize, marks: &mut [u8]) -> Merged
+    requires { ⌜ Mergeable (now s) c at (length (now marks)) ⌝ }
+    ensures { λ r. ⌜ ((b : Bool) (x : Like b) (t : Tree) → Shows b (now (s .entry)) c x → TreeIn (now (s .entry)) at t
+        → MergedIs b (now (s .entry)) x (split b t) r) ⌝ }
+    ensures place { λ r. ⌜ ((p : ℕ) → From p c → IntoFrom p r) ⌝ }
+{
+    match c {
+        Part::Term(n, i) => merge_term(s, n, i, at, marks),
+        Part::Power(e, i, k) => merge_power(s, e, i, k, at, marks),
+        Part::Number(e, v) => merge_number(s, e, v, at),
+    }
+}

@@ -1,0 +1,196 @@
+-- Steps 1 and 4 on the way through the members: some are done, and what is kept of them stands in `out`; the others are left. What is
+-- kept of all is what is kept of the first followed by what is kept of the others, so at the end it all stands in `out`.
+-- Assumes nothing.
+use Prim.Native.Nat.{ℕ, zero, suc, _+_, _-_, _*_, _<_, _≤_}
+use mathlib.Core.Path.{_≡_, refl, sym, ap, _∙_, subst}
+use mathlib.Core.Bool.{Bool, true, false}
+use mathlib.Core.List.{List, [], _∷_, _++_, append-nil, append-assoc}
+use native.Mathlib.Omega.{arith}
+use lib.ListN.{length, take, drop, length-append, length-drop}
+use lib.Seq.{length-take-le, take-take, take-append-le, drop-at, drop-drop}
+use lib.IntN.{pos}
+use Rattle.paper.specs.Tree.{Tree, Forest, nil, cons, count, records, recordses, weights, toList, ofList}
+use Rattle.paper.specs.Record.{countIn}
+use Rattle.paper.specs.Table.{encode, encodes}
+use Rattle.paper.specs.Rules.{isThe, dropAll, unless}
+use Rattle.paper.proofs.EncodeLaws.{encode-length, encodes-length, recordses-weights, count-records}
+use Rattle.paper.proofs.WFLaws.{list-count}
+use Rattle.paper.proofs.Stands.{Stands}
+use Rattle.split.specs.Standing.{TreeIn, TreesIn, SomeTree}
+use Rattle.stretch.specs.Put.{put, part}
+use Rattle.write.proofs.Encoded.{encodes-snoc, recordses-snoc, stands-part, built-more}
+use Rattle.rules.specs.Tried.{Held, MembersIn, Built}
+use Rattle.split.proofs.StandingLaws.{FirstOf, first-of, none-of}
+use Rattle.rules.proofs.Nodes.{after-first, members-in}
+
+-- what a function that only reads asks for
+pub held-members : (o w : List ℕ) (d p : ℕ) (f : Forest) (rest : List ℕ) → Held o w d p f rest → MembersIn w p f
+held-members o w d p f rest h =
+    record {
+      seen = record { counted = h .counted; two = h .two; wf = h .wf; stand = record { after = rest; there = h .stand } };
+      few = omega (arith, h .light, recordses-weights f);
+    }
+
+-- the records of the members, and of what follows, are all that is left of the table
+pub held-length : (o w : List ℕ) (d p : ℕ) (f : Forest) (rest : List ℕ) → Held o w d p f rest
+    → length w ≡ (p + 1 + recordses f) * 16 + length rest
+held-length o w d p f rest h =
+    let e : length w - (p + 1) * 16 ≡ length (encodes f) + length rest =
+    sym (length-drop ((p + 1) * 16) w) ∙ ap length (h .stand) ∙ length-append (encodes f) rest in
+    omega (arith, encodes-length f, h .work-room, recordses-weights f, records-two f (h .two))
+  where
+    records-two : (f : Forest) → 2 ≤ count f → 1 ≤ recordses f
+    records-two f t = omega (arith, count-records f)
+
+module _ (z : ℕ) where
+  abbrev kept : List Tree → List Tree
+  kept l = dropAll (isThe (pos z)) l
+
+  pub record Dropping (o₀ w : List ℕ) (d p : ℕ) (f : Forest) (rest o : List ℕ) (at left e n : ℕ) : Type 0 where
+    pub done : List Tree
+    pub others : Forest
+    pub stand : TreesIn w at left others
+    pub follow : drop (at * 16) w ≡ encodes others ++ rest
+    pub built : take (e * 16) o ≡ take ((d + 1) * 16) o₀ ++ encodes (ofList done)
+    pub end : e ≡ d + 1 + recordses (ofList done)
+    pub many : n ≡ length done
+    pub same : kept (toList f) ≡ done ++ kept (toList others)
+    pub room : e + recordses others ≤ d + 1 + recordses f
+    pub place : at + recordses others ≡ p + 1 + recordses f
+
+  module _ (o₀ w : List ℕ) (d p : ℕ) (f : Forest) (rest : List ℕ) (h : Held o₀ w d p f rest) where
+    pub begins : (n : ℕ) → n ≡ countIn w p → Dropping o₀ w d p f rest o₀ (p + 1) n (d + 1) 0
+    unfolding ofList records encode
+    begins n c =
+        record {
+          done = [];
+          others = f;
+          stand = subst (λ n. TreesIn w (p + 1) n f) (sym c) (members-in w p f (held-members o₀ w d p f rest h));
+          follow = h .stand;
+          built = sym (append-nil (take ((d + 1) * 16) o₀));
+          end = omega arith;
+          many = refl;
+          same = refl;
+          room = omega arith;
+          place = refl;
+        }
+
+    module _ (o : List ℕ) (at left e n : ℕ) (v : Dropping o₀ w d p f rest o at left e n) (l : 0 < left) where
+      abbrev head : FirstOf w at left (v .others)
+      head = first-of (v .others) (v .stand) l
+
+      pub some-member : SomeTree w at
+      some-member = record { tree = head .tree; there = head .there }
+
+      sizes : recordses (v .others) ≡ records (head .tree) + recordses (head .others)
+      unfolding records
+      sizes = ap recordses (head .whole)
+
+      module _ (next : ℕ) (q : next ≡ at + records (head .tree)) where
+        follows : drop (next * 16) w ≡ encodes (head .others) ++ rest
+        unfolding encode
+        follows =
+            let x = encode (head .tree) in
+            let y = encodes (head .others) in
+            let sum : next * 16 ≡ at * 16 + records (head .tree) * 16 = omega arith in
+            ap (λ k. drop k w) sum
+            ∙ sym (drop-drop (records (head .tree) * 16) (at * 16) w)
+            ∙ ap (drop (records (head .tree) * 16)) (v .follow ∙ ap (λ g. encodes g ++ rest) (head .whole) ∙ append-assoc x y rest)
+            ∙ drop-at x (y ++ rest) (records (head .tree) * 16) (encode-length (head .tree) ∙ omega arith)
+
+        -- a member that is dropped
+        pub passes : isThe (pos z) (head .tree) ≡ true → Dropping o₀ w d p f rest o next (left - 1) e n
+        unfolding toList dropAll unless
+        passes t =
+            let s = sizes in
+            record {
+              done = v .done;
+              others = head .others;
+              stand = after-first head next q;
+              follow = follows;
+              built = v .built;
+              end = v .end;
+              many = v .many;
+              same =
+                  v .same
+                  ∙ ap (λ g. v .done ++ kept (toList g)) (head .whole)
+                  ∙ ap (λ b. v .done ++ unless b (head .tree) (kept (toList (head .others)))) t;
+              room = omega (arith, v .room);
+              place = omega (arith, v .place);
+            }
+
+        -- a member that is kept
+        pub keeps : (o' : List ℕ) → isThe (pos z) (head .tree) ≡ false → e * 16 ≤ length o
+            → o' ≡ put o (e * 16) (part w (at * 16) ((next - at) * 16)) → Dropping o₀ w d p f rest o' next (left - 1) (e + (next - at)) (n + 1)
+        unfolding toList dropAll unless
+        keeps o' t r c =
+            let s = sizes in
+            let m : (next - at) * 16 ≡ records (head .tree) * 16 = omega arith in
+            let copied = c ∙ ap (put o (e * 16)) (stands-part w at ((next - at) * 16) (head .tree) (head .there .stands) m) in
+            let sum : e + (next - at) ≡ e + records (head .tree) = omega arith in
+            record {
+              done = v .done ++ (head .tree ∷ []);
+              others = head .others;
+              stand = after-first head next q;
+              follow = follows;
+              built = built-more o o' (take ((d + 1) * 16) o₀) e (e + (next - at)) (v .done) (head .tree) (v .built) r copied sum;
+              end = omega (arith, v .end, recordses-snoc (v .done) (head .tree));
+              many = omega (arith, v .many, length-append (v .done) (head .tree ∷ []));
+              same =
+                  v .same
+                  ∙ ap (λ g. v .done ++ kept (toList g)) (head .whole)
+                  ∙ ap (λ b. v .done ++ unless b (head .tree) (kept (toList (head .others)))) t
+                  ∙ sym (append-assoc (v .done) (head .tree ∷ []) (kept (toList (head .others))));
+              room = omega (arith, v .room);
+              place = omega (arith, v .place);
+            }
+
+      -- no more are kept than stand in `out`
+      pub few-kept : n ≤ e
+      few-kept = omega (arith, v .many, list-count (v .done), count-records (ofList (v .done)), v .end)
+
+      -- it lies before the node's end
+      pub sized : at + records (head .tree) ≤ p + 1 + recordses f
+      sized = omega (arith, sizes, v .place)
+
+      -- there is room for it
+      pub fits-in : (e + records (head .tree)) * 16 ≤ length o₀
+      fits-in = omega (arith, sizes, v .room, h .out-room, recordses-weights f)
+
+    -- none is left: all that is kept stands in `out`
+    pub record Ended (o : List ℕ) (at e n : ℕ) : Type 0 where
+      pub built : Built o d e (kept (toList f))
+      pub many : length (kept (toList f)) ≡ n
+      pub follow : drop (at * 16) w ≡ rest
+      pub place : at ≡ p + 1 + recordses f
+
+    pub ends : (o : List ℕ) (at left e n : ℕ) → length o ≡ length o₀ → Dropping o₀ w d p f rest o at left e n → left ≤ 0 → Ended o at e n
+    unfolding toList dropAll encode records
+    ends o at left e n long v l =
+        let none : v .others ≡ nil = none-of (v .others) (v .stand) (omega arith) in
+        let all : kept (toList f) ≡ v .done =
+        v .same ∙ ap (λ g. v .done ++ kept (toList g)) none ∙ append-nil (v .done) in
+        let zero : recordses (v .others) ≡ 0 = ap recordses none in
+        record {
+          built = subst (Built o d e) (sym all) (record {
+            front = take ((d + 1) * 16) o₀;
+            free = length-take-le ((d + 1) * 16) o₀ (omega (arith, h .out-room));
+            built = v .built;
+            end = v .end;
+            within = omega (arith, v .room, h .out-room, recordses-weights f);
+          });
+          many = ap length all ∙ sym (v .many);
+          follow = v .follow ∙ ap (λ g. encodes g ++ rest) none;
+          place = omega (arith, v .place);
+        }
+
+    -- what is done stays
+    pub done-stays : (o : List ℕ) (at left e n : ℕ) → length o ≡ length o₀ → Dropping o₀ w d p f rest o at left e n
+        → take (d * 16) o ≡ take (d * 16) o₀
+    done-stays o at left e n long v =
+        let front = take ((d + 1) * 16) o₀ in
+        let size : length front ≡ (d + 1) * 16 = length-take-le ((d + 1) * 16) o₀ (omega (arith, h .out-room)) in
+        sym (take-take (d * 16) (e * 16) o (omega (arith, v .end)))
+        ∙ ap (take (d * 16)) (v .built)
+        ∙ take-append-le (d * 16) front (encodes (ofList (v .done))) (omega arith)
+        ∙ take-take (d * 16) ((d + 1) * 16) o₀ (omega arith)

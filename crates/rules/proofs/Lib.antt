@@ -1,0 +1,6 @@
+pub mod Nodes
+pub mod Puts
+pub mod Dropping
+pub mod RuleLaws
+pub mod CombineLaws
+pub mod AskLaws

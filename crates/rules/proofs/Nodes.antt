@@ -1,0 +1,92 @@
+-- The members of one node, as they are read one after the other and as they are written: the first of them stands first, the others
+-- after its records; a member is a certain small integer where its first record says so; and the tree of some members is a node's
+-- record before theirs, unless there are fewer than two. By cases. Assumes nothing.
+use Prim.Native.Nat.{ℕ, zero, suc, _+_, _-_, _*_, _%_, _^_, _<_, _≤_}
+use mathlib.Core.Path.{_≡_, refl, sym, ap, _∙_, subst}
+use mathlib.Core.Bool.{Bool, true, false}
+use mathlib.Core.List.{List, [], _∷_, _++_, append-nil}
+use native.Mathlib.Omega.{arith}
+use borrow.Author.Tests.{eq-eqb, ne-eqb}
+use lib.Dec.{eqb}
+use lib.ListN.{length, take, drop, length-append}
+use lib.Seq.{length-take-le}
+use lib.IntN.{ℤ, pos, negsuc}
+use Rattle.paper.specs.Limits.{modulus}
+use Rattle.paper.specs.Bytes.{word}
+use Rattle.paper.specs.Tree.{Tree, Forest, integer, symbol, sum, product, power, nil, cons, count, records, recordses, toList, ofList}
+use Rattle.paper.specs.WellFormed.{WF, WFs, InRange}
+use Rattle.paper.specs.Record.{kind, bits, countIn}
+use Rattle.paper.specs.Table.{recordOf, encode, encodes}
+use Rattle.paper.specs.Equal.{eqZ}
+use Rattle.paper.specs.Rules as paper
+use Rattle.paper.specs.Rules.{isThe}
+use Rattle.paper.proofs.WFLaws.{list-count}
+use Rattle.paper.proofs.Seen.{Seen, an-integer, a-symbol, a-sum, a-product, a-power}
+use Rattle.split.specs.Standing.{TreeIn, TreesIn}
+use Rattle.split.proofs.StandingLaws.{FirstOf, first-of, seen, record-within}
+use Rattle.part.specs.Like.{nodeKind, neutral, nodeOf}
+use Rattle.rules.specs.Tried.{MembersIn}
+
+-- ---- members that are read one after the other
+pub after-first : {s : List ℕ} {i n : ℕ} {g : Forest} (h : FirstOf s i n g) (next : ℕ) → next ≡ i + records (h .tree) → TreesIn s next (n - 1) (h .others)
+after-first {s} {i} {n} h next e = subst (λ k. TreesIn s k (n - 1) (h .others)) (sym e) (h .after)
+
+pub members-in : (s : List ℕ) (p : ℕ) (f : Forest) → MembersIn s p f → TreesIn s (p + 1) (countIn s p) f
+members-in s p f h = record { counted = sym (h .seen .counted); wf = h .seen .wf; few = h .few; stand = h .seen .stand }
+
+-- the node's own record lies inside the table
+pub node-within : (s : List ℕ) (p : ℕ) (f : Forest) → MembersIn s p f → p * 16 + 32 ≤ length s
+node-within s p f h =
+    let c : 0 < countIn s p = omega (arith, h .seen .two, h .seen .counted) in
+    let q = first-of f (members-in s p f h) c in
+    omega (arith, record-within (q .there))
+
+-- ---- a member that is the integer z
+word-is : (y : ℤ) (z : ℕ) → InRange y → z < 2 → eqb (word y) z ≡ eqZ y (pos z)
+unfolding word eqZ
+word-is (pos n) z r h = let e : n % modulus ≡ n = omega arith in ap (λ m. eqb m z) e
+word-is (negsuc n) z r h = ne-eqb (modulus - suc (n % modulus)) z (λ e. omega arith)
+
+pub other-kind : (s : List ℕ) (i z : ℕ) (t : Tree) → TreeIn s i t → 0 < kind s i → false ≡ isThe (pos z) t
+unfolding isThe paper.asInteger
+other-kind s i z t h k = go (seen h)
+  where
+    go : {t : Tree} → Seen s i t → false ≡ isThe (pos z) t
+    go (an-integer e b w) = absurd (omega arith)
+    go (a-symbol e v w) = refl
+    go (a-sum e n c w m) = refl
+    go (a-product e n c w m) = refl
+    go (a-power e w b p q x y v) = refl
+
+pub integer-kind : (s : List ℕ) (i z : ℕ) (t : Tree) → TreeIn s i t → kind s i ≤ 0 → z < 2 → eqb (bits s i) z ≡ isThe (pos z) t
+unfolding isThe paper.asInteger
+integer-kind s i z t h k l = go (seen h)
+  where
+    go : {t : Tree} → Seen s i t → eqb (bits s i) z ≡ isThe (pos z) t
+    go (an-integer {z = y} e b w) = ap (λ m. eqb m z) b ∙ word-is y z w l
+    go (a-symbol e v w) = absurd (omega arith)
+    go (a-sum e n c w m) = absurd (omega arith)
+    go (a-product e n c w m) = absurd (omega arith)
+    go (a-power e w b p q x y v) = absurd (omega arith)
+
+-- ---- the tree of some members
+pub of-none : (b : Bool) (l : List Tree) → length l < 1 → encode (nodeOf b l) ≡ recordOf 0 0 (neutral b)
+unfolding encode word paper.sumOf paper.productOf paper.collapse
+of-none true [] h = refl
+of-none false [] h = refl
+of-none b (t ∷ l) h = absurd (omega arith)
+
+pub of-one : (b : Bool) (l : List Tree) → 1 ≤ length l → length l < 2 → encode (nodeOf b l) ≡ encodes (ofList l)
+unfolding encode ofList paper.sumOf paper.productOf paper.collapse
+of-one b [] g h = absurd (omega arith)
+of-one true (t ∷ []) g h = sym (append-nil (encode t))
+of-one false (t ∷ []) g h = sym (append-nil (encode t))
+of-one b (t ∷ u ∷ l) g h = absurd (omega arith)
+
+pub of-more : (b : Bool) (l : List Tree) → 2 ≤ length l
+    → encode (nodeOf b l) ≡ recordOf (nodeKind b) (length l) 0 ++ encodes (ofList l)
+unfolding encode paper.sumOf paper.productOf paper.collapse
+of-more b [] h = absurd (omega arith)
+of-more b (t ∷ []) h = absurd (omega arith)
+of-more true (t ∷ u ∷ l) h = ap (λ n. recordOf 2 n 0 ++ encodes (ofList (t ∷ u ∷ l))) (list-count (t ∷ u ∷ l))
+of-more false (t ∷ u ∷ l) h = ap (λ n. recordOf 3 n 0 ++ encodes (ofList (t ∷ u ∷ l))) (list-count (t ∷ u ∷ l))

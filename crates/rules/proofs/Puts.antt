@@ -1,0 +1,104 @@
+-- A node's result, built in `out` behind a free record and put back into the pending records. What was built stands behind the free
+-- record; with the node's record written there, or none, the whole tree stands; and its copy stands before all that followed the
+-- node. Each is read off what a put leaves. Assumes nothing.
+use Prim.Native.Nat.{ℕ, zero, suc, _+_, _-_, _*_, _<_, _≤_}
+use mathlib.Core.Path.{_≡_, refl, sym, ap, _∙_, subst}
+use mathlib.Core.Bool.{Bool, true, false}
+use mathlib.Core.List.{List, [], _∷_, _++_, append-nil, append-assoc}
+use native.Mathlib.Omega.{arith}
+use lib.ListN.{length, take, drop, length-append, take-append-drop}
+use lib.Seq.{take-at, drop-at}
+use Rattle.paper.specs.Tree.{Tree, Forest, nil, cons, count, records, recordses, toList, ofList}
+use Rattle.paper.specs.Table.{recordOf, encode, encodes}
+use Rattle.paper.proofs.EncodeLaws.{encode-length, encodes-length, record-length}
+use Rattle.paper.proofs.Stands.{Stands}
+use Rattle.stretch.specs.Put.{put, part}
+use Rattle.stretch.proofs.Laws.{take-put, drop-put-at}
+use Rattle.part.specs.Like.{nodeKind, neutral, nodeOf}
+use Rattle.rules.specs.Tried.{Built, Collapsed, PutBack}
+use Rattle.rules.proofs.Nodes.{of-none, of-one, of-more}
+
+no-records : (l : List Tree) → length l < 1 → recordses (ofList l) ≡ 0
+unfolding ofList records
+no-records [] h = refl
+no-records (t ∷ l) h = absurd (omega arith)
+
+module _ (b : Bool) (l : List Tree) (out : List ℕ) (d e : ℕ) (h : Built out d e l) where
+  built-drop : drop ((d + 1) * 16) out ≡ encodes (ofList l) ++ drop (e * 16) out
+  built-drop =
+      ap (drop ((d + 1) * 16)) (sym (take-append-drop (e * 16) out) ∙ ap (λ (x : List ℕ). x ++ drop (e * 16) out) (h .built))
+      ∙ ap (drop ((d + 1) * 16)) (append-assoc (h .front) (encodes (ofList l)) (drop (e * 16) out))
+      ∙ drop-at (h .front) (encodes (ofList l) ++ drop (e * 16) out) ((d + 1) * 16) (h .free)
+
+  room : (d + 1) * 16 ≤ length out
+  room = omega (arith, h .end, h .within)
+
+  module _ (out' : List ℕ) (k n v : ℕ) (w : out' ≡ put out (d * 16) (recordOf k n v)) where
+    written : drop (d * 16) out' ≡ recordOf k n v ++ drop ((d + 1) * 16) out
+    written =
+        let r = record-length k n v in
+        let at : d * 16 + length (recordOf k n v) ≡ (d + 1) * 16 = omega arith in
+        ap (drop (d * 16)) w ∙ drop-put-at out (d * 16) (recordOf k n v) (omega (arith, room)) ∙ ap (λ m. recordOf k n v ++ drop m out) at
+
+    stays : take (d * 16) out' ≡ take (d * 16) out
+    stays = ap (take (d * 16)) w ∙ take-put out (d * 16) (recordOf k n v) (d * 16) (omega arith) (omega (arith, room))
+
+  pub collapse-none : (out' : List ℕ) (v : ℕ) → length l < 1 → v ≡ neutral b → out' ≡ put out (d * 16) (recordOf 0 0 v)
+      → Collapsed b l out out' d e d
+  collapse-none out' v c q w =
+      let same : encode (nodeOf b l) ≡ recordOf 0 0 v = of-none b l c ∙ ap (recordOf 0 0) (sym q) in
+      record {
+        stands = record { after = drop ((d + 1) * 16) out; there = rw same (written out' 0 0 v w) };
+        low = omega arith;
+        end = omega (arith, h .end, no-records l c, encode-length (nodeOf b l), ap length same, record-length 0 0 v);
+        done = stays out' 0 0 v w;
+      }
+
+  pub collapse-one : 1 ≤ length l → length l < 2 → Collapsed b l out out d e (d + 1)
+  collapse-one g c =
+      let same = of-one b l g c in
+      record {
+        stands = record { after = drop (e * 16) out; there = rw same built-drop };
+        low = omega arith;
+        end = omega (arith, h .end, encode-length (nodeOf b l), ap length same, encodes-length (ofList l));
+        done = refl;
+      }
+
+  pub collapse-more : (out' : List ℕ) (k : ℕ) → 2 ≤ length l → k ≡ nodeKind b → out' ≡ put out (d * 16) (recordOf k (length l) 0)
+      → Collapsed b l out out' d e d
+  collapse-more out' k c q w =
+      let same : encode (nodeOf b l) ≡ recordOf k (length l) 0 ++ encodes (ofList l) =
+      of-more b l c ∙ ap (λ k. recordOf k (length l) 0 ++ encodes (ofList l)) (sym q) in
+      let long = length-append (recordOf k (length l) 0) (encodes (ofList l)) in
+      record {
+        stands = record {
+          after = drop (e * 16) out;
+          there =
+              written out' k (length l) 0 w
+              ∙ ap (λ (x : List ℕ). recordOf k (length l) 0 ++ x) built-drop
+              ∙ sym (append-assoc (recordOf k (length l) 0) (encodes (ofList l)) (drop (e * 16) out))
+              ∙ ap (λ (x : List ℕ). x ++ drop (e * 16) out) (sym same);
+        };
+        low = omega arith;
+        end = omega (arith, h .end, encode-length (nodeOf b l), ap length same, long, record-length k (length l) 0, encodes-length (ofList l));
+        done = stays out' k (length l) 0 w;
+      }
+
+-- the copy of the result before what followed the node
+pub put-back : (b : Bool) (l : List Tree) (out out' work work' : List ℕ) (d e end r q : ℕ) → Collapsed b l out out' d e r
+    → q ≡ end - (e - r) → e - r ≤ end → end * 16 ≤ length work → work' ≡ put work (q * 16) (part out' (r * 16) ((e - r) * 16))
+    → PutBack b l (drop (end * 16) work) out out' work' d q
+unfolding part
+put-back b l out out' work work' d e end r q h at low high w =
+    let x = encode (nodeOf b l) in
+    let size : length x ≡ (e - r) * 16 = encode-length (nodeOf b l) ∙ omega (arith, h .end) in
+    let taken : part out' (r * 16) ((e - r) * 16) ≡ x =
+    ap (take ((e - r) * 16)) (h .stands .there) ∙ take-at x (h .stands .after) ((e - r) * 16) size in
+    let place : q * 16 + length x ≡ end * 16 = omega arith in
+    record {
+      stands =
+          ap (drop (q * 16)) (w ∙ ap (put work (q * 16)) taken)
+          ∙ drop-put-at work (q * 16) x (omega arith)
+          ∙ ap (λ m. x ++ drop m work) place;
+      done = h .done;
+    }

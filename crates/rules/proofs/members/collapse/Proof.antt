@@ -1,0 +1,62 @@
+-- `rules::members::collapse` meets its contract: with no member it writes the integer, with one nothing, with more the node's record, and
+-- so the tree of the members stands. Assumes nothing.
+use mathlib.Core.Path.{sym, ap, _∙_}
+use native.Mathlib.Omega.{arith}
+use borrow.Author.Needs.{needs}
+use Rattle.rules.proofs.Puts.{collapse-none, collapse-one, collapse-more}
+use Rattle.rules.proofs.members.collapse.Statement.{statement}
+use Rattle.rules.proofs.members.collapse.Tie as tie
+
+neutral-requires : tie.Need-neutral-requires
+neutral-requires c κs = search needs
+
+write-record-requires : tie.Need-write-record-requires
+write-record-requires c κs = search needs
+
+same-length : tie.Need-same-length
+same-length c = search needs
+
+returns : tie.Need-returns
+returns c =
+    λ e l b n.
+    let g = c .before .before .before .before .before .before .before .args in
+    collapse-none (g .sum) l (g .out .now) (g .d) e b _ _ (omega arith) (c .before .before .before .neutral .ensures .0) (c .before .before .write-record .ensures)
+
+add-result : tie.Need-add-result
+add-result c = search needs
+
+returns-2 : tie.Need-returns-2
+returns-2 c =
+    λ e l b n.
+    let g = c .before .before .before .args in
+    collapse-one (g .sum) l (g .out .now) (g .d) e b (omega arith) (omega arith)
+
+node-kind-requires : tie.Need-node-kind-requires
+node-kind-requires c κs = search needs
+
+write-record-requires-2 : tie.Need-write-record-requires-2
+write-record-requires-2 c κs = search needs
+
+same-length-2 : tie.Need-same-length-2
+same-length-2 c = search needs
+
+returns-3 : tie.Need-returns-3
+returns-3 c =
+    λ e l b n.
+    let g = c .before .before .before .before .before .before .before .before .args in
+    collapse-more (g .sum) l (g .out .now) (g .d) e b _ _ (omega arith) (c .before .before .before .node-kind .ensures) (rw (sym n) at (c .before .before .write-record2 .ensures))
+
+pub collapse-spec : {M : Type 1} → statement M
+collapse-spec =
+    tie.close
+    (tie.spec
+    neutral-requires
+    write-record-requires
+    same-length
+    returns
+    add-result
+    returns-2
+    node-kind-requires
+    write-record-requires-2
+    same-length-2
+    returns-3)

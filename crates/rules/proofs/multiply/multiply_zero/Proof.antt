@@ -1,0 +1,126 @@
+-- `rules::multiply::multiply_zero` meets its contract: a product with a member 0 is 0, which ends where the product ended. Assumes nothing.
+use Prim.Native.Nat.{ℕ, _+_, _-_, _*_, _<_, _≤_}
+use mathlib.Core.Path.{_≡_, refl, sym, ap, _∙_, subst}
+use native.Mathlib.Omega.{arith}
+use mathlib.Core.Bool.{true, false}
+use lib.IntN.{pos}
+use Rattle.paper.specs.Tree.{integer, toList}
+use Rattle.paper.specs.Rules.{anyOf, isThe, dropAll}
+use Rattle.part.specs.Like.{nodeOf}
+use Rattle.split.proofs.StandingLaws.{record-within}
+use Rattle.rules.proofs.Dropping.{held-members}
+use Rattle.rules.proofs.RuleLaws.{ready-tree, ready-length, ready-after, is-product, multiply-zero-at, multiply-zero-other, if-true, if-false, zero-put}
+use Rattle.paper.proofs.EncodeLaws.{records-pos}
+use Rattle.paper.specs.Tree.{records}
+use lib.ListN.{drop}
+use borrow.Author.Needs.{needs}
+use Rattle.rules.proofs.multiply.multiply_zero.Statement.{statement}
+use Rattle.rules.proofs.multiply.multiply_zero.Tie as tie
+
+kind-requires : tie.Need-kind-requires
+kind-requires c κs =
+    let g = c .before .before .before .args in
+    let q = c .before .before .before .pre in
+    let t = q .0 in
+    let rest = q .1 in
+    let h = q .2 in
+    record-within (ready-tree (g .out .now) (g .work .now) (g .d) (g .p) t rest h)
+
+same-length : tie.Need-same-length
+same-length c = search needs
+
+returns : tie.Need-returns
+returns c =
+    λ t rest h.
+    let g = c .before .before .before .before .before .args in
+    (multiply-zero-other (g .out .now) (g .work .now) (g .d) (g .p) t rest h (λ e. c .if1 .taken (c .before .kind .ensures ∙ e)), refl, refl)
+
+any-member-requires : tie.Need-any-member-requires
+any-member-requires c κs =
+    let g = c .before .before .before .before .before .before .args in
+    let q = c .before .before .before .before .before .before .pre in
+    let t = q .0 in
+    let rest = q .1 in
+    let h = q .2 in
+    let s = is-product (g .out .now) (g .work .now) (g .d) (g .p) t rest h (sym (c .before .before .kind .ensures) ∙ c .before .if1 .left) in
+    ((s .members, held-members (g .out .now) (g .work .now) (g .d) (g .p) (s .members) rest (s .held)), omega arith)
+
+skip-tree-requires : tie.Need-skip-tree-requires
+skip-tree-requires c κs =
+    let g = c .before .before .before .before .before .before .before .before .before .args in
+    let q = c .before .before .before .before .before .before .before .before .before .pre in
+    let t = q .0 in
+    let rest = q .1 in
+    let h = q .2 in
+    record { tree = t; there = ready-tree (g .out .now) (g .work .now) (g .d) (g .p) t rest h }
+
+sub-q : tie.Need-sub-q
+sub-q c =
+    let g = c .before .before .before .before .before .before .before .before .before .before .args in
+    let q = c .before .before .before .before .before .before .before .before .before .before .pre in
+    let t = q .0 in
+    let rest = q .1 in
+    let h = q .2 in
+    let e = c .skip-tree .ensures t (ready-tree (g .out .now) (g .work .now) (g .d) (g .p) t rest h) in
+    let long = ready-length (g .out .now) (g .work .now) (g .d) (g .p) t rest h in
+    let some = records-pos t in
+    omega arith
+
+write-record-requires : tie.Need-write-record-requires
+write-record-requires c κs =
+    let g = c .before .before .before .before .before .before .before .before .before .before .before .args in
+    let q = c .before .before .before .before .before .before .before .before .before .before .before .pre in
+    let t = q .0 in
+    let rest = q .1 in
+    let h = q .2 in
+    let e = c .before .skip-tree .ensures t (ready-tree (g .out .now) (g .work .now) (g .d) (g .p) t rest h) in
+    let long = ready-length (g .out .now) (g .work .now) (g .d) (g .p) t rest h in
+    let some = records-pos t in
+    omega arith
+
+same-length-2 : tie.Need-same-length-2
+same-length-2 c = search needs
+
+returns-2 : tie.Need-returns-2
+returns-2 c =
+    λ t rest h.
+    let g = c .before .before .before .before .before .before .before .before .before .before .before .before .before .before .args in
+    let s = is-product (g .out .now) (g .work .now) (g .d) (g .p) t rest h (sym (c .before .before .before .before .before .before .before .before .before .before .kind .ensures) ∙ c .before .before .before .before .before .before .before .before .before .if1 .left) in
+    let e = c .before .before .before .before .skip-tree .ensures t (ready-tree (g .out .now) (g .work .now) (g .d) (g .p) t rest h) in
+    let long = ready-length (g .out .now) (g .work .now) (g .d) (g .p) t rest h in
+    let some = records-pos t in
+    let any = sym (c .before .before .before .before .before .before .before .any-member .ensures (s .members) (held-members (g .out .now) (g .work .now) (g .d) (g .p) (s .members) rest (s .held))) ∙ c .before .before .before .before .before .before .if2 .taken in
+    let q = c .before .before .before .before .skip-tree .result - 1 in
+    let place : (q + 1) * 16 ≡ (g .p + records t) * 16 = omega arith in (
+      integer (pos 0),
+      multiply-zero-at t (s .members) (s .is) ∙ if-true _ _ any,
+      zero-put (g .work .now) _ q rest (omega arith) (ap (λ n. drop n (g .work .now)) place ∙ ready-after (g .out .now) (g .work .now) (g .d) (g .p) t rest h) (c .before .before .write-record .ensures),
+      refl,
+    )
+
+same-length-3 : tie.Need-same-length-3
+same-length-3 c = search needs
+
+returns-3 : tie.Need-returns-3
+returns-3 c =
+    λ t rest h.
+    let g = c .before .before .before .before .before .before .before .before .args in
+    let s = is-product (g .out .now) (g .work .now) (g .d) (g .p) t rest h (sym (c .before .before .before .before .kind .ensures) ∙ c .before .before .before .if1 .left) in
+    let any = sym (c .before .any-member .ensures (s .members) (held-members (g .out .now) (g .work .now) (g .d) (g .p) (s .members) rest (s .held))) ∙ c .if2 .left in
+    (multiply-zero-at t (s .members) (s .is) ∙ if-false _ _ any, refl, refl)
+
+pub multiply-zero-spec : {M : Type 1} → statement M
+multiply-zero-spec =
+    tie.close
+    (tie.spec
+    kind-requires
+    same-length
+    returns
+    any-member-requires
+    skip-tree-requires
+    sub-q
+    write-record-requires
+    same-length-2
+    returns-2
+    same-length-3
+    returns-3)

@@ -1,0 +1,31 @@
+-- What the rules are asked with, and what they answer: "The rules, each tried on one node", tried in the paper's order.
+use Prim.Native.Nat.{ℕ, _+_, _*_, _≤_}
+use mathlib.Core.Path.{_≡_}
+use mathlib.Core.List.{List, _++_}
+use lib.ListN.{length, take, drop}
+use Rattle.paper.specs.Limits.{maxWeight}
+use Rattle.paper.specs.Tree.{Tree, weight}
+use Rattle.paper.specs.WellFormed.{WF}
+use Rattle.paper.specs.Table.{encode}
+use Rattle.paper.specs.Rules.{editionOne}
+use Rattle.paper.specs.Driver.{ask, no-rule, step, out-of-range}
+use Rattle.rules.specs.declared.Asked.{Asked}
+use Rattle.rules.specs.declared.Asked.the-variants.{Nothing, Step, Over}
+
+-- a well-formed tree t stands at the head of what is pending, from record p of `work` on, and `rest` after it; d records of `out` are
+-- done, and there is room for all that a rule may write
+pub record Ready (out work : List ℕ) (d p : ℕ) (t : Tree) (rest : List ℕ) : Type 0 where
+  pub wf : WF t
+  pub light : weight t ≤ maxWeight
+  pub stands : drop (p * 16) work ≡ encode t ++ rest
+  pub out-room : 16 * (d + weight t) ≤ length out
+  pub work-room : 16384 + (16 * weight t + length rest) ≤ length work
+
+-- what each answer says of t: `Nothing`, no rule applies and t is pending as it was; `Step k q`, the step k applies and its result is
+-- pending from record q on in place of t; `Over`, a rule "meets an integer outside the signed 64-bit range". What is done stays.
+abbrev pub AskedIs : (t : Tree) (rest out out' work' : List ℕ) (d p : ℕ) → Asked → Type 0
+AskedIs t rest out out' work' d p Nothing =
+    (ask editionOne t ≡ no-rule) × (drop (p * 16) work' ≡ encode t ++ rest) × (take (d * 16) out' ≡ take (d * 16) out)
+AskedIs t rest out out' work' d p (Step k q) =
+    (u : Tree) × (ask editionOne t ≡ step k u) × (drop (q * 16) work' ≡ encode u ++ rest) × (take (d * 16) out' ≡ take (d * 16) out)
+AskedIs t rest out out' work' d p Over = ask editionOne t ≡ out-of-range

@@ -1,0 +1,115 @@
+// The members of one node: which of them are a certain integer, and what is left of the node without those.
+ghost use mathlib.Core.Path.{_≡_};
+ghost use mathlib.Core.List.{List};
+ghost use Prim.Native.Nat.{ℕ, _+_, _*_, _<_, _≤_};
+ghost use lib.ListN.{length, drop};
+ghost use lib.IntN.{pos};
+ghost use Rattle.paper.specs.Tree.{Tree, Forest, toList};
+ghost use Rattle.paper.specs.Rules.{isThe, anyOf, dropAll};
+ghost use Rattle.split.specs.Standing.{TreeIn, SomeTree};
+ghost use Rattle.part.specs.Like.{nodeKind, neutral};
+ghost use Rattle.rules.specs.Tried.{Held, MembersIn, Built, Collapsed, PutBack};
+
+// The kind of a sum or of a product.
+fn node_kind(sum: bool) -> u8
+    ensures { λ r. ⌜ r ≡ nodeKind sum ⌝ }
+{
+    if sum { 2 } else { 3 }
+}
+
+// The integer that a sum, or a product, can do without.
+fn neutral(sum: bool) -> u64
+    ensures { λ r. ⌜ (r ≡ neutral sum) × (r < 2) ⌝ }
+{
+    if sum { 0 } else { 1 }
+}
+
+// The tree at record i is the integer z, 0 or 1.
+fn is_the(s: &[u8], i: usize, z: u64) -> bool
+    requires { ⌜ SomeTree (now s) i × (z < 2) ⌝ }
+    ensures { λ r. ⌜ ((t : Tree) → TreeIn (now (s .entry)) i t → r ≡ isThe (pos z) t) ⌝ }
+{
+    if 0 < record::kind(s, i) {
+        return false;
+    }
+    record::bits(s, i) == z
+}
+
+// A member of the node at record p is the integer z, 0 or 1.
+pub fn any_member(s: &[u8], p: usize, z: u64) -> bool
+    requires { ⌜ ((f : Forest) × MembersIn (now s) p f) × (z < 2) ⌝ }
+    ensures { λ r. ⌜ ((f : Forest) → MembersIn (now (s .entry)) p f → r ≡ anyOf (isThe (pos z)) (toList f)) ⌝ }
+{
+    let mut at = p + 1;
+    let mut left = record::count(s, p);
+    while 0 < left {
+        if is_the(s, at, z) {
+            return true;
+        }
+        at = split::skip_tree(s, at);
+        left -= 1;
+    }
+    false
+}
+
+// Makes a tree of the members behind record d of out: of none the integer that stands for none, one alone is itself.
+fn collapse(out: &mut [u8], d: usize, count: usize, sum: bool) -> usize
+    requires { ⌜ ((e : ℕ) × (l : List Tree) × Built (now out) d e l × (length l ≡ count)) ⌝ }
+    ensures { λ r. ⌜ ((e : ℕ) (l : List Tree) → Built (now (out .entry)) d e l → length l ≡ count
+        → Collapsed sum l (now (out .entry)) (now (out .exit)) d e r) ⌝ }
+{
+    if count < 1 {
+        record::write_record(out, d, 0, 0, neutral(sum));
+        return d;
+    }
+    if count < 2 {
+        return d + 1;
+    }
+    record::write_record(out, d, node_kind(sum), count, 0);
+    d
+}
+
+// Puts the tree of the members behind record d of out, up to record e, into the pending records, so that it ends at record `end`.
+pub fn put_back(
+    out: &mut [u8],
+    work: &mut [u8],
+    d: usize,
+    e: usize,
+    end: usize,
+    count: usize,
+    sum: bool,
+) -> usize
+    requires { ⌜ ((l : List Tree) × Built (now out) d e l × (length l ≡ count)) × (e ≤ d + end) × (end * 16 ≤ length (now work)) ⌝ }
+    ensures { λ r. ⌜ ((l : List Tree) → Built (now (out .entry)) d e l → length l ≡ count
+        → PutBack sum l (drop (end * 16) (now (work .entry))) (now (out .entry)) (now (out .exit)) (now (work .exit)) d r) ⌝ }
+{
+    let from = collapse(out, d, count, sum);
+    let n = e - from;
+    let q = end - n;
+    stretch::copy_bytes(work, q * 16, out, from * 16, n * 16);
+    q
+}
+
+// Drops the members of the node at record p that are the integer it can do without.
+pub fn drop_members(out: &mut [u8], work: &mut [u8], d: usize, p: usize, sum: bool) -> usize
+    requires { ⌜ ((f : Forest) × (rest : List ℕ) × Held (now out) (now work) d p f rest) ⌝ }
+    ensures { λ r. ⌜ ((f : Forest) (rest : List ℕ) → Held (now (out .entry)) (now (work .entry)) d p f rest
+        → PutBack sum (dropAll (isThe (pos (neutral sum))) (toList f)) rest (now (out .entry)) (now (out .exit)) (now (work .exit)) d r) ⌝ }
+{
+    let z = neutral(sum);
+    let mut at = p + 1;
+    let mut left = record::count(work, p);
+    let mut e = d + 1;
+    let mut kept = 0;
+    while 0 < left {
+        let next = split::skip_tree(work, at);
+        if !is_the(work, at, z) {
+            stretch::copy_bytes(out, e * 16, work, at * 16, (next - at) * 16);
+            e += next - at;
+            kept += 1;
+        }
+        at = next;
+        left -= 1;
+    }
+    put_back(out, work, d, e, at, kept, sum)
+}

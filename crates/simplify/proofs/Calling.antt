@@ -1,0 +1,158 @@
+-- The public call: what the checker's answer and the tests of the areas say of the paper's judgement, and how a run in stretches of
+-- the areas gives the areas afterwards. Assumes nothing.
+use Prim.Native.Nat.{ℕ, suc, _-_, _*_, _<_, _≤_}
+use mathlib.Core.Path.{_≡_, refl, sym, ap, _∙_}
+use mathlib.Core.Bool.{true, false}
+use mathlib.Core.List.{List, [], _∷_, _++_, append-assoc}
+use native.Mathlib.Omega.{arith}
+use lib.ListN.{length, take, drop, getD, replicate}
+use lib.Seq.{length-take-le}
+use lib.Dec.{eqb}
+use mir.Syntax.{w8}
+use mir.Val.{Fits}
+use borrow.Author.Tests.{eq-eqb, ne-eqb, lt-ltb, le-ltb}
+use borrow.Rule.Slice.PartMut.{putMid, mid-len}
+use Rattle.paper.specs.Bytes.{Bytes, stretch}
+use Rattle.paper.specs.Tree.{Tree, weight}
+use Rattle.paper.specs.Verdict.{accepted, isAccepted, tableWeight, verdict}
+use Rattle.paper.specs.Answers as paper
+use Rattle.paper.specs.Answers.{simplifiedBy, outcomeOf, judgement, answerOf, lentAfter, outAfter, stepsAfter, workAfter}
+use Rattle.paper.proofs.AcceptedLaws.{Holds, accepted-holds}
+use Rattle.paper.proofs.CallLaws.{verdict-accepted, accepted-judgement, Call, is-turned-down, is-run, RunOn, call}
+use Rattle.table.specs.declared.Measured.{Measured}
+use Rattle.table.specs.Measured as table
+use Rattle.simplify.specs.declared.Answer.{Answer}
+use Rattle.simplify.specs.Answer.{says, lent, gives, filled, Lending, Leaves}
+use Rattle.simplify.proofs.Runs.{drives}
+
+-- the bytes of a slice are bytes
+pub are-bytes : (s : List ℕ) → ((i : ℕ) → Fits w8 (getD s i 0)) → Bytes s
+are-bytes [] h = tt
+are-bytes (x ∷ s) h = let b : Fits w8 x = h 0 in (omega arith, are-bytes s (λ i. h (suc i)))
+
+-- a stretch that was lent and filled
+pub lent-stretch : (n : ℕ) (d l xs : List ℕ) → n ≤ length d → l ≡ filled (length (take (n - 0) (drop 0 d))) xs → putMid 0 (n - 0) d l ≡ stretch n xs d
+unfolding filled stretch
+lent-stretch n d l xs h e =
+    let z : n - 0 ≡ n = omega arith in
+    let k : length (take (n - 0) (drop 0 d)) ≡ n = ap (λ i. length (take i d)) z ∙ length-take-le n d h in
+    ap (λ (i : List ℕ). i ++ drop (n - 0) d) (e ∙ ap (λ i. xs ++ replicate (i - length xs) 0) k)
+    ∙ ap (λ i. (xs ++ replicate (n - length xs) 0) ++ drop i d) z
+    ∙ append-assoc xs (replicate (n - length xs) 0) (drop n d)
+
+-- which area is too short
+pub tight-out : (w : ℕ) (out steps work : List ℕ) → length out < 16 * w → paper.cramped w (lent out steps work) ≡ true
+unfolding paper.cramped
+tight-out w out steps work h = rw (lt-ltb (length out) (16 * w) h) refl
+
+pub tight-steps : (w : ℕ) (out steps work : List ℕ) → 16 * w ≤ length out → length steps < w → paper.cramped w (lent out steps work) ≡ true
+unfolding paper.cramped
+tight-steps w out steps work g h = rw (le-ltb (length out) (16 * w) g, lt-ltb (length steps) w h) refl
+
+pub tight-work : (w : ℕ) (out steps work : List ℕ) → 16 * w ≤ length out → w ≤ length steps → length work < 65536 → paper.cramped w (lent out steps work) ≡ true
+unfolding paper.cramped
+tight-work w out steps work f g h = rw (le-ltb (length out) (16 * w) f, le-ltb (length steps) w g, lt-ltb (length work) 65536 h) refl
+
+same-given : {a b : paper.Answer} {l m : paper.Lent} → a ≡ b → l ≡ m
+    → _≡_ {A = paper.Given} (record { answer = a; lent = l }) (record { answer = b; lent = m })
+same-given e f = cc
+
+same-lent : {a b c d e f : List ℕ} → a ≡ b → c ≡ d → e ≡ f → lent a c e ≡ lent b d f
+same-lent p q r = cc
+
+module _ (s : List ℕ) (m : Measured) (e : table.says m ≡ paper.weighed s) where
+  number-is : m .number ≡ verdict s .number
+  unfolding paper.weighed paper.measured
+  number-is = ap (λ x. x .number) e
+
+  place-is : m .place ≡ verdict s .place
+  unfolding paper.weighed paper.measured
+  place-is = ap (λ x. x .place) e
+
+  -- refusals 1 to 5
+  pub turned-down : (a : Answer) (out steps work : List ℕ) → 0 < m .number → says a ≡ paper.refusal (m .number) (m .place)
+      → gives a out steps work ≡ paper.simplified s (lent out steps work)
+  unfolding paper.simplified simplifiedBy outcomeOf judgement answerOf lentAfter outAfter stepsAfter workAfter isAccepted
+  turned-down a out steps work h q =
+      let n : eqb (verdict s .number) 0 ≡ false = ne-eqb (verdict s .number) 0 (λ z. omega (arith, number-is)) in
+      let r : says a ≡ paper.refusal (verdict s .number) (verdict s .place)
+      = q ∙ ap (λ i. paper.refusal i (m .place)) number-is ∙ ap (paper.refusal (verdict s .number)) place-is in
+      rw (n, n) (same-given r refl)
+
+  module _ (h : m .number ≤ 0) where
+    pub fine : verdict s ≡ accepted
+    unfolding isAccepted
+    fine = verdict-accepted s (eq-eqb (verdict s .number) 0 (omega (arith, number-is)))
+
+    pub weight-is : m .result ≡ tableWeight s
+    unfolding paper.weighed paper.measured isAccepted
+    weight-is = ap (λ x. x .result) e ∙ rw fine refl
+
+    pub holds : Bytes s → Holds s
+    holds b = accepted-holds s b fine
+
+    pub light : Bytes s → m .result ≤ 3072
+    light b = omega (arith, weight-is, holds b .weighs, holds b .light)
+
+    -- refusal 6
+    pub cramped : (a : Answer) (out steps work : List ℕ) → paper.cramped (m .result) (lent out steps work) ≡ true → says a ≡ paper.refusal 6 0
+        → gives a out steps work ≡ paper.simplified s (lent out steps work)
+    unfolding paper.simplified simplifiedBy outcomeOf judgement answerOf lentAfter outAfter stepsAfter workAfter isAccepted
+    cramped a out steps work c q =
+        let k : paper.cramped (tableWeight s) (lent out steps work) ≡ true = ap (λ i. paper.cramped i (lent out steps work)) (sym weight-is) ∙ c in
+        rw (fine, k) (same-given q refl)
+
+    module _ (b : Bytes s) (out steps work : List ℕ) (room : 16 * m .result ≤ length out) (space : m .result ≤ length steps) (big : 65536 ≤ length work) where
+      uncramped : paper.cramped (tableWeight s) (lent out steps work) ≡ false
+      unfolding paper.cramped
+      uncramped =
+          ap (λ i. paper.cramped i (lent out steps work)) (sym weight-is)
+          ∙ rw (le-ltb (length out) (16 * m .result) room, le-ltb (length steps) (m .result) space, le-ltb (length work) 65536 big) refl
+
+      pub on : RunOn drives s (lent out steps work)
+      on = go (call drives s (lent out steps work) b)
+        where
+          go : Call drives s (lent out steps work) → RunOn drives s (lent out steps work)
+          go (is-run r) = r
+          go (is-turned-down d) =
+              absurd (let z = ap (λ v. v .number) (accepted-judgement s (lent out steps work) fine uncramped) in omega (arith, d .number))
+
+      abbrev pub tree : Tree
+      tree = on .holds .tree
+
+      -- what is lent to the run
+      pub lending : Lending s (take (16 * m .result - 0) (drop 0 out)) (take (m .result - 0) (drop 0 steps)) (take (65536 - 0) (drop 0 work)) (m .result) tree
+      lending =
+          let k = on .holds in
+          let w : m .result ≡ weight tree = weight-is ∙ k .weighs in
+          let l = k .light in
+          let lo = mid-len 0 (16 * m .result) out room in
+          let lz = mid-len 0 (m .result) steps space in
+          let lw = mid-len 0 65536 work big in
+          record {
+            wf = k .wf;
+            light = l;
+            written = k .written;
+            weighs = w;
+            out-room = omega arith;
+            steps-room = omega arith;
+            work-room = omega arith;
+            work-records = omega arith;
+          }
+
+      -- the run's answer, and the areas with their stretches back
+      pub ran : (a : Answer) (out' steps' work' : List ℕ)
+          → Leaves (drives tree) (m .result) a (take (16 * m .result - 0) (drop 0 out)) out' (take (m .result - 0) (drop 0 steps)) steps'
+          (take (65536 - 0) (drop 0 work)) work'
+          → gives a (putMid 0 (16 * m .result - 0) out out') (putMid 0 (m .result - 0) steps steps') (putMid 0 (65536 - 0) work work')
+          ≡ paper.simplified s (lent out steps work)
+      unfolding paper.simplified simplifiedBy lentAfter outAfter stepsAfter workAfter
+      ran a out' steps' work' r =
+          let w : m .result ≡ weight tree = weight-is ∙ on .holds .weighs in
+          same-given
+          (r .answer ∙ ap (λ i. paper.ranAnswer i (drives tree)) w ∙ sym (on .answer))
+          (same-lent
+          (lent-stretch (16 * m .result) out out' (paper.written (drives tree)) room (r .out-is))
+          (lent-stretch (m .result) steps steps' (paper.noted (drives tree)) space (r .steps-is))
+          (lent-stretch 65536 work work' [] big (r .work-is))
+          ∙ ap (λ i. paper.lentAfter (paper.ran i (drives tree)) (lent out steps work)) w ∙ sym (on .lent))

@@ -1,0 +1,136 @@
+-- A run in areas of its own: the table's tree stands at the end of `work`, the driver takes it from there, and clearing leaves the
+-- result, the steps, and zeros after them; after a refusal, zeros alone. Assumes nothing.
+use Prim.Native.Nat.{ℕ, _+_, _-_, _*_, _/_, _≤_}
+use mathlib.Core.Path.{_≡_, refl, sym, ap, _∙_, subst}
+use mathlib.Core.List.{List, [], _++_, append-nil}
+use native.Mathlib.Omega.{arith}
+use lib.ListN.{length, take, drop, replicate, length-replicate, drop-of-length-le}
+use Rattle.paper.specs.Tree.{Tree, records, weight}
+use Rattle.paper.specs.Record.{weightFrom}
+use Rattle.paper.specs.Table.{encode, treeOf}
+use Rattle.paper.specs.Driver.{over}
+use Rattle.paper.specs.Answers as paper
+use Rattle.paper.proofs.EncodeLaws.{encode-length, records-weight}
+use Rattle.paper.proofs.TableLaws.{weight-there}
+use Rattle.paper.proofs.ReadLaws.{tree-of-written}
+use Rattle.stretch.specs.Put.{part, put}
+use Rattle.stretch.proofs.Laws.{drop-put-at, part-whole}
+use Rattle.simplify.specs.declared.Answer.{Answer}
+use Rattle.simplify.specs.Answer.{says, filled, Lending, Leaves}
+use Rattle.simplify.specs.Driven.{Set, Drove}
+use Rattle.simplify.proofs.Runs.{drives, drives-kept, run-lighter}
+
+-- an area cleared from a place on
+pub clear-end : (d xs : List ℕ) (a : ℕ) → take a d ≡ xs → length xs ≡ a → a ≤ length d → put d a (replicate (length d - a) 0) ≡ filled (length d) xs
+unfolding put filled
+clear-end d xs a e l h =
+    let s : List ℕ = replicate (length d - a) 0 in
+    let z : length s ≡ length d - a = length-replicate (length d - a) 0 in
+    let n : length d ≤ a + length s = omega arith in
+    ap (λ (i : List ℕ). take a d ++ (s ++ i)) (drop-of-length-le d n)
+    ∙ ap (λ (i : List ℕ). take a d ++ i) (append-nil (replicate (length d - a) 0))
+    ∙ ap (λ (i : List ℕ). i ++ replicate (length d - a) 0) e
+    ∙ ap (λ i. xs ++ replicate (length d - i) 0) (sym l)
+
+pub clear-all : (d : List ℕ) → put d 0 (replicate (length d) 0) ≡ filled (length d) []
+clear-all d = let z : length d - 0 ≡ length d = omega arith in ap (λ i. put d 0 (replicate i 0)) (sym z) ∙ clear-end d [] 0 refl refl (omega arith)
+
+-- two trees of one table are one
+pub lending-once : {table out steps work : List ℕ} {w : ℕ} {t u : Tree} → Lending table out steps work w t → Lending table out steps work w u → t ≡ u
+lending-once {table = table} {t = t} {u = u} a b =
+    let x = ap treeOf (a .written) ∙ tree-of-written t (a .wf) (a .light) in
+    let y = ap treeOf (b .written) ∙ tree-of-written u (b .wf) (b .light) in
+    cc
+
+module _ {table out steps work : List ℕ} {w : ℕ} {t : Tree} (h : Lending table out steps work w t) where
+  pub for-every : (Q : Tree → Type 0) → Q t → (u : Tree) → Lending table out steps work w u → Q u
+  for-every Q q u g = subst Q (lending-once h g) q
+
+  long : length table ≡ 16 * records t
+  long = ap length (h .written) ∙ encode-length t
+
+  pub table-fits : (length table / 16 ≤ length work / 16) × ((length work / 16 - length table / 16) * 16 + length table ≡ length work)
+  table-fits =
+      let l = long in
+      let r = records-weight t in
+      (omega (arith, h .work-room, h .weighs), omega (arith, h .work-room, h .weighs, h .work-records))
+
+  -- the table is copied
+  pub set-up : (work' : List ℕ) → work' ≡ put work ((length work / 16 - length table / 16) * 16) (part table 0 (length table)) → length work' ≡ length work
+      → Set out work' steps 0 (length work / 16 - length table / 16) 0 t []
+  set-up work' c lw =
+      let f = table-fits .1 in
+      let p : ℕ = (length work / 16 - length table / 16) * 16 in
+      let e = c ∙ ap (put work p) (part-whole table (length table) refl ∙ h .written) in
+      let past : length work ≤ p + length (encode t) = omega (arith, long, encode-length t) in
+      record {
+        ready =
+            record {
+              wf = h .wf;
+              light = h .light;
+              stands = ap (drop p) e ∙ drop-put-at work p (encode t) (omega arith) ∙ ap (λ (i : List ℕ). encode t ++ i) (drop-of-length-le work past);
+              out-room = omega (arith, h .out-room, h .weighs);
+              work-room = omega (arith, h .work-room, h .weighs);
+            };
+        steps-room = omega (arith, h .steps-room, h .weighs);
+      }
+
+  -- the run was refused, k steps being completed
+  pub left-over : (a : Answer) (k : ℕ) (out' steps' work' : List ℕ) {out'' steps'' work'' : List ℕ}
+      → (b : ℕ) × (drives t ≡ over b) × (k ≡ 0 + b) → says a ≡ paper.refusal 7 k
+      → out'' ≡ put out' 0 (replicate (length out') 0) → steps'' ≡ put steps' 0 (replicate (length steps') 0)
+      → work'' ≡ put work' 0 (replicate (length work') 0)
+      → length out' ≡ length out → length steps' ≡ length steps → length work' ≡ length work
+      → Leaves (drives t) w a out out'' steps steps'' work work''
+  unfolding paper.ranAnswer paper.written paper.noted
+  left-over a k out' steps' work' b s o z x lo lz lw =
+      let b2 = b .2 in
+      let kb : k ≡ b .0 = omega arith in
+      record {
+        answer = s ∙ ap (paper.refusal 7) kb ∙ ap (paper.ranAnswer w) (sym (b .1));
+        out-is = o ∙ clear-all out' ∙ ap (λ i. filled i []) lo ∙ ap (λ r. filled (length out) (paper.written r)) (sym (b .1));
+        steps-is = z ∙ clear-all steps' ∙ ap (λ i. filled i []) lz ∙ ap (λ r. filled (length steps) (paper.noted r)) (sym (b .1));
+        work-is = x ∙ clear-all work' ∙ ap (λ i. filled i []) lw;
+      }
+
+  -- the run is done
+  module _ {out' steps' work' : List ℕ} {e q n o : ℕ} (a : Drove (drives t) [] out out' work' steps steps' 0 0 e q n o)
+      (lo : length out' ≡ length out) (lz : length steps' ≡ length steps) (lw : length work' ≡ length work) where
+    lighter : length (a .ks) + o + weight (a .to) ≤ weight t
+    lighter = run-lighter t (a .to) (a .ks) o (drives t) (drives-kept t (h .wf)) (a .ran) .1
+
+    pub done-fits : (e * 16 ≤ length out') × (n ≤ length steps')
+    done-fits =
+        let l = lighter in
+        let r = records-weight (a .to) in
+        (omega (arith, a .end, h .out-room, h .weighs), omega (arith, a .noted-end, h .steps-room, h .weighs))
+
+    out-cleared : put out' (e * 16) (replicate (length out' - e * 16) 0) ≡ filled (length out) (encode (a .to))
+    out-cleared =
+        clear-end out' (encode (a .to)) (e * 16) (a .wrote) (omega (arith, encode-length (a .to), a .end)) (done-fits .0)
+        ∙ ap (λ i. filled i (encode (a .to))) lo
+
+    weighed : (out'' : List ℕ) → out'' ≡ filled (length out) (encode (a .to)) → weightFrom out'' 0 e ≡ weight (a .to)
+    unfolding filled
+    weighed out'' c =
+        let z : e ≡ records (a .to) = omega (arith, a .end) in
+        ap (weightFrom out'' 0) z ∙ weight-there (a .to) out'' 0 (record { after = replicate (length out - length (encode (a .to))) 0; there = c })
+
+    pub left-done : (out'' steps'' work'' : List ℕ) (x : ℕ)
+        → out'' ≡ put out' (e * 16) (replicate (length out' - e * 16) 0) → steps'' ≡ put steps' n (replicate (length steps' - n) 0)
+        → work'' ≡ put work' 0 (replicate (length work') 0) → x ≡ weightFrom out'' 0 e
+        → Leaves (drives t) w
+        (record { number = 0; place = 0; records = e; steps = n; openings = o; «weight_in» = w; «weight_out» = x }) out out'' steps steps'' work work''
+    unfolding paper.ranAnswer paper.written paper.noted
+    left-done out'' steps'' work'' x co cz cw cx =
+        let z : e ≡ records (a .to) = omega (arith, a .end) in
+        let k : n ≡ length (a .ks) = omega (arith, a .noted-end) in
+        let g : x ≡ weight (a .to) = cx ∙ weighed out'' (co ∙ out-cleared) in
+        record {
+          answer = rw (z, k, g, a .ran) refl;
+          out-is = co ∙ out-cleared ∙ ap (λ r. filled (length out) (paper.written r)) (sym (a .ran));
+          steps-is =
+              cz ∙ clear-end steps' (a .ks) n (a .noted) (sym k) (done-fits .1) ∙ ap (λ i. filled i (a .ks)) lz
+              ∙ ap (λ r. filled (length steps) (paper.noted r)) (sym (a .ran));
+          work-is = cw ∙ clear-all work' ∙ ap (λ i. filled i []) lw;
+        }

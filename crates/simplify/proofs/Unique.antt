@@ -1,0 +1,34 @@
+-- Two answers that meet the contract of `simplify`, as the check reads it from the source, are the same, and so are the areas
+-- afterwards: the contract is an equation with a function of what is handed in. Assumes nothing.
+use mathlib.Core.Path.{_≡_, sym, ap, _∙_}
+use borrow.Fn.Kinds.{Dens, endedOf}
+use contract.Lifetimes.{Lfts}
+use denote.Triple.Clauses.{AtExit}
+use Rattle.paper.specs.Answers as paper
+use Rattle.simplify.specs.declared.Answer.{Answer}
+use Rattle.simplify.specs.Answer.{says}
+use Rattle.simplify.proofs.simplify.Reads as reads
+use Rattle.simplify.proofs.simplify.Kinds as kinds
+
+-- the seven numbers of the paper's answer, as the code's
+abbrev pub answerOf : paper.Answer → Answer
+answerOf a =
+    record {
+      number = a .number;
+      place = a .place;
+      records = a .records-written;
+      steps = a .steps-taken;
+      openings = a .openings;
+      «weight_in» = a .weight-in;
+      «weight_out» = a .weight-out;
+    }
+
+says-once : (r r′ : Answer) → says r ≡ says r′ → r ≡ r′
+says-once r r′ e = ap answerOf e
+
+pub simplify-once : (κs : Lfts 4) (a : Dens κs kinds.ps) (r r′ : Answer) (x x′ : AtExit (endedOf 4 kinds.ps kinds.r) κs)
+    → reads.Post κs a r x → reads.Post κs a r′ x′
+    → (r ≡ r′) × (x .1 .0 .now ≡ x′ .1 .0 .now) × (x .1 .1 .0 .now ≡ x′ .1 .1 .0 .now) × (x .1 .1 .1 .0 .now ≡ x′ .1 .1 .1 .0 .now)
+simplify-once κs a r r′ x x′ p p′ =
+    let e = p ∙ sym p′ in
+    (says-once r r′ (ap (λ g. g .answer) e), ap (λ g. g .lent .out) e, ap (λ g. g .lent .steps) e, ap (λ g. g .lent .work) e)

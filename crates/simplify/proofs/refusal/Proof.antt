@@ -1,0 +1,12 @@
+-- `simplify::refusal` meets its contract: by computation. Assumes nothing.
+use mathlib.Core.Path.{refl}
+use Rattle.paper.specs.Answers.{refusal}
+use Rattle.simplify.proofs.refusal.Statement.{statement}
+use Rattle.simplify.proofs.refusal.Tie as tie
+
+returns : tie.Need-returns
+unfolding refusal
+returns c = refl
+
+pub refusal-spec : {M : Type 1} → statement M
+refusal-spec = tie.close (tie.spec returns)

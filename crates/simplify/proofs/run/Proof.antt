@@ -1,0 +1,316 @@
+-- `simplify::run` meets its contract: each need is one law of Running, for the tree that the table holds. Assumes nothing.
+use Prim.Native.Nat.{_-_, _/_}
+use mathlib.Core.Path.{_≡_, _∙_, subst}
+use mathlib.Core.List.{[]}
+use native.Mathlib.Omega.{arith}
+use lib.ListN.{length}
+use borrow.Author.Needs.{needs}
+use Rattle.simplify.specs.declared.driver.Driven.{Driven as Answer}
+use Rattle.simplify.specs.declared.driver.Driven.the-variants as driven-as
+use Rattle.simplify.specs.Answer.{Leaves}
+use Rattle.simplify.specs.Driven.{Set, DrivenIs, Drove}
+use Rattle.simplify.proofs.Runs.{drives}
+use Rattle.simplify.proofs.Running.{for-every, table-fits, set-up, left-over, done-fits, left-done}
+use Rattle.simplify.proofs.run.Statement.{statement}
+use Rattle.simplify.proofs.run.Tie as tie
+
+-- places on the way through the code, and from each the one before it: the entry, after the table was copied, after the driver was called,
+-- after work was cleared, and where the run is done
+abbrev Entry : Type 0
+Entry = tie.Start
+
+abbrev Moved : Type 0
+Moved = tie.After-copy-bytes
+
+abbrev Copied : Type 0
+Copied = tie.After-drive-arg3
+
+abbrev Called : Type 0
+Called = tie.After-drive
+
+abbrev Driven : Type 0
+Driven = tie.After-slice-known7
+
+abbrev Cleared : Type 0
+Cleared = tie.After-clear
+
+abbrev Finished : Type 0
+Finished = tie.After-known-told2
+
+abbrev entry-of : Moved → Entry
+entry-of c = c .before .before .before .before .before .before
+
+abbrev moved-of : Copied → Moved
+moved-of c = c .before .before .before .before .before
+
+abbrev copied-of : Called → Copied
+copied-of c = c .before
+
+abbrev called-of : Driven → Called
+called-of c = c .before .before .before .before .before .before
+
+abbrev driven-of : Cleared → Driven
+driven-of c = c .before .before
+
+abbrev cleared-of : Finished → Cleared
+cleared-of c = c .before .before .before .before .before
+
+-- the table's tree stands where the driver takes it
+set : (c : Copied)
+    → let moved = moved-of c in
+    let entry = entry-of moved in
+    let g = entry .args in
+    Set (g .out .now) (moved .copy-bytes .last .0) (g .steps .now) 0 (length (g .work .now) / 16 - length (g .table .now) / 16) 0 (entry .pre .0) []
+set c =
+    let moved = moved-of c in
+    let entry = entry-of moved in
+    let m = moved .copy-bytes in
+    set-up (entry .pre .1) (m .last .0) (m .ensures) (m .kept .0)
+
+-- what the driver's answer x says
+result : (c : Driven) (x : Answer)
+    → let called = called-of c in
+    let entry = entry-of (moved-of (copied-of called)) in
+    let g = entry .args in
+    let r = called .drive in
+    r .result ≡ x → DrivenIs (drives (entry .pre .0)) [] (g .out .now) (r .last .0) (r .last .1 .0) (g .steps .now) (r .last .1 .1 .0) 0 0 x
+result c x e =
+    let called = called-of c in
+    let copied = copied-of called in
+    let entry = entry-of (moved-of copied) in
+    let g = entry .args in
+    let r = called .drive in
+    subst (DrivenIs (drives (entry .pre .0)) [] (g .out .now) (r .last .0) (r .last .1 .0) (g .steps .now) (r .last .1 .1 .0) 0 0) e
+    (r .ensures (entry .pre .0) [] (set copied))
+
+drove : (c : Finished)
+    → let called = called-of (driven-of (cleared-of c)) in
+    let entry = entry-of (moved-of (copied-of called)) in
+    let g = entry .args in
+    let r = called .drive in
+    let n = c .before .g2 .given .0 in
+    Drove (drives (entry .pre .0)) [] (g .out .now) (r .last .0) (r .last .1 .0) (g .steps .now) (r .last .1 .1 .0) 0 0
+    (n .0) (n .1 .0) (n .1 .1 .0) (n .1 .1 .1 .0)
+drove c = result (driven-of (cleared-of c)) _ (c .before .g2 .given .1)
+
+sub-p : tie.Need-sub-p
+sub-p c =
+    let entry = c .before .before .before .before in
+    table-fits (entry .pre .1) .0
+
+mul-copy-bytes : tie.Need-mul-copy-bytes
+mul-copy-bytes c =
+    let entry = c .before .before .before .before .before in
+    let fits = table-fits (entry .pre .1) .1 in
+    omega arith
+
+copy-bytes-requires : tie.Need-copy-bytes-requires
+copy-bytes-requires c κs =
+    let entry = c .before .before .before .before .before in
+    let fits = table-fits (entry .pre .1) .1 in
+    (omega arith, omega arith)
+
+drive-requires : tie.Need-drive-requires
+drive-requires c κs =
+    let entry = entry-of (moved-of c) in
+    (entry .pre .0, [], set c)
+
+clear-requires : tie.Need-clear-requires
+clear-requires c κs = search needs
+
+enum-known-g : tie.Need-enum-known-g
+enum-known-g c = search needs
+
+clear-requires-2 : tie.Need-clear-requires-2
+clear-requires-2 c κs = search needs
+
+clear-requires-3 : tie.Need-clear-requires-3
+clear-requires-3 c κs = search needs
+
+refusal-requires : tie.Need-refusal-requires
+refusal-requires c κs = search needs
+
+enum-known-g-2 : tie.Need-enum-known-g-2
+enum-known-g-2 c = search needs
+
+mul-clear : tie.Need-mul-clear
+mul-clear c =
+    let finished = c .before in
+    let called = called-of (driven-of (cleared-of finished)) in
+    let moved = moved-of (copied-of called) in
+    let entry = entry-of moved in
+    let r = called .drive in
+    let long = r .kept .1 .0 ∙ moved .copy-bytes .kept .0 in
+    let fits = done-fits (entry .pre .1) (drove finished) (r .kept .0) (r .kept .1 .1 .0) long in
+    let in-out = fits .0 in
+    let in-steps = fits .1 in
+    omega arith
+
+mul-clear-2 : tie.Need-mul-clear-2
+mul-clear-2 c =
+    let finished = c .before in
+    let called = called-of (driven-of (cleared-of finished)) in
+    let moved = moved-of (copied-of called) in
+    let entry = entry-of moved in
+    let r = called .drive in
+    let long = r .kept .1 .0 ∙ moved .copy-bytes .kept .0 in
+    let fits = done-fits (entry .pre .1) (drove finished) (r .kept .0) (r .kept .1 .1 .0) long in
+    let in-out = fits .0 in
+    let in-steps = fits .1 in
+    omega arith
+
+sub-clear : tie.Need-sub-clear
+sub-clear c =
+    let finished = c .before in
+    let called = called-of (driven-of (cleared-of finished)) in
+    let moved = moved-of (copied-of called) in
+    let entry = entry-of moved in
+    let r = called .drive in
+    let long = r .kept .1 .0 ∙ moved .copy-bytes .kept .0 in
+    let fits = done-fits (entry .pre .1) (drove finished) (r .kept .0) (r .kept .1 .1 .0) long in
+    let in-out = fits .0 in
+    let in-steps = fits .1 in
+    omega arith
+
+clear-requires-4 : tie.Need-clear-requires-4
+clear-requires-4 c κs =
+    let finished = c .before in
+    let called = called-of (driven-of (cleared-of finished)) in
+    let moved = moved-of (copied-of called) in
+    let entry = entry-of moved in
+    let r = called .drive in
+    let long = r .kept .1 .0 ∙ moved .copy-bytes .kept .0 in
+    let fits = done-fits (entry .pre .1) (drove finished) (r .kept .0) (r .kept .1 .1 .0) long in
+    let in-out = fits .0 in
+    let in-steps = fits .1 in
+    omega arith
+
+sub-clear-2 : tie.Need-sub-clear-2
+sub-clear-2 c =
+    let finished = c .before .before .before .before .before in
+    let called = called-of (driven-of (cleared-of finished)) in
+    let moved = moved-of (copied-of called) in
+    let entry = entry-of moved in
+    let r = called .drive in
+    let long = r .kept .1 .0 ∙ moved .copy-bytes .kept .0 in
+    let fits = done-fits (entry .pre .1) (drove finished) (r .kept .0) (r .kept .1 .1 .0) long in
+    let in-out = fits .0 in
+    let in-steps = fits .1 in
+    omega arith
+
+clear-requires-5 : tie.Need-clear-requires-5
+clear-requires-5 c κs =
+    let finished = c .before .before .before .before .before in
+    let called = called-of (driven-of (cleared-of finished)) in
+    let moved = moved-of (copied-of called) in
+    let entry = entry-of moved in
+    let r = called .drive in
+    let long = r .kept .1 .0 ∙ moved .copy-bytes .kept .0 in
+    let fits = done-fits (entry .pre .1) (drove finished) (r .kept .0) (r .kept .1 .1 .0) long in
+    let in-out = fits .0 in
+    let in-steps = fits .1 in
+    omega arith
+
+weight-of-requires : tie.Need-weight-of-requires
+weight-of-requires c κs =
+    let finished = c .before .before .before .before .before .before .before .before .before in
+    let called = called-of (driven-of (cleared-of finished)) in
+    let moved = moved-of (copied-of called) in
+    let entry = entry-of moved in
+    let r = called .drive in
+    let long = r .kept .1 .0 ∙ moved .copy-bytes .kept .0 in
+    let fits = done-fits (entry .pre .1) (drove finished) (r .kept .0) (r .kept .1 .1 .0) long in
+    let in-out = fits .0 in
+    let in-steps = fits .1 in
+    let same = c .before .before .before .before .before .before .before .clear4 .kept .0 in
+    omega arith
+
+same-length : tie.Need-same-length
+same-length c = search needs
+
+same-length-2 : tie.Need-same-length-2
+same-length-2 c = search needs
+
+same-length-3 : tie.Need-same-length-3
+same-length-3 c = search needs
+
+returns : tie.Need-returns
+returns c =
+    let cleared = c .before .before .before .before .before .before .before .before .before .before .before .before .before .before in
+    let driven = driven-of cleared in
+    let called = called-of driven in
+    let moved = moved-of (copied-of called) in
+    let entry = entry-of moved in
+    let r = called .drive in
+    let long = r .kept .1 .0 ∙ moved .copy-bytes .kept .0 in
+    let g = entry .args in
+    let told = c .before .before .before .before .before .before .before .before .before .before .g .given in
+    let out = c .before .before .before .before .before .before .before .clear2 in
+    let steps = c .before .before .before .clear3 in
+    let work = cleared .clear in
+    for-every (entry .pre .1)
+    (λ u. Leaves (drives u) (g .w) (c .refusal .result) (g .out .now) (out .last .0) (g .steps .now) (steps .last .0) (g .work .now) (work .last .0))
+    (left-over (entry .pre .1) (c .refusal .result) (told .0 .0) (r .last .0) (r .last .1 .1 .0) (r .last .1 .0)
+    (result driven (driven-as.Over (told .0 .0)) (told .1))
+    (c .refusal .ensures) (out .ensures) (steps .ensures) (work .ensures) (r .kept .0) (r .kept .1 .1 .0) long)
+
+same-length-4 : tie.Need-same-length-4
+same-length-4 c = search needs
+
+same-length-5 : tie.Need-same-length-5
+same-length-5 c = search needs
+
+same-length-6 : tie.Need-same-length-6
+same-length-6 c = search needs
+
+returns-2 : tie.Need-returns-2
+returns-2 c =
+    let finished = c .before .before .before .before .before .before .before .before .before .before in
+    let cleared = cleared-of finished in
+    let called = called-of (driven-of cleared) in
+    let moved = moved-of (copied-of called) in
+    let entry = entry-of moved in
+    let r = called .drive in
+    let long = r .kept .1 .0 ∙ moved .copy-bytes .kept .0 in
+    let g = entry .args in
+    let n = c .before .before .before .before .before .before .before .before .before .before .before .g2 .given .0 in
+    let out = c .before .before .before .before .before .before .before .before .clear4 in
+    let steps = c .before .before .before .before .clear5 in
+    let work = cleared .clear in
+    let x = c .weight-of .result in
+    for-every (entry .pre .1)
+    (λ u. Leaves (drives u) (g .w)
+    (record { number = 0; place = 0; records = n .0; steps = n .1 .1 .0; openings = n .1 .1 .1 .0; «weight_in» = g .w; «weight_out» = x })
+    (g .out .now) (out .last .0) (g .steps .now) (steps .last .0) (g .work .now) (work .last .0))
+    (left-done (entry .pre .1) (drove finished) (r .kept .0) (r .kept .1 .1 .0) long (out .last .0) (steps .last .0) (work .last .0) x
+    (out .ensures) (steps .ensures) (work .ensures) (c .weight-of .ensures))
+
+pub run-spec : {M : Type 1} → statement M
+run-spec =
+    tie.close
+    (tie.spec
+    sub-p
+    mul-copy-bytes
+    copy-bytes-requires
+    drive-requires
+    clear-requires
+    enum-known-g
+    clear-requires-2
+    clear-requires-3
+    refusal-requires
+    enum-known-g-2
+    mul-clear
+    mul-clear-2
+    sub-clear
+    clear-requires-4
+    sub-clear-2
+    clear-requires-5
+    weight-of-requires
+    same-length
+    same-length-2
+    same-length-3
+    returns
+    same-length-4
+    same-length-5
+    same-length-6
+    returns-2)

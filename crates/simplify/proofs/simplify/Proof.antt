@@ -1,0 +1,251 @@
+-- `simplify::simplify` meets its contract: each return is one law of Calling, on the checker's answer and the tests of the areas.
+-- Assumes nothing.
+use Prim.Native.Nat.{_-_, _*_}
+use native.Mathlib.Omega.{arith}
+use lib.ListN.{take, drop}
+use borrow.Author.Needs.{needs}
+use Rattle.paper.specs.Bytes.{Bytes}
+use Rattle.paper.specs.Tree.{Tree}
+use Rattle.simplify.specs.Answer.{Lending}
+use Rattle.simplify.proofs.Calling.{are-bytes, turned-down, light, cramped, tight-out, tight-steps, tight-work, tree, lending, ran}
+use Rattle.simplify.proofs.simplify.Statement.{statement}
+use Rattle.simplify.proofs.simplify.Tie as tie
+
+-- places on the way through the code, and from each the one before it: the entry, after the table was weighed, where it is accepted, and
+-- where `out`, `steps` and `work` have room
+abbrev Entry : Type 0
+Entry = tie.Start
+
+abbrev Known : Type 0
+Known = tie.After-shared-slice-known
+
+abbrev Weighed : Type 0
+Weighed = tie.After-weight
+
+abbrev Fine : Type 0
+Fine = tie.Else1
+
+abbrev Roomy : Type 0
+Roomy = tie.Else2
+
+abbrev Spacious : Type 0
+Spacious = tie.Else3
+
+abbrev Able : Type 0
+Able = tie.Else4
+
+abbrev entry-of : Known → Entry
+entry-of c = c .before
+
+abbrev known-of : Weighed → Known
+known-of c = c .before .before .before .before
+
+abbrev weighed-of : Fine → Weighed
+weighed-of c = c .before .before
+
+abbrev fine-of : Roomy → Fine
+fine-of c = c .before
+
+abbrev roomy-of : Spacious → Roomy
+roomy-of c = c .before
+
+abbrev spacious-of : Able → Spacious
+spacious-of c = c .before
+
+bytes : (c : Known) → let entry = entry-of c in Bytes (entry .args .table .now)
+bytes c = let entry = entry-of c in are-bytes (entry .args .table .now) (c .shared-slice-known .given)
+
+-- where the call is accepted: the table's tree, and what is lent to the run on it
+abbrev tree-at : Able → Tree
+tree-at c =
+    let spacious = spacious-of c in
+    let roomy = roomy-of spacious in
+    let fine = fine-of roomy in
+    let weighed = weighed-of fine in
+    let known = known-of weighed in
+    let entry = entry-of known in
+    let g = entry .args in
+    let m = weighed .weight in
+    tree (g .table .now) (m .result) (m .ensures) (fine .if1 .left) (bytes known) (g .out .now) (g .steps .now) (g .work .now)
+    (roomy .if2 .left) (spacious .if3 .left) (c .if4 .left)
+
+lent-at : (c : Able)
+    → let weighed = weighed-of (fine-of (roomy-of (spacious-of c))) in
+    let entry = entry-of (known-of weighed) in
+    let g = entry .args in
+    let w = weighed .weight .result .result in
+    Lending (g .table .now) (take (16 * w - 0) (drop 0 (g .out .now))) (take (w - 0) (drop 0 (g .steps .now)))
+    (take (65536 - 0) (drop 0 (g .work .now))) w (tree-at c)
+lent-at c =
+    let spacious = spacious-of c in
+    let roomy = roomy-of spacious in
+    let fine = fine-of roomy in
+    let weighed = weighed-of fine in
+    let known = known-of weighed in
+    let entry = entry-of known in
+    let g = entry .args in
+    let m = weighed .weight in
+    lending (g .table .now) (m .result) (m .ensures) (fine .if1 .left) (bytes known) (g .out .now) (g .steps .now) (g .work .now)
+    (roomy .if2 .left) (spacious .if3 .left) (c .if4 .left)
+
+weight-requires : tie.Need-weight-requires
+weight-requires c κs = search needs
+
+refusal-requires : tie.Need-refusal-requires
+refusal-requires c κs = search needs
+
+returns : tie.Need-returns
+returns c =
+    let weighed = c .before .before .before in
+    let entry = entry-of (known-of weighed) in
+    let g = entry .args in
+    let m = weighed .weight in
+    turned-down (g .table .now) (m .result) (m .ensures) (c .refusal .result) (g .out .now) (g .steps .now) (g .work .now)
+    (c .before .if1 .taken) (c .refusal .ensures)
+
+mul-if2 : tie.Need-mul-if2
+mul-if2 c =
+    let fine = c in
+    let weighed = weighed-of fine in
+    let known = known-of weighed in
+    let entry = entry-of known in
+    let g = entry .args in
+    let m = weighed .weight in
+    let small = light (g .table .now) (m .result) (m .ensures) (fine .if1 .left) (bytes known) in
+    omega arith
+
+refusal-requires-2 : tie.Need-refusal-requires-2
+refusal-requires-2 c κs = search needs
+
+returns-2 : tie.Need-returns-2
+returns-2 c =
+    let fine = c .before .before in
+    let weighed = weighed-of fine in
+    let entry = entry-of (known-of weighed) in
+    let g = entry .args in
+    let m = weighed .weight in
+    cramped (g .table .now) (m .result) (m .ensures) (fine .if1 .left) (c .refusal2 .result) (g .out .now) (g .steps .now) (g .work .now)
+    (tight-out (m .result .result) (g .out .now) (g .steps .now) (g .work .now) (c .before .if2 .taken))
+    (c .refusal2 .ensures)
+
+refusal-requires-3 : tie.Need-refusal-requires-3
+refusal-requires-3 c κs = search needs
+
+returns-3 : tie.Need-returns-3
+returns-3 c =
+    let roomy = c .before .before in
+    let fine = fine-of roomy in
+    let weighed = weighed-of fine in
+    let entry = entry-of (known-of weighed) in
+    let g = entry .args in
+    let m = weighed .weight in
+    cramped (g .table .now) (m .result) (m .ensures) (fine .if1 .left) (c .refusal3 .result) (g .out .now) (g .steps .now) (g .work .now)
+    (tight-steps (m .result .result) (g .out .now) (g .steps .now) (g .work .now) (roomy .if2 .left) (c .before .if3 .taken))
+    (c .refusal3 .ensures)
+
+refusal-requires-4 : tie.Need-refusal-requires-4
+refusal-requires-4 c κs = search needs
+
+returns-4 : tie.Need-returns-4
+returns-4 c =
+    let spacious = c .before .before in
+    let roomy = roomy-of spacious in
+    let fine = fine-of roomy in
+    let weighed = weighed-of fine in
+    let entry = entry-of (known-of weighed) in
+    let g = entry .args in
+    let m = weighed .weight in
+    cramped (g .table .now) (m .result) (m .ensures) (fine .if1 .left) (c .refusal4 .result) (g .out .now) (g .steps .now) (g .work .now)
+    (tight-work (m .result .result) (g .out .now) (g .steps .now) (g .work .now) (roomy .if2 .left) (spacious .if3 .left) (c .before .if4 .taken))
+    (c .refusal4 .ensures)
+
+mul-end : tie.Need-mul-end
+mul-end c = search needs
+
+sub-run : tie.Need-sub-run
+sub-run c = search needs
+
+part-run-start : tie.Need-part-run-start
+part-run-start c = search needs
+
+part-run-end : tie.Need-part-run-end
+part-run-end c = search needs
+
+sub-run-2 : tie.Need-sub-run-2
+sub-run-2 c = search needs
+
+part-run-start-2 : tie.Need-part-run-start-2
+part-run-start-2 c = search needs
+
+part-run-end-2 : tie.Need-part-run-end-2
+part-run-end-2 c = search needs
+
+sub-run-3 : tie.Need-sub-run-3
+sub-run-3 c = search needs
+
+part-run-start-3 : tie.Need-part-run-start-3
+part-run-start-3 c = search needs
+
+part-run-end-3 : tie.Need-part-run-end-3
+part-run-end-3 c = search needs
+
+run-requires : tie.Need-run-requires
+run-requires c κs =
+    let able = c .before .before .before in
+    (tree-at able, lent-at able)
+
+same-length : tie.Need-same-length
+same-length c = search needs
+
+same-length-2 : tie.Need-same-length-2
+same-length-2 c = search needs
+
+same-length-3 : tie.Need-same-length-3
+same-length-3 c = search needs
+
+returns-5 : tie.Need-returns-5
+returns-5 c =
+    let able = c .before .before .before .before .before .before .before .before .before .before in
+    let spacious = spacious-of able in
+    let roomy = roomy-of spacious in
+    let fine = fine-of roomy in
+    let weighed = weighed-of fine in
+    let known = known-of weighed in
+    let entry = entry-of known in
+    let g = entry .args in
+    let m = weighed .weight in
+    let r = c .before .before .before .before .before .before .run in
+    ran (g .table .now) (m .result) (m .ensures) (fine .if1 .left) (bytes known) (g .out .now) (g .steps .now) (g .work .now)
+    (roomy .if2 .left) (spacious .if3 .left) (able .if4 .left)
+    (r .result) (r .last .1 .0) (r .last .1 .1 .0) (r .last .1 .1 .1 .0)
+    (r .ensures (tree-at able) (lent-at able))
+
+pub simplify-spec : {M : Type 1} → statement M
+simplify-spec =
+    tie.close
+    (tie.spec
+    weight-requires
+    refusal-requires
+    returns
+    mul-if2
+    refusal-requires-2
+    returns-2
+    refusal-requires-3
+    returns-3
+    refusal-requires-4
+    returns-4
+    mul-end
+    sub-run
+    part-run-start
+    part-run-end
+    sub-run-2
+    part-run-start-2
+    part-run-end-2
+    sub-run-3
+    part-run-start-3
+    part-run-end-3
+    run-requires
+    same-length
+    same-length-2
+    same-length-3
+    returns-5)

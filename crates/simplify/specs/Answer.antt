@@ -1,0 +1,54 @@
+-- The simplifier's answer in the paper's terms, and what a run leaves in the areas that it is lent.
+use Prim.Native.Nat.{ℕ, _+_, _-_, _*_, _/_, _≤_}
+use mathlib.Core.Path.{_≡_}
+use mathlib.Core.List.{List, [], _++_}
+use lib.ListN.{length, replicate}
+use Rattle.paper.specs.Limits.{maxWeight}
+use Rattle.paper.specs.Tree.{Tree, weight}
+use Rattle.paper.specs.WellFormed.{WF}
+use Rattle.paper.specs.Table.{encode}
+use Rattle.paper.specs.Driver.{Ran}
+use Rattle.paper.specs.Answers as paper
+use Rattle.simplify.specs.declared.Answer.{Answer}
+
+-- the seven numbers, field by field
+abbrev pub says : Answer → paper.Answer
+says a =
+    record {
+      number = a .number;
+      place = a .place;
+      records-written = a .records;
+      steps-taken = a .steps;
+      openings = a .openings;
+      weight-in = a .«weight_in»;
+      weight-out = a .«weight_out»;
+    }
+
+abbrev pub lent : List ℕ → List ℕ → List ℕ → paper.Lent
+lent out steps work = record { out = out; steps = steps; work = work }
+
+-- an answer, and the areas afterwards, as the paper's
+abbrev pub gives : Answer → List ℕ → List ℕ → List ℕ → paper.Given
+gives a out steps work = record { answer = says a; lent = lent out steps work }
+
+-- an area of n bytes: xs, and zeros up to its end
+unfoldable pub filled : ℕ → List ℕ → List ℕ
+filled n xs = xs ++ replicate (n - length xs) 0
+
+-- the table holds the tree t, of weight w, and the areas have room for a run on it
+pub record Lending (table out steps work : List ℕ) (w : ℕ) (t : Tree) : Type 0 where
+  pub wf : WF t
+  pub light : weight t ≤ maxWeight
+  pub written : table ≡ encode t
+  pub weighs : w ≡ weight t
+  pub out-room : 16 * w ≤ length out
+  pub steps-room : w ≤ length steps
+  pub work-room : 16384 + 16 * w ≤ length work
+  pub work-records : length work ≡ 16 * (length work / 16)
+
+-- what the run r, on a tree of weight w, answers and leaves in areas that are its own from end to end
+pub record Leaves (r : Ran) (w : ℕ) (a : Answer) (out out' steps steps' work work' : List ℕ) : Type 0 where
+  pub answer : says a ≡ paper.ranAnswer w r
+  pub out-is : out' ≡ filled (length out) (paper.written r)
+  pub steps-is : steps' ≡ filled (length steps) (paper.noted r)
+  pub work-is : work' ≡ filled (length work) []

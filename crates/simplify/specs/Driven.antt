@@ -1,0 +1,143 @@
+-- The driver on records: what it needs around it, and what each of its answers says of the paper's runs. `out` holds the done
+-- records, `take (d * 16) out`; `work` the pending ones, `drop (p * 16) work`; `steps` the steps so far, `take s steps`.
+use Prim.Native.Nat.{ℕ, _+_, _*_, _≤_, _<_, _^_}
+use mathlib.Core.Path.{_≡_}
+use mathlib.Core.Bool.{cond}
+use mathlib.Core.List.{List, [], _∷_, _++_}
+use mathlib.Core.Option.{Option, none}
+use lib.ListN.{length, take, drop}
+use lib.Dec.{eqb}
+use lib.IntN.{pos}
+use Rattle.paper.specs.Limits.{maxWeight}
+use Rattle.paper.specs.Bytes.{word}
+use Rattle.paper.specs.Tree.{Tree, integer, symbol, sum, product, power, count, records, weight}
+use Rattle.paper.specs.WellFormed.{WFl}
+use Rattle.paper.specs.Table.{recordOf, encode}
+use Rattle.paper.specs.Rules.{sumOf, productOf}
+use Rattle.paper.specs.Driver.{Ran, done, over, Rans, dones, overs, asSum, asProduct, opened, baseFrom, gather}
+use Rattle.simplify.specs.declared.driver.Driven.{Driven}
+use Rattle.simplify.specs.declared.driver.Driven.the-variants as driven
+use Rattle.simplify.specs.declared.driver.Given.{Given}
+use Rattle.simplify.specs.declared.driver.Given.the-variants as given
+use Rattle.rules.specs.Asked.{Ready}
+
+-- ---- trees that stand one after the other
+unfoldable pub encodeAll : List Tree → List ℕ
+encodeAll [] = []
+encodeAll (t ∷ l) = encode t ++ encodeAll l
+
+unfoldable pub recordsAll : List Tree → ℕ
+recordsAll [] = 0
+recordsAll (t ∷ l) = records t + recordsAll l
+
+unfoldable pub weightAll : List Tree → ℕ
+weightAll [] = 0
+weightAll (t ∷ l) = weight t + weightAll l
+
+-- ---- a node by its first record: its kind, and the record itself
+unfoldable pub kindNumber : Tree → ℕ
+kindNumber (integer z) = 0
+kindNumber (symbol s) = 1
+kindNumber (sum f) = 2
+kindNumber (product f) = 3
+kindNumber (power b e) = 4
+
+unfoldable pub firstRecord : Tree → List ℕ
+firstRecord (integer z) = recordOf 0 0 (word z)
+firstRecord (symbol s) = recordOf 1 0 s
+firstRecord (sum f) = recordOf 2 (count f) 0
+firstRecord (product f) = recordOf 3 (count f) 0
+firstRecord (power b e) = recordOf 4 0 0
+
+-- the members of a tree that is opened among the members of a node of kind k: of a sum in a sum, of a product in a product
+unfoldable pub inside : ℕ → Tree → Option (List Tree)
+inside k t = cond (eqb k 2) (asSum t) (cond (eqb k 3) (asProduct t) none)
+
+-- ---- what a pass over the members makes: the gathered members, and the gathered node
+unfoldable pub openedRuns : (Tree → Option (List Tree)) → Rans → Rans
+openedRuns ins (overs k) = overs k
+openedRuns ins (dones l s o) = dones (opened ins l .0) s (o + opened ins l .1)
+
+unfoldable pub passed : Tree → Rans → Ran
+passed t (overs k) = over k
+passed t (dones l s o) = done (gather t l .0) s (o + gather t l .1)
+
+-- the node t with the gathered members l: "A gathered list of fewer than two members would collapse as after a rule."
+unfoldable pub closedOver : Tree → List Tree → Tree
+closedOver (integer z) l = integer z
+closedOver (symbol s) l = symbol s
+closedOver (sum f) l = sumOf l
+closedOver (product f) l = productOf l
+closedOver (power b e) l = power (baseFrom b l) e
+
+-- ---- what is needed
+-- the tree t is the first of what is pending, with room for the rules, for its result and for its steps
+pub record Set (out work steps : List ℕ) (d p s : ℕ) (t : Tree) (rest : List ℕ) : Type 0 where
+  pub ready : Ready out work d p t rest
+  pub steps-room : s + weight t ≤ length steps
+
+-- the same of trees that stand one after the other
+pub record SetAll (out work steps : List ℕ) (d p s : ℕ) (l : List Tree) (rest : List ℕ) : Type 0 where
+  pub wf : WFl l
+  pub light : weightAll l ≤ maxWeight
+  pub stands : drop (p * 16) work ≡ encodeAll l ++ rest
+  pub place : p * 16 + length (encodeAll l ++ rest) ≡ length work
+  pub out-room : 16 * (d + weightAll l) ≤ length out
+  pub work-room : 16384 + (16 * weightAll l + length rest) ≤ length work
+  pub steps-room : s + weightAll l ≤ length steps
+
+-- ---- what the answers say
+-- the run r is done: its tree stands at the end of what is done, rest is what is pending, and its steps are noted
+pub record Drove (r : Ran) (rest out out' work' steps steps' : List ℕ) (d s e q n o : ℕ) : Type 0 where
+  pub to : Tree
+  pub ks : List ℕ
+  pub ran : r ≡ done to ks o
+  pub end : e ≡ d + records to
+  pub wrote : take (e * 16) out' ≡ take (d * 16) out ++ encode to
+  pub left : drop (q * 16) work' ≡ rest
+  pub place : q * 16 + length rest ≡ length work'
+  pub noted-end : n ≡ s + length ks
+  pub noted : take n steps' ≡ take s steps ++ ks
+
+abbrev pub DrivenIs : (r : Ran) (rest out out' work' steps steps' : List ℕ) (d s : ℕ) → Driven → Type 0
+DrivenIs r rest out out' work' steps steps' d s (driven.Done e q n o) = Drove r rest out out' work' steps steps' d s e q n o
+DrivenIs r rest out out' work' steps steps' d s (driven.Over n) = (k : ℕ) × (r ≡ over k) × (n ≡ s + k)
+
+-- the same of runs on members: m trees stand at the end of what is done
+pub record Gave (r : Rans) (rest out out' work' steps steps' : List ℕ) (d s e q n o m : ℕ) : Type 0 where
+  pub to : List Tree
+  pub ks : List ℕ
+  pub ran : r ≡ dones to ks o
+  pub many : m ≡ length to
+  pub end : e ≡ d + recordsAll to
+  pub wrote : take (e * 16) out' ≡ take (d * 16) out ++ encodeAll to
+  pub left : drop (q * 16) work' ≡ rest
+  pub place : q * 16 + length rest ≡ length work'
+  pub noted-end : n ≡ s + length ks
+  pub noted : take n steps' ≡ take s steps ++ ks
+
+abbrev pub GivenIs : (r : Rans) (rest out out' work' steps steps' : List ℕ) (d s : ℕ) → Given → Type 0
+GivenIs r rest out out' work' steps steps' d s (given.Members e q n o m) = Gave r rest out out' work' steps steps' d s e q n o m
+GivenIs r rest out out' work' steps steps' d s (given.Over n) = (k : ℕ) × (r ≡ overs k) × (n ≡ s + k)
+
+-- ---- the gathered node's first record
+-- which lists t's members are gathered to: a leaf has none, a power its base's result and its exponent
+abbrev pub Shape : Tree → List Tree → Type 0
+Shape (integer z) l = l ≡ []
+Shape (symbol s) l = l ≡ []
+Shape (sum f) l = Unit {0}
+Shape (product f) l = Unit {0}
+Shape (power b e) l = (e < 2 ^ 63) × ((u : Tree) × (l ≡ u ∷ integer (pos e) ∷ []))
+
+-- t's first record stands at d, and the m gathered members after it, up to e
+pub record Gathers (t : Tree) (l : List Tree) (out : List ℕ) (d e k m : ℕ) : Type 0 where
+  pub kind-is : k ≡ kindNumber t
+  pub shape : Shape t l
+  pub many : m ≡ length l
+  pub end : e ≡ d + 1 + recordsAll l
+  pub there : drop (d * 16) (take (e * 16) out) ≡ firstRecord t ++ encodeAll l
+
+-- the tree u stands at d, up to r, and the records before it are as they were
+pub record Closed (u : Tree) (out out' : List ℕ) (d r : ℕ) : Type 0 where
+  pub end : r ≡ d + records u
+  pub wrote : take (r * 16) out' ≡ take (d * 16) out ++ encode u

@@ -1,0 +1,102 @@
+// The simplifier: it judges a table, lends exact stretches to a run of the driver, and clears what the run leaves.
+mod driver;
+
+ghost use mathlib.Core.Path.{_≡_};
+ghost use mathlib.Core.List.{List};
+ghost use Prim.Native.Nat.{ℕ};
+ghost use Rattle.paper.specs.Tree.{Tree};
+ghost use Rattle.paper.specs.Rules.{editionOne};
+ghost use Rattle.paper.specs.Driver.{simplify};
+ghost use Rattle.paper.specs.Answers.{refusal, simplified};
+ghost use Rattle.simplify.specs.Answer.{says, lent, gives, Lending, Leaves};
+
+// A refusal's number and place, or 0 and 0; the records written, the steps, the openings, and the weights of the table and of the result.
+pub struct Answer {
+    pub number: u32,
+    pub place: usize,
+    pub records: usize,
+    pub steps: usize,
+    pub openings: usize,
+    pub weight_in: usize,
+    pub weight_out: usize,
+}
+
+// A refusal: its number and place, and zeros.
+fn refusal(number: u32, place: usize) -> Answer
+    ensures { λ r. ⌜ says r ≡ refusal number place ⌝ }
+{
+    Answer {
+        number,
+        place,
+        records: 0,
+        steps: 0,
+        openings: 0,
+        weight_in: 0,
+        weight_out: 0,
+    }
+}
+
+// Runs the driver on the tree of the table, of weight w, in areas that are its own: the table is copied to the end of work, and
+// what is past the result and the steps is cleared, all of it after a refusal.
+fn run(table: &[u8], out: &mut [u8], steps: &mut [u8], work: &mut [u8], w: usize) -> Answer
+    requires { ⌜ ((t : Tree) × Lending (now table) (now out) (now steps) (now work) w t) ⌝ }
+    ensures { λ r. ⌜ ((t : Tree) → Lending (now (table .entry)) (now (out .entry)) (now (steps .entry)) (now (work .entry)) w t
+        → Leaves (simplify editionOne t) w r (now (out .entry)) (now (out .exit)) (now (steps .entry)) (now (steps .exit))
+        (now (work .entry)) (now (work .exit))) ⌝ }
+{
+    let p = work.len() / 16 - table.len() / 16;
+    stretch::copy_bytes(work, p * 16, table, 0, table.len());
+    let g = driver::drive(out, work, steps, 0, p, 0);
+    stretch::clear(work, 0, work.len());
+    match g {
+        driver::Driven::Over(k) => {
+            stretch::clear(out, 0, out.len());
+            stretch::clear(steps, 0, steps.len());
+            refusal(7, k)
+        }
+        driver::Driven::Done(e, q, n, o) => {
+            stretch::clear(out, e * 16, out.len() - e * 16);
+            stretch::clear(steps, n, steps.len() - n);
+            Answer {
+                number: 0,
+                place: 0,
+                records: e,
+                steps: n,
+                openings: o,
+                weight_in: w,
+                weight_out: table::weight_of(out, e),
+            }
+        }
+    }
+}
+
+// The simplifier: refusals 1 to 5 of the table, 6 of the areas, and then the run, lent 16 bytes of `out` and one of `steps` for each
+// unit of the weight, and 65,536 bytes of `work`.
+pub fn simplify(table: &[u8], out: &mut [u8], steps: &mut [u8], work: &mut [u8]) -> Answer
+    ensures { λ r. ⌜ gives r (now (out .exit)) (now (steps .exit)) (now (work .exit))
+        ≡ simplified (now (table .entry)) (lent (now (out .entry)) (now (steps .entry)) (now (work .entry))) ⌝ }
+{
+    let m = table::weight(table);
+    if 0 < m.number {
+        return refusal(m.number, m.place);
+    }
+    let w = m.result as usize;
+    let room = out.len();
+    if room < 16 * w {
+        return refusal(6, 0);
+    }
+    if steps.len() < w {
+        return refusal(6, 0);
+    }
+    if work.len() < 65536 {
+        return refusal(6, 0);
+    }
+    let end = 16 * w;
+    run(
+        table,
+        &mut out[0..end],
+        &mut steps[0..w],
+        &mut work[0..65536],
+        w,
+    )
+}

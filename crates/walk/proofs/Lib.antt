@@ -1,0 +1,5 @@
+pub mod TurnLaws
+pub mod RoomLaws
+pub mod EntryLaws
+pub mod States
+pub mod Steps

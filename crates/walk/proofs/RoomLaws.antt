@@ -1,0 +1,210 @@
+-- What the parts of the walk come to: a part that left the range stays out of it, and so does the member it becomes; and the member
+-- that a part becomes has no more records than the members weigh that it was made of. A coefficient or an exponent adds two records at
+-- most, and what it was taken up from weighs two or more unless it is an integer, when both are. Assumes nothing.
+use Prim.Native.Nat.{ℕ, _+_, _≤_}
+use mathlib.Core.Path.{_≡_, refl, sym, ap, _∙_, subst}
+use mathlib.Core.Bool.{Bool, true, false, _&&_}
+use mathlib.Core.List.{List, [], _∷_, _++_}
+use mathlib.Core.Option.{Option, none, some}
+use native.Mathlib.Omega.{arith}
+use lib.Dec.{eqb}
+use lib.IntN.{ℤ, pos, _+ℤ_, _*ℤ_}
+use borrow.Author.Tests.{eqb-true}
+use Rattle.paper.specs.Tree.{Tree, Forest, integer, symbol, sum, product, power, nil, cons, toList, ofList, weight, records, recordses}
+use Rattle.paper.specs.WellFormed.{WF}
+use Rattle.paper.specs.Equal.{equal, eqZ}
+use Rattle.paper.specs.Rules.{asInteger, collapse, productOf, Term, term, firstInteger, productTerm, termOf, added, mergeTerms, times, timesUnless, fromTerm}
+use Rattle.paper.specs.Rules.{Factor, factor, factorOf, bothIntegers, mergeFactors, powerUnless, fromFactor}
+use Rattle.paper.proofs.EncodeLaws.{records-pos, records-weight, recordses-weights}
+use Rattle.paper.proofs.Value.{total, weights-list, list-weights, weight-pos}
+use Rattle.paper.proofs.Bags.{Taken}
+use Rattle.paper.proofs.Bulk.{two-members, same-integer}
+use Rattle.paper.proofs.EqualView.{same-view, taken-total}
+use Rattle.paper.proofs.LikeTerms.{TakenOut, firstInteger-taken, mergeTerms-some}
+use Rattle.paper.proofs.MergeFactors.{timesBases, addExponents, Merged, by-bases, by-exponents, mergeFactors-some}
+use Rattle.part.specs.Like.{Like, split, merge, join}
+use Rattle.part.specs.Part.{inRange}
+use Rattle.write.proofs.Encoded.{pair-records, longer-records}
+
+-- ---- out of range
+and-bad : (a b : Bool) → a ≡ false → a && b ≡ false
+and-bad true b e = absurd (let o : _≡_ {A = ℕ} 0 1 = cc in omega arith)
+and-bad false b e = refl
+
+added-bad : (c x : Term) → c .inRange ≡ false → added c x .inRange ≡ false
+unfolding added
+added-bad c x e = and-bad (c .inRange && x .inRange) _ (and-bad (c .inRange) (x .inRange) e)
+
+merged-bad : (c x : Factor) {d : Factor} → c .inRange ≡ false → Merged c x d → d .inRange ≡ false
+unfolding timesBases addExponents
+merged-bad c x e (by-bases p q r) = and-bad (c .inRange && x .inRange) _ (and-bad (c .inRange) (x .inRange) e)
+merged-bad c x e (by-exponents p q) = and-bad (c .inRange && x .inRange) _ (and-bad (c .inRange) (x .inRange) e)
+
+pub stays-bad : (b : Bool) (c x d : Like b) → inRange b c ≡ false → merge b c x ≡ some d → inRange b d ≡ false
+stays-bad true c x d e m = subst (λ (d : Term). d .inRange ≡ false) (mergeTerms-some c x d m .1) (added-bad c x e)
+stays-bad false c x d e m = merged-bad c x e (mergeFactors-some c x d m)
+
+pub joins-bad : (b : Bool) (c : Like b) → inRange b c ≡ false → join b c .1 ≡ false
+unfolding fromTerm timesUnless fromFactor powerUnless
+joins-bad true c e = go (eqZ (c .coefficient) (pos 1))
+  where
+    go : (b : Bool) → timesUnless b c .1 ≡ false
+    go true = e
+    go false = and-bad (c .inRange) _ e
+joins-bad false c e = go (eqb (c .exponent) 1)
+  where
+    go : (b : Bool) → powerUnless b c .1 ≡ false
+    go true = e
+    go false = e
+
+-- ---- how many records a coefficient adds
+abbrev Extra : Option ℤ → ℕ → ℕ → Type 0
+Extra (some z) n m = m ≡ 1
+Extra none n m = (n ≤ m) × (m ≤ n + 2)
+
+times-records : (z : ℤ) (t : Tree) → Extra (asInteger t) (records t) (records (times z t .0))
+unfolding times asInteger records ofList
+times-records z (integer y) = refl
+times-records z (symbol s) = (omega arith, omega arith)
+times-records z (sum f) = (omega arith, omega arith)
+times-records z (product f) = let r = longer-records f z in (omega arith, omega arith)
+times-records z (power b e) = (omega arith, omega arith)
+
+same-records : (t : Tree) → Extra (asInteger t) (records t) (records t)
+unfolding asInteger records
+same-records (integer y) = refl
+same-records (symbol s) = (omega arith, omega arith)
+same-records (sum f) = (omega arith, omega arith)
+same-records (product f) = (omega arith, omega arith)
+same-records (power b e) = (omega arith, omega arith)
+
+-- with a coefficient of 1, or any other
+timed-records : (b : Bool) (c : Term) → Extra (asInteger (c .rest)) (records (c .rest)) (records (timesUnless b c .0))
+unfolding timesUnless
+timed-records true c = same-records (c .rest)
+timed-records false c = times-records (c .coefficient) (c .rest)
+
+extra-most : (a : Option ℤ) (n m : ℕ) → 1 ≤ n → Extra a n m → m ≤ n + 2
+extra-most (some z) n m l h = omega arith
+extra-most none n m l h = h .1
+
+-- a well-formed tree that is no integer weighs 2 or more
+heavy : (t : Tree) → WF t → asInteger t ≡ none → 2 ≤ weight t
+unfolding asInteger weight
+heavy (integer z) w e = absurd (let o : _≡_ {A = ℕ} 0 1 = cc in omega arith)
+heavy (symbol s) w e = omega arith
+heavy (sum f) w e = omega (arith, two-members f (w .0))
+heavy (product f) w e = omega (arith, two-members f (w .0))
+heavy (power b x) w e = omega arith
+
+-- where the rest is no integer, neither is the member
+rest-integer : (t : Tree) → asInteger (termOf t .rest) ≡ none → asInteger t ≡ none
+unfolding asInteger termOf term
+rest-integer (integer z) e = absurd (let o : _≡_ {A = ℕ} 0 1 = cc in omega arith)
+rest-integer (symbol s) e = refl
+rest-integer (sum f) e = refl
+rest-integer (product f) e = refl
+rest-integer (power b x) e = refl
+
+-- ---- a member by itself
+others-records : (b : Bool) (z : ℤ) (l : List Tree) → records (timesUnless b (term z (productOf l)) .0) ≤ 2 + total weight l
+unfolding timesUnless term productOf collapse total times records ofList
+others-records true z [] = omega arith
+others-records false z [] = omega arith
+others-records true z (t ∷ []) = omega (arith, records-weight t)
+others-records false z (t ∷ []) =
+    let e = extra-most (asInteger t) (records t) (records (times z t .0)) (records-pos t) (times-records z t) in
+    omega (arith, records-weight t)
+others-records true z (t ∷ u ∷ l) = omega (arith, records-weight t, records-weight u, recordses-weights (ofList l), list-weights l)
+others-records false z (t ∷ u ∷ l) =
+    let e = longer-records (ofList (t ∷ u ∷ l)) z in
+    omega (arith, records-weight t, records-weight u, recordses-weights (ofList l), list-weights l)
+
+product-records : (f : Forest) (r : Option (ℤ × List Tree)) → TakenOut (toList f) r
+    → records (fromTerm (productTerm f r) .0) ≤ weight (product f)
+unfolding productTerm fromTerm term timesUnless eqZ weight
+product-records f none h = omega (arith, records-weight (product f))
+product-records f (some r) h =
+    omega (arith, others-records (eqZ (r .0) (pos 1)) (r .0) (r .1), taken-total weight h, weights-list f)
+
+integer-term : (b : Bool) (z : ℤ) → records (timesUnless b (term z (integer (pos 1))) .0) ≤ weight (integer z)
+unfolding timesUnless term times records weight
+integer-term true z = omega arith
+integer-term false z = omega arith
+
+term-records : (t : Tree) → records (fromTerm (termOf t) .0) ≤ weight t
+unfolding termOf fromTerm term timesUnless eqZ
+term-records (integer z) = integer-term (eqZ z (pos 1)) z
+term-records (symbol s) = records-weight (symbol s)
+term-records (sum f) = records-weight (sum f)
+term-records (product f) = product-records f (firstInteger (toList f)) (firstInteger-taken (toList f))
+term-records (power b e) = records-weight (power b e)
+
+raised-records : (b : Bool) (c : Factor) → records (powerUnless b c .0) ≤ records (c .base) + 2
+unfolding powerUnless records
+raised-records true c = omega arith
+raised-records false c = omega arith
+
+factor-records : (t : Tree) → records (fromFactor (factorOf t) .0) ≤ weight t
+unfolding factorOf factor fromFactor powerUnless weight
+factor-records (integer z) = records-weight (integer z)
+factor-records (symbol s) = records-weight (symbol s)
+factor-records (sum f) = records-weight (sum f)
+factor-records (product f) = records-weight (product f)
+factor-records (power b e) = omega (arith, raised-records (eqb e 1) (factor b e), records-weight b)
+
+pub join-first : (b : Bool) (t : Tree) → records (join b (split b t) .0) ≤ weight t
+join-first true t = term-records t
+join-first false t = factor-records t
+
+-- ---- a member that is taken up
+term-grows : (c : Term) (t : Tree) → WF t → equal (c .rest) (termOf t .rest) ≡ true
+    → records (fromTerm (added c (termOf t)) .0) ≤ records (fromTerm c .0) + weight t
+unfolding fromTerm added
+term-grows c t w e =
+    go (asInteger (c .rest)) refl _ _
+    (timed-records (eqZ (c .coefficient +ℤ termOf t .coefficient) (pos 1)) (added c (termOf t)))
+    (timed-records (eqZ (c .coefficient) (pos 1)) c)
+  where
+    go : (a : Option ℤ) → asInteger (c .rest) ≡ a → (m n : ℕ) → Extra a (records (c .rest)) m → Extra a (records (c .rest)) n → m ≤ n + weight t
+    go (some z) q m n h k = omega (arith, weight-pos t)
+    go none q m n h k =
+        let s = same-view (c .rest) (termOf t .rest) e in
+        omega (arith, h .1, k .0, heavy t w (rest-integer t (sym (same-integer s) ∙ q)))
+
+-- an exponent other than 1 stands there already, and 1 is not added to an integer
+no-integer : (c : Factor) (t : Tree) → c .exponent ≡ 1 → equal (c .base) (factorOf t .base) ≡ true
+    → (c .exponent ≡ factorOf t .exponent → bothIntegers (asInteger (c .base)) (asInteger (factorOf t .base)) ≡ none) → asInteger t ≡ none
+unfolding asInteger factorOf factor bothIntegers
+no-integer c (integer z) x e h =
+    let s = same-integer (same-view (c .base) (integer z) e) in
+    absurd (let n = rw s at (h x) in let o : _≡_ {A = ℕ} 0 1 = cc in omega arith)
+no-integer c (symbol s) x e h = refl
+no-integer c (sum f) x e h = refl
+no-integer c (product f) x e h = refl
+no-integer c (power b y) x e h = refl
+
+exponents-grow : (b b' : Bool) (c d : Factor) (w : ℕ) → d .base ≡ c .base → (b ≡ true → 2 ≤ w)
+    → records (powerUnless b' d .0) ≤ records (powerUnless b c .0) + w
+unfolding powerUnless records
+exponents-grow true b' c d w q h = omega (arith, raised-records b' d, h refl, ap records q)
+exponents-grow false b' c d w q h = omega (arith, raised-records b' d, ap records q)
+
+bases-grow : (b : Bool) (c d : Factor) → records (d .base) ≡ records (c .base) → records (powerUnless b d .0) ≡ records (powerUnless b c .0)
+unfolding powerUnless records
+bases-grow true c d q = q
+bases-grow false c d q = omega arith
+
+factor-grows : (c : Factor) (t : Tree) {d : Factor} → WF t → Merged c (factorOf t) d
+    → records (fromFactor d .0) ≤ records (fromFactor c .0) + weight t
+unfolding fromFactor timesBases addExponents records
+factor-grows c t w (by-bases {y} {z} p q e) = omega (arith, bases-grow (eqb (c .exponent) 1) c (timesBases c (factorOf t) (y *ℤ z)) (sym (ap records p)))
+factor-grows c t w (by-exponents e h) =
+    exponents-grow (eqb (c .exponent) 1) _ c _ (weight t) refl (λ o. heavy t w (no-integer c t (eqb-true (c .exponent) 1 o) e h))
+
+pub join-grows : (b : Bool) (c d : Like b) (t : Tree) → WF t → merge b c (split b t) ≡ some d
+    → records (join b d .0) ≤ records (join b c .0) + weight t
+join-grows true c d t w m =
+    let s = mergeTerms-some c (termOf t) d m in
+    subst (λ (d : Term). records (fromTerm d .0) ≤ records (fromTerm c .0) + weight t) (s .1) (term-grows c t w (s .0))
+join-grows false c d t w m = factor-grows c t w (mergeFactors-some c (factorOf t) d m)

@@ -1,0 +1,165 @@
+-- The paper's walk, step by step, as a program goes through it: the parts that came out so far, how many were removed, and the rest of
+-- the walk from here make up the whole walk. One law for each way that a step goes; the bounds on the number of steps do not matter,
+-- since the members that are left are never more than that. Assumes nothing.
+use Prim.Native.Nat.{ℕ, zero, suc, _+_, _≤_}
+use mathlib.Core.Path.{_≡_, refl, sym, ap, _∙_}
+use mathlib.Core.Bool.{Bool, true, false, _&&_}
+use mathlib.Core.List.{List, [], _∷_, _++_, map, append-assoc, append-nil}
+use mathlib.Core.Option.{Option, none, some}
+use native.Mathlib.Omega.{arith}
+use lib.ListN.{length, length-append}
+use Rattle.paper.specs.Walk.{lastOf, initOf, lastFirst, Turn, Walked, oneRemoved, onto, turn, walk}
+
+module _ {A : Type 0} where
+  init-length : (a : A) (l : List A) → length (initOf a l) ≡ length l
+  unfolding initOf
+  init-length a [] = refl
+  init-length a (b ∷ l) = ap suc (init-length b l)
+
+  pub lastFirst-length : (l : List A) → length (lastFirst l) ≡ length l
+  unfolding lastFirst
+  lastFirst-length [] = refl
+  lastFirst-length (a ∷ l) = ap suc (init-length a l)
+
+module _ {A B : Type 0} (f : A → B) where
+  map-last : (a : A) (l : List A) → map f (initOf a l) ≡ initOf (f a) (map f l)
+  unfolding initOf
+  map-last a [] = refl
+  map-last a (b ∷ l) = ap (λ m. f a ∷ m) (map-last b l)
+
+  last-map : (a : A) (l : List A) → f (lastOf a l) ≡ lastOf (f a) (map f l)
+  unfolding lastOf
+  last-map a [] = refl
+  last-map a (b ∷ l) = last-map b l
+
+  pub map-lastFirst : (l : List A) → map f (lastFirst l) ≡ lastFirst (map f l)
+  unfolding lastFirst
+  map-lastFirst [] = refl
+  map-lastFirst (a ∷ l) = rw (map-last a l, last-map a l) refl
+
+  pub map-append : (l m : List A) → map f (l ++ m) ≡ map f l ++ map f m
+  map-append [] m = refl
+  map-append (a ∷ l) m = ap (λ x. f a ∷ x) (map-append l m)
+
+  pub map-length : (l : List A) → length (map f l) ≡ length l
+  map-length [] = refl
+  map-length (a ∷ l) = ap suc (map-length l)
+
+-- ---- a walk with parts that came out before it
+module _ {P : Type 0} where
+  unfoldable pub resumed : List P → ℕ → Walked P → Walked P
+  resumed done r w = record { parts = done ++ w .parts; removed = r + w .removed }
+
+  pub resumed-none : (w : Walked P) → resumed [] 0 w ≡ w
+  unfolding resumed
+  resumed-none w = ap (λ r. record { parts = w .parts; removed = r }) (omega arith)
+
+  abbrev manyLater : Turn P → ℕ
+  manyLater t = length (t .later)
+
+  abbrev currentOf : Turn P → P
+  currentOf t = t .current
+
+module _ {P : Type 0} (merge : P → P → Option P) where
+  -- what is left of the walk after a turn
+  unfoldable pub after : Turn P → Walked P
+  after t = onto t (walk merge (length (t .later)) (t .later))
+
+  turn-length : (n : ℕ) (c : P) (passed l : List P) → length (turn merge n c passed l .later) ≤ length passed + length l
+  unfolding turn oneRemoved
+  turn-length zero c passed l = omega (arith, length-append passed l)
+  turn-length (suc n) c passed [] = omega arith
+  turn-length (suc n) c passed (x ∷ l) =
+      go (merge c x) (turn-length n c (passed ++ (x ∷ [])) l) (λ d. turn-length n d passed (lastFirst l))
+    where
+      go : (r : Option P) → length (turn merge n c (passed ++ (x ∷ [])) l .later) ≤ length (passed ++ (x ∷ [])) + length l
+          → ((d : P) → length (turn merge n d passed (lastFirst l) .later) ≤ length passed + length (lastFirst l))
+          → manyLater {P = P}
+          (elim r [
+            | none ↦ turn merge n c (passed ++ (x ∷ [])) l
+            | some d ↦ oneRemoved (turn merge n d passed (lastFirst l))
+          ])
+          ≤ length passed + suc (length l)
+      go none same more = omega (arith, length-append passed (x ∷ []))
+      go (some d) same more = omega (arith, more d, lastFirst-length l)
+
+  -- more steps than members change nothing
+  walk-fuel : (n m : ℕ) (l : List P) → length l ≤ n → length l ≤ m → walk merge n l ≡ walk merge m l
+  unfolding walk onto
+  walk-fuel zero zero l h k = refl
+  walk-fuel zero (suc m) [] h k = refl
+  walk-fuel zero (suc m) (c ∷ l) h k = absurd (omega arith)
+  walk-fuel (suc n) zero [] h k = refl
+  walk-fuel (suc n) zero (c ∷ l) h k = absurd (omega arith)
+  walk-fuel (suc n) (suc m) [] h k = refl
+  walk-fuel (suc n) (suc m) (c ∷ l) h k =
+      let t = turn merge (length l) c [] l in
+      let few = turn-length (length l) c [] l in
+      ap (onto t) (walk-fuel n m (t .later) (omega arith) (omega arith))
+
+  -- ---- one law for each step
+  module _ (done : List P) (r : ℕ) where
+    pub turn-begins : (c : P) (l : List P)
+        → resumed done r (walk merge (length (c ∷ l)) (c ∷ l)) ≡ resumed done r (after (turn merge (length l) c [] l))
+    unfolding after walk
+    turn-begins c l =
+        let t = turn merge (length l) c [] l in
+        let few = turn-length (length l) c [] l in
+        ap (λ w. resumed done r (onto t w)) (walk-fuel (length l) (length (t .later)) (t .later) (omega arith) (omega arith))
+
+    pub passes-by : (n : ℕ) (c x : P) (passed l : List P) → merge c x ≡ none
+        → resumed done r (after (turn merge (suc n) c passed (x ∷ l))) ≡ resumed done r (after (turn merge n c (passed ++ (x ∷ [])) l))
+    unfolding turn
+    passes-by n c x passed l e =
+        ap (λ (m : Option P). resumed done r (after (elim m [
+          | none ↦ turn merge n c (passed ++ (x ∷ [])) l
+          | some d ↦ oneRemoved (turn merge n d passed (lastFirst l))
+        ]))) e
+
+    pub takes-up : (n : ℕ) (c x d : P) (passed l : List P) → merge c x ≡ some d
+        → resumed done r (after (turn merge (suc n) c passed (x ∷ l))) ≡ resumed done (r + 1) (after (turn merge n d passed (lastFirst l)))
+    unfolding turn oneRemoved after onto resumed
+    takes-up n c x d passed l e =
+        let t = turn merge n d passed (lastFirst l) in
+        let w = walk merge (length (t .later)) (t .later) in
+        ap (λ (m : Option P). resumed done r (after (elim m [
+          | none ↦ turn merge n c (passed ++ (x ∷ [])) l
+          | some d ↦ oneRemoved (turn merge n d passed (lastFirst l))
+        ]))) e
+        ∙ ap (λ k. record { parts = done ++ (t .current ∷ w .parts); removed = k }) (omega arith)
+
+    pub turn-ends : (c : P) (passed : List P)
+        → resumed done r (after (turn merge 0 c passed [])) ≡ resumed (done ++ (c ∷ [])) r (walk merge (length passed) passed)
+    unfolding turn after onto resumed
+    turn-ends c passed =
+        let w = walk merge (length passed) passed in
+        ap (λ (l : List P). record { parts = done ++ (c ∷ walk merge (length l) l .parts); removed = r + (0 + walk merge (length l) l .removed) })
+        (append-nil passed)
+        ∙ ap (λ (l : List P). record { parts = l; removed = r + (0 + w .removed) }) (sym (append-assoc done (c ∷ []) (w .parts)))
+        ∙ ap (λ k. record { parts = (done ++ (c ∷ [])) ++ w .parts; removed = k }) (omega arith)
+
+    pub walk-ends : resumed done r (walk merge 0 []) ≡ record { parts = done; removed = r }
+    unfolding walk resumed
+    walk-ends =
+        ap (λ (l : List P). record { parts = l; removed = r + 0 }) (append-nil done)
+        ∙ ap (λ k. record { parts = done; removed = k }) (omega arith)
+
+  -- ---- a property of the current part that merging keeps holds of it when its turn is done
+  module _ (Q : P → Type 0) (kept : (c x d : P) → Q c → merge c x ≡ some d → Q d) where
+    pub turn-keeps : (n : ℕ) (c : P) (passed l : List P) → Q c → Q (turn merge n c passed l .current)
+    unfolding turn oneRemoved
+    turn-keeps zero c passed l q = q
+    turn-keeps (suc n) c passed [] q = q
+    turn-keeps (suc n) c passed (x ∷ l) q =
+        go (merge c x) refl (turn-keeps n c (passed ++ (x ∷ [])) l q) (λ d h. turn-keeps n d passed (lastFirst l) h)
+      where
+        go : (r : Option P) → merge c x ≡ r → Q (turn merge n c (passed ++ (x ∷ [])) l .current)
+            → ((d : P) → Q d → Q (turn merge n d passed (lastFirst l) .current))
+            → Q
+            (currentOf {P = P}
+            (elim r [
+              | none ↦ turn merge n c (passed ++ (x ∷ [])) l
+              | some d ↦ oneRemoved (turn merge n d passed (lastFirst l))
+            ]))
+        go none e same more = same
+        go (some d) e same more = more d (kept c x d q e)

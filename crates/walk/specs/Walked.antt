@@ -1,0 +1,54 @@
+-- What the walk over the members of a node answers: by the paper's rules `combine`, of a sum's members or of a product's.
+use Prim.Native.Nat.{ℕ, _+_, _*_, _≤_}
+use mathlib.Core.Path.{_≡_}
+use mathlib.Core.Bool.{Bool}
+use mathlib.Core.List.{List, _++_}
+use lib.ListN.{length, take, drop}
+use Rattle.paper.specs.Tree.{Tree, ofList, recordses, weights, records}
+use Rattle.paper.specs.Table.{encodes}
+use Rattle.paper.specs.Rules as paper
+use Rattle.part.specs.Like.{Like, nodeOf, split, merge, join}
+use Rattle.part.specs.Part.{Shows}
+use Rattle.part.specs.declared.Part.{Part}
+use Rattle.walk.specs.Listed.{Entry, Listed}
+use Rattle.walk.specs.declared.Walked.{Walked}
+use Rattle.walk.specs.declared.Walked.the-variants.{Idle, Over, Done}
+
+-- the members l are listed, and `out` has room behind record d for all that they may become
+pub record Walkable (out work : List ℕ) (d p n : ℕ) (l : List Tree) : Type 0 where
+  pub listed : Listed work p n l
+  pub room : (d + (1 + weights (ofList l))) * 16 ≤ length out
+
+-- the rule that walks over the members l
+abbrev pub combined : Bool → List Tree → paper.Tried
+combined b l = paper.combine (nodeOf b) (split b) (merge b) (join b) l
+
+-- the rule applies: the members m that come out stand in out' behind record d, up to record e
+pub record CameOut (b : Bool) (l m : List Tree) (out out' : List ℕ) (d n e : ℕ) : Type 0 where
+  pub applies : combined b l ≡ paper.applies (nodeOf b m)
+  pub many : length m ≡ n
+  pub built : take (e * 16) out' ≡ take ((d + 1) * 16) out ++ encodes (ofList m)
+  pub end : e ≡ d + 1 + recordses (ofList m)
+  pub small : e ≤ d + (1 + weights (ofList l))
+
+-- `Idle`, nothing was removed; `Over`, something was, and the range is left; `Done n e`, the n members that came out stand up to record e
+abbrev pub Says : Bool → List Tree → (out out' : List ℕ) (d : ℕ) → Walked → Type 0
+Says b l out out' d Idle = combined b l ≡ paper.does-not-apply
+Says b l out out' d Over = combined b l ≡ paper.range-exceeded
+Says b l out out' d (Done n e) = (m : List Tree) × CameOut b l m out out' d n e
+
+-- what is pending and what is done stay
+pub record WalkedIs (b : Bool) (l : List Tree) (out out' work work' : List ℕ) (d p : ℕ) (r : Walked) : Type 0 where
+  pub says : Says b l out out' d r
+  pub pending : drop (p * 16) work' ≡ drop (p * 16) work
+  pub done : take (d * 16) out' ≡ take (d * 16) out
+
+-- the current part meets the member of entry j, with room for the marks of a comparison
+pub record Meeting (w : List ℕ) (c : Part) (p j room : ℕ) : Type 0 where
+  pub flag : Bool
+  pub current : Like flag
+  pub later : Tree
+  pub shown : Shows flag w c current
+  pub entry : Entry w p j later
+  pub low : j * 4 + 4 ≤ length w
+  pub enough : records later ≤ room

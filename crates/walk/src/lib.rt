@@ -1,0 +1,134 @@
+// The walk of steps 2 and 6 over the members of one node: each current member against each later one; where one takes up another, the
+// last member moves into its place and is looked at next. The members' starts and lengths stand at the front of `work`, the members
+// that come out in `out`.
+ghost use mathlib.Core.Path.{_≡_};
+ghost use mathlib.Core.Bool.{Bool};
+ghost use mathlib.Core.List.{List};
+ghost use Prim.Native.Nat.{_+_, _*_, _≤_, _<_};
+ghost use lib.ListN.{length};
+ghost use Rattle.paper.specs.Tree.{Tree, Forest};
+ghost use Rattle.stretch.specs.Put.{put};
+ghost use Rattle.part.specs.Like.{Like, split};
+ghost use Rattle.part.specs.Part.{Shows, From, MergedIs, IntoFrom};
+ghost use Rattle.walk.specs.Listed.{entryOf, Entry, Listable, ListedIs};
+ghost use Rattle.walk.specs.Walked.{Meeting, Walkable, WalkedIs};
+
+// What the walk answers: nothing was removed; the range is left; how many members came out, and where they end.
+pub enum Walked {
+    Idle,
+    Over,
+    Done(usize, usize),
+}
+
+// Entry k: the member's first record, counted from the node's, and its number of records.
+fn write_entry(work: &mut [u8], k: usize, start: usize, size: usize)
+    requires { ⌜ k * 4 + 4 ≤ length (now work) ⌝ }
+    ensures { λ _. ⌜ now (work .exit) ≡ put (now (work .entry)) (k * 4) (entryOf start size) ⌝ }
+{
+    let a = (start % 256) as u8;
+    let b = (start / 256 % 256) as u8;
+    let c = (size % 256) as u8;
+    let d = (size / 256 % 256) as u8;
+    let entry = [a, b, c, d];
+    stretch::copy_bytes(work, k * 4, &entry, 0, 4);
+}
+
+// The entries of the members of the node at record p; the record after them.
+pub fn list_members(work: &mut [u8], p: usize) -> usize
+    requires { ⌜ ((f : Forest) × Listable (now work) p f) ⌝ }
+    ensures { λ r. ⌜ ((f : Forest) → Listable (now (work .entry)) p f → ListedIs (now (work .entry)) (now (work .exit)) p f r) ⌝ }
+{
+    let n = record::count(work, p);
+    let mut at = p + 1;
+    let mut k = 0;
+    while k < n {
+        let next = split::skip_tree(work, at);
+        write_entry(work, k, at - p, next - at);
+        at = next;
+        k += 1;
+    }
+    at
+}
+
+// The part of the member of entry i.
+fn current(s: &[u8], p: usize, i: usize, terms: bool) -> part::Part
+    requires { ⌜ ((t : Tree) × Entry (now s) p i t × (i * 4 + 4 ≤ length (now s))) ⌝ }
+    ensures { λ r. ⌜ ((t : Tree) → Entry (now (s .entry)) p i t → Shows terms (now (s .entry)) r (split terms t)) ⌝ }
+    ensures place { λ r. ⌜ From p r ⌝ }
+{
+    let start = p + number::read2(s, i * 4);
+    part::part_of(s, start, number::read2(s, i * 4 + 2), terms)
+}
+
+// The current part, where it meets the member of entry j.
+fn meet(s: &[u8], c: part::Part, p: usize, j: usize, marks: &mut [u8]) -> part::Merged
+    requires { ⌜ Meeting (now s) c p j (length (now marks)) ⌝ }
+    ensures { λ r. ⌜ ((b : Bool) (x : Like b) (t : Tree) → Shows b (now (s .entry)) c x → Entry (now (s .entry)) p j t
+        → MergedIs b (now (s .entry)) x (split b t) r) ⌝ }
+    ensures place { λ r. ⌜ (From p c → IntoFrom p r) ⌝ }
+{
+    let start = p + number::read2(s, j * 4);
+    part::merge(s, c, start, marks)
+}
+
+// The walk over the `count` members that are listed. A member that is rebuilt out of range counts only if something is removed.
+pub fn walk(
+    out: &mut [u8],
+    work: &mut [u8],
+    d: usize,
+    p: usize,
+    count: usize,
+    terms: bool,
+) -> Walked
+    requires { ⌜ ((l : List Tree) × Walkable (now out) (now work) d p count l) ⌝ }
+    ensures { λ r. ⌜ ((l : List Tree) → Walkable (now (out .entry)) (now (work .entry)) d p count l
+        → WalkedIs terms l (now (out .entry)) (now (out .exit)) (now (work .entry)) (now (work .exit)) d p r) ⌝ }
+{
+    let mut n = count;
+    let mut i = 0;
+    let mut e = d + 1;
+    let mut late = false;
+    let mut over = false;
+    'walk: while i < n {
+        let mut c = current(work, p, i, terms);
+        let mut j = i + 1;
+        while j < n {
+            let a = e * 16;
+            let met = meet(work, c, p, j, &mut out[a..]);
+            match met {
+                part::Merged::Apart => {
+                    j += 1;
+                }
+                part::Merged::Into(x) => {
+                    c = x;
+                    n -= 1;
+                    stretch::shift_left(work, j * 4, n * 4, 4);
+                }
+                part::Merged::Over => {
+                    over = true;
+                    break 'walk;
+                }
+            }
+        }
+        let w = write::write_part(out, e, work, c);
+        match w {
+            write::Written::To(x) => {
+                e = x;
+            }
+            write::Written::Over => {
+                late = true;
+            }
+        }
+        i += 1;
+    }
+    if over {
+        return Walked::Over;
+    }
+    if count <= n {
+        return Walked::Idle;
+    }
+    if late {
+        return Walked::Over;
+    }
+    Walked::Done(i, e)
+}

@@ -1,0 +1,36 @@
+-- What is written when the turn of a current part is done: the member that it becomes, and whether that is in range.
+use Prim.Native.Nat.{ℕ, _+_, _*_, _≤_}
+use mathlib.Core.Path.{_≡_}
+use mathlib.Core.Bool.{Bool, true, false}
+use mathlib.Core.List.{List, _∷_, _++_}
+use lib.ListN.{length}
+use lib.IntN.{ℤ, pos}
+use Rattle.paper.specs.Bytes.{signed}
+use Rattle.paper.specs.Tree.{Tree, integer, product, ofList, records, recordses}
+use Rattle.paper.specs.Table.{encode}
+use Rattle.paper.specs.Equal.{eqZ}
+use Rattle.paper.specs.Rules.{term, timesUnless}
+use Rattle.stretch.specs.Put.{put}
+use Rattle.split.specs.Standing.{TreeIn}
+use Rattle.write.specs.declared.Written.{Written}
+use Rattle.write.specs.declared.Written.the-variants.{To, Over}
+
+-- `To e`, the member is in range and its records stand from record m up to record e, nothing else is changed; `Over`, it is not in
+-- range, and nothing is
+abbrev pub WrittenIs : Tree × Bool → (out out' : List ℕ) (m : ℕ) → Written → Type 0
+WrittenIs x out out' m (To e) = (x .1 ≡ true) × (e ≡ m + records (x .0)) × (out' ≡ put out (m * 16) (encode (x .0)))
+WrittenIs x out out' m Over = (x .1 ≡ false) × (out' ≡ out)
+
+-- there is room for the member
+abbrev pub Fitting : Tree × Bool → List ℕ → ℕ → Type 0
+Fitting x out m = (m + records (x .0)) * 16 ≤ length out
+
+-- "its rest if the coefficient is 1, else coefficient times rest", for the coefficient with the bits n
+unfoldable pub timed : ℕ → Tree → Tree × Bool
+timed n t = timesUnless (eqZ (signed n) (pos 1)) (term (signed n) t)
+
+-- the product at record i up to record e has the integer z at record x, the members `front` before it and `back` after it
+pub record Gap (s : List ℕ) (i x e : ℕ) (front back : List Tree) (z : ℤ) : Type 0 where
+  pub whole : TreeIn s i (product (ofList (front ++ (integer z ∷ back))))
+  pub place : x ≡ i + 1 + recordses (ofList front)
+  pub end : e ≡ i + records (product (ofList (front ++ (integer z ∷ back))))
