@@ -1,4 +1,4 @@
-/* Simmergate: formulas as tables of records, judged, weighed, evaluated and compared.
+/* Simmergate: formulas as tables of records, judged, weighed, evaluated, compared and simplified.
 
    A table holds records of 16 bytes, the tree in the order parent, then members from first to last; numbers are little-endian. Byte 0 is the
    kind (0 integer, 1 symbol, 2 sum, 3 product, 4 power), bytes 2-3 the number of members of a sum or a product, bytes 8-15 the integer,
@@ -17,13 +17,15 @@
      4        the records end before the tree, or the tree before the records                  number of records; or
                                                                                                first record too many
      5        an exponent is no integer record of at least 1                                   first such exponent record
-     6        a lent area has the wrong length: the registers are not 2,048 bytes              0
-     7        (given by no call of this edition)
+     6        a lent area has the wrong length: the registers are not 2,048 bytes; W being     0
+              the weight of the table, `out` is under 16 x W bytes, `steps` under W, or
+              `work` under 65,536
+     7        simplifying meets an integer outside the signed 64-bit range                     steps completed before it
 
    Where `answer` is too short for the numbers, a call returns 6 before all else and changes nothing. Bytes of `answer` past the numbers never
-   change, and no call changes a byte of any other area.
+   change. Refusals 1 to 6 change no byte of any other area; only simmergate_simplify writes to others at all.
 
-   All lengths are in bytes. The areas of one call must not overlap; a pointer may be anything where its length is 0, and needs no alignment.
+   All lengths are in bytes. The areas of one call must not overlap (tables that are only read may); a pointer may be anything where its length is 0, and needs no alignment.
    Nothing is allocated, nothing is kept between calls, and calls on different areas may run at the same time. */
 #ifndef SIMMERGATE_H
 #define SIMMERGATE_H
@@ -32,9 +34,9 @@
 #include <stdint.h>
 
 /* Bytes of stack that a call needs at the most. The deepest tables that are accepted, 1,535 nodes one inside the other, were measured on
-   x86-64 to need 145,752 bytes in simmergate_check, 145,768 in simmergate_weight, 196,824 in simmergate_value and 369,896 in
-   simmergate_equal. */
-#define SIMMERGATE_STACK 376832
+   x86-64 to need 145,752 bytes in simmergate_check, 145,768 in simmergate_weight, 196,824 in simmergate_value, 369,896 in
+   simmergate_equal and 465,296 in simmergate_simplify. */
+#define SIMMERGATE_STACK 475136
 
 /* Judges a table. The answer, 16 bytes: refusal number, place. */
 uint32_t simmergate_check(const uint8_t *table, size_t table_bytes, uint8_t *answer, size_t answer_bytes);
@@ -50,5 +52,12 @@ uint32_t simmergate_value(const uint8_t *table, size_t table_bytes, const uint8_
    each as often in the one as in the other; nothing is opened first. The first table is judged before the second. The answer, 32 bytes: refusal
    number, place, which table is refused (1, 2, or 0 for neither), yes 1 or no 0; no after a refusal. */
 uint32_t simmergate_equal(const uint8_t *a, size_t a_bytes, const uint8_t *b, size_t b_bytes, uint8_t *answer, size_t answer_bytes);
+
+/* Simplifies a table. Where it is accepted, the result's records go to `out` and the numbers of its steps, one byte each, to `steps`, with
+   zeros up to 16 x W and W bytes; after 7 these two stretches are zeros throughout; in both cases the first 65,536 bytes of `work` are zero.
+   Bytes past the stretches never change. Steps: 1 add-zero, 2 like-terms, 3 multiply-zero, 4 multiply-one, 6 like-factors. The answer, 56
+   bytes: refusal number, place, records written, steps, openings, weight of the table, weight of the result. */
+uint32_t simmergate_simplify(const uint8_t *table, size_t table_bytes, uint8_t *out, size_t out_bytes, uint8_t *steps, size_t steps_bytes,
+                             uint8_t *work, size_t work_bytes, uint8_t *answer, size_t answer_bytes);
 
 #endif

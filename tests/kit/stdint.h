@@ -1,8 +1,10 @@
-/* What the tests use of C's headers, by the compiler's own names: the kit's compiler has no headers. */
+/* What the tests use of C's headers, by the compiler's own names: the kit's clang brings no headers. */
 #ifndef KIT_STDINT_H
 #define KIT_STDINT_H
 typedef __UINT8_TYPE__ uint8_t;
+typedef __UINT16_TYPE__ uint16_t;
 typedef __UINT32_TYPE__ uint32_t;
 typedef __UINT64_TYPE__ uint64_t;
+typedef __INT32_TYPE__ int32_t;
 typedef __INT64_TYPE__ int64_t;
 #endif

@@ -2,18 +2,16 @@
 -- takes up a later one shows what the paper's part becomes, or leaves the range with it. A base that is an integer is compared by its
 -- bits, any other by its records. By cases on the tests. Assumes nothing.
 use Prim.Native.Nat.{ℕ, _+_, _-_, _*_, _^_, _<_, _≤_}
-use mathlib.Core.Path.{_≡_, refl, sym, ap, _∙_, subst}
+use mathlib.Core.Path.{_≡_, refl, sym, ap, _∙_}
 use mathlib.Core.Bool.{Bool, true, false, _&&_, cond}
 use mathlib.Core.List.{List}
 use mathlib.Core.Option.{Option, none, some}
 use native.Mathlib.Omega.{arith}
 use borrow.Author.Tests.{eq-eqb, ne-eqb, ltb-true}
 use lib.Dec.{eqb, ltb}
-use lib.ListN.{length}
-use lib.IntN.{ℤ, pos, negsuc, _+ℤ_, _*ℤ_}
+use lib.IntN.{ℤ, _+ℤ_, _*ℤ_}
 use Rattle.paper.specs.Bytes.{word, signed}
 use Rattle.paper.specs.Tree.{Tree, Forest, integer, symbol, sum, product, power, records, toList}
-use Rattle.paper.specs.WellFormed.{InRange}
 use Rattle.paper.specs.Record.{kind, bits}
 use Rattle.paper.specs.Equal.{equal, eqZ, onInteger}
 use Rattle.paper.specs.Rules.{fits, asInteger, Term, term, firstInteger, productTerm, termOf, added, addIf, mergeTerms}
@@ -22,7 +20,6 @@ use Rattle.paper.proofs.Congruence.{word-lt}
 use Rattle.paper.proofs.EncodeLaws.{signed-word, word-signed}
 use Rattle.paper.proofs.Tests.{eqZ-true, eqZ-self, not-so}
 use Rattle.paper.proofs.Seen.{Seen, an-integer, a-symbol, a-sum, a-product, a-power}
-use Rattle.number.specs.declared.Num.{Num}
 use Rattle.number.specs.declared.Num.the-variants.{Is, Out}
 use Rattle.number.specs.Num.{numOf}
 use Rattle.number.proofs.NumLaws.{numOf-is, numOf-is-out, add-exponents}

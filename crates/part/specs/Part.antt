@@ -1,7 +1,7 @@
 -- A part of a member as the code holds it, and the paper's part that it shows: `Term n i`, the coefficient with the bits n and the rest
 -- of the member at record i; `Power e i k`, the exponent e and the base of k records at record i, no integer;
 -- `Number e v`, the exponent e and the integer base with the bits v, which need not stand in a record.
-use Prim.Native.Nat.{ℕ, _+_, _*_, _^_, _<_, _≤_}
+use Prim.Native.Nat.{ℕ, _^_, _<_, _≤_}
 use mathlib.Core.Path.{_≡_}
 use mathlib.Core.Bool.{Bool, true, false}
 use mathlib.Core.List.{List}
@@ -10,7 +10,7 @@ use Rattle.paper.specs.Bytes.{signed}
 use Rattle.paper.specs.Tree.{Tree, integer, records}
 use Rattle.paper.specs.Rules.{asInteger, Term, termOf, Factor}
 use Rattle.split.specs.Standing.{TreeIn}
-use Rattle.part.specs.Like.{Like, merge, join}
+use Rattle.part.specs.Like.{Like, merge}
 use Rattle.part.specs.declared.Part.{Part}
 use Rattle.part.specs.declared.Part.the-variants as part
 use Rattle.part.specs.declared.Merged.{Merged}

@@ -1,10 +1,9 @@
 // The part of a member that the walk of step 2 or of step 6 compares: coefficient and rest, or base and exponent. Where a part takes
 // up a later one it changes; nothing is written.
-ghost use mathlib.Core.Path.{_≡_};
 ghost use mathlib.Core.Bool.{Bool, true, false};
 ghost use Prim.Native.Nat.{ℕ, _≤_};
 ghost use lib.ListN.{length};
-ghost use Rattle.paper.specs.Tree.{Tree, records};
+ghost use Rattle.paper.specs.Tree.{Tree};
 ghost use Rattle.paper.specs.Rules.{Term, termOf, Factor, factorOf};
 ghost use Rattle.split.specs.Standing.{TreeIn, SomeTree};
 ghost use Rattle.equal.specs.Matching.{Comparable};

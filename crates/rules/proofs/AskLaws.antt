@@ -1,13 +1,13 @@
 -- The rules, asked one after the other: as long as none applies, asking all of them is asking those that are left, and all is ready for
 -- the next; the first that applies, or leaves the range, gives the answer. Assumes nothing.
 use Prim.Native.Nat.{ℕ, _*_}
-use mathlib.Core.Path.{_≡_, refl, sym, ap, _∙_}
+use mathlib.Core.Path.{_≡_, refl, ap, _∙_}
 use mathlib.Core.List.{List, [], _∷_}
-use lib.ListN.{length, take, drop}
+use lib.ListN.{length, take}
 use Rattle.paper.specs.Tree.{Tree}
 use Rattle.paper.specs.Rules as paper
 use Rattle.paper.specs.Rules.{Rule, editionOne, addZero, combineLikeTerms, multiplyZero, multiplyOne, combineLikeFactors}
-use Rattle.paper.specs.Driver.{Asked, no-rule, step, out-of-range, ask}
+use Rattle.paper.specs.Driver.{Asked, step, out-of-range, ask}
 use Rattle.rules.specs.Asked.{Ready, AskedIs}
 use Rattle.rules.specs.Tried.{Answers}
 use Rattle.rules.specs.declared.Asked.the-variants.{Nothing, Step, Over}

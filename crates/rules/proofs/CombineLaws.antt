@@ -1,19 +1,19 @@
 -- Steps 2 and 6 at a node: there is room to list its members and to walk over them, and what came out of the walk is what is put back
 -- before all that followed the node. Assumes nothing.
-use Prim.Native.Nat.{ℕ, _+_, _-_, _*_, _<_, _≤_}
-use mathlib.Core.Path.{_≡_, refl, sym, ap, _∙_, subst}
+use Prim.Native.Nat.{ℕ, _+_, _-_, _*_, _≤_}
+use mathlib.Core.Path.{_≡_, sym, ap, _∙_, subst}
 use mathlib.Core.Bool.{Bool}
-use mathlib.Core.List.{List, _++_}
+use mathlib.Core.List.{List}
 use native.Mathlib.Omega.{arith}
 use lib.ListN.{length, take, drop}
 use lib.Seq.{length-take-le, drop-drop, drop-at}
-use Rattle.paper.specs.Tree.{Tree, Forest, toList, ofList, weights, recordses}
+use Rattle.paper.specs.Tree.{Forest, toList, ofList, weights, recordses}
 use Rattle.paper.specs.Record.{countIn}
 use Rattle.paper.specs.Table.{encodes}
 use Rattle.paper.proofs.EncodeLaws.{encodes-length, recordses-weights, count-records}
 use Rattle.paper.proofs.WFLaws.{of-to-list}
 use Rattle.walk.specs.Listed.{Listed, Listable, ListedIs}
-use Rattle.walk.specs.Walked.{Walkable, CameOut}
+use Rattle.walk.specs.Walked.{Walkable, cameOut, CameOut}
 use Rattle.walk.proofs.EntryLaws.{later-same}
 use Rattle.rules.specs.Tried.{Held, Built}
 use Rattle.rules.proofs.Nodes.{members-in}
@@ -53,11 +53,11 @@ module _ (o w : List ℕ) (d p : ℕ) (f : Forest) (rest : List ℕ) (h : Held o
     after-walk w₂ s =
         later-same w w₂ p (s ∙ k .pending) end (omega (arith, k .end)) ∙ ap (λ n. drop (n * 16) w) (k .end) ∙ held-after
 
-    module _ (b : Bool) (m : List Tree) (o₂ : List ℕ) (n e : ℕ) (c : CameOut b (toList f) m o o₂ d n e) where
+    module _ (b : Bool) (o₂ : List ℕ) (n e : ℕ) (c : CameOut b (toList f) o o₂ d n e) where
       same : weights (ofList (toList f)) ≡ weights f
       same = ap weights (of-to-list f)
 
-      pub came-built : length o₂ ≡ length o → Built o₂ d e m
+      pub came-built : length o₂ ≡ length o → Built o₂ d e (cameOut b (toList f))
       came-built l =
           record {
             front = take ((d + 1) * 16) o;

@@ -1,24 +1,23 @@
 -- Steps 1 and 4 on the way through the members: some are done, and what is kept of them stands in `out`; the others are left. What is
 -- kept of all is what is kept of the first followed by what is kept of the others, so at the end it all stands in `out`.
 -- Assumes nothing.
-use Prim.Native.Nat.{ℕ, zero, suc, _+_, _-_, _*_, _<_, _≤_}
+use Prim.Native.Nat.{ℕ, zero, _+_, _-_, _*_, _<_, _≤_}
 use mathlib.Core.Path.{_≡_, refl, sym, ap, _∙_, subst}
-use mathlib.Core.Bool.{Bool, true, false}
+use mathlib.Core.Bool.{true, false}
 use mathlib.Core.List.{List, [], _∷_, _++_, append-nil, append-assoc}
 use native.Mathlib.Omega.{arith}
 use lib.ListN.{length, take, drop, length-append, length-drop}
 use lib.Seq.{length-take-le, take-take, take-append-le, drop-at, drop-drop}
 use lib.IntN.{pos}
-use Rattle.paper.specs.Tree.{Tree, Forest, nil, cons, count, records, recordses, weights, toList, ofList}
+use Rattle.paper.specs.Tree.{Tree, Forest, nil, count, records, recordses, toList, ofList}
 use Rattle.paper.specs.Record.{countIn}
 use Rattle.paper.specs.Table.{encode, encodes}
 use Rattle.paper.specs.Rules.{isThe, dropAll, unless}
 use Rattle.paper.proofs.EncodeLaws.{encode-length, encodes-length, recordses-weights, count-records}
 use Rattle.paper.proofs.WFLaws.{list-count}
-use Rattle.paper.proofs.Stands.{Stands}
-use Rattle.split.specs.Standing.{TreeIn, TreesIn, SomeTree}
+use Rattle.split.specs.Standing.{TreesIn, SomeTree}
 use Rattle.stretch.specs.Put.{put, part}
-use Rattle.write.proofs.Encoded.{encodes-snoc, recordses-snoc, stands-part, built-more}
+use Rattle.write.proofs.Encoded.{recordses-snoc, stands-part, built-more}
 use Rattle.rules.specs.Tried.{Held, MembersIn, Built}
 use Rattle.split.proofs.StandingLaws.{FirstOf, first-of, none-of}
 use Rattle.rules.proofs.Nodes.{after-first, members-in}

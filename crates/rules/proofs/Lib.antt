@@ -4,3 +4,4 @@ pub mod Dropping
 pub mod RuleLaws
 pub mod CombineLaws
 pub mod AskLaws
+pub mod Unique

@@ -1,20 +1,19 @@
 -- The members of one node, as they are read one after the other and as they are written: the first of them stands first, the others
 -- after its records; a member is a certain small integer where its first record says so; and the tree of some members is a node's
 -- record before theirs, unless there are fewer than two. By cases. Assumes nothing.
-use Prim.Native.Nat.{ℕ, zero, suc, _+_, _-_, _*_, _%_, _^_, _<_, _≤_}
+use Prim.Native.Nat.{ℕ, suc, _+_, _-_, _*_, _%_, _<_, _≤_}
 use mathlib.Core.Path.{_≡_, refl, sym, ap, _∙_, subst}
 use mathlib.Core.Bool.{Bool, true, false}
 use mathlib.Core.List.{List, [], _∷_, _++_, append-nil}
 use native.Mathlib.Omega.{arith}
-use borrow.Author.Tests.{eq-eqb, ne-eqb}
+use borrow.Author.Tests.{ne-eqb}
 use lib.Dec.{eqb}
-use lib.ListN.{length, take, drop, length-append}
-use lib.Seq.{length-take-le}
+use lib.ListN.{length}
 use lib.IntN.{ℤ, pos, negsuc}
 use Rattle.paper.specs.Limits.{modulus}
 use Rattle.paper.specs.Bytes.{word}
-use Rattle.paper.specs.Tree.{Tree, Forest, integer, symbol, sum, product, power, nil, cons, count, records, recordses, toList, ofList}
-use Rattle.paper.specs.WellFormed.{WF, WFs, InRange}
+use Rattle.paper.specs.Tree.{Tree, Forest, records, ofList}
+use Rattle.paper.specs.WellFormed.{InRange}
 use Rattle.paper.specs.Record.{kind, bits, countIn}
 use Rattle.paper.specs.Table.{recordOf, encode, encodes}
 use Rattle.paper.specs.Equal.{eqZ}

@@ -1,17 +1,16 @@
 -- A node's result, built in `out` behind a free record and put back into the pending records. What was built stands behind the free
 -- record; with the node's record written there, or none, the whole tree stands; and its copy stands before all that followed the
 -- node. Each is read off what a put leaves. Assumes nothing.
-use Prim.Native.Nat.{ℕ, zero, suc, _+_, _-_, _*_, _<_, _≤_}
-use mathlib.Core.Path.{_≡_, refl, sym, ap, _∙_, subst}
-use mathlib.Core.Bool.{Bool, true, false}
-use mathlib.Core.List.{List, [], _∷_, _++_, append-nil, append-assoc}
+use Prim.Native.Nat.{ℕ, _+_, _-_, _*_, _<_, _≤_}
+use mathlib.Core.Path.{_≡_, refl, sym, ap, _∙_}
+use mathlib.Core.Bool.{Bool}
+use mathlib.Core.List.{List, [], _∷_, _++_, append-assoc}
 use native.Mathlib.Omega.{arith}
 use lib.ListN.{length, take, drop, length-append, take-append-drop}
 use lib.Seq.{take-at, drop-at}
-use Rattle.paper.specs.Tree.{Tree, Forest, nil, cons, count, records, recordses, toList, ofList}
+use Rattle.paper.specs.Tree.{Tree, records, recordses, ofList}
 use Rattle.paper.specs.Table.{recordOf, encode, encodes}
 use Rattle.paper.proofs.EncodeLaws.{encode-length, encodes-length, record-length}
-use Rattle.paper.proofs.Stands.{Stands}
 use Rattle.stretch.specs.Put.{put, part}
 use Rattle.stretch.proofs.Laws.{take-put, drop-put-at}
 use Rattle.part.specs.Like.{nodeKind, neutral, nodeOf}

@@ -1,23 +1,22 @@
 -- The rules at the tree that is pending: what the kind of its record tells, that a rule for another kind does not apply, and what the
 -- answers of the functions on members say of the tree. And that a rule that does not apply leaves all as it must be for the next.
 -- Assumes nothing.
-use Prim.Native.Nat.{ℕ, _+_, _-_, _*_, _<_, _≤_}
-use mathlib.Core.Path.{_≡_, refl, sym, ap, _∙_, subst}
+use Prim.Native.Nat.{ℕ, _+_, _-_, _*_, _≤_}
+use mathlib.Core.Path.{_≡_, refl, sym, ap, _∙_}
 use mathlib.Core.Bool.{Bool, true, false}
 use mathlib.Core.List.{List, _++_, append-assoc}
 use native.Mathlib.Omega.{arith}
-use lib.ListN.{length, take, drop, length-append, length-drop}
+use lib.ListN.{length, drop, length-append, length-drop}
 use lib.Seq.{drop-drop, drop-at}
 use lib.IntN.{pos}
-use Rattle.paper.specs.Tree.{Tree, Forest, integer, sum, product, toList, ofList, count, weight, weights, records, recordses}
-use Rattle.paper.specs.Record.{kind, countIn}
+use Rattle.paper.specs.Tree.{Tree, Forest, integer, sum, product, toList, count, weight, weights, records}
+use Rattle.paper.specs.Record.{kind}
 use Rattle.paper.specs.Bytes.{word}
 use Rattle.paper.specs.Table.{recordOf, encode, encodes}
 use Rattle.paper.specs.Rules as paper
 use Rattle.paper.specs.Rules.{onSumMembers, onProductMembers, appliesIf, anyOf, isThe, dropAll}
 use Rattle.paper.specs.Rules.{addZero, combineLikeTerms, multiplyZero, multiplyOne, combineLikeFactors}
-use Rattle.paper.proofs.EncodeLaws.{encode-length, encodes-length, records-pos, records-weight, recordses-weights, record-length}
-use Rattle.paper.proofs.Stands.{Stands}
+use Rattle.paper.proofs.EncodeLaws.{encode-length, records-pos, records-weight, record-length}
 use Rattle.paper.proofs.Seen.{Seen, an-integer, a-symbol, a-sum, a-product, a-power, SeenMembers, see, seen-sum, seen-product}
 use Rattle.split.specs.Standing.{TreeIn}
 use Rattle.stretch.specs.Put.{put}
@@ -25,7 +24,7 @@ use Rattle.stretch.proofs.Laws.{drop-put-at}
 use Rattle.part.specs.Like.{nodeOf}
 use Rattle.walk.specs.Walked.{combined}
 use Rattle.rules.specs.Asked.{Ready}
-use Rattle.rules.specs.Tried.{Held, MembersIn, PutBack}
+use Rattle.rules.specs.Tried.{Held}
 
 module _ (o w : List ℕ) (d p : ℕ) (t : Tree) (rest : List ℕ) (h : Ready o w d p t rest) where
   pub ready-tree : TreeIn w p t

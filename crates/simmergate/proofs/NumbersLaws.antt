@@ -8,7 +8,8 @@ use borrow.Author.Tests.{lt-ltb, le-ltb}
 use lib.ListN.{length, take, drop, getD, length-append}
 use lib.Seq.{length-take-le, take-suc, take-all}
 use Rattle.paper.specs.Bytes.{bytes}
-use Rattle.paper.specs.Calls.{eights, tooShort, returned, answered}
+use Rattle.paper.specs.Answers.{Lent, Given, simplified}
+use Rattle.paper.specs.Calls.{eights, tooShort, returned, answered, answerNumbers, simplifyReturns, simplifyAnswers, simplifyLeaves}
 use Rattle.paper.proofs.BytesLaws.{length-bytes}
 use Rattle.stretch.specs.Put.{put}
 use Rattle.stretch.proofs.Laws.{put-put, put-none, length-put}
@@ -70,3 +71,21 @@ module _ (ns slice : List ℕ) (number : ℕ) where
       → (number ≡ returned ns number slice) × (after ≡ answered ns slice)
   unfolding returned answered tooShort
   room h after e = let t = le-ltb (length slice) (8 * length ns) h in (rw t, rw t e)
+
+-- ---- the simplifier's call: its areas, too, are as they were where the slice is too short
+module _ (s slice : List ℕ) (l : Lent) where
+  pub simplify-no-room : length slice < 56
+      → (6 ≡ simplifyReturns s l slice) × ((slice ≡ simplifyAnswers s l slice) × (l ≡ simplifyLeaves s l slice))
+  unfolding simplifyReturns simplifyAnswers simplifyLeaves answerNumbers tooShort
+  simplify-no-room h =
+      let a = simplified s l .answer in
+      let q = no-room (answerNumbers a) slice (a .number) h in
+      (q .0, (q .1, rw (lt-ltb (length slice) 56 h)))
+
+  pub simplify-room : (g : Given) → g ≡ simplified s l → 56 ≤ length slice
+      → (after : List ℕ) → after ≡ eights (answerNumbers (g .answer)) ++ drop 56 slice
+      → (g .answer .number ≡ simplifyReturns s l slice) × ((after ≡ simplifyAnswers s l slice) × (g .lent ≡ simplifyLeaves s l slice))
+  unfolding simplifyReturns simplifyAnswers simplifyLeaves answerNumbers tooShort
+  simplify-room g e h after w =
+      let q = room (answerNumbers (g .answer)) slice (g .answer .number) h after w in
+      rw (← e) (q .0, (q .1, rw (le-ltb (length slice) 56 h)))

@@ -5,6 +5,8 @@ ghost use Prim.Native.Nat.{_*_, _≤_};
 ghost use lib.ListN.{length, drop};
 ghost use Rattle.paper.specs.Equal.{one};
 ghost use Rattle.paper.specs.Calls.{eights, checkReturns, checkAnswers, weightReturns, weightAnswers, valueReturns, valueAnswers, equalReturns, equalAnswers};
+ghost use Rattle.paper.specs.Calls.{simplifyReturns, simplifyAnswers, simplifyLeaves};
+ghost use Rattle.simplify.specs.Answer.{lent};
 
 // Writes the numbers of an answer, eight bytes each, at the front of the slice; its bytes past them stay.
 fn write_numbers(answer: &mut [u8], numbers: &[u64])
@@ -84,4 +86,35 @@ pub extern "C" fn simmergate_equal(a: &[u8], b: &[u8], answer: &mut [u8]) -> u32
     let numbers = [c.number as u64, c.place as u64, c.which as u64, yes];
     write_numbers(answer, &numbers);
     c.number
+}
+
+// Simplifies a table in lent memory. The answer: number, place, records written, steps, openings, weight in, weight out.
+#[no_mangle]
+pub extern "C" fn simmergate_simplify(
+    table: &[u8],
+    out: &mut [u8],
+    steps: &mut [u8],
+    work: &mut [u8],
+    answer: &mut [u8],
+) -> u32
+    ensures { λ r. ⌜ r ≡ simplifyReturns (now (table .entry)) (lent (now (out .entry)) (now (steps .entry)) (now (work .entry))) (now (answer .entry)) ⌝ }
+    ensures { λ _. ⌜ now (answer .exit) ≡ simplifyAnswers (now (table .entry)) (lent (now (out .entry)) (now (steps .entry)) (now (work .entry))) (now (answer .entry)) ⌝ }
+    ensures { λ _. ⌜ lent (now (out .exit)) (now (steps .exit)) (now (work .exit))
+        ≡ simplifyLeaves (now (table .entry)) (lent (now (out .entry)) (now (steps .entry)) (now (work .entry))) (now (answer .entry)) ⌝ }
+{
+    if answer.len() < 56 {
+        return 6;
+    }
+    let a = simplify::simplify(table, out, steps, work);
+    let numbers = [
+        a.number as u64,
+        a.place as u64,
+        a.records as u64,
+        a.steps as u64,
+        a.openings as u64,
+        a.weight_in as u64,
+        a.weight_out as u64,
+    ];
+    write_numbers(answer, &numbers);
+    a.number
 }

@@ -1,16 +1,16 @@
 -- The members' entries at the front of `work`: an entry that is written is read back, the others stay, and what stands from the node's
 -- record on stays too; so where the last entry moves into the place of a removed one, the entries from there on are those of the last
 -- member and of the others in order. By induction on the members. Assumes nothing.
-use Prim.Native.Nat.{ℕ, zero, suc, _+_, _-_, _*_, _^_, _<_, _≤_}
+use Prim.Native.Nat.{ℕ, zero, suc, _+_, _-_, _*_, _<_, _≤_}
 use mathlib.Core.Path.{_≡_, refl, sym, ap, _∙_, subst}
-use mathlib.Core.List.{List, [], _∷_, _++_, append-nil}
+use mathlib.Core.List.{List, [], _∷_, _++_, append-nil, append-assoc}
 use native.Mathlib.Nat.{add-zero}
 use native.Mathlib.Decide.{decLt}
 use native.Mathlib.Omega.{arith}
-use lib.ListN.{length, take, drop, getD, length-append}
+use lib.ListN.{length, drop, getD, length-append}
 use lib.Seq.{drop-drop, getD-take, getD-drop}
 use Rattle.paper.specs.Bytes.{bytes, le, le2}
-use Rattle.paper.specs.Tree.{Tree, Forest, nil, cons, toList, records, recordses}
+use Rattle.paper.specs.Tree.{Tree, Forest, nil, toList, ofList, records, recordses}
 use Rattle.paper.specs.Table.{encode, encodes}
 use Rattle.paper.specs.Record.{countIn}
 use Rattle.paper.specs.Walk.{lastOf, initOf, lastFirst}
@@ -18,10 +18,11 @@ use Rattle.paper.proofs.BytesLaws.{le-bytes, le2-drop, le2-append}
 use Rattle.paper.proofs.EncodeLaws.{records-pos}
 use Rattle.paper.proofs.Stands.{Stands}
 use Rattle.stretch.specs.Put.{put, part}
-use Rattle.stretch.proofs.Laws.{length-part, length-put, drop-put, drop-put-at, getD-put-before, getD-put-after}
+use Rattle.stretch.proofs.Laws.{length-part, drop-put, drop-put-at, put-put, put-none, getD-put-before, getD-put-after}
 use Rattle.split.specs.Standing.{TreeIn, TreesIn}
-use Rattle.split.proofs.StandingLaws.{FirstOf, first-of, none-of, tree-within}
-use Rattle.walk.specs.Listed.{entryOf, Entry, Entries, Listed, Listable, ListedIs}
+use Rattle.split.proofs.StandingLaws.{FirstOf, first-of, none-of}
+use Rattle.write.proofs.Encoded.{recordses-snoc}
+use Rattle.walk.specs.Listed.{entryOf, entriesOf, Entry, Entries, Listable, ListedIs}
 
 -- ---- what stands from record p on
 module _ (w w' : List ℕ) (p : ℕ) (same : drop (p * 16) w' ≡ drop (p * 16) w) where
@@ -168,6 +169,20 @@ module _ (w w' : List ℕ) (p j n : ℕ) (x : Tree) (l : List Tree) (many : n �
           )
 
 -- ---- the entries that are filled in, one after the other
+entries-length : (i : ℕ) (l : List Tree) → length (entriesOf i l) ≡ length l * 4
+unfolding entriesOf
+entries-length i [] = refl
+entries-length i (t ∷ l) =
+    length-append (entryOf i (records t)) (entriesOf (i + records t) l) ∙ omega (arith, entry-length i (records t), entries-length (i + records t) l)
+
+entriesOf-snoc : (i j : ℕ) (l : List Tree) (t : Tree) → j ≡ i + recordses (ofList l)
+    → entriesOf i (l ++ (t ∷ [])) ≡ entriesOf i l ++ entryOf j (records t)
+unfolding entriesOf ofList records
+entriesOf-snoc i j [] t e = append-nil (entryOf i (records t)) ∙ ap (λ n. entryOf n (records t)) (omega arith)
+entriesOf-snoc i j (u ∷ l) t e =
+    ap (λ (x : List ℕ). entryOf i (records u) ++ x) (entriesOf-snoc (i + records u) j l t (omega arith))
+    ∙ sym (append-assoc (entryOf i (records u)) (entriesOf (i + records u) l) (entryOf j (records t)))
+
 pub record Listing (w₀ w : List ℕ) (p n : ℕ) (f : Forest) (at k : ℕ) : Type 0 where
   pub done : List Tree
   pub others : Forest
@@ -177,9 +192,11 @@ pub record Listing (w₀ w : List ℕ) (p n : ℕ) (f : Forest) (at k : ℕ) : T
   pub stand : TreesIn w at (n - k) others
   pub pending : drop (p * 16) w ≡ drop (p * 16) w₀
   pub place : at + recordses others ≡ p + 1 + recordses f
-  pub past : p + 1 ≤ at
+  pub past : at ≡ p + (1 + recordses (ofList done))
+  pub exact : w ≡ put w₀ 0 (entriesOf 1 done)
 
 pub listing-begins : (w : List ℕ) (p n : ℕ) (f : Forest) → Listable w p f → n ≡ countIn w p → Listing w w p n f (p + 1) 0
+unfolding entriesOf ofList records
 listing-begins w p n f h e =
     record {
       done = [];
@@ -191,6 +208,7 @@ listing-begins w p n f h e =
       pending = refl;
       place = refl;
       past = omega arith;
+      exact = sym (put-none w 0);
     }
 
 module _ (w₀ w : List ℕ) (p n : ℕ) (f : Forest) (at k : ℕ) (v : Listing w₀ w p n f at k) (l : k < n) where
@@ -198,14 +216,15 @@ module _ (w₀ w : List ℕ) (p n : ℕ) (f : Forest) (at k : ℕ) (v : Listing 
   head = first-of (v .others) (v .stand) (omega arith)
 
   pub listing-more : (w' : List ℕ) (next : ℕ) → next ≡ at + records (head .tree) → recordses f < 65536 → n * 4 ≤ p * 16 → p * 16 ≤ length w
-      → w' ≡ put w (k * 4) (entryOf (at - p) (next - at)) → Listing w₀ w' p n f next (k + 1)
+      → length w ≡ length w₀ → w' ≡ put w (k * 4) (entryOf (at - p) (next - at)) → Listing w₀ w' p n f next (k + 1)
   unfolding records toList
-  listing-more w' next e few low within q =
+  listing-more w' next e few low within long q =
       let t = head .tree in
       let a = at - p in
       let b = next - at in
       let x = entryOf a b in
       let sizes = ap recordses (head .whole) in
+      let size-is : b ≡ records t = omega arith in
       let still : drop (p * 16) w' ≡ drop (p * 16) w = ap (drop (p * 16)) q ∙ pending-still w x k (entry-length a b) (omega arith) p (omega arith) in
       let start : le2 w' (k * 4) ≡ a =
       rw add-zero at (ap (λ (y : List ℕ). le2 y (k * 4 + 0)) q ∙ put-here w x k (entry-length a b) (omega arith) 0 (omega arith) ∙ entry-start a b (omega (arith, v .place, v .past, records-pos t))) in
@@ -230,7 +249,13 @@ module _ (w₀ w : List ℕ) (p n : ℕ) (f : Forest) (at k : ℕ) (v : Listing 
             (trees-still w w' p still (at + records t) (n - k - 1) (head .others) (omega (arith, v .past)) (head .after)));
         pending = still ∙ v .pending;
         place = omega (arith, v .place);
-        past = omega (arith, v .past);
+        past = omega (arith, v .past, recordses-snoc (v .done) t);
+        exact =
+            q
+            ∙ ap (λ (y : List ℕ). put y (k * 4) x) (v .exact)
+            ∙ put-put w₀ 0 (entriesOf 1 (v .done)) (k * 4) x (omega (arith, entries-length 1 (v .done), v .many)) (omega (arith, entry-length a b, long))
+            ∙ ap (λ n. put w₀ 0 (entriesOf 1 (v .done) ++ entryOf a n)) size-is
+            ∙ ap (put w₀ 0) (sym (entriesOf-snoc 1 a (v .done) t (omega (arith, v .past))));
       }
     where
       snoc-cons : (l : List Tree) (t : Tree) (m : List Tree) → l ++ (t ∷ m) ≡ (l ++ (t ∷ [])) ++ m
@@ -254,4 +279,5 @@ listing-ends w₀ w p n f at k v h g e low within =
       };
       pending = v .pending;
       end = omega (arith, v .place);
+      exact = v .exact ∙ ap (λ m. put w₀ 0 (entriesOf 1 m)) (sym all);
     }

@@ -3,3 +3,4 @@ pub mod RoomLaws
 pub mod EntryLaws
 pub mod States
 pub mod Steps
+pub mod Unique

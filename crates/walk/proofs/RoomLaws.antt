@@ -4,27 +4,26 @@
 use Prim.Native.Nat.{ℕ, _+_, _≤_}
 use mathlib.Core.Path.{_≡_, refl, sym, ap, _∙_, subst}
 use mathlib.Core.Bool.{Bool, true, false, _&&_}
-use mathlib.Core.List.{List, [], _∷_, _++_}
+use mathlib.Core.List.{List, [], _∷_}
 use mathlib.Core.Option.{Option, none, some}
 use native.Mathlib.Omega.{arith}
 use lib.Dec.{eqb}
 use lib.IntN.{ℤ, pos, _+ℤ_, _*ℤ_}
 use borrow.Author.Tests.{eqb-true}
-use Rattle.paper.specs.Tree.{Tree, Forest, integer, symbol, sum, product, power, nil, cons, toList, ofList, weight, records, recordses}
+use Rattle.paper.specs.Tree.{Tree, Forest, integer, symbol, sum, product, power, toList, ofList, weight, records}
 use Rattle.paper.specs.WellFormed.{WF}
 use Rattle.paper.specs.Equal.{equal, eqZ}
-use Rattle.paper.specs.Rules.{asInteger, collapse, productOf, Term, term, firstInteger, productTerm, termOf, added, mergeTerms, times, timesUnless, fromTerm}
-use Rattle.paper.specs.Rules.{Factor, factor, factorOf, bothIntegers, mergeFactors, powerUnless, fromFactor}
+use Rattle.paper.specs.Rules.{asInteger, collapse, productOf, Term, term, firstInteger, productTerm, termOf, added, times, timesUnless, fromTerm}
+use Rattle.paper.specs.Rules.{Factor, factor, factorOf, bothIntegers, powerUnless, fromFactor}
 use Rattle.paper.proofs.EncodeLaws.{records-pos, records-weight, recordses-weights}
 use Rattle.paper.proofs.Value.{total, weights-list, list-weights, weight-pos}
-use Rattle.paper.proofs.Bags.{Taken}
 use Rattle.paper.proofs.Bulk.{two-members, same-integer}
 use Rattle.paper.proofs.EqualView.{same-view, taken-total}
 use Rattle.paper.proofs.LikeTerms.{TakenOut, firstInteger-taken, mergeTerms-some}
 use Rattle.paper.proofs.MergeFactors.{timesBases, addExponents, Merged, by-bases, by-exponents, mergeFactors-some}
 use Rattle.part.specs.Like.{Like, split, merge, join}
 use Rattle.part.specs.Part.{inRange}
-use Rattle.write.proofs.Encoded.{pair-records, longer-records}
+use Rattle.write.proofs.Encoded.{longer-records}
 
 -- ---- out of range
 and-bad : (a b : Bool) → a ≡ false → a && b ≡ false

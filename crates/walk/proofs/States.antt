@@ -1,37 +1,27 @@
 -- The states of the walk: what has come out, what is being looked at and what is left, so that the rest of the walk from here, put onto
 -- what was done, is the whole walk. Each step of the code leads from one such state to the next, by the law of the paper's walk for that
 -- step; where it ends, the whole walk's outcome is known. Assumes nothing.
-use Prim.Native.Nat.{ℕ, zero, suc, _+_, _-_, _*_, _<_, _≤_}
-use mathlib.Core.Path.{_≡_, refl, sym, ap, _∙_, subst}
+use Prim.Native.Nat.{ℕ, zero, suc, _+_, _-_, _*_, _≤_}
+use mathlib.Core.Path.{_≡_, refl, sym, ap, _∙_}
 use mathlib.Core.Bool.{Bool, true, false, _&&_}
-use mathlib.Core.List.{List, [], _∷_, _++_, map, append-nil, append-assoc}
-use mathlib.Core.Option.{none, some}
+use mathlib.Core.List.{List, [], _∷_, _++_, map}
 use native.Mathlib.Omega.{arith}
 use lib.ListN.{length, take, drop, length-append}
-use lib.Seq.{take-take, take-append-le, length-take-le}
-use Rattle.paper.specs.Tree.{Tree, Forest, ofList, weight, weights, records, recordses}
+use lib.Seq.{take-take}
+use Rattle.paper.specs.Tree.{Tree, ofList, records, recordses}
 use Rattle.paper.specs.Table.{encode, encodes}
-use Rattle.paper.specs.Walk.{Walked, turn, walk, lastFirst}
+use Rattle.paper.specs.Walk.{Walked, walk}
 use Rattle.paper.specs.Rules as paper
 use Rattle.paper.specs.Rules.{allInRange, rebuilt, outcome, combine}
-use Rattle.paper.proofs.EncodeLaws.{records-weight, recordses-weights}
-use Rattle.paper.proofs.Value.{total, total-append, list-weights, weight-pos}
-use Rattle.paper.proofs.WalkLaws.{plus-laws, fold, fold-lastFirst}
-use Rattle.paper.proofs.OutcomeLaws.{total-fold}
 use Rattle.stretch.specs.Put.{put, part}
 use Rattle.stretch.proofs.Laws.{take-put}
-use Rattle.split.specs.Standing.{TreeIn}
 use Rattle.part.specs.Like.{Like, nodeOf, split, merge, join}
-use Rattle.part.specs.Part.{Shows, From, inRange, ShowsTerm, ShowsPower}
+use Rattle.part.specs.Part.{Shows, From}
 use Rattle.part.specs.declared.Part.{Part}
 use Rattle.part.specs.declared.Part.the-variants as part
 use Rattle.write.proofs.Encoded.{recordses-snoc, built-more}
-use Rattle.walk.specs.Listed.{Entry, Entries, Listed}
-use Rattle.walk.specs.Walked.{Walkable, combined, CameOut}
-use Rattle.walk.proofs.TurnLaws.{lastFirst-length, map-lastFirst, map-append, map-length, resumed, resumed-none, after, turn-begins}
-use Rattle.walk.proofs.TurnLaws.{passes-by, takes-up, turn-ends, walk-ends, turn-keeps}
-use Rattle.walk.proofs.RoomLaws.{stays-bad, joins-bad, join-first, join-grows}
-use Rattle.walk.proofs.EntryLaws.{tree-still, entries-snoc, swap-pending, swap-before, swap-after}
+use Rattle.walk.specs.Walked.{combined}
+use Rattle.walk.proofs.EntryLaws.{tree-still}
 
 -- ---- the outcome of the whole walk
 abbrev pub walked : (b : Bool) → List Tree → Walked (Like b)

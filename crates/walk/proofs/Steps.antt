@@ -1,27 +1,27 @@
 -- The steps of the walk, from state to state. Between two turns: the parts that came out, how many members were removed, and the members
 -- that are left. Within a turn also the current part and the members that were passed by. Assumes nothing.
-use Prim.Native.Nat.{ℕ, zero, suc, _+_, _-_, _*_, _<_, _≤_}
+use Prim.Native.Nat.{ℕ, _+_, _-_, _*_, _<_, _≤_}
 use mathlib.Core.Path.{_≡_, refl, sym, ap, _∙_, subst}
 use mathlib.Core.Bool.{Bool, true, false}
 use mathlib.Core.List.{List, [], _∷_, _++_, map, append-nil}
 use mathlib.Core.Option.{none, some}
 use native.Mathlib.Omega.{arith}
 use lib.ListN.{length, take, drop, length-append}
-use Rattle.paper.specs.Tree.{Tree, ofList, weight, weights, records, recordses}
-use Rattle.paper.specs.Table.{encode}
-use Rattle.paper.specs.Walk.{Turn, Walked, onto, turn, walk, lastFirst}
+use Rattle.paper.specs.Tree.{Tree, ofList, weight, records, recordses}
+use Rattle.paper.specs.Table.{encode, encodes}
+use Rattle.paper.specs.Walk.{onto, turn, walk, lastFirst}
 use Rattle.paper.specs.Rules as paper
 use Rattle.paper.specs.Rules.{allInRange}
 use Rattle.paper.proofs.EncodeLaws.{records-weight}
 use Rattle.paper.proofs.Value.{total, total-append, list-weights}
-use Rattle.paper.proofs.WalkLaws.{plus-laws, fold, fold-lastFirst}
+use Rattle.paper.proofs.WalkLaws.{plus-laws, fold-lastFirst}
 use Rattle.paper.proofs.OutcomeLaws.{total-fold}
 use Rattle.stretch.specs.Put.{put, part}
 use Rattle.part.specs.Like.{Like, nodeOf, split, merge, join}
 use Rattle.part.specs.Part.{Shows, From, inRange}
 use Rattle.part.specs.declared.Part.{Part}
 use Rattle.walk.specs.Listed.{Entry, Entries}
-use Rattle.walk.specs.Walked.{Walkable, combined, CameOut}
+use Rattle.walk.specs.Walked.{Walkable, combined, cameOut, CameOut}
 use Rattle.walk.proofs.TurnLaws.{lastFirst-length, map-lastFirst, map-append, map-length, resumed, resumed-none, after, turn-begins}
 use Rattle.walk.proofs.TurnLaws.{passes-by, takes-up, turn-ends, walk-ends, turn-keeps}
 use Rattle.walk.proofs.RoomLaws.{stays-bad, joins-bad, join-first, join-grows}
@@ -146,14 +146,15 @@ module _ (b : Bool) (l : List Tree) (o₀ w₀ : List ℕ) (d p count : ℕ) whe
       says-late h q =
           over-outcome b l (v .done) (v .removed) all-out (omega (arith, v .gone)) (subst (Came b d o₀ o e (v .done)) q (v .common .came))
 
-      pub says-done : n < count → late ≡ false → CameOut b l (outs b (v .done)) o₀ o d i e
+      pub says-done : n < count → late ≡ false → CameOut b l o₀ o d i e
       says-done h q =
           let came = subst (Came b d o₀ o e (v .done)) q (v .common .came) in
+          let these : cameOut b l ≡ outs b (v .done) = ap (λ w. outs b (w .parts)) all-out in
           record {
-            applies = done-outcome b l (v .done) (v .removed) all-out (omega (arith, v .gone)) (came .0);
-            many = outs-many b (v .done) ∙ v .common .many;
-            built = came .1;
-            end = came .2;
+            applies = done-outcome b l (v .done) (v .removed) all-out (omega (arith, v .gone)) (came .0) ∙ ap (λ m. paper.applies (nodeOf b m)) (sym these);
+            many = ap length these ∙ outs-many b (v .done) ∙ v .common .many;
+            built = came .1 ∙ ap (λ m. take ((d + 1) * 16) o₀ ++ encodes (ofList m)) (sym these);
+            end = came .2 ∙ ap (λ m. d + 1 + recordses (ofList m)) (sym these);
             small = omega (arith, v .room, list-weights l);
           }
 

@@ -2,10 +2,11 @@
 use Prim.Native.Nat.{ℕ, _+_, _*_, _≤_}
 use mathlib.Core.Path.{_≡_}
 use mathlib.Core.Bool.{Bool}
-use mathlib.Core.List.{List, _++_}
+use mathlib.Core.List.{List, _++_, map}
 use lib.ListN.{length, take, drop}
 use Rattle.paper.specs.Tree.{Tree, ofList, recordses, weights, records}
 use Rattle.paper.specs.Table.{encodes}
+use Rattle.paper.specs.Walk.{walk}
 use Rattle.paper.specs.Rules as paper
 use Rattle.part.specs.Like.{Like, nodeOf, split, merge, join}
 use Rattle.part.specs.Part.{Shows}
@@ -23,19 +24,23 @@ pub record Walkable (out work : List ℕ) (d p n : ℕ) (l : List Tree) : Type 0
 abbrev pub combined : Bool → List Tree → paper.Tried
 combined b l = paper.combine (nodeOf b) (split b) (merge b) (join b) l
 
--- the rule applies: the members m that come out stand in out' behind record d, up to record e
-pub record CameOut (b : Bool) (l m : List Tree) (out out' : List ℕ) (d n e : ℕ) : Type 0 where
-  pub applies : combined b l ≡ paper.applies (nodeOf b m)
-  pub many : length m ≡ n
-  pub built : take (e * 16) out' ≡ take ((d + 1) * 16) out ++ encodes (ofList m)
-  pub end : e ≡ d + 1 + recordses (ofList m)
+-- the members that come out of it
+abbrev pub cameOut : Bool → List Tree → List Tree
+cameOut b l = map (λ r. r .0) (map (join b) (walk (merge b) (length l) (map (split b) l) .parts))
+
+-- the rule applies: the members that come out stand in out' behind record d, up to record e
+pub record CameOut (b : Bool) (l : List Tree) (out out' : List ℕ) (d n e : ℕ) : Type 0 where
+  pub applies : combined b l ≡ paper.applies (nodeOf b (cameOut b l))
+  pub many : length (cameOut b l) ≡ n
+  pub built : take (e * 16) out' ≡ take ((d + 1) * 16) out ++ encodes (ofList (cameOut b l))
+  pub end : e ≡ d + 1 + recordses (ofList (cameOut b l))
   pub small : e ≤ d + (1 + weights (ofList l))
 
 -- `Idle`, nothing was removed; `Over`, something was, and the range is left; `Done n e`, the n members that came out stand up to record e
 abbrev pub Says : Bool → List Tree → (out out' : List ℕ) (d : ℕ) → Walked → Type 0
 Says b l out out' d Idle = combined b l ≡ paper.does-not-apply
 Says b l out out' d Over = combined b l ≡ paper.range-exceeded
-Says b l out out' d (Done n e) = (m : List Tree) × CameOut b l m out out' d n e
+Says b l out out' d (Done n e) = CameOut b l out out' d n e
 
 -- what is pending and what is done stay
 pub record WalkedIs (b : Bool) (l : List Tree) (out out' work work' : List ℕ) (d p : ℕ) (r : Walked) : Type 0 where

@@ -7,7 +7,7 @@ ghost use mathlib.Core.List.{List};
 ghost use Prim.Native.Nat.{_+_, _*_, _≤_, _<_};
 ghost use lib.ListN.{length};
 ghost use Rattle.paper.specs.Tree.{Tree, Forest};
-ghost use Rattle.stretch.specs.Put.{put};
+ghost use Rattle.stretch.specs.Put.{part, put};
 ghost use Rattle.part.specs.Like.{Like, split};
 ghost use Rattle.part.specs.Part.{Shows, From, MergedIs, IntoFrom};
 ghost use Rattle.walk.specs.Listed.{entryOf, Entry, Listable, ListedIs};
@@ -71,6 +71,15 @@ fn meet(s: &[u8], c: part::Part, p: usize, j: usize, marks: &mut [u8]) -> part::
     part::merge(s, c, start, marks)
 }
 
+// The last entry, n, moves into the place of entry j, which is the one to look at next.
+fn remove(work: &mut [u8], j: usize, n: usize) -> usize
+    requires { ⌜ (j ≤ n) × (n * 4 + 4 ≤ length (now work)) ⌝ }
+    ensures { λ r. ⌜ (now (work .exit) ≡ put (now (work .entry)) (j * 4) (part (now (work .entry)) (n * 4) 4)) × (r ≡ j) ⌝ }
+{
+    stretch::shift_left(work, j * 4, n * 4, 4);
+    j
+}
+
 // The walk over the `count` members that are listed. A member that is rebuilt out of range counts only if something is removed.
 pub fn walk(
     out: &mut [u8],
@@ -102,7 +111,7 @@ pub fn walk(
                 part::Merged::Into(x) => {
                     c = x;
                     n -= 1;
-                    stretch::shift_left(work, j * 4, n * 4, 4);
+                    j = remove(work, j, n);
                 }
                 part::Merged::Over => {
                     over = true;

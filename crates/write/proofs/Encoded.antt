@@ -4,9 +4,9 @@ use Prim.Native.Nat.{ℕ, _+_, _*_, _≤_}
 use mathlib.Core.Path.{_≡_, refl, sym, ap, _∙_}
 use mathlib.Core.List.{List, [], _∷_, _++_, append-assoc, append-nil}
 use native.Mathlib.Omega.{arith}
-use lib.ListN.{length, take, drop, length-append}
+use lib.ListN.{length, take, length-append}
 use lib.Seq.{take-at}
-use lib.IntN.{ℤ, pos}
+use lib.IntN.{ℤ}
 use Rattle.paper.specs.Bytes.{word}
 use Rattle.paper.specs.Tree.{Tree, Forest, integer, product, power, toList, ofList, count, records, recordses}
 use Rattle.paper.specs.Table.{recordOf, encode, encodes}

@@ -3,23 +3,22 @@
 -- of the one that is left out. Each is the paper's definition at a known tree. Assumes nothing.
 use Prim.Native.Nat.{ℕ, _+_, _-_, _*_, _^_, _<_, _≤_}
 use mathlib.Core.Path.{_≡_, refl, sym, ap, _∙_, subst}
-use mathlib.Core.Bool.{Bool, true, false, _&&_}
-use mathlib.Core.List.{List, [], _∷_, _++_, append-assoc}
+use mathlib.Core.Bool.{Bool, true, false}
+use mathlib.Core.List.{List, [], _∷_, _++_}
 use native.Mathlib.Omega.{arith}
 use borrow.Author.Tests.{eq-eqb, ne-eqb, lt-ltb}
-use lib.Dec.{eqb, ltb}
 use lib.ListN.{length, length-append}
 use lib.IntN.{ℤ, pos, _*ℤ_, one, *ℤ-one}
 use lib.Signed.{mag}
 use Rattle.paper.specs.Bytes.{word, signed}
-use Rattle.paper.specs.Tree.{Tree, Forest, integer, symbol, sum, product, power, nil, cons, toList, ofList, count, records, recordses}
-use Rattle.paper.specs.Record.{kind, bits, countIn}
+use Rattle.paper.specs.Tree.{Tree, Forest, integer, product, power, toList, ofList, count, records, recordses}
+use Rattle.paper.specs.Record.{kind, countIn}
 use Rattle.paper.specs.Table.{recordOf, encode, encodes}
 use Rattle.paper.specs.Equal.{eqZ}
 use Rattle.paper.specs.Rules.{fits, Term, term, termOf, times, timesUnless, fromTerm, Factor, powerUnless, fromFactor}
 use Rattle.paper.proofs.EncodeLaws.{signed-in-range, word-signed, encode-length, encodes-length, record-length}
 use Rattle.paper.proofs.Tests.{eqZ-true, not-so}
-use Rattle.paper.proofs.WFLaws.{list-count, to-of-list}
+use Rattle.paper.proofs.WFLaws.{list-count}
 use Rattle.paper.proofs.Stands.{Stands, stands-first, stands-next}
 use Rattle.paper.proofs.Seen.{Seen, an-integer, a-symbol, a-sum, a-product, a-power, seen-product}
 use Rattle.number.specs.declared.Num.the-variants.{Is, Out}
@@ -27,7 +26,7 @@ use Rattle.number.specs.Num.{numOf}
 use Rattle.number.proofs.NumLaws.{numOf-is, numOf-is-out}
 use Rattle.paper.proofs.Congruence.{word-lt}
 use Rattle.stretch.specs.Put.{put}
-use Rattle.split.specs.Standing.{TreeIn, TreesIn}
+use Rattle.split.specs.Standing.{TreeIn}
 use Rattle.split.specs.Rest.{Lessened}
 use Rattle.split.proofs.StandingLaws.{seen, product-trees, tree-within}
 use Rattle.part.specs.Like.{Like, join}
@@ -35,7 +34,7 @@ use Rattle.part.specs.Part.{Sized, Shows, ShowsTerm, ShowsPower, ShowsNumber}
 use Rattle.part.specs.declared.Part.the-variants as part
 use Rattle.write.specs.declared.Written.{Written}
 use Rattle.write.specs.Written.{timed, Gap, WrittenIs, Fitting}
-use Rattle.write.specs.declared.Written.the-variants.{To, Over}
+use Rattle.write.specs.declared.Written.the-variants.{To}
 use Rattle.write.proofs.Encoded.{encodes-append, recordses-append, pair-encoded, longer-encoded, power-encoded, two-puts, three-puts}
 use Rattle.part.proofs.PartLaws.{same-bits}
 

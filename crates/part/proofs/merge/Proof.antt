@@ -1,6 +1,4 @@
 -- `part::merge` meets its contract: each form of the current part has its own function. Assumes nothing.
-use mathlib.Core.Path.{_≡_, refl, sym, ap, _∙_}
-use native.Mathlib.Omega.{arith}
 use Rattle.part.proofs.PartLaws.{of-term, of-power, of-number, term-stands, power-stands}
 use borrow.Author.Needs.{needs}
 use Rattle.part.proofs.merge.Statement.{statement}

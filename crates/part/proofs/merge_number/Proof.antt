@@ -1,5 +1,5 @@
 -- `part::merge_number` meets its contract: another base that is an integer is met by its bits, and none else. Assumes nothing.
-use mathlib.Core.Path.{_≡_, refl, sym, ap, _∙_}
+use mathlib.Core.Path.{_≡_, sym, ap, _∙_}
 use native.Mathlib.Omega.{arith}
 use Prim.Native.Nat.{_^_, _<_, _≤_}
 use Rattle.paper.specs.Bytes.{signed}

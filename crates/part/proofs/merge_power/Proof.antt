@@ -1,5 +1,5 @@
 -- `part::merge_power` meets its contract: the bases are compared, and the sum of the exponents is judged. Assumes nothing.
-use mathlib.Core.Path.{_≡_, refl, sym, ap, _∙_}
+use mathlib.Core.Path.{sym, _∙_}
 use native.Mathlib.Omega.{arith}
 use Rattle.paper.specs.Rules.{factorOf}
 use Rattle.part.proofs.PartLaws.{base-size, matched, unmatched, power-apart, power-into, power-over}

@@ -1,6 +1,5 @@
 -- `part::merge_term` meets its contract: the rests are compared, and the sum of the coefficients is judged. Assumes nothing.
-use mathlib.Core.Path.{_≡_, refl, sym, ap, _∙_}
-use native.Mathlib.Omega.{arith}
+use mathlib.Core.Path.{sym, _∙_}
 use Rattle.part.proofs.PartLaws.{term-apart, term-into, term-over}
 use borrow.Author.Needs.{needs}
 use Rattle.part.proofs.merge_term.Statement.{statement}

@@ -1,9 +1,8 @@
 -- `part::part_of` meets its contract: what is read off the member's records shows its part. Assumes nothing.
-use mathlib.Core.Path.{_≡_, refl, sym, ap, _∙_}
+use mathlib.Core.Path.{sym, _∙_}
 use native.Mathlib.Omega.{arith}
 use Rattle.split.proofs.StandingLaws.{record-within}
 use Rattle.part.proofs.PartLaws.{term-part, number-part, no-integer-there, power-part, base-part, power-two}
-use borrow.Author.Needs.{needs}
 use Rattle.part.proofs.part_of.Statement.{statement}
 use Rattle.part.proofs.part_of.Tie as tie
 

@@ -1,6 +1,6 @@
 -- `walk::current` meets its contract: the entry tells where the member stands. Assumes nothing.
-use Prim.Native.Nat.{ℕ, _+_, _-_, _*_, _^_, _<_, _≤_}
-use mathlib.Core.Path.{_≡_, refl, sym, ap, _∙_, subst}
+use Prim.Native.Nat.{_+_, _-_}
+use mathlib.Core.Path.{sym, _∙_, subst}
 use native.Mathlib.Omega.{arith}
 use Rattle.split.proofs.StandingLaws.{record-within}
 use Rattle.split.specs.Standing.{TreeIn}

@@ -1,14 +1,10 @@
 -- `walk::list_members` meets its contract: The loop's invariant: the entries of the members passed are written, the others stand where the loop is. The measure is how many are left. Assumes nothing.
-use Prim.Native.Nat.{ℕ, _+_, _-_, _*_, _^_, _<_, _≤_}
-use mathlib.Core.Path.{_≡_, refl, sym, ap, _∙_, subst}
+use Prim.Native.Nat.{_-_, _≤_}
+use mathlib.Core.Path.{_≡_, refl, _∙_}
 use native.Mathlib.Omega.{arith}
-use mathlib.Core.List.{List}
 use borrow.Author.Needs.{needs}
 use lib.ListN.{length}
 use Rattle.paper.specs.Tree.{Forest}
-use Rattle.paper.proofs.EncodeLaws.{records-pos}
-use Rattle.split.proofs.StandingLaws.{record-within, tree-within}
-use Rattle.stretch.proofs.Laws.{length-put}
 use Rattle.walk.specs.Listed.{Listable}
 use Rattle.walk.proofs.EntryLaws.{Listing, listing-begins, head, listing-more, listing-ends}
 use Rattle.walk.proofs.list_members.Statement.{statement}
@@ -115,7 +111,7 @@ loop-again c =
           let v = u .inv .2 f h in
           let t = head _ _ _ _ f (u .at) (u .k) v l in
           listing-more _ _ _ _ f (u .at) (u .k) v l _ _ (c .before .before .before .before .skip-tree .ensures (t .tree) (t .there)) (h .stand .few) (omega (arith, h .low))
-          (omega (arith, h .within, u .inv .0)) (c .before .before .write-entry .ensures),
+          (omega (arith, h .within, u .inv .0)) (u .inv .0) (c .before .before .write-entry .ensures),
     )
 
 same-length : tie.Need-same-length Inv-loop μ-loop

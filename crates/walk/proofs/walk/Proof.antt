@@ -1,8 +1,8 @@
 -- `walk::walk` meets its contract. Both loops' invariants say that the state is one of the walk's (Steps): between two turns, and within a
 -- turn. Each way through the loops is a step of the walk; where both are left by the label, the range is left. The measures are how many
 -- members are left, and how many of them the current one has still to meet. Assumes nothing.
-use Prim.Native.Nat.{ℕ, _+_, _-_, _*_, _<_, _≤_}
-use mathlib.Core.Path.{_≡_, refl, sym, ap, _∙_, subst}
+use Prim.Native.Nat.{ℕ, _+_, _-_, _*_, _≤_}
+use mathlib.Core.Path.{_≡_, refl, sym, ap, _∙_}
 use mathlib.Core.Bool.{Bool, true, false}
 use mathlib.Core.List.{List}
 use mathlib.Core.Logic.{⊎-elim}
@@ -10,13 +10,12 @@ use native.Mathlib.Omega.{arith}
 use borrow.Author.Needs.{needs}
 use borrow.Rule.Slice.PartMut.{take-put, same-len-mid}
 use lib.ListN.{length, take, drop, length-take, length-drop}
-use Rattle.paper.specs.Tree.{Tree, weight}
+use Rattle.paper.specs.Tree.{Tree}
 use Rattle.paper.proofs.Tests.{true-not-false}
-use Rattle.paper.proofs.Value.{total, list-weights}
-use Rattle.part.specs.Like.{join}
+use Rattle.paper.proofs.Value.{list-weights}
 use Rattle.walk.specs.Walked.{Walkable, WalkedIs}
 use Rattle.walk.specs.declared.Walked.the-variants.{Over}
-use Rattle.walk.proofs.States.{Common, common-done}
+use Rattle.walk.proofs.States.{common-done}
 use Rattle.walk.proofs.Steps.{Outer, Inner, outer-begins, first, inner-begins, next, enough, inner-apart, inner-into, says-over, left-alone}
 use Rattle.walk.proofs.Steps.{fitting, outer-written, outer-late, says-idle, says-late, says-done}
 use Rattle.walk.proofs.walk.Statement.{statement}
@@ -291,46 +290,8 @@ enum-known-met c = search needs
 sub-n : tie.Need-sub-n Inv-loop μ-loop Inv-walk μ-walk
 sub-n c = search needs
 
-mul-shift-left : tie.Need-mul-shift-left Inv-loop μ-loop Inv-walk μ-walk
-mul-shift-left c =
-    let g = c .before .before .before .before .before .before .before .before .before .before .before .before .before .before .before .before .before .args in
-    let q = c .before .before .before .before .before .before .before .before .before .before .before .before .before .before .before .before .before .pre in
-    let room = q .1 .room in
-    let heavy = list-weights (q .0) in
-    let low = q .1 .listed .low in
-    let high = q .1 .listed .within in
-    let u = c .before .before .before .before .before .before .before .before .before .before .before .before .before .before .walk in
-    let a = u .inv .0 in
-    let b = u .inv .1 in
-    let few = u .inv .2 in
-    let s = c .before .before .before .before .before .before .before .before .before .before .loop in
-    let v = within (c .before .before .before .before .before .before .before .before .before .before) (q .0) (q .1) in
-    let longer = s .inv .0 in
-    let wider = s .inv .1 in
-    let fewer = s .inv .2 in
-    record { fits = omega arith }
-
-mul-shift-left-2 : tie.Need-mul-shift-left-2 Inv-loop μ-loop Inv-walk μ-walk
-mul-shift-left-2 c =
-    let g = c .before .before .before .before .before .before .before .before .before .before .before .before .before .before .before .before .before .args in
-    let q = c .before .before .before .before .before .before .before .before .before .before .before .before .before .before .before .before .before .pre in
-    let room = q .1 .room in
-    let heavy = list-weights (q .0) in
-    let low = q .1 .listed .low in
-    let high = q .1 .listed .within in
-    let u = c .before .before .before .before .before .before .before .before .before .before .before .before .before .before .walk in
-    let a = u .inv .0 in
-    let b = u .inv .1 in
-    let few = u .inv .2 in
-    let s = c .before .before .before .before .before .before .before .before .before .before .loop in
-    let v = within (c .before .before .before .before .before .before .before .before .before .before) (q .0) (q .1) in
-    let longer = s .inv .0 in
-    let wider = s .inv .1 in
-    let fewer = s .inv .2 in
-    record { fits = omega arith }
-
-shift-left-requires : tie.Need-shift-left-requires Inv-loop μ-loop Inv-walk μ-walk
-shift-left-requires c κs =
+remove-requires : tie.Need-remove-requires Inv-loop μ-loop Inv-walk μ-walk
+remove-requires c κs =
     let g = c .before .before .before .before .before .before .before .before .before .before .before .before .before .before .before .before .before .args in
     let q = c .before .before .before .before .before .before .before .before .before .before .before .before .before .before .before .before .before .pre in
     let room = q .1 .room in
@@ -349,7 +310,23 @@ shift-left-requires c κs =
     (omega arith, omega arith)
 
 loop-less-2 : tie.Need-loop-less-2 Inv-loop μ-loop Inv-walk μ-walk
-loop-less-2 c = search needs
+loop-less-2 c =
+    let g = c .before .before .before .before .before .before .before .before .before .before .before .before .before .before .before .before .before .before .before .before .args in
+    let q = c .before .before .before .before .before .before .before .before .before .before .before .before .before .before .before .before .before .before .before .before .pre in
+    let room = q .1 .room in
+    let heavy = list-weights (q .0) in
+    let low = q .1 .listed .low in
+    let high = q .1 .listed .within in
+    let u = c .before .before .before .before .before .before .before .before .before .before .before .before .before .before .before .before .before .walk in
+    let a = u .inv .0 in
+    let b = u .inv .1 in
+    let few = u .inv .2 in
+    let s = c .before .before .before .before .before .before .before .before .before .before .before .before .before .loop in
+    let v = within (c .before .before .before .before .before .before .before .before .before .before .before .before .before) (q .0) (q .1) in
+    let longer = s .inv .0 in
+    let wider = s .inv .1 in
+    let fewer = s .inv .2 in
+    omega (arith, c .before .before .remove .ensures .1)
 
 loop-again-2 : tie.Need-loop-again-2 Inv-loop μ-loop Inv-walk μ-walk
 loop-again-2 c =
@@ -374,7 +351,7 @@ loop-again-2 c =
     let less = c .before .before .before .before .before .before .before .before .before .before .before .before .loop-test .taken in
     let front = take-put (u .e * 16) (length (s .out) - u .e * 16) (s .out) (c .before .before .before .before .before .before .before .before .before .meet .last .1 .1 .1 .1 .0) (omega arith) in (
       same-len-mid (u .e * 16) (length (s .out) - u .e * 16) (s .out) (c .before .before .before .before .before .before .before .before .before .meet .last .1 .1 .1 .1 .0) (c .before .before .before .before .before .before .before .before .before .meet .kept .1 .1 .1 .1 .0) ∙ s .inv .0,
-      c .before .before .shift-left .kept .0 ∙ s .inv .1,
+      c .before .before .remove .kept .0 ∙ s .inv .1,
       omega arith,
       s .inv .3,
       λ l o w h.
@@ -382,7 +359,8 @@ loop-again-2 c =
           let y = next (g .terms) l o w (g .d) (g .p) (g .count) (s .out) (s .work) (s .n) (u .i) (u .e) (u .late) (s .c) (s .j) z less in
           let told = rw (c .before .before .before .before .before .met .given .1) at (c .before .before .before .before .before .before .before .before .before .meet .ensures .0 (g .terms) (z .current) (y .tree) (z .shown) (y .entry)) in
           let place = rw (c .before .before .before .before .before .met .given .1) at (c .before .before .before .before .before .before .before .before .before .meet .ensures .1 (z .place)) in
-          inner-into (g .terms) l o w (g .d) (g .p) (g .count) (s .out) (s .work) (s .n) (u .i) (u .e) (u .late) (s .c) (s .j) z less _ _ _ (told .0) front (told .1) (told .2) place (omega arith) (omega arith) (c .before .before .shift-left .ensures),
+          rw (c .before .before .remove .ensures .1)
+          (inner-into (g .terms) l o w (g .d) (g .p) (g .count) (s .out) (s .work) (s .n) (u .i) (u .e) (u .late) (s .c) (s .j) z less _ _ _ (told .0) front (told .1) (told .2) place (omega arith) (omega arith) (c .before .before .remove .ensures .0)),
     )
 
 enum-told-2 : tie.Need-enum-told-2 Inv-loop μ-loop Inv-walk μ-walk
@@ -603,7 +581,7 @@ returns-4 c =
     let s = left (c .before .before .before) .state (c .before .before .if1 .left) l h in
     let over = left (c .before .before .before) .ended (c .before .before .if1 .left) in
     record {
-      says = (_, says-done (g .terms) l (g .out .now) (g .work .now) (g .d) (g .p) (g .count) (x .out) (x .work) (x .n) (u .i) (u .e) (u .late) s over (c .before .if2 .left) (c .if3 .left));
+      says = says-done (g .terms) l (g .out .now) (g .work .now) (g .d) (g .p) (g .count) (x .out) (x .work) (x .n) (u .i) (u .e) (u .late) s over (c .before .if2 .left) (c .if3 .left);
       pending = s .common .pending;
       done = common-done (g .terms) (g .out .now) (g .work .now) (g .d) (g .p) (x .out) (x .work) (u .i) (u .e) (u .late) (s .done) (s .common);
     }
@@ -632,9 +610,7 @@ walk-spec =
     loop-again
     enum-known-met
     sub-n
-    mul-shift-left
-    mul-shift-left-2
-    shift-left-requires
+    remove-requires
     loop-less-2
     loop-again-2
     enum-told-2

@@ -1,9 +1,7 @@
 -- `walk::write_entry` meets its contract: the array is the entry's four bytes. Assumes nothing.
-use Prim.Native.Nat.{ℕ, _+_, _-_, _*_, _^_, _<_, _≤_}
-use mathlib.Core.Path.{_≡_, refl, sym, ap, _∙_, subst}
-use native.Mathlib.Omega.{arith}
+use Prim.Native.Nat.{_-_}
 use Rattle.paper.specs.Bytes.{bytes}
-use Rattle.stretch.specs.Put.{put, part}
+use Rattle.stretch.specs.Put.{part}
 use Rattle.walk.specs.Listed.{entryOf}
 use borrow.Author.Needs.{needs}
 use Rattle.walk.proofs.write_entry.Statement.{statement}

@@ -1,6 +1,6 @@
 -- `write::copy_tree` meets its contract: the part of the table that is copied is the tree's records. Assumes nothing.
-use Prim.Native.Nat.{ℕ, _+_, _-_, _*_, _^_, _<_, _≤_}
-use mathlib.Core.Path.{_≡_, refl, sym, ap, _∙_}
+use Prim.Native.Nat.{_-_, _*_}
+use mathlib.Core.Path.{ap, _∙_}
 use native.Mathlib.Omega.{arith}
 use Rattle.split.proofs.StandingLaws.{tree-within}
 use Rattle.stretch.specs.Put.{put}

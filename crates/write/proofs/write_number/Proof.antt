@@ -1,8 +1,8 @@
 -- `write::write_number` meets its contract: an exponent 1 leaves the base, any other stands after it. Assumes nothing.
-use Prim.Native.Nat.{ℕ, _+_, _-_, _*_, _^_, _<_, _≤_}
-use mathlib.Core.Path.{_≡_, refl, sym, ap, _∙_}
+use Prim.Native.Nat.{_+_, _-_}
+use mathlib.Core.Path.{sym, ap, _∙_}
 use native.Mathlib.Omega.{arith}
-use mathlib.Core.Bool.{Bool, true, false}
+use mathlib.Core.Bool.{true}
 use mathlib.Core.List.{[]}
 use Rattle.paper.specs.Bytes.{signed}
 use Rattle.paper.specs.Tree.{Tree, integer, power, records}

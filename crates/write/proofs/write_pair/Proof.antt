@@ -1,6 +1,5 @@
 -- `write::write_pair` meets its contract: the three puts are side by side. Assumes nothing.
-use Prim.Native.Nat.{ℕ, _+_, _-_, _*_, _^_, _<_, _≤_}
-use mathlib.Core.Path.{_≡_, refl, sym, ap, _∙_}
+use Prim.Native.Nat.{_-_}
 use native.Mathlib.Omega.{arith}
 use Rattle.write.proofs.WriteLaws.{pair-written}
 use borrow.Author.Needs.{needs}

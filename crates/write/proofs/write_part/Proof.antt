@@ -1,9 +1,5 @@
 -- `write::write_part` meets its contract: each form of a part has its own function. Assumes nothing.
-use Prim.Native.Nat.{ℕ, _+_, _-_, _*_, _^_, _<_, _≤_}
-use mathlib.Core.Path.{_≡_, refl, sym, ap, _∙_}
-use native.Mathlib.Omega.{arith}
-use mathlib.Core.Bool.{Bool, true, false}
-use Rattle.part.specs.Like.{Like, join}
+use Prim.Native.Nat.{_-_}
 use Rattle.write.proofs.WriteLaws.{as-term, as-power, as-number, ask-term, ask-power, ask-number}
 use borrow.Author.Needs.{needs}
 use Rattle.write.proofs.write_part.Statement.{statement}

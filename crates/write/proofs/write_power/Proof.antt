@@ -1,11 +1,9 @@
 -- `write::write_power` meets its contract: an exponent 1 leaves the base, any other stands after it. Assumes nothing.
-use Prim.Native.Nat.{ℕ, _+_, _-_, _*_, _^_, _<_, _≤_}
-use mathlib.Core.Path.{_≡_, refl, sym, ap, _∙_}
+use Prim.Native.Nat.{_-_}
+use mathlib.Core.Path.{refl}
 use native.Mathlib.Omega.{arith}
-use mathlib.Core.Bool.{Bool, true, false}
-use mathlib.Core.List.{[]}
-use Rattle.paper.specs.Bytes.{signed}
-use Rattle.paper.specs.Tree.{Tree, integer, power, records}
+use mathlib.Core.Bool.{true}
+use Rattle.paper.specs.Tree.{power}
 use Rattle.paper.specs.Rules.{fromFactor}
 use Rattle.write.proofs.Encoded.{power-records}
 use Rattle.write.proofs.WriteLaws.{from-one, from-more, written-to, fits-as, power-written}

@@ -1,12 +1,11 @@
 -- `write::write_term` meets its contract: the rest is 1, a tree or a product without a member, and each has its own function. Assumes nothing.
-use Prim.Native.Nat.{ℕ, _+_, _-_, _*_, _^_, _<_, _≤_}
-use mathlib.Core.Path.{_≡_, refl, sym, ap, _∙_}
+use Prim.Native.Nat.{_-_}
+use mathlib.Core.Path.{sym, ap, _∙_}
 use native.Mathlib.Omega.{arith}
-use mathlib.Core.Bool.{Bool, true, false}
+use mathlib.Core.Bool.{Bool}
 use mathlib.Core.List.{[]}
-use lib.IntN.{pos}
 use Rattle.paper.specs.Bytes.{signed}
-use Rattle.paper.specs.Tree.{Tree, integer, records}
+use Rattle.paper.specs.Tree.{Tree, integer}
 use Rattle.paper.specs.Rules.{termOf, fromTerm}
 use Rattle.paper.proofs.EncodeLaws.{records-pos}
 use Rattle.write.specs.Written.{timed, WrittenIs, Fitting}

@@ -1,10 +1,10 @@
 -- `write::write_times` meets its contract: each test tells what the coefficient times the tree is. Assumes nothing.
-use Prim.Native.Nat.{ℕ, _+_, _-_, _*_, _^_, _<_, _≤_}
-use mathlib.Core.Path.{_≡_, refl, sym, ap, _∙_}
+use Prim.Native.Nat.{_-_}
+use mathlib.Core.Path.{refl, sym, ap, _∙_}
 use native.Mathlib.Omega.{arith}
-use mathlib.Core.Bool.{Bool, true, false}
+use mathlib.Core.Bool.{Bool, true}
 use Rattle.paper.specs.Bytes.{signed}
-use Rattle.paper.specs.Tree.{Tree, integer, product, records, toList, ofList}
+use Rattle.paper.specs.Tree.{Tree, integer, product, records}
 use Rattle.paper.specs.Rules.{times}
 use Rattle.paper.proofs.EncodeLaws.{records-pos}
 use Rattle.write.specs.Written.{timed}
@@ -16,7 +16,6 @@ use Rattle.write.proofs.WriteLaws.{written-to, fits-as, integer-written
 use Rattle.split.specs.Standing.{TreeIn}
 use mathlib.Core.List.{[]}
 use mathlib.Core.Path.{subst}
-use Rattle.part.specs.Part.{Sized}
 use borrow.Author.Needs.{needs}
 use Rattle.write.proofs.write_times.Statement.{statement}
 use Rattle.write.proofs.write_times.Tie as tie

@@ -1,8 +1,8 @@
 -- `write::write_without` meets its contract: what is left of the product is written, and the coefficient last. Assumes nothing.
-use Prim.Native.Nat.{ℕ, _+_, _-_, _*_, _^_, _<_, _≤_}
-use mathlib.Core.Path.{_≡_, refl, sym, ap, _∙_}
+use Prim.Native.Nat.{_+_, _-_}
+use mathlib.Core.Path.{_≡_, ap, _∙_}
 use native.Mathlib.Omega.{arith}
-use mathlib.Core.Bool.{Bool, true, false}
+use mathlib.Core.Bool.{true}
 use mathlib.Core.List.{_++_}
 use Rattle.paper.specs.Bytes.{signed}
 use Rattle.paper.specs.Tree.{Tree, product, ofList}

@@ -1,8 +1,6 @@
 -- `rules::add::combine_like_terms` meets its contract: at a sum it is the walk over its terms. Assumes nothing.
-use Prim.Native.Nat.{ℕ, _+_, _-_, _*_, _<_, _≤_}
-use mathlib.Core.Path.{_≡_, refl, sym, ap, _∙_, subst}
-use native.Mathlib.Omega.{arith}
-use mathlib.Core.Bool.{true, false}
+use Prim.Native.Nat.{_-_}
+use mathlib.Core.Path.{refl, sym, _∙_, subst}
 use Rattle.paper.specs.Rules as paper
 use Rattle.split.proofs.StandingLaws.{record-within}
 use Rattle.rules.specs.Tried.{Answers}

@@ -1,13 +1,12 @@
 -- `rules::combine::combine` meets its contract: the members are listed, walked over, and what comes out is put back. Assumes nothing.
-use Prim.Native.Nat.{ℕ, _+_, _-_, _*_, _<_, _≤_}
-use mathlib.Core.Path.{_≡_, refl, sym, ap, _∙_, subst}
+use Prim.Native.Nat.{ℕ, _+_, _-_}
+use mathlib.Core.Path.{ap, _∙_}
 use native.Mathlib.Omega.{arith}
-use mathlib.Core.Bool.{Bool}
 use mathlib.Core.List.{List, _++_}
-use lib.ListN.{length, drop}
 use Rattle.paper.specs.Tree.{toList}
 use Rattle.paper.specs.Table.{encode}
 use Rattle.part.specs.Like.{nodeOf}
+use Rattle.walk.specs.Walked.{cameOut}
 use Rattle.rules.proofs.Dropping.{held-length}
 use Rattle.rules.proofs.CombineLaws.{listable, walkable, after-walk, came-built, came-short, end-within}
 use borrow.Author.Needs.{needs}
@@ -61,8 +60,8 @@ put-back-requires c κs =
     let k = c .before .before .before .before .before .before .before .before .before .before .before .before .before .before .list-members .ensures f (listable (g .out .now) (g .work .now) (g .d) (g .p) f rest h) in
     let v = c .before .before .before .before .before .before .before .before .before .walk .ensures (toList f) (walkable (g .out .now) (g .work .now) (g .d) (g .p) f rest h _ _ k _ (c .before .before .before .before .before .before .before .before .before .before .before .before .before .before .before .before .count .ensures .0)) in
     let came = rw (c .before .before .before .walked .given .1) at (v .says) in (
-      (came .0, came-built (g .out .now) (g .work .now) (g .d) (g .p) f rest h _ _ k (g .terms) (came .0) _ _ _ (came .1) (c .before .before .before .before .before .before .before .before .before .walk .kept .0), came .1 .many),
-      came-short (g .out .now) (g .work .now) (g .d) (g .p) f rest h _ _ k (g .terms) (came .0) _ _ _ (came .1),
+      (cameOut (g .terms) (toList f), came-built (g .out .now) (g .work .now) (g .d) (g .p) f rest h _ _ k (g .terms) _ _ _ came (c .before .before .before .before .before .before .before .before .before .walk .kept .0), came .many),
+      came-short (g .out .now) (g .work .now) (g .d) (g .p) f rest h _ _ k (g .terms) _ _ _ came,
       omega (arith, end-within (g .out .now) (g .work .now) (g .d) (g .p) f rest h _ _ k, c .before .before .before .before .before .before .before .before .before .before .before .before .before .before .list-members .kept .0, c .before .before .before .before .before .before .before .before .before .walk .kept .1 .0),
     )
 
@@ -107,10 +106,11 @@ returns-3 c =
     let k = c .before .before .before .before .before .before .before .before .before .before .before .before .before .before .before .before .before .before .before .list-members .ensures f (listable (g .out .now) (g .work .now) (g .d) (g .p) f rest h) in
     let v = c .before .before .before .before .before .before .before .before .before .before .before .before .before .before .walk .ensures (toList f) (walkable (g .out .now) (g .work .now) (g .d) (g .p) f rest h _ _ k _ (c .before .before .before .before .before .before .before .before .before .before .before .before .before .before .before .before .before .before .before .before .before .count .ensures .0)) in
     let came = rw (c .before .before .before .before .before .before .before .before .walked .given .1) at (v .says) in
-    let b = c .before .before .before .before .put-back .ensures (came .0) (came-built (g .out .now) (g .work .now) (g .d) (g .p) f rest h _ _ k (g .terms) (came .0) _ _ _ (came .1) (c .before .before .before .before .before .before .before .before .before .before .before .before .before .before .walk .kept .0)) (came .1 .many) in (
-      nodeOf (g .terms) (came .0),
-      came .1 .applies,
-      b .stands ∙ ap (λ (x : List ℕ). encode (nodeOf (g .terms) (came .0)) ++ x) (after-walk (g .out .now) (g .work .now) (g .d) (g .p) f rest h _ _ k _ (v .pending)),
+    let m = cameOut (g .terms) (toList f) in
+    let b = c .before .before .before .before .put-back .ensures m (came-built (g .out .now) (g .work .now) (g .d) (g .p) f rest h _ _ k (g .terms) _ _ _ came (c .before .before .before .before .before .before .before .before .before .before .before .before .before .before .walk .kept .0)) (came .many) in (
+      nodeOf (g .terms) m,
+      came .applies,
+      b .stands ∙ ap (λ (x : List ℕ). encode (nodeOf (g .terms) m) ++ x) (after-walk (g .out .now) (g .work .now) (g .d) (g .p) f rest h _ _ k _ (v .pending)),
       b .done ∙ v .done,
     )
 

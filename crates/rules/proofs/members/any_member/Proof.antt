@@ -7,7 +7,7 @@ use native.Mathlib.Omega.{arith}
 use borrow.Author.Needs.{needs}
 use mathlib.Core.List.{List}
 use lib.IntN.{pos}
-use Rattle.paper.specs.Tree.{Forest, nil, cons, toList, records}
+use Rattle.paper.specs.Tree.{Forest, toList, records}
 use Rattle.paper.specs.Rules.{isThe, anyOf}
 use Rattle.split.specs.Standing.{TreesIn, SomeTree}
 use Rattle.rules.specs.Tried.{MembersIn}

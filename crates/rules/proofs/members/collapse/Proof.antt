@@ -1,6 +1,6 @@
 -- `rules::members::collapse` meets its contract: with no member it writes the integer, with one nothing, with more the node's record, and
 -- so the tree of the members stands. Assumes nothing.
-use mathlib.Core.Path.{sym, ap, _∙_}
+use mathlib.Core.Path.{sym}
 use native.Mathlib.Omega.{arith}
 use borrow.Author.Needs.{needs}
 use Rattle.rules.proofs.Puts.{collapse-none, collapse-one, collapse-more}

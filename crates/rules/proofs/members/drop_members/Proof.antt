@@ -1,6 +1,6 @@
 -- `rules::members::drop_members` meets its contract. The loop's invariant: what is kept of the members passed, and what is kept of those
 -- left, is what is kept of all; the first stands in `out`. The measure is how many are left. Assumes nothing.
-use Prim.Native.Nat.{ℕ, _+_, _-_, _*_, _<_, _≤_}
+use Prim.Native.Nat.{ℕ, _+_, _-_}
 use mathlib.Core.Path.{_≡_, refl, sym, ap, _∙_}
 use mathlib.Core.Bool.{Bool, true, false, not}
 use mathlib.Core.Logic.{⊎-elim}

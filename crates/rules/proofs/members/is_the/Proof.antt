@@ -1,6 +1,6 @@
 -- `rules::members::is_the` meets its contract: the tree there is an integer where its record is of kind 0, and which one its bits tell.
 -- Assumes nothing.
-use mathlib.Core.Path.{sym, ap, _∙_}
+use mathlib.Core.Path.{ap, _∙_}
 use native.Mathlib.Omega.{arith}
 use lib.Dec.{eqb}
 use Rattle.split.proofs.StandingLaws.{record-within}

@@ -1,11 +1,11 @@
 -- `rules::multiply::multiply_one` meets its contract: a product with a member 1 loses all such. Assumes nothing.
-use Prim.Native.Nat.{ℕ, _+_, _-_, _*_, _<_, _≤_}
-use mathlib.Core.Path.{_≡_, refl, sym, ap, _∙_, subst}
+use Prim.Native.Nat.{_-_}
+use mathlib.Core.Path.{refl, sym, _∙_}
 use native.Mathlib.Omega.{arith}
-use mathlib.Core.Bool.{true, false}
+use mathlib.Core.Bool.{false}
 use lib.IntN.{pos}
-use Rattle.paper.specs.Tree.{integer, toList}
-use Rattle.paper.specs.Rules.{anyOf, isThe, dropAll}
+use Rattle.paper.specs.Tree.{toList}
+use Rattle.paper.specs.Rules.{isThe, dropAll}
 use Rattle.part.specs.Like.{nodeOf}
 use Rattle.split.proofs.StandingLaws.{record-within}
 use Rattle.rules.proofs.Dropping.{held-members}

@@ -1,12 +1,9 @@
 -- `rules::multiply::multiply_zero` meets its contract: a product with a member 0 is 0, which ends where the product ended. Assumes nothing.
-use Prim.Native.Nat.{ℕ, _+_, _-_, _*_, _<_, _≤_}
-use mathlib.Core.Path.{_≡_, refl, sym, ap, _∙_, subst}
+use Prim.Native.Nat.{_+_, _-_, _*_}
+use mathlib.Core.Path.{_≡_, refl, sym, ap, _∙_}
 use native.Mathlib.Omega.{arith}
-use mathlib.Core.Bool.{true, false}
 use lib.IntN.{pos}
-use Rattle.paper.specs.Tree.{integer, toList}
-use Rattle.paper.specs.Rules.{anyOf, isThe, dropAll}
-use Rattle.part.specs.Like.{nodeOf}
+use Rattle.paper.specs.Tree.{integer}
 use Rattle.split.proofs.StandingLaws.{record-within}
 use Rattle.rules.proofs.Dropping.{held-members}
 use Rattle.rules.proofs.RuleLaws.{ready-tree, ready-length, ready-after, is-product, multiply-zero-at, multiply-zero-other, if-true, if-false, zero-put}

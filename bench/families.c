@@ -1,0 +1,143 @@
+/* families NAME WEIGHT: the largest tree of a family that weighs at most WEIGHT, as a line of hexadecimal digits; the family `site` is
+   200 formulas of weight 20 to 150, whatever the WEIGHT. families list: the names. families deepest: the deepest tables there are. */
+#include "../tests/c/text.h"
+#include "../tests/c/tables.h"
+
+static uint8_t table[2 * 16 * TABLE_RECORDS];
+
+static void symbol(unsigned i) { put_record(1, 0, i % 256); }
+static void integer(uint64_t n) { put_record(0, 0, n); }
+
+/* A leaf for each i: a symbol, or beyond 256 of them a power of one. */
+static void leaf(unsigned i) {
+    if (i < 256) { symbol(i); return; }
+    put_record(4, 0, 0);
+    symbol(i);
+    integer(1 + i / 256);
+}
+
+static void like_terms(unsigned n, unsigned rests) { /* 2*a + 3*b + .. */
+    put_record(2, n, 0);
+    for (unsigned i = 0; i < n; i++) { put_record(3, 2, 0); integer(2 + i); symbol(i % rests); }
+}
+static void like_one(unsigned n) { like_terms(n, 1); }
+static void like_sixteen(unsigned n) { like_terms(n, 16); }
+
+static void unlike(unsigned n) { /* 3*a^2 + 3*b^2 + .. */
+    put_record(2, n, 0);
+    for (unsigned i = 0; i < n; i++) { put_record(3, 2, 0); integer(3); put_record(4, 0, 0); symbol(i); integer(2 + i / 256); }
+}
+
+static void unlike_long(unsigned n) { /* products of six symbols in a row */
+    put_record(2, n, 0);
+    for (unsigned i = 0; i < n; i++) { put_record(3, 6, 0); for (unsigned k = 0; k < 6; k++) symbol(i + k); }
+}
+
+static void powers_sixteen(unsigned n) { /* a^2 * b^3 * .. */
+    put_record(3, n, 0);
+    for (unsigned i = 0; i < n; i++) { put_record(4, 0, 0); symbol(i % 16); integer(2 + i % 3); }
+}
+
+static void powers_unlike(unsigned n) { /* (a+1)^2 * (b+1)^2 * .. */
+    put_record(3, n, 0);
+    for (unsigned i = 0; i < n; i++) { put_record(4, 0, 0); put_record(2, 2, 0); symbol(i); integer(1 + i / 256); integer(2); }
+}
+
+static void nest(unsigned n) { /* a + b*(a + b*(.. */
+    for (unsigned i = 0; i < n; i++) { put_record(2, 2, 0); symbol(0); put_record(3, 2, 0); symbol(1); }
+}
+static void nest_still(unsigned n) { nest(n); symbol(2); }
+static void nest_changes(unsigned n) { nest(n); put_record(2, 2, 0); symbol(2); symbol(2); }
+
+static void powers_nested(unsigned n) { /* ((a^2)^2)^2 .. */
+    for (unsigned i = 0; i < n; i++) put_record(4, 0, 0);
+    symbol(0);
+    for (unsigned i = 0; i < n; i++) integer(2);
+}
+
+static void chain_opens(unsigned n) { /* a + (b + (c + .. */
+    for (unsigned i = 0; i + 1 < n; i++) { put_record(2, 2, 0); leaf(i); }
+    leaf(n - 1);
+}
+
+static void split_sum(unsigned from, unsigned n) {
+    if (n == 1) { leaf(from); return; }
+    put_record(2, 2, 0);
+    split_sum(from, n / 2);
+    split_sum(from + n / 2, n - n / 2);
+}
+static void tree_opens(unsigned n) { split_sum(0, n); }
+
+static const struct { const char *name; void (*make)(unsigned); } families[] = {
+    {"like-terms-1", like_one}, {"like-terms-16", like_sixteen}, {"unlike-terms", unlike}, {"unlike-products", unlike_long},
+    {"powers-16", powers_sixteen}, {"powers-unlike", powers_unlike}, {"nest-still", nest_still}, {"nest-changes", nest_changes},
+    {"powers-nested", powers_nested}, {"chain-opens", chain_opens}, {"tree-opens", tree_opens},
+};
+#define FAMILIES (sizeof families / sizeof families[0])
+
+static void put_line(void) {
+    put_hex(table, 16 * making.records);
+    putchar('\n');
+}
+
+static void site(void) {
+    for (uint64_t i = 0, formulas = 0; formulas < 200; i++) {
+        random_state = 200 + i * 0x9E3779B97F4A7C15u;
+        making.records = making.part_count = 0;
+        making.symbols = 12;
+        making.wild = -1;
+        making.repeat = 6;
+        making.members = 5;
+        random_tree(20 + below(70), 5, 0);
+        uint64_t w = weight_of_records(table, making.records);
+        if (w < 20 || w > 150) continue;
+        put_line();
+        formulas++;
+    }
+}
+
+/* As deep as 3,072 records go: nested powers, sums and products. */
+static void deepest(void) {
+    for (unsigned kind = 2; kind <= 4; kind++) {
+        making.records = 0;
+        for (unsigned i = 0; i < 1535; i++) {
+            put_record(kind, kind == 4 ? 0 : 2, 0);
+            if (kind != 4) integer(kind == 2 ? 2 : 1); /* the second member goes down */
+        }
+        integer(2);
+        if (kind == 4) for (unsigned i = 0; i < 1535; i++) integer(2);
+        put_line();
+    }
+    making.records = 0; /* a sum in a product in a sum, where no rule is at work until the bottom */
+    nest(383);
+    put_record(2, 2, 0);
+    symbol(2);
+    integer(3);
+    put_line();
+}
+
+int main(int argc, char **argv) {
+    making.at = table;
+    if (argc == 2 && strcmp(argv[1], "list") == 0) {
+        for (size_t i = 0; i < FAMILIES; i++) printf("%s\n", families[i].name);
+        return 0;
+    }
+    if (argc == 2 && strcmp(argv[1], "deepest") == 0) { deepest(); return 0; }
+    if (argc >= 2 && strcmp(argv[1], "site") == 0) { site(); return 0; }
+    for (size_t i = 0; argc == 3 && i < FAMILIES; i++) {
+        if (strcmp(argv[1], families[i].name) != 0) continue;
+        uint64_t most = decimal(argv[2]);
+        unsigned n = 2;
+        do {
+            making.records = 0;
+            families[i].make(n++);
+        } while (most <= 3072 && weight_of_records(table, making.records) <= most);
+        if (n == 3) { printf("no tree of this family is so light\n"); return 2; }
+        making.records = 0;
+        families[i].make(n - 2);
+        put_line();
+        return 0;
+    }
+    printf("usage: families NAME WEIGHT | site | deepest | list\n");
+    return 2;
+}

@@ -1,0 +1,62 @@
+-- Two answers of `list_members`, and of `walk`, that meet their contracts as the check reads them from the source, are the same; so are the
+-- entries, and what is pending, done and built. Of the other bytes of `out`, and of the entries after a walk, nothing is said.
+-- Assumes nothing.
+use Prim.Native.Nat.{ℕ, _*_}
+use mathlib.Core.Path.{_≡_, refl, sym, ap, _∙_}
+use mathlib.Core.Bool.{Bool}
+use mathlib.Core.List.{List}
+use native.Mathlib.Omega.{arith}
+use borrow.Fn.Kinds.{Dens, endedOf}
+use contract.Lifetimes.{Lfts}
+use denote.Triple.Clauses.{AtExit}
+use lib.ListN.{take, drop}
+use Rattle.paper.specs.Tree.{Tree, Forest}
+use Rattle.walk.specs.Listed.{Listable}
+use Rattle.walk.specs.Walked.{Walkable, Says}
+use Rattle.walk.specs.declared.Walked.{Walked}
+use Rattle.walk.specs.declared.Walked.the-variants.{Idle, Over, Done}
+use Rattle.walk.proofs.list_members.Reads as list-reads
+use Rattle.walk.proofs.list_members.Kinds as list-kinds
+use Rattle.walk.proofs.walk.Reads as reads
+use Rattle.walk.proofs.walk.Kinds as kinds
+
+pub list-members-once : (κs : Lfts 1) (a : Dens κs list-kinds.ps) (f : Forest) (r r' : ℕ) (x x' : AtExit (endedOf 1 list-kinds.ps list-kinds.r) κs)
+    → Listable (a .0 .now) (a .1 .0) f → list-reads.Post κs a r x → list-reads.Post κs a r' x' → (r ≡ r') × (x .0 .now ≡ x' .0 .now)
+list-members-once κs a f r r' x x' h p p' =
+    let u = p f h in
+    let v = p' f h in
+    (u .end ∙ sym (v .end), u .exact ∙ sym (v .exact))
+
+-- what is built, where members came out
+abbrev BuiltAlike : (o o' : List ℕ) → Walked → Type 0
+BuiltAlike o o' Idle = Unit {0}
+BuiltAlike o o' Over = Unit {0}
+BuiltAlike o o' (Done n e) = take (e * 16) o ≡ take (e * 16) o'
+
+module _ (b : Bool) (l : List Tree) (s o o' : List ℕ) (d : ℕ) where
+  says-once : (r r' : Walked) → Says b l s o d r → Says b l s o' d r' → (r ≡ r') × BuiltAlike o o' r
+  says-once Idle Idle h h' = (refl, tt)
+  says-once Idle Over h h' = absurd (let z : _≡_ {A = ℕ} 0 1 = cc in omega arith)
+  says-once Idle (Done n e) h h' = let a = h' .applies in absurd (let z : _≡_ {A = ℕ} 0 1 = cc in omega arith)
+  says-once Over Idle h h' = absurd (let z : _≡_ {A = ℕ} 0 1 = cc in omega arith)
+  says-once Over Over h h' = (refl, tt)
+  says-once Over (Done n e) h h' = let a = h' .applies in absurd (let z : _≡_ {A = ℕ} 0 1 = cc in omega arith)
+  says-once (Done n e) Idle h h' = let a = h .applies in absurd (let z : _≡_ {A = ℕ} 0 1 = cc in omega arith)
+  says-once (Done n e) Over h h' = let a = h .applies in absurd (let z : _≡_ {A = ℕ} 0 1 = cc in omega arith)
+  says-once (Done n e) (Done n' e') h h' =
+      let many : n ≡ n' = sym (h .many) ∙ h' .many in
+      let end : e ≡ e' = h .end ∙ sym (h' .end) in
+      (cc, h .built ∙ sym (h' .built) ∙ ap (λ k. take (k * 16) o') (sym end))
+
+pub walk-once : (κs : Lfts 2) (a : Dens κs kinds.ps) (l : List Tree) (r r' : Walked) (x x' : AtExit (endedOf 2 kinds.ps kinds.r) κs)
+    → Walkable (a .0 .now) (a .1 .0 .now) (a .1 .1 .0) (a .1 .1 .1 .0) (a .1 .1 .1 .1 .0) l → reads.Post κs a r x → reads.Post κs a r' x'
+    → ((r ≡ r') × BuiltAlike (x .0 .now) (x' .0 .now) r)
+    × (drop (a .1 .1 .1 .0 * 16) (x .1 .0 .now) ≡ drop (a .1 .1 .1 .0 * 16) (x' .1 .0 .now))
+    × (take (a .1 .1 .0 * 16) (x .0 .now) ≡ take (a .1 .1 .0 * 16) (x' .0 .now))
+walk-once κs a l r r' x x' h p p' =
+    let u = p l h in
+    let v = p' l h in (
+      says-once (a .1 .1 .1 .1 .1 .0) l (a .0 .now) (x .0 .now) (x' .0 .now) (a .1 .1 .0) r r' (u .says) (v .says),
+      u .pending ∙ sym (v .pending),
+      u .done ∙ sym (v .done),
+    )

@@ -1,0 +1,177 @@
+/* What the controller's loader does: reads the table of a site formula from a file, has it judged and shortened, and evaluates it.
+
+     loader FILE [SYMBOL=NUMBER ...]
+
+   It writes the formula, the shortened one, the steps by name, and the value of both with the symbols named set and all others 0.
+   Symbols 0 to 25 are a to z, the others s26 to s255. What goes wrong goes to standard error in words; the exit code is then 1.
+
+   All memory is lent from here; the library has none of its own. No two areas overlap. */
+#include "../include/simmergate.h"
+#include <errno.h>
+#include <stdio.h>
+#include <stdlib.h>
+#include <string.h>
+
+#define MOST_BYTES 49152 /* of a table; its weight is then at most 3,072 */
+
+static uint8_t table[MOST_BYTES + 1];                  /* one byte more, to see that a file is too long */
+static uint8_t out[MOST_BYTES], steps[3072], work[65536]; /* enough for every table that is accepted */
+static uint8_t registers[2048];
+
+/* Number i of an answer. */
+static uint64_t number(const uint8_t *answer, int i) {
+    uint64_t x = 0;
+    for (int k = 7; k >= 0; k--) x = x << 8 | answer[8 * i + k];
+    return x;
+}
+
+/* ---- Words for a person ---- */
+
+static int refused(const char *file, size_t length, uint32_t why, uint64_t place) {
+    unsigned long long at = place;
+    fflush(stdout);
+    fprintf(stderr, "loader: %s: refused %u at %llu: ", file, why, at);
+    switch (why) {
+    case 1:
+        if (length == 0) fprintf(stderr, "the file is empty\n");
+        else if (length % 16 != 0 && length <= MOST_BYTES) fprintf(stderr, "%zu bytes are no whole number of records of 16 bytes\n", length);
+        else fprintf(stderr, "it is longer than %d bytes\n", MOST_BYTES);
+        break;
+    case 2: fprintf(stderr, "record %llu has an unknown kind, a byte that must be zero, or fewer than two members\n", at); break;
+    case 3: fprintf(stderr, "its weight is over 3,072\n"); break;
+    case 4:
+        if (place == length / 16) fprintf(stderr, "the records end before the formula does\n");
+        else fprintf(stderr, "the formula ends before record %llu\n", at);
+        break;
+    case 5: fprintf(stderr, "record %llu is an exponent and no integer of at least 1\n", at); break;
+    case 6: fprintf(stderr, "an area that this program lends is too small\n"); break;
+    case 7: fprintf(stderr, "after %llu steps an integer leaves the signed 64-bit range\n", at); break;
+    default: fprintf(stderr, "a refusal that this program does not know\n");
+    }
+    return 1;
+}
+
+static const char *step_name(uint8_t step) {
+    switch (step) {
+    case 1: return "add-zero";
+    case 2: return "like-terms";
+    case 3: return "multiply-zero";
+    case 4: return "multiply-one";
+    case 6: return "like-factors";
+    default: return "a step that this program does not know";
+    }
+}
+
+static void print_symbol(unsigned symbol) {
+    if (symbol < 26) putchar('a' + (int)symbol);
+    else printf("s%u", symbol);
+}
+
+/* Prints the formula at `record`, which has been accepted; the answer is the first record after it. */
+static const uint8_t *print_formula(const uint8_t *record, int inside) {
+    const uint8_t *next = record + 16;
+    unsigned kind = record[0], members = kind == 4 ? 2 : record[2] + 256u * record[3];
+    if (kind == 0) {
+        long long n = (long long)number(record, 1);
+        printf(inside && n < 0 ? "(%lld)" : "%lld", n);
+        return next;
+    }
+    if (kind == 1) {
+        print_symbol(record[8]);
+        return next;
+    }
+    if (inside) putchar('(');
+    for (unsigned i = 0; i < members; i++) {
+        if (i > 0) fputs(kind == 2 ? " + " : kind == 3 ? "*" : "^", stdout);
+        next = print_formula(next, !(kind == 2 && (next[0] == 3 || next[0] == 4)) && !(kind == 3 && next[0] == 4));
+    }
+    if (inside) putchar(')');
+    return next;
+}
+
+/* ---- The three things that a loader does ---- */
+
+/* Reads the file into `table`; its length, or -1 after a message. */
+static long read_table(const char *file) {
+    FILE *f = fopen(file, "rb");
+    if (f == NULL) {
+        fprintf(stderr, "loader: %s: %s\n", file, strerror(errno));
+        return -1;
+    }
+    long whole = fseek(f, 0, SEEK_END) == 0 ? ftell(f) : -1;
+    if (whole >= 0) fseek(f, 0, SEEK_SET);
+    size_t n = fread(table, 1, sizeof table, f);
+    if (ferror(f)) {
+        fprintf(stderr, "loader: %s: %s\n", file, strerror(errno));
+        fclose(f);
+        return -1;
+    }
+    fclose(f);
+    if (whole > (long)n && n < sizeof table) {
+        fprintf(stderr, "loader: %s: short read: it has %ld bytes, and %zu came\n", file, whole, n);
+        return -1;
+    }
+    return (long)n;
+}
+
+/* Sets the register that `text`, SYMBOL=NUMBER, names; 0 after a message. */
+static int set_register(const char *text) {
+    char *end;
+    const char *equals = strchr(text, '=');
+    long symbol = -1;
+    if (equals == text + 1 && *text >= 'a' && *text <= 'z') symbol = *text - 'a';
+    else if (equals != NULL && *text == 's' && equals > text + 1) {
+        symbol = strtol(text + 1, &end, 10);
+        if (end != equals || symbol > 255) symbol = -1;
+    }
+    if (symbol < 0 || equals[1] == 0) {
+        fprintf(stderr, "loader: not SYMBOL=NUMBER with a symbol a to z or s0 to s255: %s\n", text);
+        return 0;
+    }
+    errno = 0;
+    uint64_t value = equals[1] == '-' ? (uint64_t)strtoll(equals + 1, &end, 10) : strtoull(equals + 1, &end, 10);
+    if (*end != 0 || errno != 0) {
+        fprintf(stderr, "loader: not a number of 64 bits: %s\n", equals + 1);
+        return 0;
+    }
+    for (int i = 0; i < 8; i++) registers[8 * symbol + i] = (uint8_t)(value >> 8 * i);
+    return 1;
+}
+
+int main(int argc, char **argv) {
+    uint8_t answer[56], before[24], after[24];
+    if (argc < 2) {
+        fprintf(stderr, "usage: loader FILE [SYMBOL=NUMBER ...]\n");
+        return 2;
+    }
+    for (int i = 2; i < argc; i++) {
+        if (!set_register(argv[i])) return 1;
+    }
+    long length = read_table(argv[1]);
+    if (length < 0) return 1;
+    size_t n = (size_t)length;
+
+    uint32_t why = simmergate_value(table, n, registers, sizeof registers, before, sizeof before);
+    if (why != 0) return refused(argv[1], n, why, number(before, 1));
+    fputs("formula    ", stdout);
+    print_formula(table, 0);
+    putchar('\n');
+
+    why = simmergate_simplify(table, n, out, sizeof out, steps, sizeof steps, work, sizeof work, answer, sizeof answer);
+    if (why != 0) return refused(argv[1], n, why, number(answer, 1));
+    size_t shortened = 16 * (size_t)number(answer, 2);
+    fputs("shortened  ", stdout);
+    print_formula(out, 0);
+    printf("\nweight     %llu to %llu\n", (unsigned long long)number(answer, 5), (unsigned long long)number(answer, 6));
+    printf("opened     %llu\n", (unsigned long long)number(answer, 4));
+    for (uint64_t i = 0; i < number(answer, 3); i++) printf("step %-5llu %s\n", (unsigned long long)i + 1, step_name(steps[i]));
+
+    why = simmergate_value(out, shortened, registers, sizeof registers, after, sizeof after);
+    if (why != 0) return refused(argv[1], n, why, number(after, 1));
+    printf("value      %lld\n", (long long)number(after, 2));
+    if (number(before, 2) != number(after, 2)) {
+        fprintf(stderr, "loader: %s: the shortened formula has another value: %lld before\n", argv[1], (long long)number(before, 2));
+        return 1;
+    }
+    return 0;
+}

@@ -1,0 +1,279 @@
+/* random SEED COUNT [FROM]: the calls on COUNT random tables beside a checker and an evaluator (own.c) and an equality test in plain
+   C that share nothing with the port. Of five tables one is damaged. Compared: every number of every answer, but for the simplifier's own; its
+   result by what must hold of it: a good table of the same value under random registers, of the weight that was answered, lighter by at
+   least a unit for each step and opening, and simplified again it is itself, with no step and no opening. Every lent area is guarded. */
+#include "../../include/simmergate.h"
+#include "lent.h"
+#include "own.h"
+#include "text.h"
+#include "tables.h"
+
+/* ---- Judged by the plain reading of own.c, and equality in plain C. ---- */
+
+struct judged { uint64_t number, place, weight; };
+
+static struct judged judge(const uint8_t *t, size_t bytes) {
+    struct verdict v = own_check(t, bytes);
+    return (struct judged){v.number, v.place, v.number == 0 ? own_weight(t, bytes) : 0};
+}
+
+/* How many members a record has. */
+static uint64_t members(const uint8_t *r) { return r[0] < 2 ? 0 : r[0] == 4 ? 2 : (uint64_t)r[2] + 256 * (uint64_t)r[3]; }
+
+/* Equality by sorting: two trees with all members of sums and products in order are equal when they are the same. */
+struct tree { uint8_t kind; uint64_t content; size_t count; struct tree **members; };
+static struct tree trees[2 * TABLE_RECORDS], *links[2 * TABLE_RECORDS];
+static size_t trees_used, links_used;
+
+static int order(const struct tree *a, const struct tree *b) {
+    if (a->kind != b->kind) return a->kind < b->kind ? -1 : 1;
+    if (a->content != b->content) return a->content < b->content ? -1 : 1;
+    if (a->count != b->count) return a->count < b->count ? -1 : 1;
+    for (size_t i = 0; i < a->count; i++) {
+        int o = order(a->members[i], b->members[i]);
+        if (o != 0) return o;
+    }
+    return 0;
+}
+
+static int order_links(const void *a, const void *b) { return order(*(struct tree *const *)a, *(struct tree *const *)b); }
+
+static struct tree *sorted(const uint8_t **t) {
+    const uint8_t *r = *t;
+    struct tree *x = &trees[trees_used++];
+    x->kind = r[0];
+    x->content = r[0] < 2 ? own_number(r + 8) : 0;
+    x->count = (size_t)members(r);
+    x->members = &links[links_used];
+    links_used += x->count;
+    *t += 16;
+    for (size_t i = 0; i < x->count; i++) x->members[i] = sorted(t);
+    if (x->kind == 2 || x->kind == 3) qsort(x->members, x->count, sizeof x->members[0], order_links);
+    return x;
+}
+
+static int equal_trees(const uint8_t *a, const uint8_t *b) {
+    trees_used = links_used = 0;
+    struct tree *x = sorted(&a), *y = sorted(&b);
+    return order(x, y) == 0;
+}
+
+/* ---- Tables to try. ---- */
+
+static uint8_t table[65536], other[65536];
+static size_t length, other_length;
+static uint64_t seed, at_table;
+
+static void fail(const char *what) {
+    printf("random: %s: table %llu of seed %llu (again by: random %llu 1 %llu), %zu bytes: ", what, (unsigned long long)at_table,
+           (unsigned long long)seed, (unsigned long long)seed, (unsigned long long)at_table, length);
+    if (length <= 49152) put_hex(table, length);
+    printf("\n");
+    exit(1);
+}
+
+/* Copies the tree at *from to *to with the members of its sums and products in a random order. */
+static void shuffled(const uint8_t **from, uint8_t **to) {
+    const uint8_t *r = *from;
+    size_t n = (size_t)members(r);
+    memcpy(*to, r, 16);
+    *from += 16;
+    *to += 16;
+    if (r[0] < 2) return;
+    uint8_t *first = *to;
+    for (size_t i = 0; i < n; i++) {
+        uint8_t *start = *to;
+        shuffled(from, to);
+        /* the new member trades places with all that is before it, or with nothing */
+        if (r[0] != 4 && i > 0 && chance(2)) {
+            static uint8_t held[65536];
+            size_t before = (size_t)(start - first), mine = (size_t)(*to - start);
+            memcpy(held, start, mine);
+            memmove(first + mine, first, before);
+            memcpy(first, held, mine);
+        }
+    }
+}
+
+/* One damage, of those that a wire, a disk or a wrong program do. */
+static void damage(uint8_t *t, size_t *n) {
+    size_t records = *n / 16;
+    uint8_t *r = t + 16 * below(records);
+    switch (below(12)) {
+    case 0: t[below(*n)] ^= (uint8_t)(1 << below(8)); break;
+    case 1: t[below(*n)] = (uint8_t)any(); break;
+    case 2: *n = below(*n + 1); break;
+    case 3: *n = 16 * below(records + 1); break;
+    case 4: memmove(r + 16, r, (size_t)(t + *n - r)); *n += 16; break;
+    case 5: memmove(r, r + 16, (size_t)(t + *n - r - 16)); *n -= 16; break;
+    case 6: r[0] = (uint8_t)below(6); break;
+    case 7: r[2] = (uint8_t)below(4); break;
+    case 8: if (r[0] == 0) { memset(r + 8, 0, 8); if (chance(2)) r[15] = 0x80; } break;
+    case 9: memset(r, 0, 16); r[0] = 4; break;
+    case 10: memset(r, 0, 16); r[0] = 1; r[8] = (uint8_t)any(); break;
+    default: /* longer than any table, or heavier */
+        if (chance(8)) { *n = 49152 + below(40); memset(t, 0, *n); }
+        else if (chance(4)) { *n = 16 * (1 + below(3072)); memset(t, 0, *n); for (size_t i = 0; i < *n; i += 16) t[i] = 1; }
+        else if (chance(4)) { *n = 49152 - 16 * below(2); memset(t, 0, *n); for (size_t i = 0; i < *n; i += 16) t[i] = 4; }
+        else r[1 + below(15)] = 1;
+    }
+}
+
+/* ---- The calls. ---- */
+
+static struct lent lent_table = {.name = "table"}, lent_other = {.name = "other table"}, lent_registers = {.name = "registers"},
+                   lent_out = {.name = "out"}, lent_steps = {.name = "steps"}, lent_work = {.name = "work"}, lent_answer = {.name = "answer"};
+static uint64_t counts[8], steps_seen, openings_seen, equal_seen, unequal_seen, calls;
+
+/* A size for an area that must have `need` bytes: mostly that, at times more, at times too few. */
+static size_t some_size(size_t need) { return chance(100) && need > 0 ? (size_t)below(need) : chance(3) ? need + (size_t)below(300) : need; }
+
+static void answered(uint32_t number, const uint64_t *wanted, size_t count, const char *what) {
+    calls++;
+    if (lent_answer.length < 8 * count) {
+        if (number != 6 || !untouched(&lent_answer)) fail(what);
+        return;
+    }
+    if (number != wanted[0] || !holds(&lent_answer, numbers(wanted, count), 8 * count, 8 * count)) fail(what);
+}
+
+static const uint8_t *lend_bytes(struct lent *area, const uint8_t *bytes, size_t n) { return memcpy(lend(area, n), bytes, n); }
+
+static void try_check_and_wown_number(struct judged v) {
+    size_t n = some_size(16);
+    uint8_t *a = lend(&lent_answer, n);
+    answered(simmergate_check(lend_bytes(&lent_table, table, length), length, a, n), (uint64_t[]){v.number, v.place}, 2, "check");
+    n = some_size(24);
+    a = lend(&lent_answer, n);
+    answered(simmergate_weight(lend_bytes(&lent_table, table, length), length, a, n), (uint64_t[]){v.number, v.place, v.weight}, 3, "weight");
+    if (!holds(&lent_table, table, length, length)) fail("check or weight: the table changed");
+}
+
+static void random_registers(uint64_t *registers) {
+    int shape = (int)below(4);
+    for (int i = 0; i < 256; i++) registers[i] = shape == 0 ? below(4) : shape == 1 ? any() << below(64) : any();
+}
+
+static void try_value(struct judged v, const uint8_t *t, size_t n) {
+    uint64_t registers[256];
+    static uint8_t bytes[4096];
+    random_registers(registers);
+    for (size_t i = 0; i < 2048; i++) bytes[i] = (uint8_t)(registers[i / 8] >> 8 * (i % 8));
+    size_t lent = chance(15) ? (size_t)below(4096) : 2048, room = some_size(24);
+    uint64_t wanted[3] = {v.number, v.place, 0};
+    if (v.number == 0 && lent != 2048) wanted[0] = 6;
+    if (wanted[0] == 0) wanted[2] = own_value(t, registers);
+    uint8_t *a = lend(&lent_answer, room);
+    const uint8_t *r = lend_bytes(&lent_registers, bytes, lent), *lent_t = lend_bytes(&lent_table, t, n);
+    answered(simmergate_value(lent_t, n, r, lent, a, room), wanted, 3, "value");
+    if (!holds(&lent_table, t, n, n) || !holds(&lent_registers, bytes, lent, lent)) fail("value: the table or the registers changed");
+}
+
+static void try_equal(struct judged v) {
+    struct judged w = judge(other, other_length);
+    uint64_t wanted[4] = {0, 0, 0, 0};
+    if (v.number != 0) { wanted[0] = v.number; wanted[1] = v.place; wanted[2] = 1; }
+    else if (w.number != 0) { wanted[0] = w.number; wanted[1] = w.place; wanted[2] = 2; }
+    else {
+        wanted[3] = (uint64_t)equal_trees(table, other);
+        if (wanted[3] == 1) equal_seen++;
+        else unequal_seen++;
+    }
+    size_t room = some_size(32);
+    uint8_t *a = lend(&lent_answer, room);
+    const uint8_t *s = lend_bytes(&lent_table, table, length), *t = lend_bytes(&lent_other, other, other_length);
+    answered(simmergate_equal(s, length, t, other_length, a, room), wanted, 4, "equal");
+    if (!holds(&lent_table, table, length, length) || !holds(&lent_other, other, other_length, other_length)) fail("equal: a table changed");
+}
+
+/* What an accepted call left: `records` records in out, which are no less than the answer says. */
+static void try_result(struct judged v, const uint64_t *said, const uint8_t *out, const uint8_t *steps) {
+    static uint8_t result[49152], again[49152], again_steps[3072], again_work[65536], again_answer[56];
+    uint64_t records = said[2], given = said[3], opened = said[4];
+    if (records == 0 || records > v.weight || given > v.weight || said[1] != 0) fail("simplify: impossible counts");
+    memcpy(result, out, 16 * records);
+    if (!holds(&lent_out, out, 16 * records, 16 * v.weight)) fail("simplify: out past the records is not zero, or changed past its stretch");
+    if (!holds(&lent_steps, steps, given, v.weight)) fail("simplify: steps past the steps is not zero, or changed past its stretch");
+    for (uint64_t i = 0; i < given; i++) {
+        if (steps[i] < 1 || steps[i] > 6 || steps[i] == 5) fail("simplify: no such step");
+    }
+    struct judged after = judge(result, 16 * records);
+    if (after.number != 0) fail("simplify: the result is no good table");
+    if (said[5] != v.weight || said[6] != after.weight) fail("simplify: the weights are others");
+    if (after.weight + given + opened > v.weight) fail("simplify: a step or an opening made nothing lighter");
+    for (int i = 0; i < 2; i++) {
+        uint64_t registers[256];
+        random_registers(registers);
+        if (own_value(table, registers) != own_value(result, registers)) fail("simplify: the value is another one");
+    }
+    try_value(after, result, 16 * records);
+    uint32_t r = simmergate_simplify(result, 16 * records, again, sizeof again, again_steps, sizeof again_steps, again_work, sizeof again_work,
+                                     again_answer, sizeof again_answer);
+    calls++;
+    uint64_t wanted[7] = {0, 0, records, 0, 0, after.weight, after.weight};
+    if (r != 0 || memcmp(again_answer, numbers(wanted, 7), 56) != 0 || memcmp(again, result, 16 * records) != 0)
+        fail("simplify: the result simplified again is not itself");
+    steps_seen += given;
+    openings_seen += opened;
+}
+
+static void try_simplify(struct judged v) {
+    size_t w = v.number == 0 ? (size_t)v.weight : (size_t)below(50), room = some_size(56);
+    size_t out_size = some_size(16 * w), steps_size = some_size(w), work_size = some_size(65536);
+    const uint8_t *t = lend_bytes(&lent_table, table, length);
+    uint8_t *o = lend(&lent_out, out_size), *s = lend(&lent_steps, steps_size), *k = lend(&lent_work, work_size), *a = lend(&lent_answer, room);
+    uint32_t number = simmergate_simplify(t, length, o, out_size, s, steps_size, k, work_size, a, room);
+    if (!holds(&lent_table, table, length, length)) fail("simplify: the table changed");
+    if (v.number == 0 && (out_size < 16 * w || steps_size < w || work_size < 65536)) v.number = 6;
+    if (v.number != 0 || room < 56) {
+        answered(number, (uint64_t[]){v.number, v.place, 0, 0, 0, 0, 0}, 7, "simplify");
+        if (!untouched(&lent_out) || !untouched(&lent_steps) || !untouched(&lent_work)) fail("simplify: refused, and a lent byte changed");
+        counts[room < 56 ? 6 : v.number]++;
+        return;
+    }
+    calls++;
+    uint64_t said[7];
+    for (int i = 0; i < 7; i++) said[i] = own_number(a + 8 * i);
+    if (!holds(&lent_answer, a, 56, 56)) fail("simplify: changed past the answer");
+    if (said[0] != number || (number != 0 && number != 7)) fail("simplify: a good table refused by another number than 7");
+    if (!holds(&lent_work, lent_zeros, 0, 65536)) fail("simplify: work is not zero, or changed past its stretch");
+    counts[number]++;
+    if (number == 0) { try_result(v, said, o, s); return; }
+    if (said[1] >= v.weight || said[2] + said[3] + said[4] + said[5] + said[6] != 0) fail("simplify: impossible numbers beside 7");
+    if (!holds(&lent_out, lent_zeros, 0, 16 * w) || !holds(&lent_steps, lent_zeros, 0, w)) fail("simplify: 7, and out or steps is not zero");
+}
+
+int main(int argc, char **argv) {
+    if (argc < 3) { printf("usage: random SEED COUNT [FROM]\n"); return 2; }
+    seed = decimal(argv[1]);
+    uint64_t count = decimal(argv[2]), from = argc > 3 ? decimal(argv[3]) : 0;
+    lent_begin();
+    for (at_table = from; at_table < from + count; at_table++) {
+        length = 16 * random_table(table, seed, at_table, at_table % 5000 == 0 ? TABLE_RECORDS : 200);
+        const uint8_t *source = table;
+        uint8_t *end = other;
+        shuffled(&source, &end);
+        other_length = (size_t)(end - other);
+        if (judge(table, length).number != 0) fail("the table that was made is no good one");
+        if (!equal_trees(table, other)) fail("the shuffled table is not equal");
+        if (chance(5)) damage(table, &length);
+        if (chance(4)) damage(other, &other_length);
+        struct judged v = judge(table, length);
+        try_check_and_wown_number(v);
+        try_value(v, table, length);
+        try_equal(v);
+        try_simplify(v);
+    }
+    if (count >= 10000) {
+        for (int i = 0; i < 8; i++) {
+            if (counts[i] == 0) { printf("random: no table of seed %llu was answered %d: nothing is shown of it\n", (unsigned long long)seed, i); return 1; }
+        }
+        if (equal_seen == 0 || unequal_seen == 0) { printf("random: no equal or no unequal tables\n"); return 1; }
+    }
+    printf("random tables beside plain C: %llu (seed %llu), %llu calls; simplified %llu (%llu steps, %llu openings, values equal), refused 1 to 7:",
+           (unsigned long long)count, (unsigned long long)seed, (unsigned long long)calls, (unsigned long long)counts[0],
+           (unsigned long long)steps_seen, (unsigned long long)openings_seen);
+    for (int i = 1; i < 8; i++) printf(" %llu", (unsigned long long)counts[i]);
+    printf("; equal %llu, unequal %llu\n", (unsigned long long)equal_seen, (unsigned long long)unequal_seen);
+    return 0;
+}

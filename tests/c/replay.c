@@ -1,0 +1,121 @@
+/* Replays tests/answers/simplify.tsv (standard input) through simmergate_simplify. On every table: the returned number, the seven
+   numbers of the answer, every byte of out, steps and work, and the bytes around them, with areas exactly as large as they must
+   be, larger ones, and each of them one byte too short. */
+#include "../../include/simmergate.h"
+#include "lent.h"
+#include "text.h"
+
+static struct lent table = {.name = "table"}, out = {.name = "out"}, steps = {.name = "steps"}, work = {.name = "work"},
+                   answer = {.name = "answer"};
+static uint8_t given[65536], wanted_out[49152], wanted_steps[3072];
+static const char *name;
+static long calls;
+
+static void fail(const char *what) {
+    printf("replay: line `%s`: %s (out %zu, steps %zu, work %zu, answer %zu bytes lent)\n", name, what, out.length, steps.length, work.length,
+           answer.length);
+    exit(1);
+}
+
+/* What the call must say on areas that are large enough. */
+static struct { size_t length; uint64_t weight, numbers[7]; } wanted;
+
+/* One call on areas of these sizes. */
+static void call(size_t out_length, size_t steps_length, size_t work_length, size_t answer_length) {
+    uint8_t *t = lend(&table, wanted.length);
+    uint64_t expected[7];
+    uint64_t records = wanted.numbers[2], count = wanted.numbers[3];
+    memcpy(t, given, wanted.length);
+    uint8_t *o = lend(&out, out_length), *s = lend(&steps, steps_length), *w = lend(&work, work_length), *a = lend(&answer, answer_length);
+    uint32_t number = simmergate_simplify(t, wanted.length, o, out_length, s, steps_length, w, work_length, a, answer_length);
+    calls++;
+    if (!holds(&table, given, wanted.length, wanted.length)) fail("the table or what is around it changed");
+    if (answer_length < 56) {
+        if (number != 6) fail("the answer is too short, and the call does not return 6");
+        if (!untouched(&answer) || !untouched(&out) || !untouched(&steps) || !untouched(&work)) fail("the answer is too short, and a byte changed");
+        return;
+    }
+    memcpy(expected, wanted.numbers, sizeof expected);
+    int small = out_length < 16 * wanted.weight || steps_length < wanted.weight || work_length < 65536;
+    if (small && (expected[0] == 0 || expected[0] == 7)) {
+        memset(expected, 0, sizeof expected);
+        expected[0] = 6;
+    }
+    if (number != expected[0]) fail("the returned number is another one");
+    if (!holds(&answer, numbers(expected, 7), 56, 56)) fail("the answer or what is around it is another one");
+    if (number != 0 && number != 7) {
+        if (!untouched(&out) || !untouched(&steps) || !untouched(&work)) fail("refused, and a lent byte changed");
+        return;
+    }
+    if (number == 7) records = count = 0;
+    if (!holds(&out, wanted_out, 16 * records, 16 * wanted.weight)) fail("out is another one");
+    if (!holds(&steps, wanted_steps, count, wanted.weight)) fail("steps is another one");
+    if (!holds(&work, lent_zeros, 0, 65536)) fail("work is another one");
+}
+
+/* Cuts the line at its tabs; the answer is how many parts it has. */
+static size_t cut(char *text, char **parts, size_t most) {
+    size_t n = 0;
+    while (n < most) {
+        parts[n++] = text;
+        text = strchr(text, '\t');
+        if (text == NULL) break;
+        *text++ = 0;
+    }
+    return n;
+}
+
+/* Reads `refused NUMBER at PLACE` or `ok RECORDS STEPS OPENINGS WEIGHT-IN WEIGHT-OUT`. */
+static void read_verdict(char *text) {
+    static const int ok_places[] = {2, 3, 4, 5, 6};
+    char *end = text;
+    memset(wanted.numbers, 0, sizeof wanted.numbers);
+    if (strncmp(text, "refused ", 8) == 0) {
+        wanted.numbers[0] = strtoull(text + 8, &end, 10);
+        if (strncmp(end, " at ", 4) != 0) fail("no verdict");
+        wanted.numbers[1] = strtoull(end + 4, &end, 10);
+    } else if (strncmp(text, "ok ", 3) == 0) {
+        end = text + 2;
+        for (int i = 0; i < 5; i++) wanted.numbers[ok_places[i]] = strtoull(end, &end, 10);
+    }
+    if (end == text || *end != 0) fail("no verdict");
+}
+
+int main(void) {
+    long lines = 0, accepted = 0, left_range = 0;
+    lent_begin();
+    while (next_line()) {
+        char *parts[6];
+        name = line;
+        if (cut(line, parts, 6) != 6) fail("not six parts");
+        wanted.length = unhex(parts[1], given, sizeof given);
+        read_verdict(parts[2]);
+        uint64_t number = wanted.numbers[0];
+        size_t count = strlen(parts[3]);
+        if (count != wanted.numbers[3] || count > sizeof wanted_steps) fail("the steps are not as many as the verdict says");
+        for (size_t i = 0; i < count; i++) wanted_steps[i] = (uint8_t)(parts[3][i] - '0');
+        if (unhex(parts[4], wanted_out, sizeof wanted_out) != 16 * wanted.numbers[2]) fail("the records are not as many as the verdict says");
+        wanted.weight = wanted.length / 16;
+        for (size_t i = 0; i + 16 <= wanted.length; i += 16) wanted.weight += given[i] == 1 ? 2 : 0;
+        if (number == 0 && wanted.weight != wanted.numbers[5]) fail("the weight is not the one that the verdict says");
+        size_t w = wanted.weight > 3072 ? 3072 : (size_t)wanted.weight;
+        call(16 * w, w, 65536, 56);
+        call(16 * w + 1, w + 1, 65537, 57);
+        call(16 * w + 4096, w + 1000, 65536 + 4096, 64);
+        if (w > 0) {
+            call(16 * w - 1, w, 65536, 56);
+            call(16 * w, w - 1, 65536, 56);
+        }
+        call(16 * w, w, 65535, 56);
+        call(16 * w, w, 65536, 55);
+        call(0, 0, 0, 56);
+        call(16 * w, w, 65536, 0);
+        lines++;
+        accepted += number == 0;
+        left_range += number == 7;
+    }
+    if (lines == 0) { printf("replay: no stored answers on standard input\n"); return 1; }
+    printf("stored answers: %ld tables (%ld accepted, %ld out of range, %ld refused otherwise), %ld calls, all bytes as stored\n", lines, accepted,
+           left_range, lines - accepted - left_range, calls);
+    return 0;
+}

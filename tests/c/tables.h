@@ -1,0 +1,129 @@
+/* Random tables. Table number i of a seed is the same wherever and in whatever order it is asked for. Every tree is well formed: two
+   members or more, exponents of at least 1. The shapes lean towards what makes the rules work: parts repeated with other
+   coefficients, sums in sums, products in products, integers near the edge of 64 bits. */
+#include <stddef.h>
+#include <stdint.h>
+#include <string.h>
+
+#define TABLE_RECORDS 3072
+
+static uint64_t random_state;
+
+static inline uint64_t any(void) { /* splitmix64 */
+    uint64_t z = random_state += 0x9E3779B97F4A7C15u;
+    z = (z ^ z >> 30) * 0xBF58476D1CE4E5B9u;
+    z = (z ^ z >> 27) * 0x94D049BB133111EBu;
+    return z ^ z >> 31;
+}
+
+static inline uint64_t below(uint64_t n) { return any() % n; }
+
+/* One chance in n. */
+static inline int chance(uint64_t n) { return below(n) == 0; }
+
+static struct {
+    uint8_t *at;             /* the table being made */
+    size_t records;          /* made so far */
+    uint64_t symbols;        /* how many symbols there are to choose from */
+    int wild;                /* integers: -1 small; 0 a few of any size; 1 some at the edge of 64 bits; 2 most of them there */
+    uint64_t repeat;         /* a part is the copy of an earlier one, one time in so many */
+    uint64_t members;        /* at the most, in a small node */
+    uint32_t parts[TABLE_RECORDS][2]; /* the finished parts: first record, records */
+    size_t part_count;
+} making;
+
+static inline void put_record(unsigned kind, unsigned count, uint64_t content) {
+    uint8_t *r = making.at + 16 * making.records++;
+    memset(r, 0, 16);
+    r[0] = (uint8_t)kind;
+    r[2] = (uint8_t)count;
+    r[3] = (uint8_t)(count >> 8);
+    for (int i = 0; i < 8; i++) r[8 + i] = (uint8_t)(content >> 8 * i);
+}
+
+static inline uint64_t random_integer(void) {
+    static const uint64_t edges[] = {
+        0x7FFFFFFFFFFFFFFF, 0x8000000000000000, 0x4000000000000000, 0xC000000000000000, 0x7FFFFFFFFFFFFFFE, 0x8000000000000001,
+        0x3FFFFFFFFFFFFFFF, 0x100000000, 0x80000000, 3037000499, 3037000500, (uint64_t)-3037000500, 2097151, 2097152, (uint64_t)-1, 4,
+    };
+    if (making.wild == 2 ? !chance(3) : making.wild == 1 && chance(6)) return edges[below(sizeof edges / sizeof edges[0])];
+    if (making.wild >= 0 && chance(40)) return any() >> below(64);
+    return below(7) - 2;
+}
+
+static inline uint64_t random_exponent(void) {
+    if (making.wild > 0 && chance(8)) return chance(2) ? 0x7FFFFFFFFFFFFFFF : 0x4000000000000000;
+    return 1 + below(3);
+}
+
+static inline void random_leaf(void) {
+    if (chance(3)) put_record(0, 0, random_integer());
+    else put_record(1, 0, below(making.symbols));
+}
+
+/* A tree of at most `room` records, `room` at least 1; inside a node of kind `outer` (0 for none). */
+static inline void random_tree(size_t room, unsigned depth, unsigned outer) {
+    size_t first = making.records;
+    if (making.part_count != 0 && chance(making.repeat)) {
+        const uint32_t *part = making.parts[below(making.part_count)];
+        if (part[1] + 2 <= room) {
+            if (chance(3)) {
+                put_record(3, 2, 0);
+                put_record(0, 0, random_integer());
+            }
+            memcpy(making.at + 16 * making.records, making.at + 16 * part[0], 16 * part[1]);
+            making.records += part[1];
+            return;
+        }
+    }
+    if (room < 3 || depth == 0 || (outer != 0 && chance(6))) {
+        random_leaf();
+    } else if (chance(6)) {
+        put_record(4, 0, 0);
+        random_tree(room - 2, depth - 1, 4);
+        put_record(0, 0, random_exponent());
+    } else {
+        unsigned kind = outer == 2 || outer == 3 ? (chance(3) ? outer : 5 - outer) : 2 + (unsigned)below(2);
+        size_t count = 2 + below(making.members - 1);
+        if (count > room - 1) count = room - 1;
+        put_record(kind, (unsigned)count, 0);
+        size_t left = room - 1;
+        for (size_t i = 0; i < count; i++) {
+            size_t share = left - (count - i - 1), before = making.records;
+            if (i + 1 < count && share > 1) share = 1 + below(chance(2) ? share : (share + 1) / 2);
+            random_tree(share, depth - 1, kind);
+            left -= making.records - before;
+        }
+    }
+    if (making.part_count < TABLE_RECORDS) {
+        making.parts[making.part_count][0] = (uint32_t)first;
+        making.parts[making.part_count++][1] = (uint32_t)(making.records - first);
+    }
+}
+
+static inline uint64_t weight_of_records(const uint8_t *table, size_t records) {
+    uint64_t w = records;
+    for (size_t i = 0; i < records; i++) w += table[16 * i] == 1 ? 2 : 0;
+    return w;
+}
+
+/* Table number `index` of `seed` into `table`, which holds TABLE_RECORDS records: a tree of at most `most` records and of weight at
+   most 3,072. The answer is its number of records. */
+static inline size_t random_table(uint8_t *table, uint64_t seed, uint64_t index, size_t most) {
+    random_state = seed * 0xD1342543DE82EF95u + index;
+    random_state = any() ^ index << 20;
+    for (;;) {
+        size_t room = chance(40) ? most : chance(5) ? 100 : chance(2) ? 40 : 15;
+        if (room > most) room = most;
+        making.at = table;
+        making.records = 0;
+        making.part_count = 0;
+        making.symbols = chance(20) ? 256 : 1 + below(4);
+        making.wild = chance(6) ? 2 : chance(2);
+        making.repeat = 2 + below(6);
+        making.members = chance(10) ? room : 2 + below(4);
+        if (making.members < 2) making.members = 2;
+        random_tree(1 + below(room), chance(10) ? 40 : 6, 0);
+        if (weight_of_records(table, making.records) <= 3072) return making.records;
+    }
+}

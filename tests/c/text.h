@@ -1,0 +1,56 @@
+/* Lines and hexadecimal digits on standard input and output, for the C programs that answer tables a line. */
+#include <stddef.h>
+#include <stdint.h>
+#include <stdio.h>
+#include <stdlib.h>
+#include <string.h>
+
+#define LINE_ROOM (1 << 20)
+static char line[LINE_ROOM];
+
+/* The next line without its end, in `line`; 0 at the end of the input. */
+static inline int next_line(void) {
+    size_t n;
+    if (fgets(line, LINE_ROOM, stdin) == NULL) return 0;
+    n = strlen(line);
+    if (n > 0 && line[n - 1] == '\n') line[n - 1] = 0;
+    else if (n + 1 == LINE_ROOM) { printf("a line is longer than %d bytes\n", LINE_ROOM); exit(2); }
+    return 1;
+}
+
+static inline int digit(char ch) {
+    if (ch >= '0' && ch <= '9') return ch - '0';
+    if (ch >= 'a' && ch <= 'f') return ch - 'a' + 10;
+    return -1;
+}
+
+/* The bytes that the digits of `text` name; ends the program where they name none. */
+static inline size_t unhex(const char *text, uint8_t *bytes, size_t room) {
+    size_t n = strlen(text);
+    if (n % 2 != 0 || n / 2 > room) { printf("not the bytes of a table: %.60s\n", text); exit(2); }
+    for (size_t i = 0; i < n; i += 2) {
+        int high = digit(text[i]), low = digit(text[i + 1]);
+        if (high < 0 || low < 0) { printf("no hexadecimal digits: %.60s\n", text); exit(2); }
+        bytes[i / 2] = (uint8_t)(16 * high + low);
+    }
+    return n / 2;
+}
+
+/* The digits of at most 49,152 bytes to standard output. */
+static inline void put_hex(const uint8_t *bytes, size_t n) {
+    static char text[2 * 49152 + 1];
+    for (size_t i = 0; i < n; i++) {
+        text[2 * i] = "0123456789abcdef"[bytes[i] / 16];
+        text[2 * i + 1] = "0123456789abcdef"[bytes[i] % 16];
+    }
+    text[2 * n] = 0;
+    fputs(text, stdout);
+}
+
+/* The number that `text` is, in decimal digits; ends the program where it is none. */
+static inline uint64_t decimal(const char *text) {
+    char *end;
+    uint64_t x = strtoull(text, &end, 10);
+    if (end == text || *end != 0) { printf("not a number: %s\n", text); exit(2); }
+    return x;
+}

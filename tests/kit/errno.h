@@ -1,0 +1,5 @@
+#ifndef KIT_ERRNO_H
+#define KIT_ERRNO_H
+int *__errno_location(void);
+#define errno (*__errno_location())
+#endif
