@@ -19,7 +19,7 @@ use Rattle.rules.specs.Tried.{Held, Built}
 use Rattle.rules.proofs.Nodes.{members-in}
 use Rattle.rules.proofs.Dropping.{held-members, held-length}
 
-module _ (o w : List ℕ) (d p : ℕ) (f : Forest) (rest : List ℕ) (h : Held o w d p f rest) where
+module _ {o w : List ℕ} {d p : ℕ} {f : Forest} {rest : List ℕ} (h : Held o w d p f rest) where
   -- the table of entries lies before the node
   pub held-low : countIn w p * 4 ≤ p * 16
   held-low =
@@ -40,7 +40,7 @@ module _ (o w : List ℕ) (d p : ℕ) (f : Forest) (rest : List ℕ) (h : Held o
       ∙ ap (drop m) (h .stand)
       ∙ drop-at (encodes f) rest m (encodes-length f ∙ omega arith)
 
-  module _ (w₁ : List ℕ) (end : ℕ) (k : ListedIs w w₁ p f end) where
+  module _ {w₁ : List ℕ} {end : ℕ} (k : ListedIs w w₁ p f end) where
     pub walkable : (n : ℕ) → n ≡ countIn w p → Walkable o w₁ d p n (toList f)
     walkable n e =
         record {
@@ -53,7 +53,7 @@ module _ (o w : List ℕ) (d p : ℕ) (f : Forest) (rest : List ℕ) (h : Held o
     after-walk w₂ s =
         later-same w w₂ p (s ∙ k .pending) end (omega (arith, k .end)) ∙ ap (λ n. drop (n * 16) w) (k .end) ∙ held-after
 
-    module _ (b : Bool) (o₂ : List ℕ) (n e : ℕ) (c : CameOut b (toList f) o o₂ d n e) where
+    module _ {b : Bool} {o₂ : List ℕ} {n e : ℕ} (c : CameOut b (toList f) o o₂ d n e) where
       same : weights (ofList (toList f)) ≡ weights f
       same = ap weights (of-to-list f)
 

@@ -32,42 +32,26 @@ pub fn ask(out: &mut [u8], work: &mut [u8], d: usize, p: usize) -> Asked
     let one = add::add_zero(out, work, d, p);
     match one {
         Tried::Idle => {}
-        Tried::Applied(q) => {
-            return Asked::Step(1, q);
-        }
-        Tried::Over => {
-            return Asked::Over;
-        }
+        Tried::Applied(q) => return Asked::Step(1, q),
+        Tried::Over => return Asked::Over,
     }
     let two = add::combine_like_terms(out, work, d, p);
     match two {
         Tried::Idle => {}
-        Tried::Applied(q) => {
-            return Asked::Step(2, q);
-        }
-        Tried::Over => {
-            return Asked::Over;
-        }
+        Tried::Applied(q) => return Asked::Step(2, q),
+        Tried::Over => return Asked::Over,
     }
     let three = multiply::multiply_zero(out, work, d, p);
     match three {
         Tried::Idle => {}
-        Tried::Applied(q) => {
-            return Asked::Step(3, q);
-        }
-        Tried::Over => {
-            return Asked::Over;
-        }
+        Tried::Applied(q) => return Asked::Step(3, q),
+        Tried::Over => return Asked::Over,
     }
     let four = multiply::multiply_one(out, work, d, p);
     match four {
         Tried::Idle => {}
-        Tried::Applied(q) => {
-            return Asked::Step(4, q);
-        }
-        Tried::Over => {
-            return Asked::Over;
-        }
+        Tried::Applied(q) => return Asked::Step(4, q),
+        Tried::Over => return Asked::Over,
     }
     let six = multiply::combine_like_factors(out, work, d, p);
     match six {

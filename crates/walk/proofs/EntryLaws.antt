@@ -227,9 +227,14 @@ module _ (w₀ w : List ℕ) (p n : ℕ) (f : Forest) (at k : ℕ) (v : Listing 
       let size-is : b ≡ records t = omega arith in
       let still : drop (p * 16) w' ≡ drop (p * 16) w = ap (drop (p * 16)) q ∙ pending-still w x k (entry-length a b) (omega arith) p (omega arith) in
       let start : le2 w' (k * 4) ≡ a =
-      rw add-zero at (ap (λ (y : List ℕ). le2 y (k * 4 + 0)) q ∙ put-here w x k (entry-length a b) (omega arith) 0 (omega arith) ∙ entry-start a b (omega (arith, v .place, v .past, records-pos t))) in
+      rw add-zero at
+      (ap (λ (y : List ℕ). le2 y (k * 4 + 0)) q
+      ∙ put-here w x k (entry-length a b) (omega arith) 0 (omega arith)
+      ∙ entry-start a b (omega (arith, v .place, v .past, records-pos t))) in
       let size : le2 w' (k * 4 + 2) ≡ b =
-      ap (λ (y : List ℕ). le2 y (k * 4 + 2)) q ∙ put-here w x k (entry-length a b) (omega arith) 2 (omega arith) ∙ entry-size a b (omega (arith, head .there .few)) in
+      ap (λ (y : List ℕ). le2 y (k * 4 + 2)) q
+      ∙ put-here w x k (entry-length a b) (omega arith) 2 (omega arith)
+      ∙ entry-size a b (omega (arith, head .there .few)) in
       let here : p + le2 w' (k * 4) ≡ at = omega (arith, v .past) in
       let kept = entries-still w w' p still 0 (v .done)
       (λ j g u. rw q (put-other w x k (entry-length a b) (omega arith) j (λ m. omega (arith, v .many)))) (v .entries) in

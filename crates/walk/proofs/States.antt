@@ -107,7 +107,7 @@ pub record Common (b : Bool) (o₀ w₀ : List ℕ) (d p : ℕ) (o w : List ℕ)
   pub front : take ((d + 1) * 16) o ≡ take ((d + 1) * 16) o₀
   pub came : Came b d o₀ o e done late
 
-module _ (b : Bool) (o₀ w₀ : List ℕ) (d p : ℕ) (o w : List ℕ) (i e : ℕ) (late : Bool) (done : List (Like b))
+module _ {b : Bool} {o₀ w₀ : List ℕ} {d p : ℕ} {o w : List ℕ} {i e : ℕ} {late : Bool} {done : List (Like b)}
     (v : Common b o₀ w₀ d p o w i e late done) where
   -- marks past what has come out, and entries before what is pending
   pub common-marks : (o' w' : List ℕ) → take (e * 16) o' ≡ take (e * 16) o → drop (p * 16) w' ≡ drop (p * 16) w

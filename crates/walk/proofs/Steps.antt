@@ -9,7 +9,7 @@ use native.Mathlib.Omega.{arith}
 use lib.ListN.{length, take, drop, length-append}
 use Rattle.paper.specs.Tree.{Tree, ofList, weight, records, recordses}
 use Rattle.paper.specs.Table.{encode, encodes}
-use Rattle.paper.specs.Walk.{onto, turn, walk, lastFirst}
+use Rattle.paper.specs.Walk.{Walked, onto, turn, walk, lastFirst}
 use Rattle.paper.specs.Rules as paper
 use Rattle.paper.specs.Rules.{allInRange}
 use Rattle.paper.proofs.EncodeLaws.{records-weight}
@@ -29,14 +29,22 @@ use Rattle.walk.proofs.EntryLaws.{entries-snoc, swap-pending, swap-befo
 use Rattle.walk.proofs.States.{walked, outs, idle-outcome, over-outcome, done-outcome, all-snoc, outs-many, Came, Common}
 use Rattle.walk.proofs.States.{common-marks, common-written, common-late, common-done, shows-still}
 
-abbrev parts : (b : Bool) → List Tree → List (Like b)
+abbrev pub parts : (b : Bool) → List Tree → List (Like b)
 parts b l = map (split b) l
+
+-- what is left of the walk between two turns, and within a turn, put onto what was done
+abbrev pub rest-of-walk : (b : Bool) → List (Like b) → ℕ → List Tree → Walked (Like b)
+rest-of-walk b done r left = resumed done r (walk (merge b) (length (parts b left)) (parts b left))
+
+abbrev pub rest-of-turn : (b : Bool) → List (Like b) → ℕ → Like b → List Tree → List Tree → Walked (Like b)
+rest-of-turn b done r c passed left =
+    resumed done r (after (merge b) (turn (merge b) (length (parts b left)) c (parts b passed) (parts b left)))
 
 pub record Outer (b : Bool) (l : List Tree) (o₀ w₀ : List ℕ) (d p count : ℕ) (o w : List ℕ) (n i e : ℕ) (late : Bool) : Type 0 where
   pub done : List (Like b)
   pub removed : ℕ
   pub left : List Tree
-  pub whole : walked b l ≡ resumed done removed (walk (merge b) (length (parts b left)) (parts b left))
+  pub whole : walked b l ≡ rest-of-walk b done removed left
   pub gone : n + removed ≡ count
   pub many : i + length left ≡ n
   pub entries : Entries w p i left
@@ -51,7 +59,7 @@ pub record Inner (b : Bool) (l : List Tree) (o₀ w₀ : List ℕ) (d p count : 
   pub left : List Tree
   pub shown : Shows b w c current
   pub place : From p c
-  pub whole : walked b l ≡ resumed done removed (after (merge b) (turn (merge b) (length (parts b left)) current (parts b passed) (parts b left)))
+  pub whole : walked b l ≡ rest-of-turn b done removed current passed left
   pub gone : n + removed ≡ count
   pub behind : i + 1 + length passed ≡ j
   pub many : j + length left ≡ n
@@ -76,7 +84,7 @@ none-left : (l : List Tree) → length l ≡ 0 → l ≡ []
 none-left [] e = refl
 none-left (t ∷ l) e = absurd (omega arith)
 
-module _ (b : Bool) (l : List Tree) (o₀ w₀ : List ℕ) (d p count : ℕ) where
+module _ {b : Bool} {l : List Tree} {o₀ w₀ : List ℕ} {d p count : ℕ} where
   pub outer-begins : Walkable o₀ w₀ d p count l → Outer b l o₀ w₀ d p count o₀ w₀ count 0 (d + 1) false
   unfolding allInRange ofList records encode
   outer-begins h =
@@ -98,7 +106,7 @@ module _ (b : Bool) (l : List Tree) (o₀ w₀ : List ℕ) (d p count : ℕ) whe
         };
       }
 
-  module _ (o w : List ℕ) (n i e : ℕ) (late : Bool) (v : Outer b l o₀ w₀ d p count o w n i e late) where
+  module _ {o w : List ℕ} {n i e : ℕ} {late : Bool} (v : Outer b l o₀ w₀ d p count o w n i e late) where
     module _ (less : i < n) where
       abbrev pub first : Head w p i (v .left)
       first = head-of w p i (v .left) (v .entries) (omega (arith, v .many))
@@ -120,7 +128,7 @@ module _ (b : Bool) (l : List Tree) (o₀ w₀ : List ℕ) (d p count : ℕ) whe
             place = f;
             whole =
                 v .whole
-                ∙ ap (λ (x : List Tree). resumed (v .done) (v .removed) (walk (merge b) (length (parts b x)) (parts b x))) (first .is)
+                ∙ ap (rest-of-walk b (v .done) (v .removed)) (first .is)
                 ∙ turn-begins (merge b) (v .done) (v .removed) (split b t) (parts b m);
             gone = v .gone;
             behind = omega arith;
@@ -136,7 +144,7 @@ module _ (b : Bool) (l : List Tree) (o₀ w₀ : List ℕ) (d p count : ℕ) whe
       all-out =
           let no-more = none-left (v .left) (omega (arith, v .many)) in
           v .whole
-          ∙ ap (λ (x : List Tree). resumed (v .done) (v .removed) (walk (merge b) (length (parts b x)) (parts b x))) no-more
+          ∙ ap (rest-of-walk b (v .done) (v .removed)) no-more
           ∙ walk-ends (merge b) (v .done) (v .removed)
 
       pub says-idle : count ≤ n → combined b l ≡ paper.does-not-apply
@@ -158,7 +166,7 @@ module _ (b : Bool) (l : List Tree) (o₀ w₀ : List ℕ) (d p count : ℕ) whe
             small = omega (arith, v .room, list-weights l);
           }
 
-  module _ (o w : List ℕ) (n i e : ℕ) (late : Bool) (c : Part) (j : ℕ) (v : Inner b l o₀ w₀ d p count o w n i e late c j) where
+  module _ {o w : List ℕ} {n i e : ℕ} {late : Bool} {c : Part} {j : ℕ} (v : Inner b l o₀ w₀ d p count o w n i e late c j) where
     module _ (less : j < n) where
       abbrev pub next : Head w p j (v .left)
       next = head-of w p j (v .left) (v .entries) (omega (arith, v .many))
@@ -186,16 +194,17 @@ module _ (b : Bool) (l : List Tree) (o₀ w₀ : List ℕ) (d p count : ℕ) whe
             place = v .place;
             whole =
                 v .whole
-                ∙ ap (λ (y : List Tree). resumed (v .done) (v .removed) (after (merge b) (turn (merge b) (length (parts b y)) (v .current) (parts b (v .passed)) (parts b y)))) (next .is)
+                ∙ ap (rest-of-turn b (v .done) (v .removed) (v .current) (v .passed)) (next .is)
                 ∙ passes-by (merge b) (v .done) (v .removed) (length (parts b m)) (v .current) (split b x) (parts b (v .passed)) (parts b m) q
-                ∙ ap (λ (y : List (Like b)). resumed (v .done) (v .removed) (after (merge b) (turn (merge b) (length (parts b m)) (v .current) y (parts b m)))) (sym (map-append (split b) (v .passed) (x ∷ [])));
+                ∙ ap (λ (y : List (Like b)). resumed (v .done) (v .removed) (after (merge b) (turn (merge b) (length (parts b m)) (v .current) y (parts b m))))
+                (sym (map-append (split b) (v .passed) (x ∷ [])));
             gone = v .gone;
             behind = omega (arith, v .behind, length-append (v .passed) (x ∷ []));
             many = omega (arith, v .many);
             passed-entries = entries-snoc w p (i + 1) j (v .passed) x (sym (v .behind)) (v .passed-entries) (next .entry);
             entries = next .rest;
             room = omega (arith, v .room, total-append weight (v .passed) (x ∷ []));
-            common = common-marks b o₀ w₀ d p o w i e late (v .done) (v .common) o' w s refl;
+            common = common-marks (v .common) o' w s refl;
           }
 
       -- it is taken up, and the last member moves into its place
@@ -224,9 +233,10 @@ module _ (b : Bool) (l : List Tree) (o₀ w₀ : List ℕ) (d p count : ℕ) whe
             place = f;
             whole =
                 v .whole
-                ∙ ap (λ (y : List Tree). resumed (v .done) (v .removed) (after (merge b) (turn (merge b) (length (parts b y)) (v .current) (parts b (v .passed)) (parts b y)))) (next .is)
+                ∙ ap (rest-of-turn b (v .done) (v .removed) (v .current) (v .passed)) (next .is)
                 ∙ takes-up (merge b) (v .done) (v .removed) (length (parts b m)) (v .current) (split b t) x (parts b (v .passed)) (parts b m) q
-                ∙ ap (λ (y : List (Like b)). resumed (v .done) (v .removed + 1) (after (merge b) (turn (merge b) (length (parts b m)) x (parts b (v .passed)) y))) (sym (map-lastFirst (split b) m))
+                ∙ ap (λ (y : List (Like b)). resumed (v .done) (v .removed + 1) (after (merge b) (turn (merge b) (length (parts b m)) x (parts b (v .passed)) y)))
+                (sym (map-lastFirst (split b) m))
                 ∙ ap (λ n. resumed (v .done) (v .removed + 1) (after (merge b) (turn (merge b) n x (parts b (v .passed)) (parts b (lastFirst m))))) fuel;
             gone = omega (arith, v .gone);
             behind = v .behind;
@@ -234,7 +244,7 @@ module _ (b : Bool) (l : List Tree) (o₀ w₀ : List ℕ) (d p count : ℕ) whe
             passed-entries = swap-before w w' p j (n - 1) t m rest (omega arith) within k (i + 1) (v .passed) (omega (arith, v .behind)) (v .passed-entries);
             entries = swap-after w w' p j (n - 1) t m rest (omega arith) within k (subst (Entries w p j) (next .is) (v .entries));
             room = omega (arith, v .room);
-            common = common-marks b o₀ w₀ d p o w i e late (v .done) (v .common) o' w' s still;
+            common = common-marks (v .common) o' w' s still;
           }
 
       -- it is taken up, and the range is left
@@ -248,7 +258,7 @@ module _ (b : Bool) (l : List Tree) (o₀ w₀ : List ℕ) (d p count : ℕ) whe
           let stays = turn-keeps (merge b) (λ y. inRange b y ≡ false) (λ y z u. stays-bad b y z u) (length m) x (parts b (v .passed)) (lastFirst m) bad in
           over-outcome b l (v .done ++ (last .current ∷ rest .parts)) (v .removed + 1 + (last .removed + rest .removed))
           (v .whole
-          ∙ ap (λ (y : List Tree). resumed (v .done) (v .removed) (after (merge b) (turn (merge b) (length (parts b y)) (v .current) (parts b (v .passed)) (parts b y)))) (next .is)
+          ∙ ap (rest-of-turn b (v .done) (v .removed) (v .current) (v .passed)) (next .is)
           ∙ takes-up (merge b) (v .done) (v .removed) (length m) (v .current) (split b t) x (parts b (v .passed)) m q)
           (omega arith) (all-snoc b (v .done) (rest .parts) (last .current) (joins-bad b (last .current) stays))
 
@@ -263,7 +273,7 @@ module _ (b : Bool) (l : List Tree) (o₀ w₀ : List ℕ) (d p count : ℕ) whe
       turned : walked b l ≡ resumed (v .done ++ (v .current ∷ [])) (v .removed) (walk (merge b) (length (parts b (v .passed))) (parts b (v .passed)))
       turned =
           v .whole
-          ∙ ap (λ (y : List Tree). resumed (v .done) (v .removed) (after (merge b) (turn (merge b) (length (parts b y)) (v .current) (parts b (v .passed)) (parts b y)))) no-later
+          ∙ ap (rest-of-turn b (v .done) (v .removed) (v .current) (v .passed)) no-later
           ∙ turn-ends (merge b) (v .done) (v .removed) (v .current) (parts b (v .passed))
 
       pub outer-written : (o' : List ℕ) (x : ℕ) → e * 16 ≤ length o → join b (v .current) .1 ≡ true → x ≡ e + records (join b (v .current) .0)
@@ -279,7 +289,7 @@ module _ (b : Bool) (l : List Tree) (o₀ w₀ : List ℕ) (d p count : ℕ) whe
             many = omega (arith, v .behind, v .many);
             entries = v .passed-entries;
             room = omega (arith, v .room);
-            common = common-written b o₀ w₀ d p o w i e late (v .done) (v .common) o' (v .current) x r g q s;
+            common = common-written (v .common) o' (v .current) x r g q s;
           }
 
       pub outer-late : (o' : List ℕ) → join b (v .current) .1 ≡ false → o' ≡ o → Outer b l o₀ w₀ d p count o' w n (i + 1) e true
@@ -294,12 +304,12 @@ module _ (b : Bool) (l : List Tree) (o₀ w₀ : List ℕ) (d p count : ℕ) whe
             many = omega (arith, v .behind, v .many);
             entries = v .passed-entries;
             room = omega (arith, v .room);
-            common = common-late b o₀ w₀ d p o w i e late (v .done) (v .common) o' (v .current) g s;
+            common = common-late (v .common) o' (v .current) g s;
           }
 
     -- where the walk is left, what is pending and what is done stay
     pub left-alone : (o' : List ℕ) → take (e * 16) o' ≡ take (e * 16) o
         → (drop (p * 16) w ≡ drop (p * 16) w₀) × (take (d * 16) o' ≡ take (d * 16) o₀)
     left-alone o' s =
-        let u = common-marks b o₀ w₀ d p o w i e late (v .done) (v .common) o' w s refl in
-        (u .pending, common-done b o₀ w₀ d p o' w i e late (v .done) u)
+        let u = common-marks (v .common) o' w s refl in
+        (u .pending, common-done u)

@@ -105,9 +105,7 @@ pub fn walk(
             let a = e * 16;
             let met = meet(work, c, p, j, &mut out[a..]);
             match met {
-                part::Merged::Apart => {
-                    j += 1;
-                }
+                part::Merged::Apart => j += 1,
                 part::Merged::Into(x) => {
                     c = x;
                     n -= 1;
@@ -121,12 +119,8 @@ pub fn walk(
         }
         let w = write::write_part(out, e, work, c);
         match w {
-            write::Written::To(x) => {
-                e = x;
-            }
-            write::Written::Over => {
-                late = true;
-            }
+            write::Written::To(x) => e = x,
+            write::Written::Over => late = true,
         }
         i += 1;
     }

@@ -192,8 +192,11 @@ left-records l = refl
 module _ (x : Tree × Bool) (u : Tree) (out : List ℕ) (m : ℕ) where
   pub written-to : (out' : List ℕ) (e : ℕ) → x ≡ (u, true) → e ≡ m + records u → out' ≡ put out (m * 16) (encode u)
       → WrittenIs x out out' m (To e)
-  written-to out' e q a b =
-      (ap (λ (p : Tree × Bool). p .1) q, a ∙ ap (λ (p : Tree × Bool). m + records (p .0)) (sym q), b ∙ ap (λ (p : Tree × Bool). put out (m * 16) (encode (p .0))) (sym q))
+  written-to out' e q a b = (
+    ap (λ (p : Tree × Bool). p .1) q,
+    a ∙ ap (λ (p : Tree × Bool). m + records (p .0)) (sym q),
+    b ∙ ap (λ (p : Tree × Bool). put out (m * 16) (encode (p .0))) (sym q),
+  )
 
   pub fits-as : (b : Bool) → x ≡ (u, b) → Fitting x out m → (m + records u) * 16 ≤ length out
   fits-as b q h = omega (arith, h, ap (λ (p : Tree × Bool). records (p .0)) q)

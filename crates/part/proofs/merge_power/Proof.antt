@@ -43,41 +43,53 @@ same-length : tie.Need-same-length
 same-length c = search needs
 
 returns : tie.Need-returns
-returns c = (
-  λ x t h w.
-      let g = c .before .before .before .before .before .before .before .before .before .args in
-      let met = c .before .before .before .before .same-tree .ensures (x .base) (factorOf t .base) (h .sized .there) (c .before .before .before .before .before .before .base .ensures t w) in
-      power-apart (g .s .now) (g .e) (g .i) (g .k) x h t (unmatched _ _ (sym met ∙ c .enum-told .given .1)),
-  λ p h. tt,
-)
+returns c =
+    let the-same-tree = c .before .before .before .before .same-tree in
+    let the-base = c .before .before .before .before .before .before .base in (
+      λ x t h w.
+          let g = c .before .before .before .before .before .before .before .before .before .args in
+          let met = the-same-tree .ensures (x .base) (factorOf t .base) (h .sized .there) (the-base .ensures t w) in
+          power-apart (g .s .now) (g .e) (g .i) (g .k) x h t (unmatched _ _ (sym met ∙ c .enum-told .given .1)),
+      λ p h. tt,
+    )
 
 same-length-2 : tie.Need-same-length-2
 same-length-2 c = search needs
 
 returns-2 : tie.Need-returns-2
-returns-2 c = (
-  λ x t h w.
-      let g = c .before .before .before .before .before .before .before .before .before .before .before .before .before .before .args in
-      let met = c .before .before .before .before .before .before .before .before .before .same-tree .ensures (x .base) (factorOf t .base) (h .sized .there) (c .before .before .before .before .before .before .before .before .before .before .before .base .ensures t w) in
-      let other = c .before .before .before .before .exponent .ensures t w in
-      power-into (g .s .now) (g .e) (g .i) (g .k) x h t _ (other .0) (other .1) (matched _ _ _ (sym met ∙ c .before .before .before .before .before .enum-told2 .given .1)) _
-      (sym (c .before .before .before .add .ensures) ∙ c .before .sum .given .1),
-  λ p h. h,
-)
+returns-2 c =
+    let the-add = c .before .before .before .add in
+    let the-exponent = c .before .before .before .before .exponent in
+    let the-enum-told2 = c .before .before .before .before .before .enum-told2 in
+    let the-same-tree = c .before .before .before .before .before .before .before .before .before .same-tree in
+    let the-base = c .before .before .before .before .before .before .before .before .before .before .before .base in (
+      λ x t h w.
+          let g = c .before .before .before .before .before .before .before .before .before .before .before .before .before .before .args in
+          let met = the-same-tree .ensures (x .base) (factorOf t .base) (h .sized .there) (the-base .ensures t w) in
+          let other = the-exponent .ensures t w in
+          power-into (g .s .now) (g .e) (g .i) (g .k) x h t _ (other .0) (other .1) (matched _ _ _ (sym met ∙ the-enum-told2 .given .1)) _
+          (sym (the-add .ensures) ∙ c .before .sum .given .1),
+      λ p h. h,
+    )
 
 same-length-3 : tie.Need-same-length-3
 same-length-3 c = search needs
 
 returns-3 : tie.Need-returns-3
-returns-3 c = (
-  λ x t h w.
-      let g = c .before .before .before .before .before .before .before .before .before .before .before .before .before .args in
-      let met = c .before .before .before .before .before .before .before .before .same-tree .ensures (x .base) (factorOf t .base) (h .sized .there) (c .before .before .before .before .before .before .before .before .before .before .base .ensures t w) in
-      let other = c .before .before .before .exponent .ensures t w in
-      power-over (g .s .now) (g .e) (g .i) (g .k) x h t _ (other .0) (other .1) (matched _ _ _ (sym met ∙ c .before .before .before .before .enum-told2 .given .1))
-      (sym (c .before .before .add .ensures) ∙ c .enum-told3 .given .1),
-  λ p h. tt,
-)
+returns-3 c =
+    let the-add = c .before .before .add in
+    let the-exponent = c .before .before .before .exponent in
+    let the-enum-told2 = c .before .before .before .before .enum-told2 in
+    let the-same-tree = c .before .before .before .before .before .before .before .before .same-tree in
+    let the-base = c .before .before .before .before .before .before .before .before .before .before .base in (
+      λ x t h w.
+          let g = c .before .before .before .before .before .before .before .before .before .before .before .before .before .args in
+          let met = the-same-tree .ensures (x .base) (factorOf t .base) (h .sized .there) (the-base .ensures t w) in
+          let other = the-exponent .ensures t w in
+          power-over (g .s .now) (g .e) (g .i) (g .k) x h t _ (other .0) (other .1) (matched _ _ _ (sym met ∙ the-enum-told2 .given .1))
+          (sym (the-add .ensures) ∙ c .enum-told3 .given .1),
+      λ p h. tt,
+    )
 
 pub merge-power-spec : {M : Type 1} → statement M
 merge-power-spec =

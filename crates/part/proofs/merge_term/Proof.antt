@@ -24,39 +24,50 @@ same-length : tie.Need-same-length
 same-length c = search needs
 
 returns : tie.Need-returns
-returns c = (
-  λ x t h w.
-      let g = c .before .before .before .before .before .before .before .before .before .before .before .before .args in
-      let same = c .before .before .before .before .before .before .before .before .same-rest .ensures (h .member) t (h .there) w in
-      let m = c .before .before .before .before .coefficient .result in
-      term-into (g .s .now) (g .n) (g .i) x h t m (c .before .before .before .before .coefficient .ensures t w) (sym same ∙ c .before .before .before .before .before .if1 .taken) _ (sym (c .before .before .before .add .ensures) ∙ c .before .sum .given .1),
-  λ p h. h,
-)
+returns c =
+    let the-add = c .before .before .before .add in
+    let the-coefficient = c .before .before .before .before .coefficient in
+    let the-if1 = c .before .before .before .before .before .if1 in
+    let the-same-rest = c .before .before .before .before .before .before .before .before .same-rest in (
+      λ x t h w.
+          let g = c .before .before .before .before .before .before .before .before .before .before .before .before .args in
+          let same = the-same-rest .ensures (h .member) t (h .there) w in
+          let m = the-coefficient .result in
+          term-into (g .s .now) (g .n) (g .i) x h t m (the-coefficient .ensures t w) (sym same ∙ the-if1 .taken) _
+          (sym (the-add .ensures) ∙ c .before .sum .given .1),
+      λ p h. h,
+    )
 
 same-length-2 : tie.Need-same-length-2
 same-length-2 c = search needs
 
 returns-2 : tie.Need-returns-2
-returns-2 c = (
-  λ x t h w.
-      let g = c .before .before .before .before .before .before .before .before .before .before .before .args in
-      let same = c .before .before .before .before .before .before .before .same-rest .ensures (h .member) t (h .there) w in
-      let m = c .before .before .before .coefficient .result in
-      term-over (g .s .now) (g .n) (g .i) x h t m (c .before .before .before .coefficient .ensures t w) (sym same ∙ c .before .before .before .before .if1 .taken) (sym (c .before .before .add .ensures) ∙ c .enum-told .given .1),
-  λ p h. tt,
-)
+returns-2 c =
+    let the-add = c .before .before .add in
+    let the-coefficient = c .before .before .before .coefficient in
+    let the-if1 = c .before .before .before .before .if1 in
+    let the-same-rest = c .before .before .before .before .before .before .before .same-rest in (
+      λ x t h w.
+          let g = c .before .before .before .before .before .before .before .before .before .before .before .args in
+          let same = the-same-rest .ensures (h .member) t (h .there) w in
+          let m = the-coefficient .result in
+          term-over (g .s .now) (g .n) (g .i) x h t m (the-coefficient .ensures t w) (sym same ∙ the-if1 .taken)
+          (sym (the-add .ensures) ∙ c .enum-told .given .1),
+      λ p h. tt,
+    )
 
 same-length-3 : tie.Need-same-length-3
 same-length-3 c = search needs
 
 returns-3 : tie.Need-returns-3
-returns-3 c = (
-  λ x t h w.
-      let g = c .before .before .before .before .before .before .before .args in
-      let same = c .before .before .before .same-rest .ensures (h .member) t (h .there) w in
-      term-apart (g .s .now) (g .n) (g .i) x h t (sym same ∙ c .if1 .left),
-  λ p h. tt,
-)
+returns-3 c =
+    let the-same-rest = c .before .before .before .same-rest in (
+      λ x t h w.
+          let g = c .before .before .before .before .before .before .before .args in
+          let same = the-same-rest .ensures (h .member) t (h .there) w in
+          term-apart (g .s .now) (g .n) (g .i) x h t (sym same ∙ c .if1 .left),
+      λ p h. tt,
+    )
 
 pub merge-term-spec : {M : Type 1} → statement M
 merge-term-spec =

@@ -7,7 +7,9 @@ use Rattle.part.proofs.part_of.Statement.{statement}
 use Rattle.part.proofs.part_of.Tie as tie
 
 coefficient-requires : tie.Need-coefficient-requires
-coefficient-requires c κs = record { tree = c .before .before .pre .0; there = c .before .before .pre .1 .there }
+coefficient-requires c κs =
+    let q = c .before .before .pre in
+    record { tree = q .0; there = q .1 .there }
 
 returns : tie.Need-returns
 returns c = (
@@ -18,57 +20,84 @@ returns c = (
 )
 
 exponent-requires : tie.Need-exponent-requires
-exponent-requires c κs = record { tree = c .before .before .pre .0; there = c .before .before .pre .1 .there }
+exponent-requires c κs =
+    let q = c .before .before .pre in
+    record { tree = q .0; there = q .1 .there }
 
 base-requires : tie.Need-base-requires
-base-requires c κs = record { tree = c .before .before .before .pre .0; there = c .before .before .before .pre .1 .there }
+base-requires c κs =
+    let q = c .before .before .before .pre in
+    record { tree = q .0; there = q .1 .there }
 
 kind-requires : tie.Need-kind-requires
-kind-requires c κs = record-within (c .base .ensures (c .before .before .before .before .pre .0) (c .before .before .before .before .pre .1 .there))
+kind-requires c κs =
+    let q = c .before .before .before .before .pre in
+    record-within (c .base .ensures (q .0) (q .1 .there))
 
 bits-requires : tie.Need-bits-requires
-bits-requires c κs = record-within (c .before .before .base .ensures (c .before .before .before .before .before .before .pre .0) (c .before .before .before .before .before .before .pre .1 .there))
+bits-requires c κs =
+    let the-base = c .before .before .base in
+    let q = c .before .before .before .before .before .before .pre in
+    record-within (the-base .ensures (q .0) (q .1 .there))
 
 returns-2 : tie.Need-returns-2
-returns-2 c = (
-  λ t h.
-      let g = c .before .before .before .before .before .before .before .args in
-      let b = c .before .before .before .base .ensures t (h .there) in
-      let e = c .before .before .before .before .exponent .ensures t (h .there) in
-      rw (c .before .before .before .before .before .if1 .left) (number-part (g .s .now) _ (c .before .before .before .base .result) _ t b (omega (arith, c .before .before .kind .ensures)) (c .bits .ensures) (e .0) (e .1)),
-  λ p h. tt,
-)
+returns-2 c =
+    let the-kind = c .before .before .kind in
+    let the-base = c .before .before .before .base in
+    let the-exponent = c .before .before .before .before .exponent in
+    let the-if1 = c .before .before .before .before .before .if1 in (
+      λ t h.
+          let g = c .before .before .before .before .before .before .before .args in
+          let b = the-base .ensures t (h .there) in
+          let e = the-exponent .ensures t (h .there) in
+          rw (the-if1 .left) (number-part (g .s .now) _ (the-base .result) _ t b (omega (arith, the-kind .ensures)) (c .bits .ensures) (e .0) (e .1)),
+      λ p h. tt,
+    )
 
 kind-requires-2 : tie.Need-kind-requires-2
-kind-requires-2 c κs = record-within (c .before .before .before .before .before .before .pre .1 .there)
+kind-requires-2 c κs =
+    let q = c .before .before .before .before .before .before .pre in
+    record-within (q .1 .there)
 
 add-t11 : tie.Need-add-t11
-add-t11 c = record { fits = omega (arith, record-within (c .before .before .before .before .before .before .before .before .pre .1 .there)) }
+add-t11 c =
+    let q = c .before .before .before .before .before .before .before .before .pre in
+    record { fits = omega (arith, record-within (q .1 .there)) }
 
 sub-t12 : tie.Need-sub-t12
-sub-t12 c = power-two _ _ _ (c .before .before .before .before .before .before .before .before .pre .0) (c .before .before .before .before .before .before .before .before .pre .1) (sym (c .before .kind2 .ensures) ∙ c .if3 .taken)
+sub-t12 c =
+    let q = c .before .before .before .before .before .before .before .before .pre in
+    power-two _ _ _ (q .0) (q .1) (sym (c .before .kind2 .ensures) ∙ c .if3 .taken)
 
 returns-3 : tie.Need-returns-3
-returns-3 c = (
-  λ t h.
-      let g = c .before .before .before .before .before .before .before .before .args in
-      let b = c .before .before .before .before .base .ensures t (h .there) in
-      let e = c .before .before .before .before .before .exponent .ensures t (h .there) in
-      let other = no-integer-there (g .s .now) (c .before .before .before .before .base .result) _ b (omega (arith, c .before .before .before .kind .ensures)) in
-      rw (c .before .before .before .before .before .before .if1 .left) (power-part (g .s .now) _ (g .at) (g .size) t h other (e .0) (e .1) (sym (c .before .kind2 .ensures) ∙ c .if3 .taken)),
-  λ p h. omega arith,
-)
+returns-3 c =
+    let the-kind = c .before .before .before .kind in
+    let the-base = c .before .before .before .before .base in
+    let the-exponent = c .before .before .before .before .before .exponent in
+    let the-if1 = c .before .before .before .before .before .before .if1 in (
+      λ t h.
+          let g = c .before .before .before .before .before .before .before .before .args in
+          let b = the-base .ensures t (h .there) in
+          let e = the-exponent .ensures t (h .there) in
+          let other = no-integer-there (g .s .now) (the-base .result) _ b (omega (arith, the-kind .ensures)) in
+          rw (the-if1 .left) (power-part (g .s .now) _ (g .at) (g .size) t h other (e .0) (e .1) (sym (c .before .kind2 .ensures) ∙ c .if3 .taken)),
+      λ p h. omega arith,
+    )
 
 returns-4 : tie.Need-returns-4
-returns-4 c = (
-  λ t h.
-      let g = c .before .before .before .before .before .before .before .before .args in
-      let b = c .before .before .before .before .base .ensures t (h .there) in
-      let e = c .before .before .before .before .before .exponent .ensures t (h .there) in
-      let other = no-integer-there (g .s .now) (c .before .before .before .before .base .result) _ b (omega (arith, c .before .before .before .kind .ensures)) in
-      rw (c .before .before .before .before .before .before .if1 .left) (base-part (g .s .now) _ (g .at) (g .size) t h other (e .0) (e .1) (λ k. c .if3 .left (c .before .kind2 .ensures ∙ k))),
-  λ p h. h,
-)
+returns-4 c =
+    let the-kind = c .before .before .before .kind in
+    let the-base = c .before .before .before .before .base in
+    let the-exponent = c .before .before .before .before .before .exponent in
+    let the-if1 = c .before .before .before .before .before .before .if1 in (
+      λ t h.
+          let g = c .before .before .before .before .before .before .before .before .args in
+          let b = the-base .ensures t (h .there) in
+          let e = the-exponent .ensures t (h .there) in
+          let other = no-integer-there (g .s .now) (the-base .result) _ b (omega (arith, the-kind .ensures)) in
+          rw (the-if1 .left) (base-part (g .s .now) _ (g .at) (g .size) t h other (e .0) (e .1) (λ k. c .if3 .left (c .before .kind2 .ensures ∙ k))),
+      λ p h. h,
+    )
 
 pub part-of-spec : {M : Type 1} → statement M
 part-of-spec =

@@ -41,7 +41,8 @@ idle-one c t rest h =
 idle-two : (c : tie.After-enum-told3) (t : Tree) (rest : List ℕ)
     → Ready (start-two c .args .out .now) (start-two c .args .work .now) (start-two c .args .d) (start-two c .args .p) t rest
     → Going t rest (start-two c .args .out .now) (start-two c .args .d) (start-two c .args .p) from-three
-    (c .before .before .before .before .before .before .combine-like-terms .last .0) (c .before .before .before .before .before .before .combine-like-terms .last .1 .0)
+    (c .before .before .before .before .before .before .combine-like-terms .last .0)
+    (c .before .before .before .before .before .before .combine-like-terms .last .1 .0)
 idle-two c t rest h =
     let a = c .before .before .before .before .before .before .combine-like-terms in
     let v = idle-one (c .before .before .before .before .before .before .before .before .before) t rest h in
@@ -71,7 +72,8 @@ idle-four c t rest h =
 idle-six : (c : tie.After-enum-told9) (t : Tree) (rest : List ℕ)
     → Ready (start-six c .args .out .now) (start-six c .args .work .now) (start-six c .args .d) (start-six c .args .p) t rest
     → Going t rest (start-six c .args .out .now) (start-six c .args .d) (start-six c .args .p) []
-    (c .before .before .before .before .before .before .combine-like-factors .last .0) (c .before .before .before .before .before .before .combine-like-factors .last .1 .0)
+    (c .before .before .before .before .before .before .combine-like-factors .last .0)
+    (c .before .before .before .before .before .before .combine-like-factors .last .1 .0)
 idle-six c t rest h =
     let a = c .before .before .before .before .before .before .combine-like-factors in
     let v = idle-four (c .before .before .before .before .before .before .before .before .before) t rest h in
@@ -150,8 +152,9 @@ returns-2 c =
 
 combine-like-terms-requires : tie.Need-combine-like-terms-requires
 combine-like-terms-requires c κs =
-    let q = start-one (c .before .before) .pre in
-    let v = idle-one (c .before .before) (q .0) (q .1) (q .2) in
+    let here = c .before .before in
+    let q = start-one here .pre in
+    let v = idle-one here (q .0) (q .1) (q .2) in
     (q .0, q .1, v .ready)
 
 enum-told-3 : tie.Need-enum-told-3
@@ -168,9 +171,10 @@ same-length-6 c = search needs
 
 returns-3 : tie.Need-returns-3
 returns-3 c =
+    let here = c .before .before .before .before .before .before .before .before .before .before in
     λ t rest h.
     let a = c .before .before .before .before .before .before .before .combine-like-terms in
-    let v = idle-one (c .before .before .before .before .before .before .before .before .before .before) t rest h in
+    let v = idle-one here t rest h in
     steps v (a .last .0) (a .last .1 .0) (c .before .two .given .0 .0) (rw (c .before .two .given .1) at (a .ensures t rest (v .ready)))
 
 enum-told-4 : tie.Need-enum-told-4
@@ -184,15 +188,17 @@ same-length-8 c = search needs
 
 returns-4 : tie.Need-returns-4
 returns-4 c =
+    let here = c .before .before .before .before .before .before .before .before .before in
     λ t rest h.
     let a = c .before .before .before .before .before .before .combine-like-terms in
-    let v = idle-one (c .before .before .before .before .before .before .before .before .before) t rest h in
+    let v = idle-one here t rest h in
     leaves v (a .last .0) (a .last .1 .0) (rw (c .enum-told4 .given .1) at (a .ensures t rest (v .ready)))
 
 multiply-zero-requires : tie.Need-multiply-zero-requires
 multiply-zero-requires c κs =
-    let q = start-two (c .before .before) .pre in
-    let v = idle-two (c .before .before) (q .0) (q .1) (q .2) in
+    let here = c .before .before in
+    let q = start-two here .pre in
+    let v = idle-two here (q .0) (q .1) (q .2) in
     (q .0, q .1, v .ready)
 
 enum-told-5 : tie.Need-enum-told-5
@@ -209,9 +215,10 @@ same-length-10 c = search needs
 
 returns-5 : tie.Need-returns-5
 returns-5 c =
+    let here = c .before .before .before .before .before .before .before .before .before .before in
     λ t rest h.
     let a = c .before .before .before .before .before .before .before .multiply-zero in
-    let v = idle-two (c .before .before .before .before .before .before .before .before .before .before) t rest h in
+    let v = idle-two here t rest h in
     steps v (a .last .0) (a .last .1 .0) (c .before .three .given .0 .0) (rw (c .before .three .given .1) at (a .ensures t rest (v .ready)))
 
 enum-told-6 : tie.Need-enum-told-6
@@ -225,15 +232,17 @@ same-length-12 c = search needs
 
 returns-6 : tie.Need-returns-6
 returns-6 c =
+    let here = c .before .before .before .before .before .before .before .before .before in
     λ t rest h.
     let a = c .before .before .before .before .before .before .multiply-zero in
-    let v = idle-two (c .before .before .before .before .before .before .before .before .before) t rest h in
+    let v = idle-two here t rest h in
     leaves v (a .last .0) (a .last .1 .0) (rw (c .enum-told6 .given .1) at (a .ensures t rest (v .ready)))
 
 multiply-one-requires : tie.Need-multiply-one-requires
 multiply-one-requires c κs =
-    let q = start-three (c .before .before) .pre in
-    let v = idle-three (c .before .before) (q .0) (q .1) (q .2) in
+    let here = c .before .before in
+    let q = start-three here .pre in
+    let v = idle-three here (q .0) (q .1) (q .2) in
     (q .0, q .1, v .ready)
 
 enum-told-7 : tie.Need-enum-told-7
@@ -250,9 +259,10 @@ same-length-14 c = search needs
 
 returns-7 : tie.Need-returns-7
 returns-7 c =
+    let here = c .before .before .before .before .before .before .before .before .before .before in
     λ t rest h.
     let a = c .before .before .before .before .before .before .before .multiply-one in
-    let v = idle-three (c .before .before .before .before .before .before .before .before .before .before) t rest h in
+    let v = idle-three here t rest h in
     steps v (a .last .0) (a .last .1 .0) (c .before .four .given .0 .0) (rw (c .before .four .given .1) at (a .ensures t rest (v .ready)))
 
 enum-told-8 : tie.Need-enum-told-8
@@ -266,15 +276,17 @@ same-length-16 c = search needs
 
 returns-8 : tie.Need-returns-8
 returns-8 c =
+    let here = c .before .before .before .before .before .before .before .before .before in
     λ t rest h.
     let a = c .before .before .before .before .before .before .multiply-one in
-    let v = idle-three (c .before .before .before .before .before .before .before .before .before) t rest h in
+    let v = idle-three here t rest h in
     leaves v (a .last .0) (a .last .1 .0) (rw (c .enum-told8 .given .1) at (a .ensures t rest (v .ready)))
 
 combine-like-factors-requires : tie.Need-combine-like-factors-requires
 combine-like-factors-requires c κs =
-    let q = start-four (c .before .before) .pre in
-    let v = idle-four (c .before .before) (q .0) (q .1) (q .2) in
+    let here = c .before .before in
+    let q = start-four here .pre in
+    let v = idle-four here (q .0) (q .1) (q .2) in
     (q .0, q .1, v .ready)
 
 enum-told-9 : tie.Need-enum-told-9
@@ -287,38 +299,58 @@ enum-told-10 : tie.Need-enum-told-10
 enum-told-10 c = search needs
 
 same-length-17 : tie.Need-same-length-17
-same-length-17 c = c .before .before .before .before .before .before .combine-like-factors .kept .0 ∙ long-four (c .before .before .before .before .before .before .before .before .before) .0
+same-length-17 c =
+    let here = c .before .before .before .before .before .before .before .before .before in
+    let the-combine-like-factors = c .before .before .before .before .before .before .combine-like-factors in
+    the-combine-like-factors .kept .0 ∙ long-four here .0
 
 same-length-18 : tie.Need-same-length-18
-same-length-18 c = c .before .before .before .before .before .before .combine-like-factors .kept .1 .0 ∙ long-four (c .before .before .before .before .before .before .before .before .before) .1
+same-length-18 c =
+    let here = c .before .before .before .before .before .before .before .before .before in
+    let the-combine-like-factors = c .before .before .before .before .before .before .combine-like-factors in
+    the-combine-like-factors .kept .1 .0 ∙ long-four here .1
 
 returns-9 : tie.Need-returns-9
 returns-9 c = λ t rest h. ends (idle-six (c) t rest h)
 
 same-length-19 : tie.Need-same-length-19
-same-length-19 c = c .before .before .before .before .before .before .before .combine-like-factors .kept .0 ∙ long-four (c .before .before .before .before .before .before .before .before .before .before) .0
+same-length-19 c =
+    let here = c .before .before .before .before .before .before .before .before .before .before in
+    let the-combine-like-factors = c .before .before .before .before .before .before .before .combine-like-factors in
+    the-combine-like-factors .kept .0 ∙ long-four here .0
 
 same-length-20 : tie.Need-same-length-20
-same-length-20 c = c .before .before .before .before .before .before .before .combine-like-factors .kept .1 .0 ∙ long-four (c .before .before .before .before .before .before .before .before .before .before) .1
+same-length-20 c =
+    let here = c .before .before .before .before .before .before .before .before .before .before in
+    let the-combine-like-factors = c .before .before .before .before .before .before .before .combine-like-factors in
+    the-combine-like-factors .kept .1 .0 ∙ long-four here .1
 
 returns-10 : tie.Need-returns-10
 returns-10 c =
+    let here = c .before .before .before .before .before .before .before .before .before .before in
     λ t rest h.
     let a = c .before .before .before .before .before .before .before .combine-like-factors in
-    let v = idle-four (c .before .before .before .before .before .before .before .before .before .before) t rest h in
+    let v = idle-four here t rest h in
     steps v (a .last .0) (a .last .1 .0) (c .before .six .given .0 .0) (rw (c .before .six .given .1) at (a .ensures t rest (v .ready)))
 
 same-length-21 : tie.Need-same-length-21
-same-length-21 c = c .before .before .before .before .before .before .combine-like-factors .kept .0 ∙ long-four (c .before .before .before .before .before .before .before .before .before) .0
+same-length-21 c =
+    let here = c .before .before .before .before .before .before .before .before .before in
+    let the-combine-like-factors = c .before .before .before .before .before .before .combine-like-factors in
+    the-combine-like-factors .kept .0 ∙ long-four here .0
 
 same-length-22 : tie.Need-same-length-22
-same-length-22 c = c .before .before .before .before .before .before .combine-like-factors .kept .1 .0 ∙ long-four (c .before .before .before .before .before .before .before .before .before) .1
+same-length-22 c =
+    let here = c .before .before .before .before .before .before .before .before .before in
+    let the-combine-like-factors = c .before .before .before .before .before .before .combine-like-factors in
+    the-combine-like-factors .kept .1 .0 ∙ long-four here .1
 
 returns-11 : tie.Need-returns-11
 returns-11 c =
+    let here = c .before .before .before .before .before .before .before .before .before in
     λ t rest h.
     let a = c .before .before .before .before .before .before .combine-like-factors in
-    let v = idle-four (c .before .before .before .before .before .before .before .before .before) t rest h in
+    let v = idle-four here t rest h in
     leaves v (a .last .0) (a .last .1 .0) (rw (c .enum-told10 .given .1) at (a .ensures t rest (v .ready)))
 
 pub ask-spec : {M : Type 1} → statement M

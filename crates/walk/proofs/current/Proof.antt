@@ -37,13 +37,14 @@ part-of-requires c κs =
     (q .0, sized (g .s .now) _ _ (q .0) there (c .read22 .ensures .0 ∙ q .1 .size))
 
 returns : tie.Need-returns
-returns c = (
-  λ t h.
-      let g = c .before .before .before .before .args in
-      let there = subst (λ n. TreeIn (g .s .now) (g .p + n) t) (sym (c .before .before .read2 .ensures .0)) (h .there) in
-      c .part-of .ensures .0 t (sized (g .s .now) _ _ t there (c .before .read22 .ensures .0 ∙ h .size)),
-  c .part-of .ensures .1 (c .before .before .before .before .args .p) (omega arith),
-)
+returns c =
+    let the-read2 = c .before .before .read2 in
+    let g = c .before .before .before .before .args in (
+      λ t h.
+          let there = subst (λ n. TreeIn (g .s .now) (g .p + n) t) (sym (the-read2 .ensures .0)) (h .there) in
+          c .part-of .ensures .0 t (sized (g .s .now) _ _ t there (c .before .read22 .ensures .0 ∙ h .size)),
+      c .part-of .ensures .1 (g .p) (omega arith),
+    )
 
 pub current-spec : {M : Type 1} → statement M
 current-spec =

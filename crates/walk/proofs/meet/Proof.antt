@@ -36,12 +36,14 @@ same-length : tie.Need-same-length
 same-length c = search needs
 
 returns : tie.Need-returns
-returns c = (
-  λ b x t h w.
-      let g = c .before .before .before .before .before .before .before .args in
-      c .before .before .merge .ensures .0 b x t h (subst (λ n. TreeIn (g .s .now) (g .p + n) t) (sym (c .before .before .before .before .read2 .ensures .0)) (w .there)),
-  c .before .before .merge .ensures .1 (c .before .before .before .before .before .before .before .args .p),
-)
+returns c =
+    let the-merge = c .before .before .merge in
+    let the-read2 = c .before .before .before .before .read2 in
+    let g = c .before .before .before .before .before .before .before .args in (
+      λ b x t h w.
+          the-merge .ensures .0 b x t h (subst (λ n. TreeIn (g .s .now) (g .p + n) t) (sym (the-read2 .ensures .0)) (w .there)),
+      the-merge .ensures .1 (g .p),
+    )
 
 pub meet-spec : {M : Type 1} → statement M
 meet-spec =

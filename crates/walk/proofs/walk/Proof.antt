@@ -44,27 +44,34 @@ abbrev μ-walk : tie.MeasureT-walk
 μ-walk out₀ work₀ d p count terms n₀ i₀ e₀ late₀ over₀ out work n i e late over = count - i
 
 -- the state before a turn, and within it, of the members that were listed
-entry : (c : tie.After-current Inv-loop μ-loop Inv-walk μ-walk) (l : List Tree)
-    → Walkable (c .before .before .before .before .before .before .args .out .now) (c .before .before .before .before .before .before .args .work .now) (c .before .before .before .before .before .before .args .d) (c .before .before .before .before .before .before .args .p) (c .before .before .before .before .before .before .args .count) l
-    → Inner (c .before .before .before .before .before .before .args .terms) l (c .before .before .before .before .before .before .args .out .now) (c .before .before .before .before .before .before .args .work .now) (c .before .before .before .before .before .before .args .d) (c .before .before .before .before .before .before .args .p) (c .before .before .before .before .before .before .args .count) (c .before .before .before .walk .out) (c .before .before .before .walk .work) (c .before .before .before .walk .n)
-    (c .before .before .before .walk .i) (c .before .before .before .walk .e) (c .before .before .before .walk .late) (c .current .result) (c .before .before .before .walk .i + 1)
-entry c l h =
+abbrev Begins : tie.After-current Inv-loop μ-loop Inv-walk μ-walk → List Tree → Type 0
+Begins c l =
     let g = c .before .before .before .before .before .before .args in
     let u = c .before .before .before .walk in
-    let v = u .inv .4 l h in
-    let t = first (g .terms) l (g .out .now) (g .work .now) (g .d) (g .p) (g .count) (u .out) (u .work) (u .n) (u .i) (u .e) (u .late) v (c .before .before .walk-test .taken) in
-    inner-begins (g .terms) l (g .out .now) (g .work .now) (g .d) (g .p) (g .count) (u .out) (u .work) (u .n) (u .i) (u .e) (u .late) v (c .before .before .walk-test .taken)
-    (c .current .result) (c .current .ensures .0 (t .tree) (t .entry)) (c .current .ensures .1)
+    Walkable (g .out .now) (g .work .now) (g .d) (g .p) (g .count) l
+    → Inner (g .terms) l (g .out .now) (g .work .now) (g .d) (g .p) (g .count) (u .out) (u .work) (u .n) (u .i) (u .e) (u .late)
+    (c .current .result) (u .i + 1)
 
-within : (c : tie.At-loop Inv-loop μ-loop Inv-walk μ-walk) (l : List Tree)
-    → Walkable (c .before .before .before .before .before .before .before .args .out .now) (c .before .before .before .before .before .before .before .args .work .now) (c .before .before .before .before .before .before .before .args .d) (c .before .before .before .before .before .before .before .args .p) (c .before .before .before .before .before .before .before .args .count) l
-    → Inner (c .before .before .before .before .before .before .before .args .terms) l (c .before .before .before .before .before .before .before .args .out .now) (c .before .before .before .before .before .before .before .args .work .now) (c .before .before .before .before .before .before .before .args .d) (c .before .before .before .before .before .before .before .args .p) (c .before .before .before .before .before .before .before .args .count) (c .loop .out) (c .loop .work) (c .loop .n)
-    (c .before .before .before .before .walk .i) (c .before .before .before .before .walk .e) (c .before .before .before .before .walk .late) (c .loop .c) (c .loop .j)
+entry : (c : tie.After-current Inv-loop μ-loop Inv-walk μ-walk) (l : List Tree) → Begins c l
+entry c l h =
+    let v = c .before .before .before .walk .inv .4 l h in
+    let less = c .before .before .walk-test .taken in
+    let t = first v less in
+    inner-begins v less (c .current .result) (c .current .ensures .0 (t .tree) (t .entry)) (c .current .ensures .1)
+
+abbrev Within : tie.At-loop Inv-loop μ-loop Inv-walk μ-walk → List Tree → Type 0
+Within c l =
+    let g = c .before .before .before .before .before .before .before .args in
+    let u = c .before .before .before .before .walk in
+    let s = c .loop in
+    Walkable (g .out .now) (g .work .now) (g .d) (g .p) (g .count) l
+    → Inner (g .terms) l (g .out .now) (g .work .now) (g .d) (g .p) (g .count) (s .out) (s .work) (s .n) (u .i) (u .e) (u .late) (s .c) (s .j)
+
+within : (c : tie.At-loop Inv-loop μ-loop Inv-walk μ-walk) (l : List Tree) → Within c l
 within c l h = c .loop .inv .4 l _ _ (entry (c .before) l h)
 
 add-e : tie.Need-add-e Inv-loop μ-loop Inv-walk μ-walk
 add-e c =
-    let g = c .before .before .args in
     let q = c .before .before .pre in
     let room = q .1 .room in
     let heavy = list-weights (q .0) in
@@ -73,11 +80,10 @@ add-e c =
     record { fits = omega arith }
 
 walk-holds : tie.Need-walk-holds Inv-loop μ-loop Inv-walk μ-walk
-walk-holds c = (refl, refl, omega arith, refl, λ l h. outer-begins _ l _ _ _ _ _ h)
+walk-holds c = (refl, refl, omega arith, refl, λ l h. outer-begins h)
 
 current-requires : tie.Need-current-requires Inv-loop μ-loop Inv-walk μ-walk
 current-requires c κs =
-    let g = c .before .before .before .before .before .args in
     let q = c .before .before .before .before .before .pre in
     let room = q .1 .room in
     let heavy = list-weights (q .0) in
@@ -88,12 +94,11 @@ current-requires c κs =
     let b = u .inv .1 in
     let few = u .inv .2 in
     let v = u .inv .4 (q .0) (q .1) in
-    let t = first (g .terms) (q .0) (g .out .now) (g .work .now) (g .d) (g .p) (g .count) (u .out) (u .work) (u .n) (u .i) (u .e) (u .late) v (c .before .walk-test .taken) in
+    let t = first v (c .before .walk-test .taken) in
     (t .tree, t .entry, omega arith)
 
 add-j : tie.Need-add-j Inv-loop μ-loop Inv-walk μ-walk
 add-j c =
-    let g = c .before .before .before .before .before .before .args in
     let q = c .before .before .before .before .before .before .pre in
     let room = q .1 .room in
     let heavy = list-weights (q .0) in
@@ -110,7 +115,6 @@ loop-holds c = (refl, refl, omega arith, refl, λ l o w s. s)
 
 mul-a : tie.Need-mul-a Inv-loop μ-loop Inv-walk μ-walk
 mul-a c =
-    let g = c .before .before .before .before .before .before .before .before .args in
     let q = c .before .before .before .before .before .before .before .before .pre in
     let room = q .1 .room in
     let heavy = list-weights (q .0) in
@@ -126,96 +130,98 @@ mul-a c =
     let wider = s .inv .1 in
     let fewer = s .inv .2 in
     let l = c .loop-test .taken in
-    let x = next (g .terms) (q .0) (g .out .now) (g .work .now) (g .d) (g .p) (g .count) (s .out) (s .work) (s .n) (u .i) (u .e) (u .late) (s .c) (s .j) v l in
-    let big = enough (g .terms) (q .0) (g .out .now) (g .work .now) (g .d) (g .p) (g .count) (s .out) (s .work) (s .n) (u .i) (u .e) (u .late) (s .c) (s .j) v l in
+    let x = next v l in
+    let big = enough v l in
     record { fits = omega arith }
 
 sub-meet : tie.Need-sub-meet Inv-loop μ-loop Inv-walk μ-walk
 sub-meet c =
-    let g = c .before .before .before .before .before .before .before .before .before .args in
-    let q = c .before .before .before .before .before .before .before .before .before .pre in
+    let here = c .before .before in
+    let q = here .before .before .before .before .before .before .before .pre in
     let room = q .1 .room in
     let heavy = list-weights (q .0) in
     let low = q .1 .listed .low in
     let high = q .1 .listed .within in
-    let u = c .before .before .before .before .before .before .walk in
+    let u = here .before .before .before .before .walk in
     let a = u .inv .0 in
     let b = u .inv .1 in
     let few = u .inv .2 in
-    let s = c .before .before .loop in
-    let v = within (c .before .before) (q .0) (q .1) in
+    let s = here .loop in
+    let v = within here (q .0) (q .1) in
     let longer = s .inv .0 in
     let wider = s .inv .1 in
     let fewer = s .inv .2 in
     let l = c .before .loop-test .taken in
-    let x = next (g .terms) (q .0) (g .out .now) (g .work .now) (g .d) (g .p) (g .count) (s .out) (s .work) (s .n) (u .i) (u .e) (u .late) (s .c) (s .j) v l in
-    let big = enough (g .terms) (q .0) (g .out .now) (g .work .now) (g .d) (g .p) (g .count) (s .out) (s .work) (s .n) (u .i) (u .e) (u .late) (s .c) (s .j) v l in
+    let x = next v l in
+    let big = enough v l in
     omega arith
 
 part-meet-start : tie.Need-part-meet-start Inv-loop μ-loop Inv-walk μ-walk
 part-meet-start c =
-    let g = c .before .before .before .before .before .before .before .before .before .args in
-    let q = c .before .before .before .before .before .before .before .before .before .pre in
+    let here = c .before .before in
+    let q = here .before .before .before .before .before .before .before .pre in
     let room = q .1 .room in
     let heavy = list-weights (q .0) in
     let low = q .1 .listed .low in
     let high = q .1 .listed .within in
-    let u = c .before .before .before .before .before .before .walk in
+    let u = here .before .before .before .before .walk in
     let a = u .inv .0 in
     let b = u .inv .1 in
     let few = u .inv .2 in
-    let s = c .before .before .loop in
-    let v = within (c .before .before) (q .0) (q .1) in
+    let s = here .loop in
+    let v = within here (q .0) (q .1) in
     let longer = s .inv .0 in
     let wider = s .inv .1 in
     let fewer = s .inv .2 in
     let l = c .before .loop-test .taken in
-    let x = next (g .terms) (q .0) (g .out .now) (g .work .now) (g .d) (g .p) (g .count) (s .out) (s .work) (s .n) (u .i) (u .e) (u .late) (s .c) (s .j) v l in
-    let big = enough (g .terms) (q .0) (g .out .now) (g .work .now) (g .d) (g .p) (g .count) (s .out) (s .work) (s .n) (u .i) (u .e) (u .late) (s .c) (s .j) v l in
+    let x = next v l in
+    let big = enough v l in
     omega arith
 
 part-meet-end : tie.Need-part-meet-end Inv-loop μ-loop Inv-walk μ-walk
 part-meet-end c =
-    let g = c .before .before .before .before .before .before .before .before .before .args in
-    let q = c .before .before .before .before .before .before .before .before .before .pre in
+    let here = c .before .before in
+    let q = here .before .before .before .before .before .before .before .pre in
     let room = q .1 .room in
     let heavy = list-weights (q .0) in
     let low = q .1 .listed .low in
     let high = q .1 .listed .within in
-    let u = c .before .before .before .before .before .before .walk in
+    let u = here .before .before .before .before .walk in
     let a = u .inv .0 in
     let b = u .inv .1 in
     let few = u .inv .2 in
-    let s = c .before .before .loop in
-    let v = within (c .before .before) (q .0) (q .1) in
+    let s = here .loop in
+    let v = within here (q .0) (q .1) in
     let longer = s .inv .0 in
     let wider = s .inv .1 in
     let fewer = s .inv .2 in
     let l = c .before .loop-test .taken in
-    let x = next (g .terms) (q .0) (g .out .now) (g .work .now) (g .d) (g .p) (g .count) (s .out) (s .work) (s .n) (u .i) (u .e) (u .late) (s .c) (s .j) v l in
-    let big = enough (g .terms) (q .0) (g .out .now) (g .work .now) (g .d) (g .p) (g .count) (s .out) (s .work) (s .n) (u .i) (u .e) (u .late) (s .c) (s .j) v l in
+    let x = next v l in
+    let big = enough v l in
     omega arith
 
 meet-requires : tie.Need-meet-requires Inv-loop μ-loop Inv-walk μ-walk
 meet-requires c κs =
-    let g = c .before .before .before .before .before .before .before .before .before .before .args in
-    let q = c .before .before .before .before .before .before .before .before .before .before .pre in
+    let here = c .before .before .before in
+    let the-loop-test = c .before .before .loop-test in
+    let g = here .before .before .before .before .before .before .before .args in
+    let q = here .before .before .before .before .before .before .before .pre in
     let room = q .1 .room in
     let heavy = list-weights (q .0) in
     let low = q .1 .listed .low in
     let high = q .1 .listed .within in
-    let u = c .before .before .before .before .before .before .before .walk in
+    let u = here .before .before .before .before .walk in
     let a = u .inv .0 in
     let b = u .inv .1 in
     let few = u .inv .2 in
-    let s = c .before .before .before .loop in
-    let v = within (c .before .before .before) (q .0) (q .1) in
+    let s = here .loop in
+    let v = within here (q .0) (q .1) in
     let longer = s .inv .0 in
     let wider = s .inv .1 in
     let fewer = s .inv .2 in
-    let l = c .before .before .loop-test .taken in
-    let x = next (g .terms) (q .0) (g .out .now) (g .work .now) (g .d) (g .p) (g .count) (s .out) (s .work) (s .n) (u .i) (u .e) (u .late) (s .c) (s .j) v l in
-    let big = enough (g .terms) (q .0) (g .out .now) (g .work .now) (g .d) (g .p) (g .count) (s .out) (s .work) (s .n) (u .i) (u .e) (u .late) (s .c) (s .j) v l in
+    let l = the-loop-test .taken in
+    let x = next v l in
+    let big = enough v l in
     record {
       flag = g .terms;
       current = v .current;
@@ -231,18 +237,18 @@ enum-told c = search needs
 
 add-j-2 : tie.Need-add-j-2 Inv-loop μ-loop Inv-walk μ-walk
 add-j-2 c =
-    let g = c .before .before .before .before .before .before .before .before .before .before .before .before .before .before .before .args in
-    let q = c .before .before .before .before .before .before .before .before .before .before .before .before .before .before .before .pre in
+    let here = c .before .before .before .before .before .before .before .before in
+    let q = here .before .before .before .before .before .before .before .pre in
     let room = q .1 .room in
     let heavy = list-weights (q .0) in
     let low = q .1 .listed .low in
     let high = q .1 .listed .within in
-    let u = c .before .before .before .before .before .before .before .before .before .before .before .before .walk in
+    let u = here .before .before .before .before .walk in
     let a = u .inv .0 in
     let b = u .inv .1 in
     let few = u .inv .2 in
-    let s = c .before .before .before .before .before .before .before .before .loop in
-    let v = within (c .before .before .before .before .before .before .before .before) (q .0) (q .1) in
+    let s = here .loop in
+    let v = within here (q .0) (q .1) in
     let longer = s .inv .0 in
     let wider = s .inv .1 in
     let fewer = s .inv .2 in
@@ -253,35 +259,38 @@ loop-less c = search needs
 
 loop-again : tie.Need-loop-again Inv-loop μ-loop Inv-walk μ-walk
 loop-again c =
-    let g = c .before .before .before .before .before .before .before .before .before .before .before .before .before .before .before .args in
-    let q = c .before .before .before .before .before .before .before .before .before .before .before .before .before .before .before .pre in
+    let here = c .before .before .before .before .before .before .before .before in
+    let the-meet = c .before .before .before .before .meet in
+    let the-loop-test = c .before .before .before .before .before .before .before .loop-test in
+    let g = here .before .before .before .before .before .before .before .args in
+    let q = here .before .before .before .before .before .before .before .pre in
     let room = q .1 .room in
     let heavy = list-weights (q .0) in
     let low = q .1 .listed .low in
     let high = q .1 .listed .within in
-    let u = c .before .before .before .before .before .before .before .before .before .before .before .before .walk in
+    let u = here .before .before .before .before .walk in
     let a = u .inv .0 in
     let b = u .inv .1 in
     let few = u .inv .2 in
-    let s = c .before .before .before .before .before .before .before .before .loop in
-    let v = within (c .before .before .before .before .before .before .before .before) (q .0) (q .1) in
+    let s = here .loop in
+    let v = within here (q .0) (q .1) in
     let longer = s .inv .0 in
     let wider = s .inv .1 in
     let fewer = s .inv .2 in
-    let l = c .before .before .before .before .before .before .before .loop-test .taken in
-    let x = next (g .terms) (q .0) (g .out .now) (g .work .now) (g .d) (g .p) (g .count) (s .out) (s .work) (s .n) (u .i) (u .e) (u .late) (s .c) (s .j) v l in
-    let big = enough (g .terms) (q .0) (g .out .now) (g .work .now) (g .d) (g .p) (g .count) (s .out) (s .work) (s .n) (u .i) (u .e) (u .late) (s .c) (s .j) v l in
-    let less = c .before .before .before .before .before .before .before .loop-test .taken in
-    let front = take-put (u .e * 16) (length (s .out) - u .e * 16) (s .out) (c .before .before .before .before .meet .last .1 .1 .1 .1 .0) (omega arith) in (
-      same-len-mid (u .e * 16) (length (s .out) - u .e * 16) (s .out) (c .before .before .before .before .meet .last .1 .1 .1 .1 .0) (c .before .before .before .before .meet .kept .1 .1 .1 .1 .0) ∙ s .inv .0,
+    let l = the-loop-test .taken in
+    let x = next v l in
+    let big = enough v l in
+    let less = the-loop-test .taken in
+    let front = take-put (u .e * 16) (length (s .out) - u .e * 16) (s .out) (the-meet .last .1 .1 .1 .1 .0) (omega arith) in (
+      same-len-mid (u .e * 16) (length (s .out) - u .e * 16) (s .out) (the-meet .last .1 .1 .1 .1 .0) (the-meet .kept .1 .1 .1 .1 .0) ∙ s .inv .0,
       s .inv .1,
       s .inv .2,
       s .inv .3,
       λ l o w h.
           let z = s .inv .4 l o w h in
-          let y = next (g .terms) l o w (g .d) (g .p) (g .count) (s .out) (s .work) (s .n) (u .i) (u .e) (u .late) (s .c) (s .j) z less in
-          let told = rw (c .enum-told .given .1) at (c .before .before .before .before .meet .ensures .0 (g .terms) (z .current) (y .tree) (z .shown) (y .entry)) in
-          inner-apart (g .terms) l o w (g .d) (g .p) (g .count) (s .out) (s .work) (s .n) (u .i) (u .e) (u .late) (s .c) (s .j) z less _ front told,
+          let y = next z less in
+          let told = rw (c .enum-told .given .1) at (the-meet .ensures .0 (g .terms) (z .current) (y .tree) (z .shown) (y .entry)) in
+          inner-apart z less _ front told,
     )
 
 enum-known-met : tie.Need-enum-known-met Inv-loop μ-loop Inv-walk μ-walk
@@ -292,18 +301,18 @@ sub-n c = search needs
 
 remove-requires : tie.Need-remove-requires Inv-loop μ-loop Inv-walk μ-walk
 remove-requires c κs =
-    let g = c .before .before .before .before .before .before .before .before .before .before .before .before .before .before .before .before .before .args in
-    let q = c .before .before .before .before .before .before .before .before .before .before .before .before .before .before .before .before .before .pre in
+    let here = c .before .before .before .before .before .before .before .before .before .before in
+    let q = here .before .before .before .before .before .before .before .pre in
     let room = q .1 .room in
     let heavy = list-weights (q .0) in
     let low = q .1 .listed .low in
     let high = q .1 .listed .within in
-    let u = c .before .before .before .before .before .before .before .before .before .before .before .before .before .before .walk in
+    let u = here .before .before .before .before .walk in
     let a = u .inv .0 in
     let b = u .inv .1 in
     let few = u .inv .2 in
-    let s = c .before .before .before .before .before .before .before .before .before .before .loop in
-    let v = within (c .before .before .before .before .before .before .before .before .before .before) (q .0) (q .1) in
+    let s = here .loop in
+    let v = within here (q .0) (q .1) in
     let longer = s .inv .0 in
     let wider = s .inv .1 in
     let fewer = s .inv .2 in
@@ -311,56 +320,63 @@ remove-requires c κs =
 
 loop-less-2 : tie.Need-loop-less-2 Inv-loop μ-loop Inv-walk μ-walk
 loop-less-2 c =
-    let g = c .before .before .before .before .before .before .before .before .before .before .before .before .before .before .before .before .before .before .before .before .args in
-    let q = c .before .before .before .before .before .before .before .before .before .before .before .before .before .before .before .before .before .before .before .before .pre in
+    let here = c .before .before .before .before .before .before .before .before .before .before .before .before .before in
+    let the-remove = c .before .before .remove in
+    let the-loop-test = c .before .before .before .before .before .before .before .before .before .before .before .before .loop-test in
+    let q = here .before .before .before .before .before .before .before .pre in
     let room = q .1 .room in
     let heavy = list-weights (q .0) in
     let low = q .1 .listed .low in
     let high = q .1 .listed .within in
-    let u = c .before .before .before .before .before .before .before .before .before .before .before .before .before .before .before .before .before .walk in
+    let u = here .before .before .before .before .walk in
     let a = u .inv .0 in
     let b = u .inv .1 in
     let few = u .inv .2 in
-    let s = c .before .before .before .before .before .before .before .before .before .before .before .before .before .loop in
-    let v = within (c .before .before .before .before .before .before .before .before .before .before .before .before .before) (q .0) (q .1) in
+    let s = here .loop in
+    let v = within here (q .0) (q .1) in
     let longer = s .inv .0 in
     let wider = s .inv .1 in
     let fewer = s .inv .2 in
-    omega (arith, c .before .before .remove .ensures .1)
+    omega (arith, the-remove .ensures .1, the-loop-test .taken)
 
 loop-again-2 : tie.Need-loop-again-2 Inv-loop μ-loop Inv-walk μ-walk
 loop-again-2 c =
-    let g = c .before .before .before .before .before .before .before .before .before .before .before .before .before .before .before .before .before .before .before .before .args in
-    let q = c .before .before .before .before .before .before .before .before .before .before .before .before .before .before .before .before .before .before .before .before .pre in
+    let here = c .before .before .before .before .before .before .before .before .before .before .before .before .before in
+    let the-remove = c .before .before .remove in
+    let the-met = c .before .before .before .before .before .met in
+    let the-meet = c .before .before .before .before .before .before .before .before .before .meet in
+    let the-loop-test = c .before .before .before .before .before .before .before .before .before .before .before .before .loop-test in
+    let g = here .before .before .before .before .before .before .before .args in
+    let q = here .before .before .before .before .before .before .before .pre in
     let room = q .1 .room in
     let heavy = list-weights (q .0) in
     let low = q .1 .listed .low in
     let high = q .1 .listed .within in
-    let u = c .before .before .before .before .before .before .before .before .before .before .before .before .before .before .before .before .before .walk in
+    let u = here .before .before .before .before .walk in
     let a = u .inv .0 in
     let b = u .inv .1 in
     let few = u .inv .2 in
-    let s = c .before .before .before .before .before .before .before .before .before .before .before .before .before .loop in
-    let v = within (c .before .before .before .before .before .before .before .before .before .before .before .before .before) (q .0) (q .1) in
+    let s = here .loop in
+    let v = within here (q .0) (q .1) in
     let longer = s .inv .0 in
     let wider = s .inv .1 in
     let fewer = s .inv .2 in
-    let l = c .before .before .before .before .before .before .before .before .before .before .before .before .loop-test .taken in
-    let x = next (g .terms) (q .0) (g .out .now) (g .work .now) (g .d) (g .p) (g .count) (s .out) (s .work) (s .n) (u .i) (u .e) (u .late) (s .c) (s .j) v l in
-    let big = enough (g .terms) (q .0) (g .out .now) (g .work .now) (g .d) (g .p) (g .count) (s .out) (s .work) (s .n) (u .i) (u .e) (u .late) (s .c) (s .j) v l in
-    let less = c .before .before .before .before .before .before .before .before .before .before .before .before .loop-test .taken in
-    let front = take-put (u .e * 16) (length (s .out) - u .e * 16) (s .out) (c .before .before .before .before .before .before .before .before .before .meet .last .1 .1 .1 .1 .0) (omega arith) in (
-      same-len-mid (u .e * 16) (length (s .out) - u .e * 16) (s .out) (c .before .before .before .before .before .before .before .before .before .meet .last .1 .1 .1 .1 .0) (c .before .before .before .before .before .before .before .before .before .meet .kept .1 .1 .1 .1 .0) ∙ s .inv .0,
-      c .before .before .remove .kept .0 ∙ s .inv .1,
+    let l = the-loop-test .taken in
+    let x = next v l in
+    let big = enough v l in
+    let less = the-loop-test .taken in
+    let front = take-put (u .e * 16) (length (s .out) - u .e * 16) (s .out) (the-meet .last .1 .1 .1 .1 .0) (omega arith) in (
+      same-len-mid (u .e * 16) (length (s .out) - u .e * 16) (s .out) (the-meet .last .1 .1 .1 .1 .0) (the-meet .kept .1 .1 .1 .1 .0) ∙ s .inv .0,
+      the-remove .kept .0 ∙ s .inv .1,
       omega arith,
       s .inv .3,
       λ l o w h.
           let z = s .inv .4 l o w h in
-          let y = next (g .terms) l o w (g .d) (g .p) (g .count) (s .out) (s .work) (s .n) (u .i) (u .e) (u .late) (s .c) (s .j) z less in
-          let told = rw (c .before .before .before .before .before .met .given .1) at (c .before .before .before .before .before .before .before .before .before .meet .ensures .0 (g .terms) (z .current) (y .tree) (z .shown) (y .entry)) in
-          let place = rw (c .before .before .before .before .before .met .given .1) at (c .before .before .before .before .before .before .before .before .before .meet .ensures .1 (z .place)) in
-          rw (c .before .before .remove .ensures .1)
-          (inner-into (g .terms) l o w (g .d) (g .p) (g .count) (s .out) (s .work) (s .n) (u .i) (u .e) (u .late) (s .c) (s .j) z less _ _ _ (told .0) front (told .1) (told .2) place (omega arith) (omega arith) (c .before .before .remove .ensures .0)),
+          let y = next z less in
+          let told = rw (the-met .given .1) at (the-meet .ensures .0 (g .terms) (z .current) (y .tree) (z .shown) (y .entry)) in
+          let place = rw (the-met .given .1) at (the-meet .ensures .1 (z .place)) in
+          rw (the-remove .ensures .1)
+          (inner-into z less _ _ _ (told .0) front (told .1) (told .2) place (omega arith) (omega arith) (the-remove .ensures .0)),
     )
 
 enum-told-2 : tie.Need-enum-told-2 Inv-loop μ-loop Inv-walk μ-walk
@@ -368,22 +384,24 @@ enum-told-2 c = search needs
 
 write-part-requires : tie.Need-write-part-requires Inv-loop μ-loop Inv-walk μ-walk
 write-part-requires c κs =
-    let g = c .before .before .before .before .before .before .before .before .before .before .args in
-    let q = c .before .before .before .before .before .before .before .before .before .before .pre in
+    let here = c .before .before .before in
+    let the-loop-test = c .before .before .loop-test in
+    let g = here .before .before .before .before .before .before .before .args in
+    let q = here .before .before .before .before .before .before .before .pre in
     let room = q .1 .room in
     let heavy = list-weights (q .0) in
     let low = q .1 .listed .low in
     let high = q .1 .listed .within in
-    let u = c .before .before .before .before .before .before .before .walk in
+    let u = here .before .before .before .before .walk in
     let a = u .inv .0 in
     let b = u .inv .1 in
     let few = u .inv .2 in
-    let s = c .before .before .before .loop in
-    let v = within (c .before .before .before) (q .0) (q .1) in
+    let s = here .loop in
+    let v = within here (q .0) (q .1) in
     let longer = s .inv .0 in
     let wider = s .inv .1 in
     let fewer = s .inv .2 in
-    let fit = fitting (g .terms) (q .0) (g .out .now) (g .work .now) (g .d) (g .p) (g .count) (s .out) (s .work) (s .n) (u .i) (u .e) (u .late) (s .c) (s .j) v (c .before .before .loop-test .left) in
+    let fit = fitting v (the-loop-test .left) in
     (g .terms, v .current, v .shown, omega arith)
 
 enum-known-w : tie.Need-enum-known-w Inv-loop μ-loop Inv-walk μ-walk
@@ -394,7 +412,6 @@ enum-told-3 c = search needs
 
 add-i : tie.Need-add-i Inv-loop μ-loop Inv-walk μ-walk
 add-i c =
-    let g = c .before .before .before .before .before .before .before .before .before .before .before .before .before .before .args in
     let q = c .before .before .before .before .before .before .before .before .before .before .before .before .before .before .pre in
     let room = q .1 .room in
     let heavy = list-weights (q .0) in
@@ -408,7 +425,6 @@ add-i c =
 
 walk-less : tie.Need-walk-less Inv-loop μ-loop Inv-walk μ-walk
 walk-less c =
-    let g = c .before .before .before .before .before .before .before .before .before .before .before .before .before .before .args in
     let q = c .before .before .before .before .before .before .before .before .before .before .before .before .before .before .pre in
     let room = q .1 .room in
     let heavy = list-weights (q .0) in
@@ -422,42 +438,45 @@ walk-less c =
 
 walk-again : tie.Need-walk-again Inv-loop μ-loop Inv-walk μ-walk
 walk-again c =
-    let g = c .before .before .before .before .before .before .before .before .before .before .before .before .before .before .args in
-    let q = c .before .before .before .before .before .before .before .before .before .before .before .before .before .before .pre in
+    let here = c .before .before .before .before .before .before .before in
+    let the-write-part = c .before .before .before .write-part in
+    let the-loop-test = c .before .before .before .before .before .before .loop-test in
+    let g = here .before .before .before .before .before .before .before .args in
+    let q = here .before .before .before .before .before .before .before .pre in
     let room = q .1 .room in
     let heavy = list-weights (q .0) in
     let low = q .1 .listed .low in
     let high = q .1 .listed .within in
-    let u = c .before .before .before .before .before .before .before .before .before .before .before .walk in
+    let u = here .before .before .before .before .walk in
     let a = u .inv .0 in
     let b = u .inv .1 in
     let few = u .inv .2 in
-    let s = c .before .before .before .before .before .before .before .loop in
-    let v = within (c .before .before .before .before .before .before .before) (q .0) (q .1) in
+    let s = here .loop in
+    let v = within here (q .0) (q .1) in
     let longer = s .inv .0 in
     let wider = s .inv .1 in
     let fewer = s .inv .2 in
-    let fit = fitting (g .terms) (q .0) (g .out .now) (g .work .now) (g .d) (g .p) (g .count) (s .out) (s .work) (s .n) (u .i) (u .e) (u .late) (s .c) (s .j) v (c .before .before .before .before .before .before .loop-test .left) in
+    let fit = fitting v (the-loop-test .left) in
     ⊎-elim
     (λ a. (
-      c .before .before .before .write-part .kept .0 ∙ s .inv .0 ∙ u .inv .0,
+      the-write-part .kept .0 ∙ s .inv .0 ∙ u .inv .0,
       s .inv .1 ∙ u .inv .1,
       omega arith,
       s .inv .3 ∙ u .inv .3,
       λ l h.
-          let z = within (c .before .before .before .before .before .before .before) l h in
-          let told = rw (a .1 .given .1) at (c .before .before .before .write-part .ensures (g .terms) (z .current) (z .shown)) in
-          rw (a .3, a .4) (outer-written (g .terms) l (g .out .now) (g .work .now) (g .d) (g .p) (g .count) (s .out) (s .work) (s .n) (u .i) (u .e) (u .late) (s .c) (s .j) z (c .before .before .before .before .before .before .loop-test .left) _ _ (omega arith) (told .0) (told .1) (told .2)),
+          let z = within here l h in
+          let told = rw (a .1 .given .1) at (the-write-part .ensures (g .terms) (z .current) (z .shown)) in
+          rw (a .3, a .4) (outer-written z (the-loop-test .left) _ _ (omega arith) (told .0) (told .1) (told .2)),
     ))
     (λ a. (
-      c .before .before .before .write-part .kept .0 ∙ s .inv .0 ∙ u .inv .0,
+      the-write-part .kept .0 ∙ s .inv .0 ∙ u .inv .0,
       s .inv .1 ∙ u .inv .1,
       omega arith,
       s .inv .3 ∙ u .inv .3,
       λ l h.
-          let z = within (c .before .before .before .before .before .before .before) l h in
-          let told = rw (a .1 .given .1) at (c .before .before .before .write-part .ensures (g .terms) (z .current) (z .shown)) in
-          rw (a .2, a .3) (outer-late (g .terms) l (g .out .now) (g .work .now) (g .d) (g .p) (g .count) (s .out) (s .work) (s .n) (u .i) (u .e) (u .late) (s .c) (s .j) z (c .before .before .before .before .before .before .loop-test .left) _ (told .0) (told .1)),
+          let z = within here l h in
+          let told = rw (a .1 .given .1) at (the-write-part .ensures (g .terms) (z .current) (z .shown)) in
+          rw (a .2, a .3) (outer-late z (the-loop-test .left) _ (told .0) (told .1)),
     ))
     (c .match2 .came)
 
@@ -469,9 +488,14 @@ record Left (b : Bool) (o₀ w₀ : List ℕ) (d p count : ℕ) (o w : List ℕ)
   ended : over ≡ false → n ≤ i
   state : over ≡ false → (l : List Tree) → Walkable o₀ w₀ d p count l → Outer b l o₀ w₀ d p count o w n i e late
 
-left : (c : tie.Left-walk Inv-loop μ-loop Inv-walk μ-walk)
-    → Left (c .before .before .before .before .args .terms) (c .before .before .before .before .args .out .now) (c .before .before .before .before .args .work .now) (c .before .before .before .before .args .d) (c .before .before .before .before .args .p) (c .before .before .before .before .args .count) (c .walk-test .out) (c .walk-test .work)
-    (c .walk-test .n) (c .before .walk .i) (c .before .walk .e) (c .before .walk .late) (c .walk-test .over)
+abbrev Leaves : tie.Left-walk Inv-loop μ-loop Inv-walk μ-walk → Type 0
+Leaves c =
+    let g = c .before .before .before .before .args in
+    let u = c .before .walk in
+    let x = c .walk-test in
+    Left (g .terms) (g .out .now) (g .work .now) (g .d) (g .p) (g .count) (x .out) (x .work) (x .n) (u .i) (u .e) (u .late) (x .over)
+
+left : (c : tie.Left-walk Inv-loop μ-loop Inv-walk μ-walk) → Leaves c
 left c =
     let g = c .before .before .before .before .args in
     let q = c .before .before .before .before .pre in
@@ -491,24 +515,27 @@ left c =
     })
     (λ a.
     let s = a .3 in
-    let at : tie.At-loop Inv-loop μ-loop Inv-walk μ-walk = record { before = record { before = record { before = record { before = c .before; walk-test = a .0 }; current-arg = a .1 }; current = a .2 }; loop = s } in
+    let turn : tie.After-current Inv-loop μ-loop Inv-walk μ-walk =
+    record { before = record { before = record { before = c .before; walk-test = a .0 }; current-arg = a .1 }; current = a .2 } in
+    let at : tie.At-loop Inv-loop μ-loop Inv-walk μ-walk = record { before = turn; loop = s } in
     let v = within at (q .0) (q .1) in
     let less = a .4 .taken in
-    let big = enough (g .terms) (q .0) (g .out .now) (g .work .now) (g .d) (g .p) (g .count) (s .out) (s .work) (s .n) (u .i) (u .e) (u .late) (s .c) (s .j) v less in
+    let big = enough v less in
     let first = u .inv .0 in
     let longer = s .inv .0 in
     let size = length (s .out) - u .e * 16 in
-    let front = take-put (u .e * 16) size (s .out) (a .7 .last .1 .1 .1 .1 .0) (omega arith) in
+    let marks = a .7 .last .1 .1 .1 .1 .0 in
+    let front = take-put (u .e * 16) size (s .out) marks (omega arith) in
     record {
-      long = ap length (a .12) ∙ same-len-mid (u .e * 16) size (s .out) (a .7 .last .1 .1 .1 .1 .0) (a .7 .kept .1 .1 .1 .1 .0) ∙ s .inv .0 ∙ u .inv .0;
+      long = ap length (a .12) ∙ same-len-mid (u .e * 16) size (s .out) marks (a .7 .kept .1 .1 .1 .1 .0) ∙ s .inv .0 ∙ u .inv .0;
       wide = ap length (a .13) ∙ s .inv .1 ∙ u .inv .1;
       went = λ y l h.
           let z = within at l h in
-          let x = next (g .terms) l (g .out .now) (g .work .now) (g .d) (g .p) (g .count) (s .out) (s .work) (s .n) (u .i) (u .e) (u .late) (s .c) (s .j) z less in
+          let x = next z less in
           let told = rw (a .11 .given .1) at (a .7 .ensures .0 (g .terms) (z .current) (x .tree) (z .shown) (x .entry)) in
-          let calm = left-alone (g .terms) l (g .out .now) (g .work .now) (g .d) (g .p) (g .count) (s .out) (s .work) (s .n) (u .i) (u .e) (u .late) (s .c) (s .j) z _ front in
+          let calm = left-alone z _ front in
           record {
-            says = says-over (g .terms) l (g .out .now) (g .work .now) (g .d) (g .p) (g .count) (s .out) (s .work) (s .n) (u .i) (u .e) (u .late) (s .c) (s .j) z less (told .0) (told .1) (told .2);
+            says = says-over z less (told .0) (told .1) (told .2);
             pending = ap (drop (g .p * 16)) (a .13) ∙ calm .0;
             done = ap (take (g .d * 16)) (a .12) ∙ calm .1;
           };
@@ -527,63 +554,77 @@ returns : tie.Need-returns Inv-loop μ-loop Inv-walk μ-walk
 returns c = λ l h. left (c .before) .went (c .if1 .taken) l h
 
 same-length-3 : tie.Need-same-length-3 Inv-loop μ-loop Inv-walk μ-walk
-same-length-3 c = left (c .before .before) .long
+same-length-3 c =
+    let here = c .before .before in
+    left here .long
 
 same-length-4 : tie.Need-same-length-4 Inv-loop μ-loop Inv-walk μ-walk
-same-length-4 c = left (c .before .before) .wide
+same-length-4 c =
+    let here = c .before .before in
+    left here .wide
 
 returns-2 : tie.Need-returns-2 Inv-loop μ-loop Inv-walk μ-walk
 returns-2 c =
+    let here = c .before .before in
     λ l h.
-    let g = c .before .before .before .before .before .before .args in
-    let u = c .before .before .before .walk in
-    let x = c .before .before .walk-test in
-    let s = left (c .before .before) .state (c .before .if1 .left) l h in
-    let over = left (c .before .before) .ended (c .before .if1 .left) in
+    let u = here .before .walk in
+    let x = here .walk-test in
+    let s = left here .state (c .before .if1 .left) l h in
+    let over = left here .ended (c .before .if1 .left) in
     record {
-      says = says-idle (g .terms) l (g .out .now) (g .work .now) (g .d) (g .p) (g .count) (x .out) (x .work) (x .n) (u .i) (u .e) (u .late) s over (c .if2 .taken);
+      says = says-idle s over (c .if2 .taken);
       pending = s .common .pending;
-      done = common-done (g .terms) (g .out .now) (g .work .now) (g .d) (g .p) (x .out) (x .work) (u .i) (u .e) (u .late) (s .done) (s .common);
+      done = common-done (s .common);
     }
 
 same-length-5 : tie.Need-same-length-5 Inv-loop μ-loop Inv-walk μ-walk
-same-length-5 c = left (c .before .before .before) .long
+same-length-5 c =
+    let here = c .before .before .before in
+    left here .long
 
 same-length-6 : tie.Need-same-length-6 Inv-loop μ-loop Inv-walk μ-walk
-same-length-6 c = left (c .before .before .before) .wide
+same-length-6 c =
+    let here = c .before .before .before in
+    left here .wide
 
 returns-3 : tie.Need-returns-3 Inv-loop μ-loop Inv-walk μ-walk
 returns-3 c =
+    let here = c .before .before .before in
+    let the-if1 = c .before .before .if1 in
     λ l h.
-    let g = c .before .before .before .before .before .before .before .args in
-    let u = c .before .before .before .before .walk in
-    let x = c .before .before .before .walk-test in
-    let s = left (c .before .before .before) .state (c .before .before .if1 .left) l h in
-    let over = left (c .before .before .before) .ended (c .before .before .if1 .left) in
+    let u = here .before .walk in
+    let x = here .walk-test in
+    let s = left here .state (the-if1 .left) l h in
+    let over = left here .ended (the-if1 .left) in
     record {
-      says = says-late (g .terms) l (g .out .now) (g .work .now) (g .d) (g .p) (g .count) (x .out) (x .work) (x .n) (u .i) (u .e) (u .late) s over (c .before .if2 .left) (c .if3 .taken);
+      says = says-late s over (c .before .if2 .left) (c .if3 .taken);
       pending = s .common .pending;
-      done = common-done (g .terms) (g .out .now) (g .work .now) (g .d) (g .p) (x .out) (x .work) (u .i) (u .e) (u .late) (s .done) (s .common);
+      done = common-done (s .common);
     }
 
 same-length-7 : tie.Need-same-length-7 Inv-loop μ-loop Inv-walk μ-walk
-same-length-7 c = left (c .before .before .before) .long
+same-length-7 c =
+    let here = c .before .before .before in
+    left here .long
 
 same-length-8 : tie.Need-same-length-8 Inv-loop μ-loop Inv-walk μ-walk
-same-length-8 c = left (c .before .before .before) .wide
+same-length-8 c =
+    let here = c .before .before .before in
+    left here .wide
 
 returns-4 : tie.Need-returns-4 Inv-loop μ-loop Inv-walk μ-walk
 returns-4 c =
+    let here = c .before .before .before in
+    let the-if1 = c .before .before .if1 in
     λ l h.
-    let g = c .before .before .before .before .before .before .before .args in
-    let u = c .before .before .before .before .walk in
-    let x = c .before .before .before .walk-test in
-    let s = left (c .before .before .before) .state (c .before .before .if1 .left) l h in
-    let over = left (c .before .before .before) .ended (c .before .before .if1 .left) in
+    let u = here .before .walk in
+    let x = here .walk-test in
+    let s = left here .state (the-if1 .left) l h in
+    let over = left here .ended (the-if1 .left) in
     record {
-      says = says-done (g .terms) l (g .out .now) (g .work .now) (g .d) (g .p) (g .count) (x .out) (x .work) (x .n) (u .i) (u .e) (u .late) s over (c .before .if2 .left) (c .if3 .left);
+      says = says-done s over (c .before .if2 .left) (c .if3 .left);
       pending = s .common .pending;
-      done = common-done (g .terms) (g .out .now) (g .work .now) (g .d) (g .p) (x .out) (x .work) (u .i) (u .e) (u .late) (s .done) (s .common);
+      done = common-done (s .common);
     }
 
 pub walk-spec : {M : Type 1} → statement M

@@ -33,7 +33,9 @@ same-length c = search needs
 
 returns : tie.Need-returns
 unfolding entryOf bytes part
-returns c = c .before .before .copy-bytes .ensures
+returns c =
+    let the-copy-bytes = c .before .before .copy-bytes in
+    the-copy-bytes .ensures
 
 pub write-entry-spec : {M : Type 1} → statement M
 write-entry-spec =

@@ -183,6 +183,7 @@ mul-copy-bytes-6 c =
 
 copy-bytes-requires-2 : tie.Need-copy-bytes-requires-2
 copy-bytes-requires-2 c κs =
+    let the-copy-bytes = c .before .before .before .copy-bytes in
     let g = c .before .before .before .before .before .before .before .args in
     let q = c .before .before .before .before .before .before .before .pre in
     let h = q .3 in
@@ -191,13 +192,15 @@ copy-bytes-requires-2 c κs =
     let within = gap-within (g .s .now) (g .i) (g .x) (g .e) (q .0) (q .1) (q .2) h in
     let rows = recordses-append (q .0) (q .1) in
     let room = q .4 in
-    (omega (arith, c .before .before .before .copy-bytes .kept .0), omega arith)
+    (omega (arith, the-copy-bytes .kept .0), omega arith)
 
 same-length : tie.Need-same-length
 same-length c = search needs
 
 returns : tie.Need-returns
 returns c =
+    let the-copy-bytes2 = c .before .before .copy-bytes2 in
+    let the-copy-bytes = c .before .before .before .before .before .before .copy-bytes in
     λ front back z h.
     let g = c .before .before .before .before .before .before .before .before .before .before .args in
     let place = gap-place (g .s .now) (g .i) (g .x) (g .e) front back z h in
@@ -209,10 +212,13 @@ returns c =
     let b = g .e - (g .x + 1) in
     let size : length (encodes (ofList front)) ≡ a * 16 = omega (arith, encodes-length (ofList front)) in
     let size' : length (encodes (ofList back)) ≡ b * 16 = omega (arith, encodes-length (ofList back)) in
-    let one = ap (put (g .out .now) (g .m * 16)) (stands-bytes (g .s .now) (g .i + 1) (a * 16) (encodes (ofList front)) (gap-front (g .s .now) (g .i) (g .x) (g .e) front back z h) size) in
-    let two = ap (put _ ((g .m + a) * 16)) (stands-bytes (g .s .now) (g .x + 1) (b * 16) (encodes (ofList back)) (gap-back (g .s .now) (g .i) (g .x) (g .e) front back z h) size') in
+    let one = ap (put (g .out .now) (g .m * 16))
+    (stands-bytes (g .s .now) (g .i + 1) (a * 16) (encodes (ofList front)) (gap-front (g .s .now) (g .i) (g .x) (g .e) front back z h) size) in
+    let two = ap (put _ ((g .m + a) * 16))
+    (stands-bytes (g .s .now) (g .x + 1) (b * 16) (encodes (ofList back)) (gap-back (g .s .now) (g .i) (g .x) (g .e) front back z h) size') in
     rows-written (g .out .now) _ _ (g .m) a front back (omega arith)
-    (omega (arith, q .4, recordses-append front back, recordses-append (q .0) (q .1))) (c .before .before .before .before .before .before .copy-bytes .ensures ∙ one) (c .before .before .copy-bytes2 .ensures ∙ two)
+    (omega (arith, q .4, recordses-append front back, recordses-append (q .0) (q .1))) (the-copy-bytes .ensures ∙ one)
+    (the-copy-bytes2 .ensures ∙ two)
 
 pub copy-others-spec : {M : Type 1} → statement M
 copy-others-spec =

@@ -34,9 +34,10 @@ same-length c = search needs
 
 returns : tie.Need-returns
 returns c =
+    let the-copy-bytes = c .before .before .copy-bytes in
     λ t h.
     let g = c .before .before .before .before .before .before .args in
-    c .before .before .copy-bytes .ensures
+    the-copy-bytes .ensures
     ∙ ap (put (g .out .now) (g .m * 16)) (stands-part (g .s .now) (g .i) (g .k * 16) t (h .there .stands) (ap (λ n. n * 16) (h .size)))
 
 pub copy-tree-spec : {M : Type 1} → statement M

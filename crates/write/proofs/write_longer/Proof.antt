@@ -57,10 +57,11 @@ mul-copy-bytes-3 c = search needs
 
 copy-bytes-requires : tie.Need-copy-bytes-requires
 copy-bytes-requires c κs =
+    let the-write-record = c .before .before .before .write-record in
     let q = c .before .before .before .before .before .before .before .before .pre in
     let p = product-at _ _ _ (q .0 .0) (q .0 .1) in
     let room = q .1 in
-    (omega (arith, c .before .before .before .write-record .kept .0), omega arith)
+    (omega (arith, the-write-record .kept .0), omega arith)
 
 add-write-record-2 : tie.Need-add-write-record-2
 add-write-record-2 c = search needs
@@ -73,13 +74,21 @@ same-length c = search needs
 
 returns : tie.Need-returns
 returns c =
+    let past = c .before .before .before .before .before .before .before .before .before .before in
+    let the-write-record2 = c .before .before .write-record2 in
+    let the-copy-bytes = c .before .before .before .before .before .before .copy-bytes in
+    let the-write-record = c .before .before .before .before .before .before .before .before .before .before .write-record in
+    let the-count = past .before .count in
+    let the-fits = past .before .before .before .before .before .fits in
+    let q = past .before .before .before .before .before .pre in
     λ f h.
-    let g = c .before .before .before .before .before .before .before .before .before .before .before .before .before .before .before .args in
+    let g = past .before .before .before .before .before .args in
     let p = product-at (g .s .now) (g .i) (g .k) f h in
     let size : length (encodes f) ≡ (g .k - 1) * 16 = omega (arith, encodes-length f, p .size) in
-    let copied = c .before .before .before .before .before .before .copy-bytes .ensures ∙ ap (put _ ((g .m + 1) * 16)) (stands-bytes (g .s .now) (g .i + 1) ((g .k - 1) * 16) (encodes f) (p .stand) size) in
-    longer-written (g .out .now) _ _ _ (g .m) (g .n) (c .before .before .before .before .before .before .before .before .before .before .before .before .before .before .before .fits .n .fits) f _ (g .k) (omega (arith, c .before .before .before .before .before .before .before .before .before .before .before .count .ensures .0, p .counted)) (p .size)
-    (c .before .before .before .before .before .before .before .before .before .before .before .before .before .before .before .pre .1) (c .before .before .before .before .before .before .before .before .before .before .write-record .ensures) copied (c .before .before .write-record2 .ensures)
+    let copied = the-copy-bytes .ensures ∙ ap (put _ ((g .m + 1) * 16))
+    (stands-bytes (g .s .now) (g .i + 1) ((g .k - 1) * 16) (encodes f) (p .stand) size) in
+    longer-written (g .out .now) _ _ _ (g .m) (g .n) (the-fits .n .fits) f _ (g .k) (omega (arith, the-count .ensures .0, p .counted)) (p .size)
+    (q .1) (the-write-record .ensures) copied (the-write-record2 .ensures)
 
 pub write-longer-spec : {M : Type 1} → statement M
 write-longer-spec =

@@ -26,10 +26,15 @@ same-length c = search needs
 
 returns : tie.Need-returns
 returns c =
+    let the-copy-tree = c .before .before .copy-tree in
+    let the-write-record2 = c .before .before .before .before .before .before .write-record2 in
+    let the-write-record = c .before .before .before .before .before .before .before .before .before .before .write-record in
+    let the-fits = c .before .before .before .before .before .before .before .before .before .before .before .before .before .before .fits in
+    let q = c .before .before .before .before .before .before .before .before .before .before .before .before .before .before .pre in
     λ t h.
     let g = c .before .before .before .before .before .before .before .before .before .before .before .before .before .before .args in
-    pair-written (g .out .now) _ _ _ (g .m) (g .n) (c .before .before .before .before .before .before .before .before .before .before .before .before .before .before .fits .n .fits) t (omega (arith, h .size, c .before .before .before .before .before .before .before .before .before .before .before .before .before .before .pre .1)) (c .before .before .before .before .before .before .before .before .before .before .write-record .ensures)
-    (c .before .before .before .before .before .before .write-record2 .ensures) (c .before .before .copy-tree .ensures t h)
+    pair-written (g .out .now) _ _ _ (g .m) (g .n) (the-fits .n .fits) t (omega (arith, h .size, q .1)) (the-write-record .ensures)
+    (the-write-record2 .ensures) (the-copy-tree .ensures t h)
 
 pub write-pair-spec : {M : Type 1} → statement M
 write-pair-spec =

@@ -10,48 +10,63 @@ enum-known-c c = search needs
 
 write-term-requires : tie.Need-write-term-requires
 write-term-requires c κs =
+    let the-c = c .before .before .c in
+    let g = c .before .before .before .before .before .before .args in
     let q = c .before .before .before .before .before .before .pre in
-    ask-term (c .before .before .before .before .before .before .args .s .now) (c .before .before .before .before .before .before .args .out .now) (c .before .before .before .before .before .before .args .m) _ _ (q .0) (q .1) (rw (c .before .before .c .given .1) at (q .2)) (q .3)
+    ask-term (g .s .now) (g .out .now) (g .m) _ _ (q .0) (q .1) (rw (the-c .given .1) at (q .2)) (q .3)
 
 enum-known-c-2 : tie.Need-enum-known-c-2
 enum-known-c-2 c = search needs
 
 write-power-requires : tie.Need-write-power-requires
 write-power-requires c κs =
+    let the-c2 = c .before .before .c2 in
+    let g = c .before .before .before .before .before .before .args in
     let q = c .before .before .before .before .before .before .pre in
-    ask-power (c .before .before .before .before .before .before .args .s .now) (c .before .before .before .before .before .before .args .out .now) (c .before .before .before .before .before .before .args .m) _ _ _ (q .0) (q .1) (rw (c .before .before .c2 .given .1) at (q .2)) (q .3)
+    ask-power (g .s .now) (g .out .now) (g .m) _ _ _ (q .0) (q .1) (rw (the-c2 .given .1) at (q .2)) (q .3)
 
 enum-known-c-3 : tie.Need-enum-known-c-3
 enum-known-c-3 c = search needs
 
 write-number-requires : tie.Need-write-number-requires
 write-number-requires c κs =
+    let the-c3 = c .before .before .c3 in
+    let g = c .before .before .before .before .before .before .args in
     let q = c .before .before .before .before .before .before .pre in
-    ask-number (c .before .before .before .before .before .before .args .s .now) (c .before .before .before .before .before .before .args .out .now) (c .before .before .before .before .before .before .args .m) _ _ (q .0) (q .1) (rw (c .before .before .c3 .given .1) at (q .2)) (q .3)
+    ask-number (g .s .now) (g .out .now) (g .m) _ _ (q .0) (q .1) (rw (the-c3 .given .1) at (q .2)) (q .3)
 
 same-length : tie.Need-same-length
 same-length c = search needs
 
 returns : tie.Need-returns
 returns c =
+    let the-write-term = c .before .before .write-term in
+    let the-c = c .before .before .before .before .before .c in
+    let g = c .before .before .before .before .before .before .before .before .before .args in
     λ b x h.
-    as-term (c .before .before .before .before .before .before .before .before .before .args .s .now) (c .before .before .before .before .before .before .before .before .before .args .out .now) _ (c .before .before .before .before .before .before .before .before .before .args .m) (c .before .before .write-term .result) _ _ (c .before .before .write-term .ensures) b x (rw (c .before .before .before .before .before .c .given .1) at h)
+    as-term (g .s .now) (g .out .now) _ (g .m) (the-write-term .result) _ _ (the-write-term .ensures) b x (rw (the-c .given .1) at h)
 
 same-length-2 : tie.Need-same-length-2
 same-length-2 c = search needs
 
 returns-2 : tie.Need-returns-2
 returns-2 c =
+    let the-write-power = c .before .before .write-power in
+    let the-c2 = c .before .before .before .before .before .c2 in
+    let g = c .before .before .before .before .before .before .before .before .before .args in
     λ b x h.
-    as-power (c .before .before .before .before .before .before .before .before .before .args .s .now) (c .before .before .before .before .before .before .before .before .before .args .out .now) _ (c .before .before .before .before .before .before .before .before .before .args .m) (c .before .before .write-power .result) _ _ _ (c .before .before .write-power .ensures) b x (rw (c .before .before .before .before .before .c2 .given .1) at h)
+    as-power (g .s .now) (g .out .now) _ (g .m) (the-write-power .result) _ _ _ (the-write-power .ensures) b x (rw (the-c2 .given .1) at h)
 
 same-length-3 : tie.Need-same-length-3
 same-length-3 c = search needs
 
 returns-3 : tie.Need-returns-3
 returns-3 c =
+    let the-write-number = c .before .before .write-number in
+    let the-c3 = c .before .before .before .before .before .c3 in
+    let g = c .before .before .before .before .before .before .before .before .before .args in
     λ b x h.
-    as-number (c .before .before .before .before .before .before .before .before .before .args .s .now) (c .before .before .before .before .before .before .before .before .before .args .out .now) _ (c .before .before .before .before .before .before .before .before .before .args .m) (c .before .before .write-number .result) _ _ (c .before .before .write-number .ensures) b x (rw (c .before .before .before .before .before .c3 .given .1) at h)
+    as-number (g .s .now) (g .out .now) _ (g .m) (the-write-number .result) _ _ (the-write-number .ensures) b x (rw (the-c3 .given .1) at h)
 
 pub write-part-spec : {M : Type 1} → statement M
 write-part-spec =

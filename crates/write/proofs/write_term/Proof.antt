@@ -16,13 +16,17 @@ use Rattle.write.proofs.write_term.Statement.{statement}
 use Rattle.write.proofs.write_term.Tie as tie
 
 rest-of-requires : tie.Need-rest-of-requires
-rest-of-requires c κs = record { tree = c .before .before .pre .1 .member; there = c .before .before .pre .1 .there }
+rest-of-requires c κs =
+    let q = c .before .before .pre in
+    record { tree = q .1 .member; there = q .1 .there }
 
 enum-told : tie.Need-enum-told
 enum-told c = search needs
 
 write-record-requires : tie.Need-write-record-requires
-write-record-requires c κs = omega (arith, records-pos (fromTerm (c .before .before .before .before .before .before .pre .0) .0), c .before .before .before .before .before .before .pre .2)
+write-record-requires c κs =
+    let q = c .before .before .before .before .before .before .pre in
+    omega (arith, records-pos (fromTerm (q .0) .0), q .2)
 
 add-t14 : tie.Need-add-t14
 add-t14 c = search needs
@@ -32,10 +36,12 @@ enum-known-rest c = search needs
 
 write-times-requires : tie.Need-write-times-requires
 write-times-requires c κs =
+    let the-rest = c .before .before .rest in
+    let the-rest-of = c .before .before .before .before .rest-of in
     let g = c .before .before .before .before .before .before .before .args in
     let q = c .before .before .before .before .before .before .before .pre in
     let is = from-term (g .s .now) (g .n) (g .i) (q .0) (q .1) in
-    let r = rw (c .before .before .rest .given .1) at (c .before .before .before .before .rest-of .ensures (q .1 .member) (q .1 .there)) in
+    let r = rw (the-rest .given .1) at (the-rest-of .ensures (q .1 .member) (q .1 .there)) in
     (termOf (q .1 .member) .rest, r, subst (λ (x : Tree × Bool). Fitting x (g .out .now) (g .m)) is (q .2))
 
 enum-known-rest-2 : tie.Need-enum-known-rest-2
@@ -43,10 +49,12 @@ enum-known-rest-2 c = search needs
 
 write-without-requires : tie.Need-write-without-requires
 write-without-requires c κs =
+    let the-rest2 = c .before .before .rest2 in
+    let the-rest-of = c .before .before .before .before .rest-of in
     let g = c .before .before .before .before .before .before .before .args in
     let q = c .before .before .before .before .before .before .before .pre in
     let is = from-term (g .s .now) (g .n) (g .i) (q .0) (q .1) in
-    let r = rw (c .before .before .rest2 .given .1) at (c .before .before .before .before .rest-of .ensures (q .1 .member) (q .1 .there)) in
+    let r = rw (the-rest2 .given .1) at (the-rest-of .ensures (q .1 .member) (q .1 .there)) in
     (termOf (q .1 .member) .rest, r .1, subst (λ (x : Tree × Bool). Fitting x (g .out .now) (g .m)) is (q .2))
 
 same-length : tie.Need-same-length
@@ -54,36 +62,45 @@ same-length c = search needs
 
 returns : tie.Need-returns
 returns c =
+    let the-write-record = c .before .before .write-record in
+    let the-enum-told = c .before .before .before .before .enum-told in
+    let the-rest-of = c .before .before .before .before .before .before .rest-of in
     λ x h.
     let g = c .before .before .before .before .before .before .before .before .before .args in
-    let r = rw (c .before .before .before .before .enum-told .given .1) at (c .before .before .before .before .before .before .rest-of .ensures (h .member) (h .there)) in
+    let r = rw (the-enum-told .given .1) at (the-rest-of .ensures (h .member) (h .there)) in
     let is = from-term (g .s .now) (g .n) (g .i) x h ∙ ap (timed (g .n)) r ∙ timed-unit (g .n) (h .bits) in
     written-to (fromTerm x) (integer (signed (g .n))) (g .out .now) (g .m) _ _ is (omega (arith, integer-records (signed (g .n))))
-    (integer-written (g .out .now) _ [] [] (g .m) (g .n) (h .bits) (c .before .before .write-record .ensures))
+    (integer-written (g .out .now) _ [] [] (g .m) (g .n) (h .bits) (the-write-record .ensures))
 
 same-length-2 : tie.Need-same-length-2
 same-length-2 c = search needs
 
 returns-2 : tie.Need-returns-2
 returns-2 c =
+    let the-write-times = c .before .before .write-times in
+    let the-rest = c .before .before .before .before .before .rest in
+    let the-rest-of = c .before .before .before .before .before .before .before .rest-of in
     λ x h.
     let g = c .before .before .before .before .before .before .before .before .before .before .args in
-    let r = rw (c .before .before .before .before .before .rest .given .1) at (c .before .before .before .before .before .before .before .rest-of .ensures (h .member) (h .there)) in
+    let r = rw (the-rest .given .1) at (the-rest-of .ensures (h .member) (h .there)) in
     let is = from-term (g .s .now) (g .n) (g .i) x h in
-    subst (λ (x : Tree × Bool). WrittenIs x (g .out .now) (c .before .before .write-times .last .0) (g .m) (c .before .before .write-times .result)) (sym is)
-    (c .before .before .write-times .ensures (termOf (h .member) .rest) r)
+    subst (λ (x : Tree × Bool). WrittenIs x (g .out .now) (the-write-times .last .0) (g .m) (the-write-times .result)) (sym is)
+    (the-write-times .ensures (termOf (h .member) .rest) r)
 
 same-length-3 : tie.Need-same-length-3
 same-length-3 c = search needs
 
 returns-3 : tie.Need-returns-3
 returns-3 c =
+    let the-write-without = c .before .before .write-without in
+    let the-rest2 = c .before .before .before .before .before .rest2 in
+    let the-rest-of = c .before .before .before .before .before .before .before .rest-of in
     λ x h.
     let g = c .before .before .before .before .before .before .before .before .before .before .args in
-    let r = rw (c .before .before .before .before .before .rest2 .given .1) at (c .before .before .before .before .before .before .before .rest-of .ensures (h .member) (h .there)) in
+    let r = rw (the-rest2 .given .1) at (the-rest-of .ensures (h .member) (h .there)) in
     let is = from-term (g .s .now) (g .n) (g .i) x h in
-    subst (λ (x : Tree × Bool). WrittenIs x (g .out .now) (c .before .before .write-without .last .0) (g .m) (c .before .before .write-without .result)) (sym is)
-    (c .before .before .write-without .ensures (termOf (h .member) .rest) (r .1))
+    subst (λ (x : Tree × Bool). WrittenIs x (g .out .now) (the-write-without .last .0) (g .m) (the-write-without .result)) (sym is)
+    (the-write-without .ensures (termOf (h .member) .rest) (r .1))
 
 pub write-term-spec : {M : Type 1} → statement M
 write-term-spec =

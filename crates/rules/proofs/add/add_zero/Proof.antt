@@ -34,22 +34,25 @@ returns c =
 
 any-member-requires : tie.Need-any-member-requires
 any-member-requires c κs =
+    let the-kind = c .before .before .kind in
     let g = c .before .before .before .before .before .before .args in
     let q = c .before .before .before .before .before .before .pre in
     let t = q .0 in
     let rest = q .1 in
     let h = q .2 in
-    let s = is-sum (g .out .now) (g .work .now) (g .d) (g .p) t rest h (sym (c .before .before .kind .ensures) ∙ c .before .if1 .left) in
+    let s = is-sum (g .out .now) (g .work .now) (g .d) (g .p) t rest h (sym (the-kind .ensures) ∙ c .before .if1 .left) in
     ((s .members, held-members (g .out .now) (g .work .now) (g .d) (g .p) (s .members) rest (s .held)), omega arith)
 
 drop-members-requires : tie.Need-drop-members-requires
 drop-members-requires c κs =
+    let the-if1 = c .before .before .before .before .before .if1 in
+    let the-kind = c .before .before .before .before .before .before .kind in
     let g = c .before .before .before .before .before .before .before .before .before .before .args in
     let q = c .before .before .before .before .before .before .before .before .before .before .pre in
     let t = q .0 in
     let rest = q .1 in
     let h = q .2 in
-    let s = is-sum (g .out .now) (g .work .now) (g .d) (g .p) t rest h (sym (c .before .before .before .before .before .before .kind .ensures) ∙ c .before .before .before .before .before .if1 .left) in
+    let s = is-sum (g .out .now) (g .work .now) (g .d) (g .p) t rest h (sym (the-kind .ensures) ∙ the-if1 .left) in
     (s .members, rest, s .held)
 
 same-length-2 : tie.Need-same-length-2
@@ -60,11 +63,18 @@ same-length-3 c = search needs
 
 returns-2 : tie.Need-returns-2
 returns-2 c =
+    let past = c .before .before .before .before .before .before .before .before .before .before in
+    let the-drop-members = c .before .before .before .before .drop-members in
+    let the-if2 = c .before .before .before .before .before .before .before .if2 in
+    let the-any-member = c .before .before .before .before .before .before .before .before .any-member in
+    let the-if1 = c .before .before .before .before .before .before .before .before .before .before .if1 in
+    let the-kind = past .before .kind in
     λ t rest h.
-    let g = c .before .before .before .before .before .before .before .before .before .before .before .before .before .before .before .args in
-    let s = is-sum (g .out .now) (g .work .now) (g .d) (g .p) t rest h (sym (c .before .before .before .before .before .before .before .before .before .before .before .kind .ensures) ∙ c .before .before .before .before .before .before .before .before .before .before .if1 .left) in
-    let any = sym (c .before .before .before .before .before .before .before .before .any-member .ensures (s .members) (held-members (g .out .now) (g .work .now) (g .d) (g .p) (s .members) rest (s .held))) ∙ c .before .before .before .before .before .before .before .if2 .taken in
-    let b = c .before .before .before .before .drop-members .ensures (s .members) rest (s .held) in
+    let g = past .before .before .before .before .before .args in
+    let s = is-sum (g .out .now) (g .work .now) (g .d) (g .p) t rest h (sym (the-kind .ensures) ∙ the-if1 .left) in
+    let any = sym (the-any-member .ensures (s .members) (held-members (g .out .now) (g .work .now) (g .d) (g .p) (s .members) rest (s .held)))
+    ∙ the-if2 .taken in
+    let b = the-drop-members .ensures (s .members) rest (s .held) in
     (nodeOf true (dropAll (isThe (pos 0)) (toList (s .members))), add-zero-at t (s .members) (s .is) ∙ if-true _ _ any, b .stands, b .done)
 
 same-length-4 : tie.Need-same-length-4
@@ -72,10 +82,13 @@ same-length-4 c = search needs
 
 returns-3 : tie.Need-returns-3
 returns-3 c =
+    let the-if1 = c .before .before .before .if1 in
+    let the-kind = c .before .before .before .before .kind in
     λ t rest h.
     let g = c .before .before .before .before .before .before .before .before .args in
-    let s = is-sum (g .out .now) (g .work .now) (g .d) (g .p) t rest h (sym (c .before .before .before .before .kind .ensures) ∙ c .before .before .before .if1 .left) in
-    let any = sym (c .before .any-member .ensures (s .members) (held-members (g .out .now) (g .work .now) (g .d) (g .p) (s .members) rest (s .held))) ∙ c .if2 .left in
+    let s = is-sum (g .out .now) (g .work .now) (g .d) (g .p) t rest h (sym (the-kind .ensures) ∙ the-if1 .left) in
+    let any = sym (c .before .any-member .ensures (s .members) (held-members (g .out .now) (g .work .now) (g .d) (g .p) (s .members) rest (s .held)))
+    ∙ c .if2 .left in
     (add-zero-at t (s .members) (s .is) ∙ if-false _ _ any, refl, refl)
 
 pub add-zero-spec : {M : Type 1} → statement M

@@ -24,22 +24,20 @@ count-requires c κs =
 
 list-members-requires : tie.Need-list-members-requires
 list-members-requires c κs =
-    let g = c .before .before .before .before .before .args in
     let q = c .before .before .before .before .before .pre in
     let f = q .0 in
-    let rest = q .1 in
     let h = q .2 in
-    (f, listable (g .out .now) (g .work .now) (g .d) (g .p) f rest h)
+    (f, listable h)
 
 walk-requires : tie.Need-walk-requires
 walk-requires c κs =
-    let g = c .before .before .before .before .before .before .before .before .before .before .args in
+    let the-list-members = c .before .before .before .before .list-members in
+    let the-count = c .before .before .before .before .before .before .count in
     let q = c .before .before .before .before .before .before .before .before .before .before .pre in
     let f = q .0 in
-    let rest = q .1 in
     let h = q .2 in
-    let k = c .before .before .before .before .list-members .ensures f (listable (g .out .now) (g .work .now) (g .d) (g .p) f rest h) in
-    (toList f, walkable (g .out .now) (g .work .now) (g .d) (g .p) f rest h _ _ k _ (c .before .before .before .before .before .before .count .ensures .0))
+    let k = the-list-members .ensures f (listable h) in
+    (toList f, walkable h k _ (the-count .ensures .0))
 
 enum-told : tie.Need-enum-told
 enum-told c = search needs
@@ -52,17 +50,25 @@ enum-known-walked c = search needs
 
 put-back-requires : tie.Need-put-back-requires
 put-back-requires c κs =
-    let g = c .before .before .before .before .before .before .before .before .before .before .before .before .before .before .before .before .before .before .before .before .args in
-    let q = c .before .before .before .before .before .before .before .before .before .before .before .before .before .before .before .before .before .before .before .before .pre in
+    let past = c .before .before .before .before .before .before .before .before .before .before in
+    let the-walked = c .before .before .before .walked in
+    let the-walk = c .before .before .before .before .before .before .before .before .before .walk in
+    let the-list-members = past .before .before .before .before .list-members in
+    let the-count = past .before .before .before .before .before .before .count in
+    let g = past .before .before .before .before .before .before .before .before .before .before .args in
+    let q = past .before .before .before .before .before .before .before .before .before .before .pre in
     let f = q .0 in
-    let rest = q .1 in
     let h = q .2 in
-    let k = c .before .before .before .before .before .before .before .before .before .before .before .before .before .before .list-members .ensures f (listable (g .out .now) (g .work .now) (g .d) (g .p) f rest h) in
-    let v = c .before .before .before .before .before .before .before .before .before .walk .ensures (toList f) (walkable (g .out .now) (g .work .now) (g .d) (g .p) f rest h _ _ k _ (c .before .before .before .before .before .before .before .before .before .before .before .before .before .before .before .before .count .ensures .0)) in
-    let came = rw (c .before .before .before .walked .given .1) at (v .says) in (
-      (cameOut (g .terms) (toList f), came-built (g .out .now) (g .work .now) (g .d) (g .p) f rest h _ _ k (g .terms) _ _ _ came (c .before .before .before .before .before .before .before .before .before .walk .kept .0), came .many),
-      came-short (g .out .now) (g .work .now) (g .d) (g .p) f rest h _ _ k (g .terms) _ _ _ came,
-      omega (arith, end-within (g .out .now) (g .work .now) (g .d) (g .p) f rest h _ _ k, c .before .before .before .before .before .before .before .before .before .before .before .before .before .before .list-members .kept .0, c .before .before .before .before .before .before .before .before .before .walk .kept .1 .0),
+    let k = the-list-members .ensures f (listable h) in
+    let v = the-walk .ensures (toList f) (walkable h k _ (the-count .ensures .0)) in
+    let came = rw (the-walked .given .1) at (v .says) in (
+      (
+        cameOut (g .terms) (toList f),
+        came-built h k came (the-walk .kept .0),
+        came .many,
+      ),
+      came-short h k came,
+      omega (arith, end-within h k, the-list-members .kept .0, the-walk .kept .1 .0),
     )
 
 same-length : tie.Need-same-length
@@ -73,10 +79,12 @@ same-length-2 c = search needs
 
 returns : tie.Need-returns
 returns c =
+    let the-walk = c .before .before .before .before .before .before .walk in
+    let the-list-members = c .before .before .before .before .before .before .before .before .before .before .before .list-members in
+    let the-count = c .before .before .before .before .before .before .before .before .before .before .before .before .before .count in
     λ f rest h.
-    let g = c .before .before .before .before .before .before .before .before .before .before .before .before .before .before .before .before .before .args in
-    let k = c .before .before .before .before .before .before .before .before .before .before .before .list-members .ensures f (listable (g .out .now) (g .work .now) (g .d) (g .p) f rest h) in
-    let v = c .before .before .before .before .before .before .walk .ensures (toList f) (walkable (g .out .now) (g .work .now) (g .d) (g .p) f rest h _ _ k _ (c .before .before .before .before .before .before .before .before .before .before .before .before .before .count .ensures .0)) in
+    let k = the-list-members .ensures f (listable h) in
+    let v = the-walk .ensures (toList f) (walkable h k _ (the-count .ensures .0)) in
     (rw (c .enum-told .given .1) at (v .says), v .pending ∙ k .pending, v .done)
 
 same-length-3 : tie.Need-same-length-3
@@ -87,10 +95,12 @@ same-length-4 c = search needs
 
 returns-2 : tie.Need-returns-2
 returns-2 c =
+    let the-walk = c .before .before .before .before .before .before .walk in
+    let the-list-members = c .before .before .before .before .before .before .before .before .before .before .before .list-members in
+    let the-count = c .before .before .before .before .before .before .before .before .before .before .before .before .before .count in
     λ f rest h.
-    let g = c .before .before .before .before .before .before .before .before .before .before .before .before .before .before .before .before .before .args in
-    let k = c .before .before .before .before .before .before .before .before .before .before .before .list-members .ensures f (listable (g .out .now) (g .work .now) (g .d) (g .p) f rest h) in
-    let v = c .before .before .before .before .before .before .walk .ensures (toList f) (walkable (g .out .now) (g .work .now) (g .d) (g .p) f rest h _ _ k _ (c .before .before .before .before .before .before .before .before .before .before .before .before .before .count .ensures .0)) in
+    let k = the-list-members .ensures f (listable h) in
+    let v = the-walk .ensures (toList f) (walkable h k _ (the-count .ensures .0)) in
     rw (c .enum-told2 .given .1) at (v .says)
 
 same-length-5 : tie.Need-same-length-5
@@ -101,16 +111,24 @@ same-length-6 c = search needs
 
 returns-3 : tie.Need-returns-3
 returns-3 c =
+    let past = c .before .before .before .before .before .before .before .before .before .before in
+    let the-put-back = c .before .before .before .before .put-back in
+    let the-walked = c .before .before .before .before .before .before .before .before .walked in
+    let the-walk = past .before .before .before .before .walk in
+    let the-list-members = past .before .before .before .before .before .before .before .before .before .list-members in
+    let the-count = past .before .before .before .before .before .before .before .before .before .before .before .count in
     λ f rest h.
-    let g = c .before .before .before .before .before .before .before .before .before .before .before .before .before .before .before .before .before .before .before .before .before .before .before .before .before .args in
-    let k = c .before .before .before .before .before .before .before .before .before .before .before .before .before .before .before .before .before .before .before .list-members .ensures f (listable (g .out .now) (g .work .now) (g .d) (g .p) f rest h) in
-    let v = c .before .before .before .before .before .before .before .before .before .before .before .before .before .before .walk .ensures (toList f) (walkable (g .out .now) (g .work .now) (g .d) (g .p) f rest h _ _ k _ (c .before .before .before .before .before .before .before .before .before .before .before .before .before .before .before .before .before .before .before .before .before .count .ensures .0)) in
-    let came = rw (c .before .before .before .before .before .before .before .before .walked .given .1) at (v .says) in
+    let g = past .before .before .before .before .before .before .before .before .before .before .before .before .before .before .before .args in
+    let k = the-list-members .ensures f (listable h) in
+    let v = the-walk .ensures (toList f) (walkable h k _ (the-count .ensures .0)) in
+    let came = rw (the-walked .given .1) at (v .says) in
     let m = cameOut (g .terms) (toList f) in
-    let b = c .before .before .before .before .put-back .ensures m (came-built (g .out .now) (g .work .now) (g .d) (g .p) f rest h _ _ k (g .terms) _ _ _ came (c .before .before .before .before .before .before .before .before .before .before .before .before .before .before .walk .kept .0)) (came .many) in (
+    let b = the-put-back .ensures m (came-built h k came (the-walk .kept .0))
+    (came .many) in (
       nodeOf (g .terms) m,
       came .applies,
-      b .stands ∙ ap (λ (x : List ℕ). encode (nodeOf (g .terms) m) ++ x) (after-walk (g .out .now) (g .work .now) (g .d) (g .p) f rest h _ _ k _ (v .pending)),
+      b .stands ∙ ap (λ (x : List ℕ). encode (nodeOf (g .terms) m) ++ x)
+          (after-walk h k _ (v .pending)),
       b .done ∙ v .done,
     )
 

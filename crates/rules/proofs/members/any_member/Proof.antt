@@ -66,20 +66,26 @@ loop-holds c =
 
 is-the-requires : tie.Need-is-the-requires Inv-loop μ-loop
 is-the-requires c κs =
-    let f = c .before .before .before .before .pre .0 in
-    (some-left _ _ _ _ _ (c .before .loop .inv (f .0) (f .1)) (c .loop-test .taken), c .before .before .before .before .pre .1)
+    let q = c .before .before .before .before .pre in
+    let f = q .0 in
+    (some-left _ _ _ _ _ (c .before .loop .inv (f .0) (f .1)) (c .loop-test .taken), q .1)
 
 returns : tie.Need-returns Inv-loop μ-loop
 returns c =
+    let the-loop-test = c .before .before .loop-test in
+    let u = c .before .before .before .loop in
     λ f h.
-    let l = c .before .before .before .loop .inv f h in
-    let t = first-of (l .others) (l .stand) (c .before .before .loop-test .taken) in
-    sym (found _ _ _ _ _ l (c .before .before .loop-test .taken) (sym (c .before .is-the .ensures (t .tree) (t .there)) ∙ c .if1 .taken))
+    let l = u .inv f h in
+    let t = first-of (l .others) (l .stand) (the-loop-test .taken) in
+    sym (found _ _ _ _ _ l (the-loop-test .taken) (sym (c .before .is-the .ensures (t .tree) (t .there)) ∙ c .if1 .taken))
 
 skip-tree-requires : tie.Need-skip-tree-requires Inv-loop μ-loop
 skip-tree-requires c κs =
-    let f = c .before .before .before .before .before .before .pre .0 in
-    some-left _ _ _ _ _ (c .before .before .before .loop .inv (f .0) (f .1)) (c .before .before .loop-test .taken)
+    let the-loop-test = c .before .before .loop-test in
+    let u = c .before .before .before .loop in
+    let q = c .before .before .before .before .before .before .pre in
+    let f = q .0 in
+    some-left _ _ _ _ _ (u .inv (f .0) (f .1)) (the-loop-test .taken)
 
 sub-left : tie.Need-sub-left Inv-loop μ-loop
 sub-left c = search needs
@@ -89,11 +95,14 @@ loop-less c = search needs
 
 loop-again : tie.Need-loop-again Inv-loop μ-loop
 loop-again c =
+    let the-is-the = c .before .before .is-the in
+    let the-loop-test = c .before .before .before .loop-test in
+    let u = c .before .before .before .before .loop in
     λ f h.
-    let l = c .before .before .before .before .loop .inv f h in
-    let t = first-of (l .others) (l .stand) (c .before .before .before .loop-test .taken) in
-    passed _ _ _ _ _ _ l (c .before .before .before .loop-test .taken)
-    (sym (c .before .before .is-the .ensures (t .tree) (t .there)) ∙ c .before .if1 .left)
+    let l = u .inv f h in
+    let t = first-of (l .others) (l .stand) (the-loop-test .taken) in
+    passed _ _ _ _ _ _ l (the-loop-test .taken)
+    (sym (the-is-the .ensures (t .tree) (t .there)) ∙ c .before .if1 .left)
     (c .skip-tree .ensures (t .tree) (t .there))
 
 returns-2 : tie.Need-returns-2 Inv-loop μ-loop

@@ -18,9 +18,11 @@ same-length c = search needs
 
 returns : tie.Need-returns
 returns c =
+    let the-write-record = c .before .before .write-record in
+    let the-neutral = c .before .before .before .neutral in
     λ e l b n.
     let g = c .before .before .before .before .before .before .before .args in
-    collapse-none (g .sum) l (g .out .now) (g .d) e b _ _ (omega arith) (c .before .before .before .neutral .ensures .0) (c .before .before .write-record .ensures)
+    collapse-none (g .sum) l (g .out .now) (g .d) e b _ _ (omega arith) (the-neutral .ensures .0) (the-write-record .ensures)
 
 add-result : tie.Need-add-result
 add-result c = search needs
@@ -42,9 +44,11 @@ same-length-2 c = search needs
 
 returns-3 : tie.Need-returns-3
 returns-3 c =
+    let the-write-record2 = c .before .before .write-record2 in
+    let the-node-kind = c .before .before .before .node-kind in
     λ e l b n.
     let g = c .before .before .before .before .before .before .before .before .args in
-    collapse-more (g .sum) l (g .out .now) (g .d) e b _ _ (omega arith) (c .before .before .before .node-kind .ensures) (rw (sym n) at (c .before .before .write-record2 .ensures))
+    collapse-more (g .sum) l (g .out .now) (g .d) e b _ _ (omega arith) (the-node-kind .ensures) (rw (sym n) at (the-write-record2 .ensures))
 
 pub collapse-spec : {M : Type 1} → statement M
 collapse-spec =

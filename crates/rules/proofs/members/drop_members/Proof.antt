@@ -68,39 +68,48 @@ add-e c =
 
 loop-holds : tie.Need-loop-holds Inv-loop μ-loop
 loop-holds c =
+    let the-neutral = c .before .before .neutral in
     let g = c .before .before .before .before .before .args in
-    (refl, λ f rest h. begins (c .before .before .neutral .result) (g .out .now) (g .work .now) (g .d) (g .p) f rest h _ (c .count .ensures .0))
+    (refl, λ f rest h. begins (the-neutral .result) (g .out .now) (g .work .now) (g .d) (g .p) f rest h _ (c .count .ensures .0))
 
 skip-tree-requires : tie.Need-skip-tree-requires Inv-loop μ-loop
 skip-tree-requires c κs =
+    let the-neutral = c .before .before .before .before .before .neutral in
     let g = c .before .before .before .before .before .before .before .before .args in
     let q = c .before .before .before .before .before .before .before .before .pre in
     let u = c .before .before .loop in
-    let z = c .before .before .before .before .before .neutral .result in
+    let z = the-neutral .result in
     let v = u .inv .1 (q .0) (q .1) (q .2) in
     let l = c .before .loop-test .taken in
     some-member z (g .out .now) (g .work .now) (g .d) (g .p) (q .0) (q .1) (q .2) (u .out) (u .at) (u .left) (u .e) (u .kept) v l
 
 is-the-requires : tie.Need-is-the-requires Inv-loop μ-loop
 is-the-requires c κs =
+    let the-loop-test = c .before .before .before .loop-test in
+    let the-neutral = c .before .before .before .before .before .before .before .neutral in
     let g = c .before .before .before .before .before .before .before .before .before .before .args in
     let q = c .before .before .before .before .before .before .before .before .before .before .pre in
     let u = c .before .before .before .before .loop in
-    let z = c .before .before .before .before .before .before .before .neutral .result in
+    let z = the-neutral .result in
     let v = u .inv .1 (q .0) (q .1) (q .2) in
-    let l = c .before .before .before .loop-test .taken in
-    (some-member z (g .out .now) (g .work .now) (g .d) (g .p) (q .0) (q .1) (q .2) (u .out) (u .at) (u .left) (u .e) (u .kept) v l, c .before .before .before .before .before .before .before .neutral .ensures .1)
+    let l = the-loop-test .taken in (
+      some-member z (g .out .now) (g .work .now) (g .d) (g .p) (q .0) (q .1) (q .2) (u .out) (u .at) (u .left) (u .e) (u .kept) v l,
+      the-neutral .ensures .1,
+    )
 
 mul-copy-bytes : tie.Need-mul-copy-bytes Inv-loop μ-loop
 mul-copy-bytes c =
+    let the-skip-tree = c .before .before .before .before .skip-tree in
+    let the-loop-test = c .before .before .before .before .before .before .loop-test in
+    let the-neutral = c .before .before .before .before .before .before .before .before .before .before .neutral in
     let g = c .before .before .before .before .before .before .before .before .before .before .before .before .before .args in
     let q = c .before .before .before .before .before .before .before .before .before .before .before .before .before .pre in
     let u = c .before .before .before .before .before .before .before .loop in
-    let z = c .before .before .before .before .before .before .before .before .before .before .neutral .result in
+    let z = the-neutral .result in
     let v = u .inv .1 (q .0) (q .1) (q .2) in
-    let l = c .before .before .before .before .before .before .loop-test .taken in
+    let l = the-loop-test .taken in
     let t = first-of (v .others) (v .stand) l in
-    let n = c .before .before .before .before .skip-tree .ensures (t .tree) (t .there) in
+    let n = the-skip-tree .ensures (t .tree) (t .there) in
     let r = fits-in z (g .out .now) (g .work .now) (g .d) (g .p) (q .0) (q .1) (q .2) (u .out) (u .at) (u .left) (u .e) (u .kept) v l in
     let long = u .inv .0 in
     let far = held-length (g .out .now) (g .work .now) (g .d) (g .p) (q .0) (q .1) (q .2) in
@@ -109,14 +118,17 @@ mul-copy-bytes c =
 
 mul-copy-bytes-2 : tie.Need-mul-copy-bytes-2 Inv-loop μ-loop
 mul-copy-bytes-2 c =
+    let the-skip-tree = c .before .before .before .before .before .skip-tree in
+    let the-loop-test = c .before .before .before .before .before .before .before .loop-test in
+    let the-neutral = c .before .before .before .before .before .before .before .before .before .before .before .neutral in
     let g = c .before .before .before .before .before .before .before .before .before .before .before .before .before .before .args in
     let q = c .before .before .before .before .before .before .before .before .before .before .before .before .before .before .pre in
     let u = c .before .before .before .before .before .before .before .before .loop in
-    let z = c .before .before .before .before .before .before .before .before .before .before .before .neutral .result in
+    let z = the-neutral .result in
     let v = u .inv .1 (q .0) (q .1) (q .2) in
-    let l = c .before .before .before .before .before .before .before .loop-test .taken in
+    let l = the-loop-test .taken in
     let t = first-of (v .others) (v .stand) l in
-    let n = c .before .before .before .before .before .skip-tree .ensures (t .tree) (t .there) in
+    let n = the-skip-tree .ensures (t .tree) (t .there) in
     let r = fits-in z (g .out .now) (g .work .now) (g .d) (g .p) (q .0) (q .1) (q .2) (u .out) (u .at) (u .left) (u .e) (u .kept) v l in
     let long = u .inv .0 in
     let far = held-length (g .out .now) (g .work .now) (g .d) (g .p) (q .0) (q .1) (q .2) in
@@ -125,14 +137,17 @@ mul-copy-bytes-2 c =
 
 sub-copy-bytes : tie.Need-sub-copy-bytes Inv-loop μ-loop
 sub-copy-bytes c =
+    let the-skip-tree = c .before .before .before .before .before .skip-tree in
+    let the-loop-test = c .before .before .before .before .before .before .before .loop-test in
+    let the-neutral = c .before .before .before .before .before .before .before .before .before .before .before .neutral in
     let g = c .before .before .before .before .before .before .before .before .before .before .before .before .before .before .args in
     let q = c .before .before .before .before .before .before .before .before .before .before .before .before .before .before .pre in
     let u = c .before .before .before .before .before .before .before .before .loop in
-    let z = c .before .before .before .before .before .before .before .before .before .before .before .neutral .result in
+    let z = the-neutral .result in
     let v = u .inv .1 (q .0) (q .1) (q .2) in
-    let l = c .before .before .before .before .before .before .before .loop-test .taken in
+    let l = the-loop-test .taken in
     let t = first-of (v .others) (v .stand) l in
-    let n = c .before .before .before .before .before .skip-tree .ensures (t .tree) (t .there) in
+    let n = the-skip-tree .ensures (t .tree) (t .there) in
     let r = fits-in z (g .out .now) (g .work .now) (g .d) (g .p) (q .0) (q .1) (q .2) (u .out) (u .at) (u .left) (u .e) (u .kept) v l in
     let long = u .inv .0 in
     let far = held-length (g .out .now) (g .work .now) (g .d) (g .p) (q .0) (q .1) (q .2) in
@@ -141,14 +156,17 @@ sub-copy-bytes c =
 
 mul-copy-bytes-3 : tie.Need-mul-copy-bytes-3 Inv-loop μ-loop
 mul-copy-bytes-3 c =
+    let the-skip-tree = c .before .before .before .before .before .skip-tree in
+    let the-loop-test = c .before .before .before .before .before .before .before .loop-test in
+    let the-neutral = c .before .before .before .before .before .before .before .before .before .before .before .neutral in
     let g = c .before .before .before .before .before .before .before .before .before .before .before .before .before .before .args in
     let q = c .before .before .before .before .before .before .before .before .before .before .before .before .before .before .pre in
     let u = c .before .before .before .before .before .before .before .before .loop in
-    let z = c .before .before .before .before .before .before .before .before .before .before .before .neutral .result in
+    let z = the-neutral .result in
     let v = u .inv .1 (q .0) (q .1) (q .2) in
-    let l = c .before .before .before .before .before .before .before .loop-test .taken in
+    let l = the-loop-test .taken in
     let t = first-of (v .others) (v .stand) l in
-    let n = c .before .before .before .before .before .skip-tree .ensures (t .tree) (t .there) in
+    let n = the-skip-tree .ensures (t .tree) (t .there) in
     let r = fits-in z (g .out .now) (g .work .now) (g .d) (g .p) (q .0) (q .1) (q .2) (u .out) (u .at) (u .left) (u .e) (u .kept) v l in
     let long = u .inv .0 in
     let far = held-length (g .out .now) (g .work .now) (g .d) (g .p) (q .0) (q .1) (q .2) in
@@ -157,14 +175,17 @@ mul-copy-bytes-3 c =
 
 copy-bytes-requires : tie.Need-copy-bytes-requires Inv-loop μ-loop
 copy-bytes-requires c κs =
+    let the-skip-tree = c .before .before .before .before .before .skip-tree in
+    let the-loop-test = c .before .before .before .before .before .before .before .loop-test in
+    let the-neutral = c .before .before .before .before .before .before .before .before .before .before .before .neutral in
     let g = c .before .before .before .before .before .before .before .before .before .before .before .before .before .before .args in
     let q = c .before .before .before .before .before .before .before .before .before .before .before .before .before .before .pre in
     let u = c .before .before .before .before .before .before .before .before .loop in
-    let z = c .before .before .before .before .before .before .before .before .before .before .before .neutral .result in
+    let z = the-neutral .result in
     let v = u .inv .1 (q .0) (q .1) (q .2) in
-    let l = c .before .before .before .before .before .before .before .loop-test .taken in
+    let l = the-loop-test .taken in
     let t = first-of (v .others) (v .stand) l in
-    let n = c .before .before .before .before .before .skip-tree .ensures (t .tree) (t .there) in
+    let n = the-skip-tree .ensures (t .tree) (t .there) in
     let r = fits-in z (g .out .now) (g .work .now) (g .d) (g .p) (q .0) (q .1) (q .2) (u .out) (u .at) (u .left) (u .e) (u .kept) v l in
     let long = u .inv .0 in
     let far = held-length (g .out .now) (g .work .now) (g .d) (g .p) (q .0) (q .1) (q .2) in
@@ -173,14 +194,18 @@ copy-bytes-requires c κs =
 
 sub-e : tie.Need-sub-e Inv-loop μ-loop
 sub-e c =
-    let g = c .before .before .before .before .before .before .before .before .before .before .before .before .before .before .before .before .before .args in
-    let q = c .before .before .before .before .before .before .before .before .before .before .before .before .before .before .before .before .before .pre in
-    let u = c .before .before .before .before .before .before .before .before .before .before .before .loop in
-    let z = c .before .before .before .before .before .before .before .before .before .before .before .before .before .before .neutral .result in
+    let past = c .before .before .before .before .before .before .before .before .before .before in
+    let the-skip-tree = c .before .before .before .before .before .before .before .before .skip-tree in
+    let the-loop-test = c .before .before .before .before .before .before .before .before .before .before .loop-test in
+    let the-neutral = past .before .before .before .before .neutral in
+    let g = past .before .before .before .before .before .before .before .args in
+    let q = past .before .before .before .before .before .before .before .pre in
+    let u = past .before .loop in
+    let z = the-neutral .result in
     let v = u .inv .1 (q .0) (q .1) (q .2) in
-    let l = c .before .before .before .before .before .before .before .before .before .before .loop-test .taken in
+    let l = the-loop-test .taken in
     let t = first-of (v .others) (v .stand) l in
-    let n = c .before .before .before .before .before .before .before .before .skip-tree .ensures (t .tree) (t .there) in
+    let n = the-skip-tree .ensures (t .tree) (t .there) in
     let r = fits-in z (g .out .now) (g .work .now) (g .d) (g .p) (q .0) (q .1) (q .2) (u .out) (u .at) (u .left) (u .e) (u .kept) v l in
     let long = u .inv .0 in
     let far = held-length (g .out .now) (g .work .now) (g .d) (g .p) (q .0) (q .1) (q .2) in
@@ -189,14 +214,18 @@ sub-e c =
 
 add-e-2 : tie.Need-add-e-2 Inv-loop μ-loop
 add-e-2 c =
-    let g = c .before .before .before .before .before .before .before .before .before .before .before .before .before .before .before .before .before .args in
-    let q = c .before .before .before .before .before .before .before .before .before .before .before .before .before .before .before .before .before .pre in
-    let u = c .before .before .before .before .before .before .before .before .before .before .before .loop in
-    let z = c .before .before .before .before .before .before .before .before .before .before .before .before .before .before .neutral .result in
+    let past = c .before .before .before .before .before .before .before .before .before .before in
+    let the-skip-tree = c .before .before .before .before .before .before .before .before .skip-tree in
+    let the-loop-test = c .before .before .before .before .before .before .before .before .before .before .loop-test in
+    let the-neutral = past .before .before .before .before .neutral in
+    let g = past .before .before .before .before .before .before .before .args in
+    let q = past .before .before .before .before .before .before .before .pre in
+    let u = past .before .loop in
+    let z = the-neutral .result in
     let v = u .inv .1 (q .0) (q .1) (q .2) in
-    let l = c .before .before .before .before .before .before .before .before .before .before .loop-test .taken in
+    let l = the-loop-test .taken in
     let t = first-of (v .others) (v .stand) l in
-    let n = c .before .before .before .before .before .before .before .before .skip-tree .ensures (t .tree) (t .there) in
+    let n = the-skip-tree .ensures (t .tree) (t .there) in
     let r = fits-in z (g .out .now) (g .work .now) (g .d) (g .p) (q .0) (q .1) (q .2) (u .out) (u .at) (u .left) (u .e) (u .kept) v l in
     let long = u .inv .0 in
     let far = held-length (g .out .now) (g .work .now) (g .d) (g .p) (q .0) (q .1) (q .2) in
@@ -205,13 +234,23 @@ add-e-2 c =
 
 add-kept : tie.Need-add-kept Inv-loop μ-loop
 add-kept c =
-    let g = c .before .before .before .before .before .before .before .before .before .before .before .before .before .before .before .before .before .args in
-    let q = c .before .before .before .before .before .before .before .before .before .before .before .before .before .before .before .before .before .pre in
-    let u = c .before .before .before .before .before .before .before .before .before .before .before .loop in
-    let z = c .before .before .before .before .before .before .before .before .before .before .before .before .before .before .neutral .result in
+    let past = c .before .before .before .before .before .before .before .before .before .before in
+    let the-loop-test = c .before .before .before .before .before .before .before .before .before .before .loop-test in
+    let the-neutral = past .before .before .before .before .neutral in
+    let g = past .before .before .before .before .before .before .before .args in
+    let q = past .before .before .before .before .before .before .before .pre in
+    let u = past .before .loop in
+    let z = the-neutral .result in
     let v = u .inv .1 (q .0) (q .1) (q .2) in
-    let l = c .before .before .before .before .before .before .before .before .before .before .loop-test .taken in
-    record { fits = omega (arith, few-kept z (g .out .now) (g .work .now) (g .d) (g .p) (q .0) (q .1) (q .2) (u .out) (u .at) (u .left) (u .e) (u .kept) v l, fits-in z (g .out .now) (g .work .now) (g .d) (g .p) (q .0) (q .1) (q .2) (u .out) (u .at) (u .left) (u .e) (u .kept) v l) }
+    let l = the-loop-test .taken in
+    record {
+      fits = omega (
+        arith,
+        few-kept z (g .out .now) (g .work .now) (g .d) (g .p) (q .0) (q .1) (q .2) (u .out) (u .at) (u .left) (u .e)
+            (u .kept) v l,
+        fits-in z (g .out .now) (g .work .now) (g .d) (g .p) (q .0) (q .1) (q .2) (u .out) (u .at) (u .left) (u .e) (u .kept) v l,
+      );
+    }
 
 sub-left : tie.Need-sub-left Inv-loop μ-loop
 sub-left c = search needs
@@ -221,10 +260,13 @@ loop-less c = search needs
 
 loop-again : tie.Need-loop-again Inv-loop μ-loop
 loop-again c =
+    let the-skip-tree = c .before .before .before .skip-tree in
+    let the-loop-test = c .before .before .before .before .before .loop-test in
+    let the-neutral = c .before .before .before .before .before .before .before .before .before .neutral in
     let g = c .before .before .before .before .before .before .before .before .before .before .before .before .args in
     let u = c .before .before .before .before .before .before .loop in
-    let z = c .before .before .before .before .before .before .before .before .before .neutral .result in
-    let l = c .before .before .before .before .before .loop-test .taken in
+    let z = the-neutral .result in
+    let l = the-loop-test .taken in
     let o = g .out .now in
     let w = g .work .now in
     ⊎-elim
@@ -235,8 +277,10 @@ loop-again c =
           let t = first-of (v .others) (v .stand) l in
           let r = fits-in z o w (g .d) (g .p) f rest h (u .out) (u .at) (u .left) (u .e) (u .kept) v l in
           rw (a .6, a .7, a .8)
-          (keeps z o w (g .d) (g .p) f rest h (u .out) (u .at) (u .left) (u .e) (u .kept) v l (c .before .before .before .skip-tree .result) (c .before .before .before .skip-tree .ensures (t .tree) (t .there))
-          (a .3 .last .0) (sym (c .before .is-the .ensures (t .tree) (t .there)) ∙ was-false _ (a .0 .taken)) (omega (arith, u .inv .0)) (a .3 .ensures)),
+          (keeps z o w (g .d) (g .p) f rest h (u .out) (u .at) (u .left) (u .e) (u .kept) v l (the-skip-tree .result)
+          (the-skip-tree .ensures (t .tree) (t .there))
+          (a .3 .last .0) (sym (c .before .is-the .ensures (t .tree) (t .there)) ∙ was-false _ (a .0 .taken)) (omega (arith, u .inv .0))
+          (a .3 .ensures)),
     ))
     (λ a. (
       ap length (a .1) ∙ u .inv .0,
@@ -244,20 +288,24 @@ loop-again c =
           let v = u .inv .1 f rest h in
           let t = first-of (v .others) (v .stand) l in
           rw (a .1, a .2, a .3)
-          (passes z o w (g .d) (g .p) f rest h (u .out) (u .at) (u .left) (u .e) (u .kept) v l (c .before .before .before .skip-tree .result) (c .before .before .before .skip-tree .ensures (t .tree) (t .there))
+          (passes z o w (g .d) (g .p) f rest h (u .out) (u .at) (u .left) (u .e) (u .kept) v l (the-skip-tree .result)
+          (the-skip-tree .ensures (t .tree) (t .there))
           (sym (c .before .is-the .ensures (t .tree) (t .there)) ∙ was-true _ (a .0 .left))),
     ))
     (c .if1 .came)
 
 put-back-requires : tie.Need-put-back-requires Inv-loop μ-loop
 put-back-requires c κs =
+    let the-loop-test = c .before .before .loop-test in
+    let the-neutral = c .before .before .before .before .before .before .neutral in
     let g = c .before .before .before .before .before .before .before .before .before .args in
     let q = c .before .before .before .before .before .before .before .before .before .pre in
     let u = c .before .before .before .loop in
-    let z = c .before .before .before .before .before .before .neutral .result in
+    let z = the-neutral .result in
     let h = q .2 in
     let v = u .inv .1 (q .0) (q .1) h in
-    let e = ends z (g .out .now) (g .work .now) (g .d) (g .p) (q .0) (q .1) h (u .out) (u .at) (u .left) (u .e) (u .kept) (u .inv .0) v (c .before .before .loop-test .left) in
+    let e = ends z (g .out .now) (g .work .now) (g .d) (g .p) (q .0) (q .1) h (u .out) (u .at) (u .left) (u .e) (u .kept) (u .inv .0) v
+    (the-loop-test .left) in
     let far = held-length (g .out .now) (g .work .now) (g .d) (g .p) (q .0) (q .1) h in
     ((_, e .built, e .many), omega (arith, e .place, v .room, h .light, h .work-room, recordses-weights (q .0)), omega (arith, e .place))
 
@@ -269,14 +317,18 @@ same-length-2 c = search needs
 
 returns : tie.Need-returns Inv-loop μ-loop
 returns c =
+    let the-put-back = c .before .before .before .before .put-back in
+    let the-loop-test = c .before .before .before .before .before .before .before .loop-test in
+    let the-neutral = c .before .before .before .before .before .before .before .before .before .before .before .neutral in
     λ f rest h.
     let g = c .before .before .before .before .before .before .before .before .before .before .before .before .before .before .args in
     let u = c .before .before .before .before .before .before .before .before .loop in
-    let z = c .before .before .before .before .before .before .before .before .before .before .before .neutral .result in
+    let z = the-neutral .result in
     let v = u .inv .1 f rest h in
-    let e = ends z (g .out .now) (g .work .now) (g .d) (g .p) f rest h (u .out) (u .at) (u .left) (u .e) (u .kept) (u .inv .0) v (c .before .before .before .before .before .before .before .loop-test .left) in
-    let r = c .before .before .before .before .put-back .ensures (dropAll (isThe (pos z)) (toList f)) (e .built) (e .many) in
-    rw (sym (c .before .before .before .before .before .before .before .before .before .before .before .neutral .ensures .0)) (record {
+    let e = ends z (g .out .now) (g .work .now) (g .d) (g .p) f rest h (u .out) (u .at) (u .left) (u .e) (u .kept) (u .inv .0) v
+    (the-loop-test .left) in
+    let r = the-put-back .ensures (dropAll (isThe (pos z)) (toList f)) (e .built) (e .many) in
+    rw (sym (the-neutral .ensures .0)) (record {
       stands = r .stands ∙ ap (λ (x : List ℕ). encode (nodeOf (g .sum) (dropAll (isThe (pos z)) (toList f))) ++ x) (e .follow);
       done = r .done ∙ done-stays z (g .out .now) (g .work .now) (g .d) (g .p) f rest h (u .out) (u .at) (u .left) (u .e) (u .kept) (u .inv .0) v;
     })

@@ -15,10 +15,15 @@ returns : tie.Need-returns
 returns c = λ t h. other-kind _ _ _ t h (omega arith)
 
 bits-requires : tie.Need-bits-requires
-bits-requires c κs = record-within (c .before .before .before .pre .0 .there)
+bits-requires c κs =
+    let q = c .before .before .before .pre in
+    record-within (q .0 .there)
 
 returns-2 : tie.Need-returns-2
-returns-2 c = λ t h. ap (λ n. eqb n (c .before .before .before .before .args .z)) (c .bits .ensures) ∙ integer-kind _ _ _ t h (omega arith) (c .before .before .before .before .pre .1)
+returns-2 c =
+    let g = c .before .before .before .before .args in
+    let q = c .before .before .before .before .pre in
+    λ t h. ap (λ n. eqb n (g .z)) (c .bits .ensures) ∙ integer-kind _ _ _ t h (omega arith) (q .1)
 
 pub is-the-spec : {M : Type 1} → statement M
 is-the-spec = tie.close (tie.spec kind-requires returns bits-requires returns-2)

@@ -29,12 +29,14 @@ returns c =
 
 combine-requires : tie.Need-combine-requires
 combine-requires c κs =
+    let the-if1 = c .before .before .if1 in
+    let the-kind = c .before .before .before .kind in
     let g = c .before .before .before .before .before .before .before .args in
     let q = c .before .before .before .before .before .before .before .pre in
     let t = q .0 in
     let rest = q .1 in
     let h = q .2 in
-    let s = is-product (g .out .now) (g .work .now) (g .d) (g .p) t rest h (sym (c .before .before .before .kind .ensures) ∙ c .before .before .if1 .left) in
+    let s = is-product (g .out .now) (g .work .now) (g .d) (g .p) t rest h (sym (the-kind .ensures) ∙ the-if1 .left) in
     (s .members, rest, s .held)
 
 same-length-2 : tie.Need-same-length-2
@@ -45,11 +47,15 @@ same-length-3 c = search needs
 
 returns-2 : tie.Need-returns-2
 returns-2 c =
+    let the-combine = c .before .before .before .before .combine in
+    let the-if1 = c .before .before .before .before .before .before .before .if1 in
+    let the-kind = c .before .before .before .before .before .before .before .before .kind in
     λ t rest h.
     let g = c .before .before .before .before .before .before .before .before .before .before .before .before .args in
-    let s = is-product (g .out .now) (g .work .now) (g .d) (g .p) t rest h (sym (c .before .before .before .before .before .before .before .before .kind .ensures) ∙ c .before .before .before .before .before .before .before .if1 .left) in
-    subst (λ (x : paper.Tried). Answers x rest (g .out .now) (c .before .before .before .before .combine .last .0) (g .work .now) (c .before .before .before .before .combine .last .1 .0) (g .d) (g .p) (c .before .before .before .before .combine .result))
-    (sym (like-factors-at t (s .members) (s .is))) (c .before .before .before .before .combine .ensures (s .members) rest (s .held))
+    let s = is-product (g .out .now) (g .work .now) (g .d) (g .p) t rest h (sym (the-kind .ensures) ∙ the-if1 .left) in
+    subst (λ (x : paper.Tried). Answers x rest (g .out .now) (the-combine .last .0) (g .work .now) (the-combine .last .1 .0) (g .d) (g .p)
+    (the-combine .result))
+    (sym (like-factors-at t (s .members) (s .is))) (the-combine .ensures (s .members) rest (s .held))
 
 pub combine-like-factors-spec : {M : Type 1} → statement M
 combine-like-factors-spec =
