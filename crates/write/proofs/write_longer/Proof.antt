@@ -67,7 +67,13 @@ add-write-record-2 : tie.Need-add-write-record-2
 add-write-record-2 c = search needs
 
 write-record-requires-2 : tie.Need-write-record-requires-2
-write-record-requires-2 c κs = search needs
+write-record-requires-2 c κs =
+    let the-copy-bytes = c .before .before .before .copy-bytes in
+    let the-write-record = c .before .before .before .before .before .before .before .write-record in
+    let q = c .before .before .before .before .before .before .before .before .before .before .before .before .pre in
+    let p = product-at _ _ _ (q .0 .0) (q .0 .1) in
+    let room = q .1 in
+    omega (arith, the-copy-bytes .kept .0, the-write-record .kept .0)
 
 same-length : tie.Need-same-length
 same-length c = search needs
