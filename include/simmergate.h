@@ -25,7 +25,7 @@
    Where `answer` is too short for the numbers, a call returns 6 before all else and changes nothing. Bytes of `answer` past the numbers never
    change. Refusals 1 to 6 change no byte of any other area; only simmergate_simplify writes to others at all.
 
-   All lengths are in bytes. The areas of one call must not overlap (tables that are only read may); a pointer may be anything where its length is 0, and needs no alignment.
+   All lengths are in bytes. The areas of one call must not overlap; a pointer may be anything where its length is 0, and needs no alignment.
    Nothing is allocated, nothing is kept between calls, and calls on different areas may run at the same time. */
 #ifndef SIMMERGATE_H
 #define SIMMERGATE_H
