@@ -5,8 +5,8 @@
    byte 8 the symbol; all other bytes are zero. A power has its base and then its exponent, an integer of at least 1.
 
    Every call returns the refusal number, 0 where nothing is refused, and writes the numbers of its answer to `answer`, 8 bytes each,
-   little-endian, in the order named at the call. The first two are always the refusal number and its place, a record counted from 0; after a
-   refusal all other numbers are 0, but for the one of simmergate_equal that says which table is refused. The lowest number wins; of two
+   little-endian, in the order named at the call. The first two are always the refusal number and its place, as the table below says (records
+   count from 0); after a refusal all other numbers are 0, but for the one of simmergate_equal that says which table is refused. The lowest number wins; of two
    tables, the first is judged by 1 to 5 before the second:
 
      number   given exactly when                                                               place

@@ -3,9 +3,7 @@
    bytes on both sides and a length of its own. */
 #include "../../include/simmergate.h"
 #include "own.h"
-#include <stdio.h>
-#include <stdlib.h>
-#include <string.h>
+#include "text.h"
 
 enum { GUARD = 64, LONGEST = MOST_BYTES + 4 * RECORD, REGISTER_BYTES = 8 * REGISTERS };
 
@@ -104,53 +102,27 @@ static void record(size_t i, unsigned kind, unsigned count, uint64_t number) {
     own_bytes(r + 8, number);
 }
 
-static int hex(int c) { return c >= '0' && c <= '9' ? c - '0' : c - 'a' + 10; }
-
-/* A field of a line, up to the tab or the line's end. */
-static size_t field(char *into, size_t most) {
-    size_t n = 0;
-    int c;
-    while ((c = getchar()) != '\t' && c != '\n' && c != EOF)
-        if (n + 1 < most) into[n++] = (char)c;
-    into[n] = 0;
-    return c == EOF && n == 0 ? (size_t)-1 : n;
-}
-
-static uint64_t decimal(const char **s) {
-    uint64_t n = 0;
-    while (**s == ' ') (*s)++;
-    while (**s >= '0' && **s <= '9') n = 10 * n + (uint64_t)(*(*s)++ - '0');
-    return n;
-}
-
 static unsigned long lines, by_number[6];
 
-/* The stored answers: name, table, "refused NUMBER at PLACE" or "ok RECORDS STEPS OPENINGS WEIGHT-IN WEIGHT-OUT", steps, result, value. */
+/* The stored answers: name, table, verdict, steps, result, value. */
 static void stored(void) {
-    static char name[256], digits[2 * LONGEST], said[128], steps[LONGEST], out[2 * LONGEST], value[64];
-    for (;;) {
-        if (field(name, sizeof name) == (size_t)-1) return;
-        size_t n = field(digits, sizeof digits) / 2;
-        field(said, sizeof said), field(steps, sizeof steps), field(out, sizeof out);
-        size_t value_digits = field(value, sizeof value);
-        for (size_t i = 0; i < n; i++) t[i] = (uint8_t)(16 * hex(digits[2 * i]) + hex(digits[2 * i + 1]));
-        struct verdict v = {0, 0};
-        const char *s = said + (said[0] == 'r' ? 7 : 2);
-        now = name;
-        if (said[0] == 'r') {
-            v.number = decimal(&s), s += 3, v.place = decimal(&s);
-            if (v.number == 7) v = (struct verdict){0, 0};
-        }
+    while (next_line()) {
+        char *parts[6], *end;
+        uint64_t numbers[7];
+        now = line;
+        if (cut(line, parts, 6) != 6 || !read_verdict(parts[2], numbers)) fail("the stored line", "not six parts with a verdict", 1, 0);
+        size_t n = unhex(parts[1], t, sizeof t);
+        struct verdict v = {numbers[0], numbers[1]};
+        if (v.number == 7) v = (struct verdict){0, 0};
         struct verdict own = own_check(t, n);
         if (own.number != v.number || own.place != v.place) fail("the test's own reading", "the refusal", v.number, own.number);
-        if (said[0] == 'o') {
-            decimal(&s), decimal(&s), decimal(&s);
-            uint64_t weight = decimal(&s), x = 0;
-            for (size_t i = 0; i < value_digits; i++) x = 16 * x + (uint64_t)hex(value[i]);
-            if (own_weight(t, n) != weight) fail("the test's own reading", "the weight", weight, own_weight(t, n));
+        if (numbers[0] == 0) {
+            uint64_t x = strtoull(parts[5], &end, 16);
+            if (end == parts[5] || *end != 0) fail("the stored line", "no value", 1, 0);
+            if (own_weight(t, n) != numbers[5]) fail("the test's own reading", "the weight", numbers[5], own_weight(t, n));
             if (own_value(t, held) != x) fail("the test's own reading", "the value", x, own_value(t, held));
         }
-        all(name, t, n, v);
+        all(now, t, n, v);
         lines++, by_number[v.number]++;
     }
 }

@@ -3,9 +3,7 @@
    stored table compared with a copy of itself. Every lent area has canary bytes on both sides and a length of its own. */
 #include "../../include/simmergate.h"
 #include "own.h"
-#include <stdio.h>
-#include <stdlib.h>
-#include <string.h>
+#include "text.h"
 
 enum { GUARD = 64, LONGEST = MOST_BYTES + 4 * RECORD, ANSWER = 32, DEPTH = 1535, MOST_MEMBERS = 3071, LEVELS = 10, LEAVES = 1 << LEVELS };
 
@@ -108,37 +106,20 @@ static void pairs(const char *name, const uint8_t *a, size_t a_bytes, const uint
 static uint8_t t[2][LONGEST];
 static size_t bytes[2];
 
-static int hex(int c) { return c >= '0' && c <= '9' ? c - '0' : c - 'a' + 10; }
-
-/* A field of a line, up to the tab or the line's end. */
-static size_t field(char *into, size_t most) {
-    size_t n = 0;
-    int c;
-    while ((c = getchar()) != '\t' && c != '\n' && c != EOF)
-        if (n + 1 < most) into[n++] = (char)c;
-    into[n] = 0;
-    return c == EOF && n == 0 ? (size_t)-1 : n;
-}
-
 static unsigned long lines, yes_lines, by_number[6];
 
 /* The stored answers: name, two tables, the four numbers. */
 static void stored(void) {
-    static char name[256], digits[2 * LONGEST + 1], said[128];
-    for (;;) {
-        if (field(name, sizeof name) == (size_t)-1) return;
-        for (int w = 0; w < 2; w++) {
-            bytes[w] = field(digits, sizeof digits) / 2;
-            for (size_t i = 0; i < bytes[w]; i++) t[w][i] = (uint8_t)(16 * hex(digits[2 * i]) + hex(digits[2 * i + 1]));
-        }
+    while (next_line()) {
+        char *parts[4], *end;
         struct numbers expected = {{0, 0, 0, 0}};
-        field(said, sizeof said);
-        const char *s = said;
-        for (int i = 0; i < 4; i++) {
-            while (*s == ' ') s++;
-            while (*s >= '0' && *s <= '9') expected.is[i] = 10 * expected.is[i] + (uint64_t)(*s++ - '0');
-        }
-        pairs(name, t[0], bytes[0], t[1], bytes[1], expected);
+        now = line;
+        if (cut(line, parts, 4) != 4) fail("the parts of the stored line", 4, 0);
+        for (int w = 0; w < 2; w++) bytes[w] = unhex(parts[1 + w], t[w], sizeof t[w]);
+        end = parts[3];
+        for (int i = 0; i < 4; i++) expected.is[i] = strtoull(end, &end, 10);
+        if (*end != 0 || expected.is[0] > 5) fail("the end of the four stored numbers", 0, (uint64_t)*end);
+        pairs(now, t[0], bytes[0], t[1], bytes[1], expected);
         for (int w = 0; w < 2; w++) pair(t[w], bytes[w], t[w], bytes[w], led_to(t[w], bytes[w], t[w], bytes[w], 1));
         lines++, yes_lines += expected.is[3], by_number[expected.is[0]]++;
     }

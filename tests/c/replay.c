@@ -53,34 +53,6 @@ static void call(size_t out_length, size_t steps_length, size_t work_length, siz
     if (!holds(&work, lent_zeros, 0, 65536)) fail("work is another one");
 }
 
-/* Cuts the line at its tabs; the answer is how many parts it has. */
-static size_t cut(char *text, char **parts, size_t most) {
-    size_t n = 0;
-    while (n < most) {
-        parts[n++] = text;
-        text = strchr(text, '\t');
-        if (text == NULL) break;
-        *text++ = 0;
-    }
-    return n;
-}
-
-/* Reads `refused NUMBER at PLACE` or `ok RECORDS STEPS OPENINGS WEIGHT-IN WEIGHT-OUT`. */
-static void read_verdict(char *text) {
-    static const int ok_places[] = {2, 3, 4, 5, 6};
-    char *end = text;
-    memset(wanted.numbers, 0, sizeof wanted.numbers);
-    if (strncmp(text, "refused ", 8) == 0) {
-        wanted.numbers[0] = strtoull(text + 8, &end, 10);
-        if (strncmp(end, " at ", 4) != 0) fail("no verdict");
-        wanted.numbers[1] = strtoull(end + 4, &end, 10);
-    } else if (strncmp(text, "ok ", 3) == 0) {
-        end = text + 2;
-        for (int i = 0; i < 5; i++) wanted.numbers[ok_places[i]] = strtoull(end, &end, 10);
-    }
-    if (end == text || *end != 0) fail("no verdict");
-}
-
 int main(void) {
     long lines = 0, accepted = 0, left_range = 0;
     lent_begin();
@@ -89,7 +61,7 @@ int main(void) {
         name = line;
         if (cut(line, parts, 6) != 6) fail("not six parts");
         wanted.length = unhex(parts[1], given, sizeof given);
-        read_verdict(parts[2]);
+        if (!read_verdict(parts[2], wanted.numbers)) fail("no verdict");
         uint64_t number = wanted.numbers[0];
         size_t count = strlen(parts[3]);
         if (count != wanted.numbers[3] || count > sizeof wanted_steps) fail("the steps are not as many as the verdict says");

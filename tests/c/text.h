@@ -54,3 +54,31 @@ static inline uint64_t decimal(const char *text) {
     if (end == text || *end != 0) { printf("not a number: %s\n", text); exit(2); }
     return x;
 }
+
+/* Cuts the text at its tabs; the answer is how many parts it has, at most `most` of them cut. */
+static inline size_t cut(char *text, char **parts, size_t most) {
+    size_t n = 0;
+    while (n < most) {
+        parts[n++] = text;
+        text = strchr(text, '\t');
+        if (text == NULL) break;
+        *text++ = 0;
+    }
+    return n;
+}
+
+/* The seven numbers of an answer that `refused NUMBER at PLACE` or `ok RECORDS STEPS OPENINGS WEIGHT-IN WEIGHT-OUT` says; 0 where it is
+   neither. */
+static inline int read_verdict(const char *text, uint64_t *numbers) {
+    char *end = NULL;
+    memset(numbers, 0, 7 * sizeof *numbers);
+    if (strncmp(text, "refused ", 8) == 0) {
+        numbers[0] = strtoull(text + 8, &end, 10);
+        if (strncmp(end, " at ", 4) != 0) return 0;
+        numbers[1] = strtoull(end + 4, &end, 10);
+    } else if (strncmp(text, "ok ", 3) == 0) {
+        end = (char *)text + 2;
+        for (int i = 2; i < 7; i++) numbers[i] = strtoull(end, &end, 10);
+    }
+    return end != NULL && *end == 0;
+}

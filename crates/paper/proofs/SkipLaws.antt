@@ -27,6 +27,10 @@ skip-go : (s : List ℕ) (n f o i : ℕ) → 0 < o → skip s n (suc f) o i ≡ 
 unfolding skip
 skip-go s n f o i h = simp (ne-eqb o 0 (λ e. omega arith))
 
+-- a record is one of the trees that are owed, and owes its members
+pub skip-step : (s : List ℕ) (n i owed : ℕ) → 0 < owed → i < n → skip s n (n - i) owed i ≡ skip s n (n - (i + 1)) (owed - 1 + arity s i) (i + 1)
+skip-step s n i owed o h = rw (left n i h) (skip-go s n (n - (i + 1)) owed i o)
+
 -- past the end nothing changes any more
 pub skip-past : (s : List ℕ) (n o : ℕ) → skip s n (n - (n + 1)) o (n + 1) ≡ n + 1
 skip-past s n zero = skip-none s n (n - (n + 1)) (n + 1)

@@ -8,9 +8,8 @@ use native.Mathlib.Omega.{arith}
 use Rattle.paper.specs.Record.{arity}
 use Rattle.paper.specs.Tree.{Tree, records}
 use Rattle.paper.specs.Verdict.{skip}
-use Rattle.paper.proofs.SkipLaws.{skip-none, skip-one, skip-out}
+use Rattle.paper.proofs.SkipLaws.{skip-none, skip-one, skip-out, skip-step}
 use Rattle.paper.proofs.TableLaws.{encode-end}
-use Rattle.table.proofs.StepLaws.{skip-step}
 use lib.ListN.{length}
 use Rattle.split.specs.Standing.{TreeIn}
 use Rattle.split.proofs.StandingLaws.{tree-within}

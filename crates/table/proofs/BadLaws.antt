@@ -12,9 +12,8 @@ use borrow.Author.Tests.{eq-eqb, ne-eqb, lt-ltb, le-ltb}
 use lib.Dec.{eqb, ltb}
 use Rattle.paper.specs.Record.{kind, countIn, arity}
 use Rattle.paper.specs.Verdict.{skip, treeEnd, isPositive, badExponent, firstBadExponent}
-use Rattle.paper.proofs.SkipLaws.{skip-none, skip-within, skip-out, skip-one, skip-more}
+use Rattle.paper.proofs.SkipLaws.{skip-none, skip-within, skip-out, skip-one, skip-more, skip-step}
 use Rattle.table.specs.Walked.{badWithin}
-use Rattle.table.proofs.StepLaws.{skip-step}
 
 cond-above : (b : Bool) (i x y : ℕ) → i < x → i < y → i < cond b x y
 cond-above true i x y h k = h

@@ -6,8 +6,8 @@ use mathlib.Core.List.{List}
 use native.Mathlib.Omega.{arith}
 use borrow.Author.Tests.{eq-eqb, ne-eqb}
 use lib.Dec.{eqb}
-use Rattle.paper.specs.Record.{kind, flaw, isFlawed, arity, weightFrom}
-use Rattle.paper.specs.Verdict.{firstFlawed, skip}
+use Rattle.paper.specs.Record.{kind, flaw, isFlawed, weightFrom}
+use Rattle.paper.specs.Verdict.{firstFlawed}
 
 module _ (s : List ℕ) (n i : ℕ) where
   flawed-step : i < n → firstFlawed s i (n - i) ≡ cond (isFlawed (flaw s i)) i (firstFlawed s (i + 1) (n - (i + 1)))
@@ -37,8 +37,3 @@ module _ (s : List ℕ) (n i : ℕ) where
   pub weight-done : n ≤ i → weightFrom s i (n - i) ≡ 0
   unfolding weightFrom
   weight-done h = let none : n - i ≡ 0 = omega arith in rw none refl
-
-  -- a record is one of the trees that are owed, and owes its members
-  pub skip-step : (owed : ℕ) → 0 < owed → i < n → skip s n (n - i) owed i ≡ skip s n (n - (i + 1)) (owed - 1 + arity s i) (i + 1)
-  unfolding skip
-  skip-step owed o h = let left : n - i ≡ suc (n - (i + 1)) = omega arith in rw (left, ne-eqb owed 0 (λ e. omega arith)) refl

@@ -4,8 +4,7 @@ use Prim.Native.Nat.{_+_, _-_, _*_, _<_, _≤_}
 use mathlib.Core.Path.{_≡_, refl, sym, _∙_}
 use native.Mathlib.Omega.{arith}
 use Rattle.paper.specs.Verdict.{skip, treeEnd}
-use Rattle.paper.proofs.SkipLaws.{skip-none, skip-out, skip-one}
-use Rattle.table.proofs.StepLaws.{skip-step}
+use Rattle.paper.proofs.SkipLaws.{skip-none, skip-out, skip-one, skip-step}
 use Rattle.table.proofs.tree_end.Statement.{statement}
 use Rattle.table.proofs.tree_end.Tie as tie
 
