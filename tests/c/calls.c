@@ -1,4 +1,4 @@
-/* The entry points against the stored answers and against the plain reading in own.c: every line of standard input (tests/answers), lengths
+/* calls LINES: the entry points against the stored answers and against the plain reading in own.c: every line of standard input, lengths
    around the edges, each kind with each byte set, tables of 3,072 records, and random trees, whole and damaged. Every lent area has canary
    bytes on both sides and a length of its own. */
 #include "../../include/simmergate.h"
@@ -257,12 +257,12 @@ static unsigned long random_trees(void) {
     return n;
 }
 
-int main(void) {
+int main(int argc, char **argv) {
     for (int k = 0; k < REGISTERS; k++) held[k] = ((uint64_t)k + 1) * 0x9e3779b97f4a7c15;
     stored();
     printf("calls: %lu stored lines agree (%lu accepted, refused 1: %lu, 2: %lu, 3: %lu, 4: %lu, 5: %lu)\n", lines, by_number[0], by_number[1], by_number[2],
            by_number[3], by_number[4], by_number[5]);
-    if (lines == 0) return 1;
+    if (argc != 2 || lines != decimal(argv[1])) { printf("calls: not as many stored lines as there should be\n"); return 1; }
     unsigned long by_length = lengths(), by_kind = kinds(), by_size = large(), by_chance = random_trees();
     const unsigned long *d = damaged_and_whole;
     printf("calls: %lu lengths, %lu kinds with a byte set, %lu large tables and %lu random ones (%lu accepted, refused 1: %lu, 2: %lu, 4: %lu, "

@@ -1,4 +1,4 @@
-/* simmergate_equal against the stored answers, every line of standard input (tests/answers), and on pairs that are built here, whose answer is
+/* equal LINES: simmergate_equal against the stored answers, every line of standard input, and on pairs that are built here, whose answer is
    known by construction: the deepest trees, sums of 1,000 and of 3,071 members, and ten levels of pairs. Each pair is also exchanged, and each
    stored table compared with a copy of itself. Every lent area has canary bytes on both sides and a length of its own. */
 #include "../../include/simmergate.h"
@@ -292,12 +292,9 @@ static void lengths(void) {
     calls += 3;
 }
 
-int main(void) {
+int main(int argc, char **argv) {
     stored();
-    if (lines == 0) {
-        printf("equal: no stored line\n");
-        return 1;
-    }
+    if (argc != 2 || lines != decimal(argv[1])) { printf("equal: %lu stored lines, not as many as there should be\n", lines); return 1; }
     lengths();
     chains();
     sums("a sum of 1,000 integers, shuffled", 2, 0, 1000);

@@ -139,7 +139,7 @@ static void answered(uint32_t number, const uint64_t *wanted, size_t count, cons
 
 static const uint8_t *lend_bytes(struct lent *area, const uint8_t *bytes, size_t n) { return memcpy(lend(area, n), bytes, n); }
 
-static void try_check_and_wown_number(struct judged v) {
+static void try_check_and_weight(struct judged v) {
     size_t n = some_size(16);
     uint8_t *a = lend(&lent_answer, n);
     answered(simmergate_check(lend_bytes(&lent_table, table, length), length, a, n), (uint64_t[]){v.number, v.place}, 2, "check");
@@ -259,7 +259,7 @@ int main(int argc, char **argv) {
         if (chance(5)) damage(table, &length);
         if (chance(4)) damage(other, &other_length);
         struct judged v = judge(table, length);
-        try_check_and_wown_number(v);
+        try_check_and_weight(v);
         try_value(v, table, length);
         try_equal(v);
         try_simplify(v);

@@ -1,6 +1,6 @@
-/* Replays tests/answers/simplify.tsv (standard input) through simmergate_simplify. On every table: the returned number, the seven
-   numbers of the answer, every byte of out, steps and work, and the bytes around them, with areas exactly as large as they must
-   be, larger ones, and each of them one byte too short. */
+/* replay LINES: replays tests/answers/simplify.tsv (standard input, so many lines) through simmergate_simplify. On every table: the returned
+   number, the seven numbers of the answer, every byte of out, steps and work, and the bytes around them, with areas exactly as large
+   as they must be, larger ones, and each of them one byte too short. */
 #include "../../include/simmergate.h"
 #include "lent.h"
 #include "text.h"
@@ -53,7 +53,7 @@ static void call(size_t out_length, size_t steps_length, size_t work_length, siz
     if (!holds(&work, lent_zeros, 0, 65536)) fail("work is another one");
 }
 
-int main(void) {
+int main(int argc, char **argv) {
     long lines = 0, accepted = 0, left_range = 0;
     lent_begin();
     while (next_line()) {
@@ -86,7 +86,7 @@ int main(void) {
         accepted += number == 0;
         left_range += number == 7;
     }
-    if (lines == 0) { printf("replay: no stored answers on standard input\n"); return 1; }
+    if (argc != 2 || (uint64_t)lines != decimal(argv[1])) { printf("replay: %ld stored answers on standard input, not as many as they should be\n", lines); return 1; }
     printf("stored answers: %ld tables (%ld accepted, %ld out of range, %ld refused otherwise), %ld calls, all bytes as stored\n", lines, accepted,
            left_range, lines - accepted - left_range, calls);
     return 0;

@@ -11,7 +11,10 @@ static char line[LINE_ROOM];
 /* The next line without its end, in `line`; 0 at the end of the input. */
 static inline int next_line(void) {
     size_t n;
-    if (fgets(line, LINE_ROOM, stdin) == NULL) return 0;
+    if (fgets(line, LINE_ROOM, stdin) == NULL) {
+        if (ferror(stdin)) { printf("standard input cannot be read to its end\n"); exit(2); }
+        return 0;
+    }
     n = strlen(line);
     if (n > 0 && line[n - 1] == '\n') line[n - 1] = 0;
     else if (n + 1 == LINE_ROOM) { printf("a line is longer than %d bytes\n", LINE_ROOM); exit(2); }
