@@ -1,3 +1,4 @@
 pub mod Matching
 pub mod Views
 pub mod Compared
+pub mod Head

@@ -1,27 +1,27 @@
 -- What becomes of a call: its judgement is one of the refusals 1 to 6, with nothing else to tell, or it is accepted, and then the
 -- table holds a well-formed tree (AcceptedLaws), the run on it is the driver's, and its laws hold. Everything that the demands
 -- ask is read off these two cases. Assumes nothing.
-use Prim.Native.Nat.{ℕ, zero, suc, _+_, _-_, _*_, _≤_, _<_, min}
-use mathlib.Core.Path.{_≡_, refl, sym, ap, _∙_, subst}
+use Prim.Native.Nat.{ℕ, zero, suc, _*_, _≤_, min}
+use mathlib.Core.Path.{_≡_, refl, sym, ap, _∙_}
 use mathlib.Core.Bool.{Bool, true, false, cond, not}
-use mathlib.Core.List.{List, [], _∷_, _++_}
-use mathlib.Core.Option.{Option, none, some}
+use mathlib.Core.List.{List}
+use mathlib.Core.Option.{Option, some}
 use native.Mathlib.Omega.{arith}
-use lib.ListN.{length, take, drop, replicate}
+use lib.ListN.{length, take}
 use lib.Seq.{take-at}
 use lib.Dec.{eqb, ltb}
 use borrow.Author.Tests.{eq-eqb, eqb-true}
-use Rattle.paper.specs.Limits.{maxWeight, workBytes}
+use Rattle.paper.specs.Limits.{maxWeight}
 use Rattle.paper.specs.Bytes.{Bytes, stretch}
 use Rattle.paper.specs.Tree.{Tree, weight, records}
-use Rattle.paper.specs.WellFormed.{WF}
-use Rattle.paper.specs.Table.{encode, treeOf}
+use Rattle.paper.specs.Table.{encode}
 use Rattle.paper.specs.Record.{weightFrom}
-use Rattle.paper.specs.Verdict.{Verdict, accepted, refused, isAccepted, badLength, firstFlawed, tableWeight, treeEnd, firstBadExponent}
+use Rattle.paper.specs.Verdict.{Verdict, accepted, refused, isAccepted, badLength, firstFlawed, tableWeight, treeEnd}
+use Rattle.paper.specs.Verdict.{firstBadExponent}
 use Rattle.paper.specs.Verdict.{recordsIn, judgeRecords, verdict}
-use Rattle.paper.specs.Driver.{Ran, done, over}
-use Rattle.paper.specs.Answers.{Lent, Answer, Given, Outcome, turned-down, ran, cramped, judgement, runOn, outcomeOf}
-use Rattle.paper.specs.Answers.{refusal, ranAnswer, answerOf, written, noted, outAfter, stepsAfter, workAfter, lentAfter, simplifiedBy}
+use Rattle.paper.specs.Driver.{Ran}
+use Rattle.paper.specs.Answers.{Lent, Answer, Given, turned-down, ran, cramped, judgement, runOn, outcomeOf}
+use Rattle.paper.specs.Answers.{refusal, ranAnswer, answerOf, outAfter, stepsAfter, workAfter, lentAfter, simplifiedBy}
 use Rattle.paper.specs.Demands.{result}
 use Rattle.paper.proofs.EncodeLaws.{encode-length}
 use Rattle.paper.proofs.AcceptedLaws.{Holds, accepted-holds}
@@ -150,3 +150,7 @@ pub result-written : (g : Given) (w : ℕ) (u : Tree) (old : List ℕ) → g .an
 unfolding result stretch
 result-written g w u old e h =
     ap (λ k. take (16 * k) (g .lent .out)) e ∙ ap (take (16 * records u)) h ∙ take-at (encode u) _ (16 * records u) (encode-length u)
+
+-- a table has one tree
+pub same-tree : {o : Option Tree} {t u : Tree} → o ≡ some t → o ≡ some u → t ≡ u
+same-tree e h = cc

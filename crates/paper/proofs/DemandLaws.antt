@@ -1,31 +1,28 @@
 -- The simplifier of the definitions meets the three demands: each field is read off the two cases of a call (CallLaws) and, where
 -- a run finished, off what a finished run gives (Simplified). And the demands leave no choice: two simplifiers that meet them
 -- answer alike and leave alike bytes. Assumes nothing.
-use Prim.Native.Nat.{ℕ, zero, suc, _+_, _*_, _≤_, _<_}
-use mathlib.Core.Path.{_≡_, refl, sym, ap, _∙_, subst}
+use Prim.Native.Nat.{ℕ, _*_, _≤_}
+use mathlib.Core.Path.{_≡_, refl, sym, ap, _∙_}
 use mathlib.Core.List.{List, []}
-use mathlib.Core.Option.{Option, none, some}
-use mathlib.Core.Logic.{_↔_}
+use mathlib.Core.Option.{some}
 use native.Mathlib.Omega.{arith}
 use lib.ListN.{length}
-use Rattle.paper.specs.Limits.{maxWeight, workBytes}
+use Rattle.paper.specs.Limits.{workBytes}
 use Rattle.paper.specs.Bytes.{Bytes, stretch}
-use Rattle.paper.specs.Tree.{Tree, weight, records, value}
+use Rattle.paper.specs.Tree.{Tree, weight, value}
 use Rattle.paper.specs.Table.{encode, treeOf}
-use Rattle.paper.specs.Verdict.{Verdict, accepted, refused, tableWeight}
+use Rattle.paper.specs.Verdict.{accepted, refused}
 use Rattle.paper.specs.Rules.{editionOne}
 use Rattle.paper.specs.Driver.{Ran, done, over, simplify}
-use Rattle.paper.specs.Admits.{AdmitsNone}
-use Rattle.paper.specs.Answers.{Lent, Answer, Given, ran, judgement, refusal, ranAnswer, written, noted, outAfter, stepsAfter, workAfter}
+use Rattle.paper.specs.Answers.{Lent, Answer, Given, ran, judgement, refusal, ranAnswer, written, noted, outAfter, stepsAfter}
+use Rattle.paper.specs.Answers.{workAfter}
 use Rattle.paper.specs.Answers.{lentAfter, simplifiedBy, simplified}
-use Rattle.paper.specs.Demands.{Simplifier, result, Refuses, LeavesAlone, Clears, RunsOver, Follows, Lightens, Finishes, KeepsValue, Demands}
+use Rattle.paper.specs.Demands.{Simplifier, result, Refuses, LeavesAlone, Clears, RunsOver, Follows, Demands}
 use Rattle.paper.proofs.ReadLaws.{tree-of-written}
 use Rattle.paper.proofs.AcceptedLaws.{Holds}
-use Rattle.paper.proofs.CallLaws.{TurnedDown, RunOn, Call, is-turned-down, is-run, call, refusal-number, refusal-place, result-written}
+use Rattle.paper.proofs.CallLaws.{RunOn, Call, is-turned-down, is-run, call, refusal-number, refusal-place, result-written}
+use Rattle.paper.proofs.CallLaws.{same-tree}
 use Rattle.paper.proofs.Simplified.{Finished, simplify-finished}
-
-same-tree : {o : Option Tree} {t u : Tree} → o ≡ some t → o ≡ some u → t ≡ u
-same-tree e h = cc
 
 -- ---- the judging half holds around any run
 module _ (run : Tree → Ran) where
@@ -121,6 +118,7 @@ pub record Done (s : List ℕ) (l : Lent) : Type 0 where
   pub finished : Finished (holds .tree) tree-out steps opened
   pub accepts : judgement s l ≡ accepted
   pub answer : simplified s l .answer ≡ ranAnswer (weight (holds .tree)) (done tree-out steps opened)
+  pub lent : simplified s l .lent ≡ lentAfter (ran (weight (holds .tree)) (done tree-out steps opened)) l
   pub written-bytes : result (simplified s l) ≡ encode tree-out
   pub read-back : treeOf (result (simplified s l)) ≡ some tree-out
 
@@ -146,6 +144,7 @@ call-done s b l e = go (call (simplify editionOne) s l b)
           finished = f;
           accepts = r .accepts;
           answer = a;
+          lent = g;
           written-bytes = w;
           read-back = ap treeOf w ∙ tree-of-written u (f .result-wf) (omega (arith, f .lightens, r .holds .light));
         }
@@ -164,18 +163,16 @@ simplified-meets =
       clears = clearing (simplify editionOne);
       runs-over = runs-over;
       follows = follows;
-      lightens = λ s b l e t u p q.
+      lightens = λ s b l e t p.
           let d = call-done s b l e in
           let a : simplified s l .answer .steps-taken ≡ length (d .steps) = ap (λ x. x .steps-taken) (d .answer) in
           let o : simplified s l .answer .openings ≡ d .opened = ap (λ x. x .openings) (d .answer) in
           let f = d .finished .lightens in
-          omega (arith, ap weight (same-tree p (d .holds .read)), ap weight (same-tree q (d .read-back)));
-      finishes = λ s b l e t u p q.
+          (d .tree-out, d .read-back, omega (arith, ap weight (same-tree p (d .holds .read))));
+      finishes = λ s b l e t p. let d = call-done s b l e in (d .tree-out, d .read-back, d .finished .admits-none);
+      keeps-value = λ s b l e t p.
           let d = call-done s b l e in
-          subst (AdmitsNone editionOne) (same-tree (d .read-back) q) (d .finished .admits-none);
-      keeps-value = λ s b l e t u p q ρ.
-          let d = call-done s b l e in
-          ap (λ x. value x ρ) (same-tree q (d .read-back)) ∙ d .finished .keeps-value ρ ∙ ap (λ x. value x ρ) (same-tree (d .holds .read) p);
+          (d .tree-out, d .read-back, λ ρ. d .finished .keeps-value ρ ∙ ap (λ x. value x ρ) (same-tree (d .holds .read) p));
     }
 
 given-by : (g h : Given) → g .answer ≡ h .answer → g .lent ≡ h .lent → g ≡ h

@@ -40,6 +40,7 @@ pub mod Seen
 pub mod Refusals
 pub mod MayLaws
 pub mod CallLaws
+pub mod JudgementLaws
 pub mod Simplified
 pub mod DemandLaws
 pub mod Takeover

@@ -21,7 +21,7 @@ use Rattle.paper.specs.Verdict.{Verdict, refused, accepted, recordsIn, b
 use Rattle.paper.specs.Verdict.{badExponent, firstBadExponent, judgeRecords, verdict}
 use Rattle.paper.specs.Refusals.{First, BadLength, is-zero, no-multiple, is-over, Flawed, kind-over, byte-other, count-under}
 use Rattle.paper.specs.Refusals.{BadShape, records-end, tree-ends, Exponent, after-base, AtLeastOne}
-use Rattle.paper.specs.Refusals.{Applies, refusal-1, refusal-2, refusal-3, refusal-4, refusal-5, Refuses}
+use Rattle.paper.specs.Refusals.{Applies, refusal-1, refusal-2, refusal-3, refusal-4, refusal-5, Lowest}
 use Rattle.paper.proofs.Tests.{true-not-false, not-so, and-both, or-either, or-left, or-right}
 use Rattle.paper.proofs.EncodeLaws.{signed-negative}
 use Rattle.paper.proofs.SpanLaws.{spans-end}
@@ -362,10 +362,10 @@ unfolding verdict judgeRecords tableWeight ladder test place
 verdict-ladder s = refl
 
 -- a refusal is given exactly when the paper's table says so, and at the place that it says
-pub refusal-exactly : (s : List ℕ) (k p : ℕ) → 0 < k → (verdict s ≡ refused k p) ↔ Refuses s k p
+pub refusal-exactly : (s : List ℕ) (k p : ℕ) → 0 < k → (verdict s ≡ refused k p) ↔ Lowest (Applies s) k p
 refusal-exactly s k p l = (down, up)
   where
-    down : verdict s ≡ refused k p → Refuses s k p
+    down : verdict s ≡ refused k p → Lowest (Applies s) k p
     down h =
         let r = ladder-down (test s) (place s) 5 1 k p l (sym (verdict-ladder s) ∙ h) in
         record {
@@ -373,7 +373,7 @@ refusal-exactly s k p l = (down, up)
           lowest = λ j q u x. let y = words-test s j q x in true-not-false (y .0) (r .2 j (y .2) u);
         }
 
-    up : Refuses s k p → verdict s ≡ refused k p
+    up : Lowest (Applies s) k p → verdict s ≡ refused k p
     up h =
         let y = words-test s k p (h .applies) in
         verdict-ladder s

@@ -1,15 +1,21 @@
--- The starred examples: one table, one statement, by computation. Assumes nothing.
+-- The starred examples: one table, one statement, by computation; and the bytes of example 1's result. Assumes nothing.
 use mathlib.Core.Path.{_≡_, refl}
 use mathlib.Core.List.{map}
-use Rattle.paper.specs.Examples.{examples, lookalikes, outWeight, computed}
-use Rattle.paper.proofs.Computes.{driver-computes}
+use Rattle.paper.specs.Examples.{exampleOne, exampleOneBytes, examples, lookalikes, outWeight, computed}
+use Rattle.paper.specs.Answers.{written}
+use Rattle.paper.proofs.Computes.{table-computes, driver-computes}
 
 -- the definitions give each starred example as the paper has it
 pub starred : map (λ e. computed (e .given)) examples ≡ examples
-unfolding examples outWeight computed driver-computes
+unfolding exampleOne examples outWeight computed driver-computes
 starred = refl
 
 -- and those that tell the rules from programs that would look right
 pub no-lookalike : map (λ e. computed (e .given)) lookalikes ≡ lookalikes
 unfolding lookalikes outWeight computed driver-computes
 no-lookalike = refl
+
+-- what is written for example 1, as the paper prints it
+pub example-one-bytes : written (computed (exampleOne .given) .answer) ≡ exampleOneBytes
+unfolding exampleOne exampleOneBytes computed written driver-computes table-computes
+example-one-bytes = refl

@@ -1,33 +1,34 @@
 -- The worthless simplifiers are turned away, each at the field that the paper names for it: one small table apiece that breaks
 -- the field. The tables are the records of a tree (TableLaws), the lent areas have just the room that 6 asks for, and what the
 -- simplifier makes of them is read off the cases of a call (CallLaws). Assumes nothing.
-use Prim.Native.Nat.{ℕ, zero, suc, _+_, _*_, _≤_, _<_}
+use Prim.Native.Nat.{ℕ, _*_, _≤_, _<_}
 use mathlib.Core.Path.{_≡_, refl, sym, ap, _∙_, subst}
 use mathlib.Core.List.{List, [], _∷_}
-use mathlib.Core.Option.{Option, none, some}
+use mathlib.Core.Logic.{_⊎_, inl, inr}
+use native.Mathlib.Nat.{eq-or-lt-of-le}
 use native.Mathlib.Omega.{arith}
-use lib.ListN.{length, replicate, length-replicate}
+use lib.ListN.{replicate, length-replicate}
 use lib.IntN.{pos, negsuc}
 use lib.Dec.{lit<, lit≤}
 use Rattle.paper.specs.Limits.{maxWeight, workBytes}
-use Rattle.paper.specs.Bytes.{Bytes, word, stretch}
-use Rattle.paper.specs.Tree.{Tree, Forest, integer, symbol, sum, product, power, nil, cons, weight, records, value}
+use Rattle.paper.specs.Tree.{Tree, integer, symbol, sum, product, nil, cons, weight, value}
 use Rattle.paper.specs.WellFormed.{WF}
 use Rattle.paper.specs.Table.{encode, treeOf}
-use Rattle.paper.specs.Verdict.{accepted, refused, tableWeight, verdict}
+use Rattle.paper.specs.Verdict.{accepted}
 use Rattle.paper.specs.Rules.{editionOne}
-use Rattle.paper.specs.Driver.{Ran, done, over, no-rule, out-of-range, step, ask, simplify}
+use Rattle.paper.specs.Driver.{Ran, done, over, no-rule, step, ask, simplify}
 use Rattle.paper.specs.Admits.{AdmitsNone, admits-none}
-use Rattle.paper.specs.Answers.{Lent, Answer, ran, judgement, cramped, refusal, ranAnswer, written, noted, outAfter, lentAfter, simplifiedBy, simplified}
+use Rattle.paper.specs.Answers.{Lent, ran, judgement, cramped, refusal, ranAnswer, written, outAfter, lentAfter, simplifiedBy}
 use Rattle.paper.specs.Demands.{Simplifier, result, Refuses, RunsOver, Follows, Finishes, KeepsValue}
-use Rattle.paper.specs.Worthless.{refusesAll, returnsZero, returnsInput, gatheredOnce, firstPass, passesOnce, oneStepMore, oneOpeningMore, inventsSteps, inventsOpenings}
+use Rattle.paper.specs.Takeover.{Room}
+use Rattle.paper.specs.Worthless.{RefusesEverything, refusesAll, returnsZero, returnsInput, firstPass, passesOnce, oneStepMore}
+use Rattle.paper.specs.Worthless.{oneOpeningMore, inventsSteps, inventsOpenings}
 use Rattle.paper.proofs.EncodeLaws.{encode-bytes}
 use Rattle.paper.proofs.TableLaws.{encode-weight, written-accepted}
 use Rattle.paper.proofs.ReadLaws.{tree-of-written}
-use Rattle.paper.proofs.AcceptedLaws.{Holds}
-use Rattle.paper.proofs.CallLaws.{TurnedDown, RunOn, Call, is-turned-down, is-run, call, accepted-judgement, refusal-number, result-written}
+use Rattle.paper.proofs.CallLaws.{Call, is-turned-down, is-run, call, accepted-judgement, result-written, same-tree}
+use Rattle.paper.proofs.JudgementLaws.{of-room}
 use Rattle.paper.proofs.Computes.{trees-compute, driver-computes}
-use Rattle.paper.proofs.Takeover.{Room, of-room}
 
 -- areas with just enough room for a weight
 areas : ℕ → Lent
@@ -48,9 +49,6 @@ module _ (t : Tree) (w : WF t) (light : weight t ≤ maxWeight) where
   tree-accepted =
       accepted-judgement (encode t) (areas (weight t)) (written-accepted t w light)
       (ap (λ n. cramped n (areas (weight t))) (encode-weight t) ∙ of-room (weight t) (areas (weight t)) (areas-room (weight t)))
-
-  same-tree : {o : Option Tree} {x y : Tree} → o ≡ some x → o ≡ some y → x ≡ y
-  same-tree e h = cc
 
   -- a simplifier around a run that ends on t with u answers with u's records
   record Gives (run : Tree → Ran) (u : Tree) (ks : List ℕ) (o : ℕ) : Type 0 where
@@ -107,33 +105,58 @@ difference-light = lit≤ tt
 once : Tree
 once = product (cons (integer (pos 0)) (cons (symbol 0) nil))
 
--- ---- "One that refuses everything: by the exact conditions of 1 to 6 in demand 1 and of 7 in demand 2."
-pub refusing-is-refused : (k : ℕ) → 1 ≤ k → k ≤ 6 → ¬ Refuses (refusesAll k)
-unfolding refusesAll
-refusing-is-refused k h g r =
-    let e = r (encode one) (encode-bytes one) (areas (weight one)) k 0 h g .0 refl in
-    let z : 0 ≡ k = ap (λ v. v .number) (sym (tree-accepted one one-wf one-light) ∙ e) in
-    omega arith
+-- ---- "One that refuses everything: by the exact conditions of 1 to 6 in demand 1 and of 7 in demand 2." The table 1 is accepted, and
+-- its run meets no integer outside the range.
+module _ (f : Simplifier) where
+  abbrev Refused : ℕ → ℕ → Type 0
+  Refused k p = f (encode one) (areas (weight one)) .answer ≡ refusal k p
 
-pub refusing-7-is-refused : ¬ RunsOver (refusesAll 7)
-unfolding refusesAll driver-computes one
-refusing-7-is-refused r =
-    let x = r (encode one) (encode-bytes one) (areas (weight one)) 0 .0 refl in
-    let e : x .1 .0 ≡ one = same-tree one one-wf one-light (x .1 .1) (tree-of-written one one-wf one-light) in
-    no (sym (ap (simplify editionOne) e) ∙ x .1 .2)
-  where
-    no : done one [] 0 ≡ over 0 → ⊥
-    no e = let z : _≡_ {A = ℕ} 0 1 = cc in omega arith
+  not-by-1-to-6 : (k p : ℕ) → 1 ≤ k → k ≤ 6 → Refused k p → ¬ Refuses f
+  not-by-1-to-6 k p h g e r =
+      let j = r (encode one) (encode-bytes one) (areas (weight one)) k p h g .0 e in
+      let z : 0 ≡ k = ap (λ v. v .number) (sym (tree-accepted one one-wf one-light) ∙ j) in
+      omega arith
+
+  not-by-7 : (p : ℕ) → Refused 7 p → ¬ RunsOver f
+  unfolding one driver-computes
+  not-by-7 p e r =
+      let x = r (encode one) (encode-bytes one) (areas (weight one)) p .0 e in
+      let t : x .1 .0 ≡ one = same-tree (x .1 .1) (tree-of-written one one-wf one-light) in
+      no (sym (ap (simplify editionOne) t) ∙ x .1 .2)
+    where
+      no : done one [] 0 ≡ over p → ⊥
+      no e = let z : _≡_ {A = ℕ} 0 1 = cc in omega arith
+
+  pub refusing-is-refused : RefusesEverything f → (¬ Refuses f) ⊎ (¬ RunsOver f)
+  refusing-is-refused h =
+      let x = h (encode one) (encode-bytes one) (areas (weight one)) in go (x .0) (x .1) (x .2) (eq-or-lt-of-le (x .3)) (x .4)
+    where
+      go : (k p : ℕ) → 1 ≤ k → (k ≡ 7) ⊎ (k < 7) → Refused k p → (¬ Refuses f) ⊎ (¬ RunsOver f)
+      go k p u (inl e) q = inr (not-by-7 p (q ∙ ap (λ n. refusal n p) e))
+      go k p u (inr l) q = inl (not-by-1-to-6 k p u (omega arith) q)
+
+-- always the same refusal: it refuses everything, and falls to demand 1 for 1 to 6, to demand 2 for 7
+pub always-refuses : (k : ℕ) → 1 ≤ k → k ≤ 7 → RefusesEverything (refusesAll k)
+unfolding refusesAll
+always-refuses k h g s b l = (k, 0, h, g, refl)
+
+pub always-k-is-refused : (k : ℕ) → 1 ≤ k → k ≤ 6 → ¬ Refuses (refusesAll k)
+unfolding refusesAll
+always-k-is-refused k h g = not-by-1-to-6 (refusesAll k) k 0 h g refl
+
+pub always-7-is-refused : ¬ RunsOver (refusesAll 7)
+unfolding refusesAll
+always-7-is-refused = not-by-7 (refusesAll 7) 0 refl
 
 -- ---- "One that returns 0 for all: by the value in demand 3."
 pub zero-is-refused : ¬ KeepsValue returnsZero
 unfolding returnsZero trees-compute one ranAnswer
 zero-is-refused k =
     let g = gives one one-wf one-light (λ t. done (integer (pos 0)) [] 0) (integer (pos 0)) [] 0 refl in
+    let x = k (encode one) (encode-bytes one) (areas (weight one)) (ap (λ y. y .number) (g .answer)) one (tree-of-written one one-wf one-light) in
     let b = ap treeOf (g .bytes) ∙ tree-of-written (integer (pos 0)) (lit< tt) (lit≤ tt) in
-    let v = k (encode one) (encode-bytes one) (areas (weight one)) (ap (λ y. y .number) (g .answer)) one (integer (pos 0))
-    (tree-of-written one one-wf one-light) b (λ n. 0) in
-    let z : _≡_ {A = ℕ} 0 1 = v in omega arith
+    let u : integer (pos 0) ≡ x .0 = same-tree b (x .1) in
+    let z : _≡_ {A = ℕ} 0 1 = ap (λ y. value y (λ n. 0)) u ∙ x .2 (λ n. 0) in omega arith
 
 -- ---- a tree that admits a rule is no finished one
 admits-a-rule : (t u : Tree) (k : ℕ) → ask editionOne t ≡ step k u → ¬ AdmitsNone editionOne t
@@ -145,9 +168,9 @@ unfolding returnsInput ranAnswer
 input-is-refused f =
     let g = gives difference difference-wf difference-light (λ t. done t [] 0) difference [] 0 refl in
     let r = tree-of-written difference difference-wf difference-light in
-    let a = f (encode difference) (encode-bytes difference) (areas (weight difference)) (ap (λ y. y .number) (g .answer)) difference difference r
-    (ap treeOf (g .bytes) ∙ r) in
-    admits-a-rule difference once 2 first-step a
+    let x = f (encode difference) (encode-bytes difference) (areas (weight difference)) (ap (λ y. y .number) (g .answer)) difference r in
+    let u : x .0 ≡ difference = same-tree (x .1) (ap treeOf (g .bytes) ∙ r) in
+    admits-a-rule difference once 2 first-step (subst (AdmitsNone editionOne) u (x .2))
   where
     first-step : ask editionOne difference ≡ step 2 once
     first-step = unfold difference once driver-computes in refl
@@ -158,9 +181,10 @@ unfolding passesOnce ranAnswer
 pass-is-refused f =
     let g = gives difference difference-wf difference-light (λ t. firstPass editionOne (weight t) t) once (2 ∷ []) 0 passed in
     let r = tree-of-written once once-wf once-light in
-    let a = f (encode difference) (encode-bytes difference) (areas (weight difference)) (ap (λ y. y .number) (g .answer)) difference once
-    (tree-of-written difference difference-wf difference-light) (ap treeOf (g .bytes) ∙ r) in
-    admits-a-rule once (integer (pos 0)) 3 second-step a
+    let x = f (encode difference) (encode-bytes difference) (areas (weight difference)) (ap (λ y. y .number) (g .answer)) difference
+    (tree-of-written difference difference-wf difference-light) in
+    let u : x .0 ≡ once = same-tree (x .1) (ap treeOf (g .bytes) ∙ r) in
+    admits-a-rule once (integer (pos 0)) 3 second-step (subst (AdmitsNone editionOne) u (x .2))
   where
     passed : firstPass editionOne (weight difference) difference ≡ done once (2 ∷ []) 0
     passed = unfold difference once firstPass driver-computes trees-compute in refl

@@ -14,12 +14,12 @@ use Rattle.paper.specs.Verdict.{accepted, refused, tableWeight}
 use Rattle.paper.specs.Rules.{editionOne}
 use Rattle.paper.specs.Driver.{done, over, simplify}
 use Rattle.paper.specs.Admits.{AdmitsNone}
-use Rattle.paper.specs.Answers.{Lent, Answer, refusal, Given, judgement}
+use Rattle.paper.specs.Answers.{Lent, refusal, Given, judgement}
 
 abbrev pub Simplifier : Type 0
 Simplifier = List ℕ → Lent → Given
 
--- the bytes of the result: the records written
+-- the bytes of the result: the records written, which begin `out`
 unfoldable pub result : Given → List ℕ
 result g = take (16 * g .answer .records-written) (g .lent .out)
 
@@ -39,7 +39,12 @@ module _ (f : Simplifier) where
   abbrev pub Clears : Type 0
   Clears =
       (s : List ℕ) → Bytes s → (l : Lent) (p : ℕ) → f s l .answer ≡ refusal 7 p
-      → f s l .lent ≡ record { out = stretch (16 * tableWeight s) [] (l .out); steps = stretch (tableWeight s) [] (l .steps); work = stretch workBytes [] (l .work) }
+      → f s l .lent
+      ≡ record {
+        out = stretch (16 * tableWeight s) [] (l .out);
+        steps = stretch (tableWeight s) [] (l .steps);
+        work = stretch workBytes [] (l .work);
+      }
 
   -- ---- demand 2: 7 exactly when the run on the table's tree meets an integer outside the range, p steps being completed
   abbrev pub RunsOver : Type 0
@@ -52,14 +57,28 @@ module _ (f : Simplifier) where
   Follows =
       (s : List ℕ) → Bytes s → (l : Lent) → judgement s l ≡ accepted
       → (t u : Tree) (ks : List ℕ) (o : ℕ) → treeOf s ≡ some t → simplify editionOne t ≡ done u ks o
-      → (f s l .answer ≡ record { number = 0; place = 0; records-written = records u; steps-taken = length ks; openings = o; weight-in = weight t; weight-out = weight u })
-      × (f s l .lent ≡ record { out = stretch (16 * weight t) (encode u) (l .out); steps = stretch (weight t) ks (l .steps); work = stretch workBytes [] (l .work) })
+      → (f s l .answer
+      ≡ record {
+        number = 0;
+        place = 0;
+        records-written = records u;
+        steps-taken = length ks;
+        openings = o;
+        weight-in = weight t;
+        weight-out = weight u;
+      })
+      × (f s l .lent
+      ≡ record {
+        out = stretch (16 * weight t) (encode u) (l .out);
+        steps = stretch (weight t) ks (l .steps);
+        work = stretch workBytes [] (l .work);
+      })
 
-  -- ---- demand 3, of an accepted call: the table's tree is t, and u is the tree of the result
+  -- ---- demand 3, of an accepted call: the table's tree being t, the result is the records of a tree u, and Q holds of the two
   abbrev pub Accepted : (List ℕ → Lent → Tree → Tree → Type 0) → Type 0
   Accepted Q =
       (s : List ℕ) → Bytes s → (l : Lent) → f s l .answer .number ≡ 0
-      → (t u : Tree) → treeOf s ≡ some t → treeOf (result (f s l)) ≡ some u → Q s l t u
+      → (t : Tree) → treeOf s ≡ some t → (u : Tree) × (treeOf (result (f s l)) ≡ some u) × Q s l t u
 
   -- "steps + openings ≤ weight in − weight out"
   abbrev pub Lightens : Type 0

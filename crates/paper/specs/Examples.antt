@@ -36,10 +36,20 @@ times l = product (ofList l)
 abbrev gives : Tree → ℕ → Tree → List ℕ → ℕ → ℕ → Example
 gives t w u s o v = record { given = t; answer = done u s o; weight-in = w; weight-out = v }
 
+-- 1. a + a gives 2*a
+unfoldable pub exampleOne : Example
+exampleOne = gives (plus (a ∷ a ∷ [])) 7 (times (i 2 ∷ a ∷ [])) (2 ∷ []) 0 5
+
+-- "The result of example 1 as bytes: `03 00 02 00` and twelve zeros; eight zeros, `02`, seven zeros; `01` and fifteen zeros."
+unfoldable pub exampleOneBytes : List ℕ
+exampleOneBytes =
+    3 ∷ 0 ∷ 2 ∷ 0 ∷ 0 ∷ 0 ∷ 0 ∷ 0 ∷ 0 ∷ 0 ∷ 0 ∷ 0 ∷ 0 ∷ 0 ∷ 0 ∷ 0
+    ∷ 0 ∷ 0 ∷ 0 ∷ 0 ∷ 0 ∷ 0 ∷ 0 ∷ 0 ∷ 2 ∷ 0 ∷ 0 ∷ 0 ∷ 0 ∷ 0 ∷ 0 ∷ 0
+    ∷ 1 ∷ 0 ∷ 0 ∷ 0 ∷ 0 ∷ 0 ∷ 0 ∷ 0 ∷ 0 ∷ 0 ∷ 0 ∷ 0 ∷ 0 ∷ 0 ∷ 0 ∷ 0 ∷ []
+
 unfoldable pub examples : List Example
 examples =
-    -- 1. a + a gives 2*a
-    gives (plus (a ∷ a ∷ [])) 7 (times (i 2 ∷ a ∷ [])) (2 ∷ []) 0 5
+    exampleOne
     -- 2. (a*b)*a gives a^2 * b
     ∷ gives (times (times (a ∷ b ∷ []) ∷ a ∷ [])) 11 (times (power a 2 ∷ b ∷ [])) (6 ∷ []) 1 9
     -- 3. a + (-1)*a gives 0

@@ -16,5 +16,6 @@ pub mod Good
 pub mod Answers
 pub mod Calls
 pub mod Demands
+pub mod Takeover
 pub mod Worthless
 pub mod Examples

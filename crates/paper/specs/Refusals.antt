@@ -1,4 +1,5 @@
--- "What is refused, and in which order": refusals 1 to 5 of a table in the paper's words, without the functions that find them.
+-- "What is refused, and in which order": refusals 1 to 5 of a table, and 6 of the simplifier, in the paper's words, without the
+-- functions that find them.
 use Prim.Native.Nat.{ℕ, suc, _+_, _*_, _<_}
 use mathlib.Core.Path.{_≡_}
 use mathlib.Core.List.{List}
@@ -6,10 +7,11 @@ use mathlib.Core.Logic.{_⊎_}
 use lib.ListN.{length, getD}
 use lib.IntN.{pos}
 use lib.Signed.{_≤ℤ_}
-use Rattle.paper.specs.Limits.{maxWeight, maxBytes}
+use Rattle.paper.specs.Limits.{maxWeight, maxBytes, workBytes}
 use Rattle.paper.specs.Bytes.{signed}
 use Rattle.paper.specs.Record.{kind, countIn, bits, mayBe, arity}
 use Rattle.paper.specs.Verdict.{recordsIn, tableWeight}
+use Rattle.paper.specs.Answers.{Lent}
 
 -- "first such": P holds at p and nowhere before it
 abbrev pub First : (ℕ → Type 0) → ℕ → Type 0
@@ -54,7 +56,18 @@ pub data Applies (s : List ℕ) : ℕ → ℕ → Type 0 where
   refusal-4 : {p : ℕ} → BadShape s (recordsIn s) p → Applies s 4 p
   refusal-5 : {p : ℕ} → First (λ e. Exponent s (recordsIn s) e × ¬ AtLeastOne s e) p → Applies s 5 p
 
--- "The lowest number wins."
-pub record Refuses (s : List ℕ) (k p : ℕ) : Type 0 where
-  pub applies : Applies s k p
-  pub lowest : (j q : ℕ) → j < k → ¬ Applies s j q
+-- 6: "`out` under 16 x W bytes, `steps` under W, or `work` under 65,536"
+pub data Under (w : ℕ) (l : Lent) : Type 0 where
+  out-under : length (l .out) < 16 * w → Under w l
+  steps-under : length (l .steps) < w → Under w l
+  work-under : length (l .work) < workBytes → Under w l
+
+-- the same table of refusals with 6, for the simplifier, which is lent areas besides
+pub data AppliesToCall (s : List ℕ) (l : Lent) : ℕ → ℕ → Type 0 where
+  of-table : {k p : ℕ} → Applies s k p → AppliesToCall s l k p
+  refusal-6 : Under (tableWeight s) l → AppliesToCall s l 6 0
+
+-- "The lowest number wins": of the refusals that apply, k at p is the one with the lowest number
+pub record Lowest (Apply : ℕ → ℕ → Type 0) (k p : ℕ) : Type 0 where
+  pub applies : Apply k p
+  pub lowest : (j q : ℕ) → j < k → ¬ Apply j q

@@ -71,7 +71,7 @@ fn merge_power(s: &[u8], e: u64, i: usize, k: usize, at: usize, marks: &mut [u8]
     ensures place { λ r. ⌜ ((p : ℕ) → p ≤ i → IntoFrom p r) ⌝ }
 {
     let j = split::base(s, at);
-    let found = equal::same_tree(s, i, s, j, marks);
+    let found = equal::same(s, i, s, j, marks);
     match found {
         equal::Match::Different => Merged::Apart,
         equal::Match::Ends(_) => {

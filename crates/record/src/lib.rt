@@ -7,6 +7,7 @@ ghost use Rattle.paper.specs.Verdict.{isPositive};
 ghost use Rattle.paper.specs.Table.{recordOf};
 ghost use Rattle.stretch.specs.Put.{put};
 ghost use Rattle.record.specs.Flaw.{flawOf};
+ghost use Rattle.record.specs.Tidy.{front, isTidy};
 
 // Which bytes of a record may be other than zero (1), by kind and byte.
 const MAY: [[u8; 16]; 5] = [
@@ -87,11 +88,45 @@ pub fn is_positive(s: &[u8], i: usize) -> bool
     v < 0x8000_0000_0000_0000
 }
 
+// The number in bytes 0-7 of record i, of kind k, if those of them are zero that must be.
+fn front(s: &[u8], i: usize, k: usize) -> u64
+    requires { ⌜ (i * 16 + 16 ≤ length (now s)) × (k < 5) ⌝ }
+    ensures { λ r. ⌜ r ≡ front (now (s .entry)) i k ⌝ }
+{
+    if k < 2 {
+        return k as u64;
+    }
+    if k == 4 {
+        return k as u64;
+    }
+    k as u64 + count(s, i) as u64 * 0x1_0000
+}
+
+// Record i, of kind k, is seen by its two halves to have no byte that must be zero and is not.
+fn is_tidy(s: &[u8], i: usize, k: usize) -> bool
+    requires { ⌜ (i * 16 + 16 ≤ length (now s)) × (k < 5) ⌝ }
+    ensures { λ r. ⌜ r ≡ isTidy (now (s .entry)) i k ⌝ }
+{
+    if number::read8(s, i * 16) != front(s, i, k) {
+        return false;
+    }
+    if k < 1 {
+        return true;
+    }
+    if k < 2 {
+        return bits(s, i) < 256;
+    }
+    bits(s, i) < 1
+}
+
 // The lowest byte of record i, of kind k, that is other than zero and must be zero; 16 where there is none.
 fn stray(s: &[u8], i: usize, k: usize) -> usize
     requires { ⌜ (i * 16 + 16 ≤ length (now s)) × (k < 5) ⌝ }
     ensures { λ r. ⌜ r ≡ stray (now (s .entry)) i k 0 16 ⌝ }
 {
+    if is_tidy(s, i, k) {
+        return 16;
+    }
     let mut j = 0;
     while j < 16 {
         if s[i * 16 + j] != 0 {

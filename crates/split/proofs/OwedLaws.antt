@@ -1,11 +1,12 @@
 -- Skipping a tree that stands in a table by counting the trees owed: it ends as many records later as the tree has. Assumes nothing.
 use Prim.Native.Nat.{ℕ, _+_, _-_, _*_, _≤_, _<_}
-use mathlib.Core.Path.{_≡_, sym, _∙_}
+use mathlib.Core.Path.{_≡_, refl, sym, _∙_}
 use mathlib.Core.List.{List}
 use mathlib.Core.Logic.{_⊎_, inl, inr}
 use native.Mathlib.Nat.{eq-or-lt-of-le}
 use native.Mathlib.Omega.{arith}
-use Rattle.paper.specs.Record.{arity}
+use borrow.Author.Tests.{lt-ltb}
+use Rattle.paper.specs.Record.{kind, arity}
 use Rattle.paper.specs.Tree.{Tree, records}
 use Rattle.paper.specs.Verdict.{skip}
 use Rattle.paper.proofs.SkipLaws.{skip-none, skip-one, skip-out, skip-step}
@@ -45,3 +46,8 @@ module _ {s : List ℕ} {i : ℕ} {t : Tree} where
 
   pub owed-none : {at owed : ℕ} → Owed s i t at owed → owed ≡ 0 → at ≡ i + records t
   owed-none {at} {owed} h e = sym (rw e (skip-none s (i + records t) (i + records t - at) at)) ∙ h .ends
+
+-- a leaf owes no member
+pub leaf-owes-none : (s : List ℕ) (i : ℕ) → kind s i < 2 → 1 - 1 + arity s i ≡ 0
+unfolding arity
+leaf-owes-none s i h = rw (lt-ltb (kind s i) 2 h) refl

@@ -15,11 +15,14 @@ pub enum Rest {
     Without(usize, usize),
 }
 
-// The record after the tree at record i. Counts the trees that are owed.
+// The record after the tree at record i: the next one after a leaf; else the trees that are owed are counted.
 pub fn skip_tree(s: &[u8], i: usize) -> usize
     requires { ⌜ SomeTree (now s) i ⌝ }
     ensures { λ r. ⌜ ((t : Tree) → TreeIn (now (s .entry)) i t → r ≡ i + records t) ⌝ }
 {
+    if record::kind(s, i) < 2 {
+        return i + 1;
+    }
     let mut at = i;
     let mut owed = 1;
     while 0 < owed {

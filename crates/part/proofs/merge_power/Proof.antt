@@ -10,8 +10,8 @@ use Rattle.part.proofs.merge_power.Tie as tie
 base-requires : tie.Need-base-requires
 base-requires c κs = search needs
 
-same-tree-requires : tie.Need-same-tree-requires
-same-tree-requires c κs =
+same-requires : tie.Need-same-requires
+same-requires c κs =
     let q = c .before .before .before .before .pre in
     record {
       one = q .one;
@@ -44,11 +44,11 @@ same-length c = search needs
 
 returns : tie.Need-returns
 returns c =
-    let the-same-tree = c .before .before .before .before .same-tree in
+    let the-same = c .before .before .before .before .same in
     let the-base = c .before .before .before .before .before .before .base in (
       λ x t h w.
           let g = c .before .before .before .before .before .before .before .before .before .args in
-          let met = the-same-tree .ensures (x .base) (factorOf t .base) (h .sized .there) (the-base .ensures t w) in
+          let met = the-same .ensures (x .base) (factorOf t .base) (h .sized .there) (the-base .ensures t w) in
           power-apart (g .s .now) (g .e) (g .i) (g .k) x h t (unmatched _ _ (sym met ∙ c .enum-told .given .1)),
       λ p h. tt,
     )
@@ -61,11 +61,11 @@ returns-2 c =
     let the-add = c .before .before .before .add in
     let the-exponent = c .before .before .before .before .exponent in
     let the-enum-told2 = c .before .before .before .before .before .enum-told2 in
-    let the-same-tree = c .before .before .before .before .before .before .before .before .before .same-tree in
+    let the-same = c .before .before .before .before .before .before .before .before .before .same in
     let the-base = c .before .before .before .before .before .before .before .before .before .before .before .base in (
       λ x t h w.
           let g = c .before .before .before .before .before .before .before .before .before .before .before .before .before .before .args in
-          let met = the-same-tree .ensures (x .base) (factorOf t .base) (h .sized .there) (the-base .ensures t w) in
+          let met = the-same .ensures (x .base) (factorOf t .base) (h .sized .there) (the-base .ensures t w) in
           let other = the-exponent .ensures t w in
           power-into (g .s .now) (g .e) (g .i) (g .k) x h t _ (other .0) (other .1) (matched _ _ _ (sym met ∙ the-enum-told2 .given .1)) _
           (sym (the-add .ensures) ∙ c .before .sum .given .1),
@@ -80,11 +80,11 @@ returns-3 c =
     let the-add = c .before .before .add in
     let the-exponent = c .before .before .before .exponent in
     let the-enum-told2 = c .before .before .before .before .enum-told2 in
-    let the-same-tree = c .before .before .before .before .before .before .before .before .same-tree in
+    let the-same = c .before .before .before .before .before .before .before .before .same in
     let the-base = c .before .before .before .before .before .before .before .before .before .before .base in (
       λ x t h w.
           let g = c .before .before .before .before .before .before .before .before .before .before .before .before .before .args in
-          let met = the-same-tree .ensures (x .base) (factorOf t .base) (h .sized .there) (the-base .ensures t w) in
+          let met = the-same .ensures (x .base) (factorOf t .base) (h .sized .there) (the-base .ensures t w) in
           let other = the-exponent .ensures t w in
           power-over (g .s .now) (g .e) (g .i) (g .k) x h t _ (other .0) (other .1) (matched _ _ _ (sym met ∙ the-enum-told2 .given .1))
           (sym (the-add .ensures) ∙ c .enum-told3 .given .1),
@@ -96,7 +96,7 @@ merge-power-spec =
     tie.close
     (tie.spec
     base-requires
-    same-tree-requires
+    same-requires
     enum-told
     enum-told-2
     exponent-requires

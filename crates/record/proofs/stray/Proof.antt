@@ -1,11 +1,12 @@
--- `record::stray` meets its contract. The loop's invariant: what is left to search from byte j on gives what the whole search
--- gives. Assumes nothing.
+-- `record::stray` meets its contract: a tidy record has no stray byte (TidyLaws). The loop's invariant: what is left to search from byte
+-- j on gives what the whole search gives. Assumes nothing.
 use Prim.Native.Nat.{_-_, _≤_}
 use mathlib.Core.Path.{_≡_, refl, sym, _∙_}
 use mathlib.Core.Logic.{⊎-elim}
 use native.Mathlib.Omega.{arith}
 use borrow.Author.Needs.{needs}
 use Rattle.paper.specs.Record.{mayTable, mayBe, stray}
+use Rattle.record.proofs.TidyLaws.{tidy-stray}
 use Rattle.record.proofs.StrayLaws.{stray-zero, stray-free, stray-here, stray-done}
 use Rattle.record.proofs.stray.Statement.{statement}
 use Rattle.record.proofs.stray.Tie as tie
@@ -16,36 +17,44 @@ Inv-loop s i k j₀ j = (j ≤ 16) × (stray s i k 0 16 ≡ stray s i k j (16 - 
 abbrev μ-loop : tie.MeasureT-loop
 μ-loop s i k j₀ j = 16 - j
 
+is-tidy-requires : tie.Need-is-tidy-requires Inv-loop μ-loop
+is-tidy-requires c κs = search needs
+
+returns : tie.Need-returns Inv-loop μ-loop
+returns c =
+    let start = c .before .before .before in
+    sym (tidy-stray (start .args .s .now) (start .args .i) (start .args .k) (start .pre .1) (sym (c .before .is-tidy .ensures) ∙ c .if1 .taken))
+
 loop-holds : tie.Need-loop-holds Inv-loop μ-loop
 loop-holds c = (omega arith, refl)
-
-mul-if1 : tie.Need-mul-if1 Inv-loop μ-loop
-mul-if1 c = search needs
-
-add-if1 : tie.Need-add-if1 Inv-loop μ-loop
-add-if1 c = search needs
-
-shared-slice-read-if1 : tie.Need-shared-slice-read-if1 Inv-loop μ-loop
-shared-slice-read-if1 c = search needs
 
 mul-if2 : tie.Need-mul-if2 Inv-loop μ-loop
 mul-if2 c = search needs
 
-index-1-if2 : tie.Need-index-1-if2 Inv-loop μ-loop
-index-1-if2 c = search needs
+add-if2 : tie.Need-add-if2 Inv-loop μ-loop
+add-if2 c = search needs
 
-index-2-if2 : tie.Need-index-2-if2 Inv-loop μ-loop
-index-2-if2 c = search needs
+shared-slice-read-if2 : tie.Need-shared-slice-read-if2 Inv-loop μ-loop
+shared-slice-read-if2 c = search needs
+
+mul-if3 : tie.Need-mul-if3 Inv-loop μ-loop
+mul-if3 c = search needs
+
+index-1-if3 : tie.Need-index-1-if3 Inv-loop μ-loop
+index-1-if3 c = search needs
+
+index-2-if3 : tie.Need-index-2-if3 Inv-loop μ-loop
+index-2-if3 c = search needs
 
 -- Here, and in `loop-again`, MAY meets `mayTable`: the test of MAY[k][j] is handed to a law about `mayBe k j`, which is admitted
 -- because the two tables are the same numbers.
-returns : tie.Need-returns Inv-loop μ-loop
+returns-2 : tie.Need-returns-2 Inv-loop μ-loop
 unfolding mayBe mayTable
-returns c =
+returns-2 c =
     let at = c .before .before .before .before .before in
-    let a = at .before .args in
+    let a = at .before .before .before .before .args in
     let test = c .before .before .before .before .loop-test .taken in
-    sym (at .loop .inv .1 ∙ stray-here (a .s .now) (a .i) (a .k) (at .loop .j) test (c .before .before .if1 .taken) (c .if2 .taken))
+    sym (at .loop .inv .1 ∙ stray-here (a .s .now) (a .i) (a .k) (at .loop .j) test (c .before .before .if2 .taken) (c .if3 .taken))
 
 add-j : tie.Need-add-j Inv-loop μ-loop
 add-j c = search needs
@@ -57,21 +66,21 @@ loop-again : tie.Need-loop-again Inv-loop μ-loop
 unfolding mayBe mayTable
 loop-again c =
     let at = c .before .before .before in
-    let s = at .before .args .s .now in
-    let i = at .before .args .i in
-    let k = at .before .args .k in
+    let s = at .before .before .before .before .args .s .now in
+    let i = at .before .before .before .before .args .i in
+    let k = at .before .before .before .before .args .k in
     let test = c .before .before .loop-test .taken in (
       omega arith,
       at .loop .inv .1
           ∙ ⊎-elim
           (λ w. stray-free s i k (at .loop .j) test (w .0 .taken) (w .2 .left))
           (λ w. stray-zero s i k (at .loop .j) test (w .left))
-          (c .if1 .came),
+          (c .if2 .came),
     )
 
-returns-2 : tie.Need-returns-2 Inv-loop μ-loop
-returns-2 c =
-    let a = c .before .before .args in
+returns-3 : tie.Need-returns-3 Inv-loop μ-loop
+returns-3 c =
+    let a = c .before .before .before .before .before .args in
     sym (c .before .loop .inv .1 ∙ stray-done (a .s .now) (a .i) (a .k) (c .before .loop .j) (c .loop-test .left))
 
 pub stray-spec : {M : Type 1} → statement M
@@ -80,15 +89,17 @@ stray-spec =
     (tie.spec
     Inv-loop
     μ-loop
-    loop-holds
-    mul-if1
-    add-if1
-    shared-slice-read-if1
-    mul-if2
-    index-1-if2
-    index-2-if2
+    is-tidy-requires
     returns
+    loop-holds
+    mul-if2
+    add-if2
+    shared-slice-read-if2
+    mul-if3
+    index-1-if3
+    index-2-if3
+    returns-2
     add-j
     loop-less
     loop-again
-    returns-2)
+    returns-3)

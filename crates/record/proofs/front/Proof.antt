@@ -1,0 +1,35 @@
+-- `record::front` meets its contract: only kinds 2 and 3 have a count, by the tests before each return. Assumes nothing.
+use mathlib.Core.Path.{sym}
+use native.Mathlib.Omega.{arith}
+use borrow.Author.Needs.{needs}
+use Rattle.record.specs.Tidy.{front}
+use Rattle.record.proofs.KindLaws.{leaf-no-node, power-no-node, between-node}
+use Rattle.record.proofs.front.Statement.{statement}
+use Rattle.record.proofs.front.Tie as tie
+
+returns : tie.Need-returns
+unfolding front
+returns c = simp (leaf-no-node _ (c .if1 .taken))
+
+returns-2 : tie.Need-returns-2
+unfolding front
+returns-2 c = simp (power-no-node _ (c .if2 .taken))
+
+count-requires : tie.Need-count-requires
+count-requires c κs = search needs
+
+mul-result : tie.Need-mul-result
+mul-result c = search needs
+
+add-result : tie.Need-add-result
+add-result c = search needs
+
+returns-3 : tie.Need-returns-3
+unfolding front
+returns-3 c =
+    let k = c .before .before .before .before .args .k in
+    let node = between-node k (c .before .before .if1 .left) (omega (arith, c .before .before .before .before .pre .1)) (c .before .if2 .left) in
+    simp (node, sym (c .count .ensures .0))
+
+pub front-spec : {M : Type 1} → statement M
+front-spec = tie.close (tie.spec returns returns-2 count-requires mul-result add-result returns-3)
