@@ -127,11 +127,12 @@ int main(int argc, char **argv) {
     for (size_t i = 0; argc == 3 && i < FAMILIES; i++) {
         if (strcmp(argv[1], families[i].name) != 0) continue;
         uint64_t most = decimal(argv[2]);
+        if (most > 3072) { printf("no table weighs over 3072\n"); return 2; }
         unsigned n = 2;
         do {
             making.records = 0;
             families[i].make(n++);
-        } while (most <= 3072 && weight_of_records(table, making.records) <= most);
+        } while (weight_of_records(table, making.records) <= most);
         if (n == 3) { printf("no tree of this family is so light\n"); return 2; }
         making.records = 0;
         families[i].make(n - 2);
