@@ -79,6 +79,10 @@ stands-bytes s i n x h e = ap (take n) (h .there) ∙ take-at x (h .after) n e
 pub stands-part : (s : List ℕ) (i n : ℕ) (t : Tree) → Stands s i (encode t) → n ≡ records t * 16 → part s (i * 16) n ≡ encode t
 stands-part s i n t h e = stands-bytes s i n (encode t) h (omega (arith, encode-length t))
 
+-- the bytes x that stand from record i on, copied
+pub copied : (d d' s : List ℕ) (a i n : ℕ) (x : List ℕ) → Stands s i x → length x ≡ n → d' ≡ put d a (part s (i * 16) n) → d' ≡ put d a x
+copied d d' s a i n x h e p = p ∙ ap (put d a) (stands-bytes s i n x h e)
+
 pub two-puts : (d d₁ d₂ x y : List ℕ) (a b : ℕ) → d₁ ≡ put d a x → d₂ ≡ put d₁ b y → b ≡ a + length x → b + length y ≤ length d
     → d₂ ≡ put d a (x ++ y)
 two-puts d d₁ d₂ x y a b p q e r = q ∙ ap (λ (z : List ℕ). put z b y) p ∙ put-put d a x b y e r

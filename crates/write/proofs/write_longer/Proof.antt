@@ -1,23 +1,49 @@
--- `write::write_longer` meets its contract: the three puts are side by side. Assumes nothing.
+-- `write::write_longer` meets its contract. The answer is the product's first record with one member more, the product's other records as they
+-- stand in the table, and the record of n: one record more than the product has, and the contract asks for room for those. Each is put
+-- where the one before it ends, so the three puts are one put of the longer product. Assumes nothing.
 use Prim.Native.Nat.{_+_, _-_, _*_}
-use mathlib.Core.Path.{_≡_, ap, _∙_}
+use mathlib.Core.Path.{_≡_, refl}
 use native.Mathlib.Omega.{arith}
 use lib.ListN.{length}
-use Rattle.stretch.specs.Put.{put}
 use Rattle.paper.proofs.EncodeLaws.{encodes-length}
 use Rattle.paper.specs.Table.{encodes}
-use Rattle.write.proofs.Encoded.{stands-bytes}
-use Rattle.write.proofs.WriteLaws.{product-at, longer-written}
+use Rattle.write.proofs.Encoded.{copied}
+use Rattle.write.proofs.WriteLaws.{ProductAt, product-at, longer-written}
 use borrow.Author.Needs.{needs}
 use Rattle.write.proofs.write_longer.Statement.{statement}
 use Rattle.write.proofs.write_longer.Tie as tie
 
+-- where the members are counted, where they are copied, where n is written, and the end; and from each the one before it
+abbrev Counted : Type 0
+Counted = tie.After-count
+
+abbrev Copy : Type 0
+Copy = tie.After-copy-bytes-arg
+
+abbrev Last : Type 0
+Last = tie.After-write-record-arg2
+
+abbrev End : Type 0
+End = tie.After-slice-known4
+
+abbrev start-of : Counted → tie.Start
+start-of c = c .before .before .before .before
+
+abbrev counted-of : Copy → Counted
+counted-of c = c .before .before .before .before
+
+abbrev copy-of : Last → Copy
+copy-of c = c .before .before .before .before
+
+abbrev last-of : End → Last
+last-of c = c .before .before .before
+
+-- the product that the contract asks for
+asked : (c : tie.Start) → let g = c .args in ProductAt (g .s .now) (g .i) (g .k) (c .pre .0 .0)
+asked c = let g = c .args in product-at (g .s .now) (g .i) (g .k) (c .pre .0 .0) (c .pre .0 .1)
+
 count-requires : tie.Need-count-requires
-count-requires c κs =
-    let q = c .before .before .before .pre in
-    let p = product-at _ _ _ (q .0 .0) (q .0 .1) in
-    let room = q .1 in
-    omega arith
+count-requires c κs = omega (arith, asked (c .before .before .before))
 
 add-write-record : tie.Need-add-write-record
 add-write-record c = search needs
@@ -32,69 +58,54 @@ mul-copy-bytes : tie.Need-mul-copy-bytes
 mul-copy-bytes c = search needs
 
 add-copy-bytes-2 : tie.Need-add-copy-bytes-2
-add-copy-bytes-2 c =
-    let q = c .before .before .before .before .before .before .before .before .pre in
-    let p = product-at _ _ _ (q .0 .0) (q .0 .1) in
-    let room = q .1 in
-    record { fits = omega arith }
+add-copy-bytes-2 c = record { fits = omega (arith, asked (start-of (counted-of c))) }
 
 mul-copy-bytes-2 : tie.Need-mul-copy-bytes-2
-mul-copy-bytes-2 c =
-    let q = c .before .before .before .before .before .before .before .before .pre in
-    let p = product-at _ _ _ (q .0 .0) (q .0 .1) in
-    let room = q .1 in
-    record { fits = omega arith }
+mul-copy-bytes-2 c = record { fits = omega (arith, asked (start-of (counted-of c))) }
 
 sub-copy-bytes : tie.Need-sub-copy-bytes
-sub-copy-bytes c =
-    let q = c .before .before .before .before .before .before .before .before .pre in
-    let p = product-at _ _ _ (q .0 .0) (q .0 .1) in
-    let room = q .1 in
-    omega arith
+sub-copy-bytes c = omega (arith, asked (start-of (counted-of c)))
 
 mul-copy-bytes-3 : tie.Need-mul-copy-bytes-3
 mul-copy-bytes-3 c = search needs
 
 copy-bytes-requires : tie.Need-copy-bytes-requires
 copy-bytes-requires c κs =
-    let the-write-record = c .before .before .before .write-record in
-    let q = c .before .before .before .before .before .before .before .before .pre in
-    let p = product-at _ _ _ (q .0 .0) (q .0 .1) in
-    let room = q .1 in
-    (omega (arith, the-write-record .kept .0), omega arith)
+    let start = start-of (counted-of c) in
+    let p = asked start in
+    let room = start .pre .1 in
+    let kept = c .before .before .before .write-record .kept .0 in
+    (omega arith, omega arith)
 
 add-write-record-2 : tie.Need-add-write-record-2
 add-write-record-2 c = search needs
 
 write-record-requires-2 : tie.Need-write-record-requires-2
 write-record-requires-2 c κs =
-    let the-copy-bytes = c .before .before .before .copy-bytes in
-    let the-write-record = c .before .before .before .before .before .before .before .write-record in
-    let q = c .before .before .before .before .before .before .before .before .before .before .before .before .pre in
-    let p = product-at _ _ _ (q .0 .0) (q .0 .1) in
-    let room = q .1 in
-    omega (arith, the-copy-bytes .kept .0, the-write-record .kept .0)
+    let copy = copy-of c in
+    let start = start-of (counted-of copy) in
+    let kept = copy .before .before .before .write-record .kept .0 in
+    let kept-2 = c .before .before .before .copy-bytes .kept .0 in
+    omega (arith, asked start, start .pre .1)
 
 same-length : tie.Need-same-length
 same-length c = search needs
 
 returns : tie.Need-returns
-returns c =
-    let past = c .before .before .before .before .before .before .before .before .before .before in
-    let the-write-record2 = c .before .before .write-record2 in
-    let the-copy-bytes = c .before .before .before .before .before .before .copy-bytes in
-    let the-write-record = c .before .before .before .before .before .before .before .before .before .before .write-record in
-    let the-count = past .before .count in
-    let the-fits = past .before .before .before .before .before .fits in
-    let q = past .before .before .before .before .before .pre in
-    λ f h.
-    let g = past .before .before .before .before .before .args in
+returns c f h =
+    let last = last-of c in
+    let copy = copy-of last in
+    let counted = counted-of copy in
+    let start = start-of counted in
+    let g = start .args in
     let p = product-at (g .s .now) (g .i) (g .k) f h in
     let size : length (encodes f) ≡ (g .k - 1) * 16 = omega (arith, encodes-length f, p .size) in
-    let copied = the-copy-bytes .ensures ∙ ap (put _ ((g .m + 1) * 16))
-    (stands-bytes (g .s .now) (g .i + 1) ((g .k - 1) * 16) (encodes f) (p .stand) size) in
-    longer-written (g .out .now) _ _ _ (g .m) (g .n) (the-fits .n .fits) f _ (g .k) (omega (arith, the-count .ensures .0, p .counted)) (p .size)
-    (q .1) (the-write-record .ensures) copied (the-write-record2 .ensures)
+    longer-written (g .out .now) _ _ _ (g .m) (g .n) (start .fits .n .fits) f _ (g .k) _ (omega (arith, counted .count .ensures .0, p .counted))
+    (p .size) refl (start .pre .1)
+    (copy .before .before .before .write-record .ensures)
+    (copied _ _ (g .s .now) ((g .m + 1) * 16) (g .i + 1) ((g .k - 1) * 16) (encodes f) (p .stand) size
+    (last .before .before .before .copy-bytes .ensures))
+    (c .before .before .write-record2 .ensures)
 
 pub write-longer-spec : {M : Type 1} → statement M
 write-longer-spec =

@@ -1,26 +1,26 @@
--- `write::write_number` meets its contract: an exponent 1 leaves the base, any other stands after it. Assumes nothing.
-use Prim.Native.Nat.{_+_, _-_}
-use mathlib.Core.Path.{sym, ap, _∙_}
+-- `write::write_number` meets its contract: the factor's base is the integer v, of one record. With the exponent 1 the answer is the base, with
+-- any other it is the record of a power, the base, and the exponent, two records more; the contract asks for room for the answer. The
+-- laws are those of `write_power`, with k = 1. Assumes nothing.
+use Prim.Native.Nat.{_+_, _*_, _≤_}
 use native.Mathlib.Omega.{arith}
-use mathlib.Core.Bool.{true}
-use mathlib.Core.List.{[]}
-use Rattle.paper.specs.Bytes.{signed}
-use Rattle.paper.specs.Tree.{Tree, integer, power, records}
-use Rattle.paper.specs.Rules.{fromFactor}
-use Rattle.write.proofs.Encoded.{power-records}
-use Rattle.write.proofs.WriteLaws.{integer-records, from-one, from-more, written-to, fits-as, integer-written, power-written}
+use lib.ListN.{length}
+use Rattle.write.proofs.Becomes.{number-shown}
+use Rattle.write.proofs.WriteLaws.{base-room, base-answer, power-room, power-answer, number-written}
 use borrow.Author.Needs.{needs}
 use Rattle.write.proofs.write_number.Statement.{statement}
 use Rattle.write.proofs.write_number.Tie as tie
 
+-- ---- with the exponent 1
+abbrev one-of : tie.After-slice-known2 → tie.Then1
+one-of c = c .before .before .before .before
+
+room-for-base : (c : tie.Then1) → let g = c .before .before .args in (g .m + 1) * 16 ≤ length (g .out .now)
+room-for-base c =
+    let start = c .before .before in
+    base-room (number-shown (start .pre .1)) (start .args .out .now) (start .args .m) (c .if1 .taken) (start .pre .2)
+
 write-record-requires : tie.Need-write-record-requires
-write-record-requires c κs =
-    let g = c .before .before .before .args in
-    let q = c .before .before .before .pre in
-    let is = from-one (q .0) (g .e) (q .1 .exponent) (q .1 .good) (c .before .if1 .taken) in
-    let room = fits-as (fromFactor (q .0)) (q .0 .base) (g .out .now) (g .m) true is (q .2) in
-    let one = ap records (q .1 .base) ∙ integer-records (signed (g .v)) in
-    omega arith
+write-record-requires c κs = omega (arith, room-for-base (c .before))
 
 add-t9 : tie.Need-add-t9
 add-t9 c = search needs
@@ -29,55 +29,45 @@ same-length : tie.Need-same-length
 same-length c = search needs
 
 returns : tie.Need-returns
-returns c =
-    let the-write-record = c .before .before .write-record in
-    let the-if1 = c .before .before .before .before .if1 in
-    λ x h.
-    let g = c .before .before .before .before .before .before .args in
-    let is = from-one x (g .e) (h .exponent) (h .good) (the-if1 .taken) ∙ ap (λ (b : Tree). (b, true)) (h .base) in
-    written-to (fromFactor x) (integer (signed (g .v))) (g .out .now) (g .m) _ _ is (omega (arith, integer-records (signed (g .v))))
-    (integer-written (g .out .now) _ [] [] (g .m) (g .v) (h .bits) (the-write-record .ensures))
+returns c x h =
+    let test = one-of c in
+    let g = test .before .before .args in
+    base-answer (number-shown h) (g .out .now) (g .m) (test .if1 .taken) _
+    (number-written h (g .out .now) _ (g .m * 16) (c .before .before .write-record .ensures))
+
+-- ---- with any other: from where the base is written, where the exponent is, and the end, the place before
+abbrev more-of : tie.After-write-record-arg3 → tie.Else1
+more-of c = c .before .before .before .before .before
+
+abbrev base-of : tie.After-write-record-arg4 → tie.After-write-record-arg3
+base-of c = c .before .before .before .before
+
+abbrev exponent-of : tie.After-slice-known5 → tie.After-write-record-arg4
+exponent-of c = c .before .before .before
+
+room-for-power : (c : tie.Else1) → let g = c .before .before .args in (g .m + 3) * 16 ≤ length (g .out .now)
+room-for-power c =
+    let start = c .before .before in
+    power-room (number-shown (start .pre .1)) (start .args .out .now) (start .args .m) (c .if1 .left) (start .pre .2)
 
 write-record-requires-2 : tie.Need-write-record-requires-2
-write-record-requires-2 c κs =
-    let g = c .before .before .before .args in
-    let q = c .before .before .before .pre in
-    let is = from-more (q .0) (g .e) (q .1 .exponent) (q .1 .good) (c .before .if1 .left) in
-    let room = fits-as (fromFactor (q .0)) (power (q .0 .base) (g .e)) (g .out .now) (g .m) true is (q .2) in
-    let size = power-records (q .0 .base) (g .e) in
-    let one = ap records (q .1 .base) ∙ integer-records (signed (g .v)) in
-    omega arith
+write-record-requires-2 c κs = omega (arith, room-for-power (c .before))
 
 add-write-record : tie.Need-add-write-record
 add-write-record c = search needs
 
 write-record-requires-3 : tie.Need-write-record-requires-3
-write-record-requires-3 c κs =
-    let the-write-record2 = c .before .before .before .write-record2 in
-    let the-if1 = c .before .before .before .before .before .if1 in
-    let g = c .before .before .before .before .before .before .before .args in
-    let q = c .before .before .before .before .before .before .before .pre in
-    let is = from-more (q .0) (g .e) (q .1 .exponent) (q .1 .good) (the-if1 .left) in
-    let room = fits-as (fromFactor (q .0)) (power (q .0 .base) (g .e)) (g .out .now) (g .m) true is (q .2) in
-    let size = power-records (q .0 .base) (g .e) in
-    let one = ap records (q .1 .base) ∙ integer-records (signed (g .v)) in
-    omega (arith, the-write-record2 .kept .0)
+write-record-requires-3 c κs = omega (arith, room-for-power (more-of c), c .before .before .before .write-record2 .kept .0)
 
 add-write-record-2 : tie.Need-add-write-record-2
 add-write-record-2 c = search needs
 
 write-record-requires-4 : tie.Need-write-record-requires-4
 write-record-requires-4 c κs =
-    let the-write-record3 = c .before .before .before .write-record3 in
-    let the-write-record2 = c .before .before .before .before .before .before .before .write-record2 in
-    let the-if1 = c .before .before .before .before .before .before .before .before .before .if1 in
-    let g = c .before .before .before .before .before .before .before .before .before .before .before .args in
-    let q = c .before .before .before .before .before .before .before .before .before .before .before .pre in
-    let is = from-more (q .0) (g .e) (q .1 .exponent) (q .1 .good) (the-if1 .left) in
-    let room = fits-as (fromFactor (q .0)) (power (q .0 .base) (g .e)) (g .out .now) (g .m) true is (q .2) in
-    let size = power-records (q .0 .base) (g .e) in
-    let one = ap records (q .1 .base) ∙ integer-records (signed (g .v)) in
-    omega (arith, the-write-record2 .kept .0, the-write-record3 .kept .0)
+    let base = base-of c in
+    let kept = base .before .before .before .write-record2 .kept .0 in
+    let kept-2 = c .before .before .before .write-record3 .kept .0 in
+    omega (arith, room-for-power (more-of base))
 
 add-t15 : tie.Need-add-t15
 add-t15 c = search needs
@@ -86,28 +76,15 @@ same-length-2 : tie.Need-same-length-2
 same-length-2 c = search needs
 
 returns-2 : tie.Need-returns-2
-returns-2 c =
-    let the-write-record4 = c .before .before .write-record4 in
-    let the-write-record3 = c .before .before .before .before .before .before .write-record3 in
-    let the-write-record2 = c .before .before .before .before .before .before .before .before .before .before .write-record2 in
-    let the-if1 = c .before .before .before .before .before .before .before .before .before .before .before .before .if1 in
-    let the-fits = c .before .before .before .before .before .before .before .before .before .before .before .before .before .before .fits in
-    λ x h.
-    let g = c .before .before .before .before .before .before .before .before .before .before .before .before .before .before .args in
-    let q = c .before .before .before .before .before .before .before .before .before .before .before .before .before .before .pre in
-    let is = from-more (q .0) (g .e) (q .1 .exponent) (q .1 .good) (the-if1 .left) in
-    let room = fits-as (fromFactor (q .0)) (power (q .0 .base) (g .e)) (g .out .now) (g .m) true is (q .2) in
-    let size = power-records (q .0 .base) (g .e) in
-    let one = ap records (q .1 .base) ∙ integer-records (signed (g .v)) in
-    let is' = from-more x (g .e) (h .exponent) (h .good) (the-if1 .left) ∙ ap (λ (b : Tree). (power b (g .e), true)) (h .base) in
-    let b = integer (signed (g .v)) in
-    let size' = power-records b (g .e) in
-    let one' = integer-records (signed (g .v)) in
-    let base = integer-written _ _ [] [] (g .m + 1) (g .v) (h .bits) (the-write-record3 .ensures) in
-    written-to (fromFactor x) (power b (g .e)) (g .out .now) (g .m) _ _ is' (omega arith)
-    (power-written (g .out .now) _ _ _ (g .m) (g .e) (the-fits .e .fits) b 1 (g .m + 2) (sym one') (omega arith) (omega arith)
-    (the-write-record2 .ensures) base
-    (the-write-record4 .ensures))
+returns-2 c x h =
+    let exponent = exponent-of c in
+    let base = base-of exponent in
+    let test = more-of base in
+    let g = test .before .before .args in
+    power-answer (number-shown h) (g .out .now) (g .m) (test .if1 .left) (room-for-power test) _ _ _ _ _ (omega arith) (omega arith)
+    (base .before .before .before .write-record2 .ensures)
+    (number-written h _ _ ((g .m + 1) * 16) (exponent .before .before .before .write-record3 .ensures))
+    (c .before .before .write-record4 .ensures)
 
 pub write-number-spec : {M : Type 1} → statement M
 write-number-spec =

@@ -1,10 +1,26 @@
--- `write::write_pair` meets its contract: the three puts are side by side. Assumes nothing.
-use Prim.Native.Nat.{_-_}
+-- `write::write_pair` meets its contract: the record of a product of two, the integer's record and the tree's records are put each where the one
+-- before it ends, so the three puts are one put of the product. Assumes nothing.
 use native.Mathlib.Omega.{arith}
 use Rattle.write.proofs.WriteLaws.{pair-written}
 use borrow.Author.Needs.{needs}
 use Rattle.write.proofs.write_pair.Statement.{statement}
 use Rattle.write.proofs.write_pair.Tie as tie
+
+-- where the integer is written, where the tree is copied, and the end; and from each the one before it
+abbrev Second : Type 0
+Second = tie.After-write-record-arg2
+
+abbrev Copy : Type 0
+Copy = tie.After-copy-tree-arg
+
+abbrev start-of : Second → tie.Start
+start-of c = c .before .before .before .before .before .before .before
+
+abbrev second-of : Copy → Second
+second-of c = c .before .before .before .before
+
+abbrev copy-of : tie.After-slice-known4 → Copy
+copy-of c = c .before .before .before
 
 write-record-requires : tie.Need-write-record-requires
 write-record-requires c κs = search needs
@@ -25,16 +41,15 @@ same-length : tie.Need-same-length
 same-length c = search needs
 
 returns : tie.Need-returns
-returns c =
-    let the-copy-tree = c .before .before .copy-tree in
-    let the-write-record2 = c .before .before .before .before .before .before .write-record2 in
-    let the-write-record = c .before .before .before .before .before .before .before .before .before .before .write-record in
-    let the-fits = c .before .before .before .before .before .before .before .before .before .before .before .before .before .before .fits in
-    let q = c .before .before .before .before .before .before .before .before .before .before .before .before .before .before .pre in
-    λ t h.
-    let g = c .before .before .before .before .before .before .before .before .before .before .before .before .before .before .args in
-    pair-written (g .out .now) _ _ _ (g .m) (g .n) (the-fits .n .fits) t (omega (arith, h .size, q .1)) (the-write-record .ensures)
-    (the-write-record2 .ensures) (the-copy-tree .ensures t h)
+returns c t h =
+    let copy = copy-of c in
+    let second = second-of copy in
+    let start = start-of second in
+    let g = start .args in
+    pair-written (g .out .now) _ _ _ (g .m) (g .n) (start .fits .n .fits) t (omega (arith, h .size, start .pre .1))
+    (second .before .before .before .write-record .ensures)
+    (copy .before .before .before .write-record2 .ensures)
+    (c .before .before .copy-tree .ensures t h)
 
 pub write-pair-spec : {M : Type 1} → statement M
 write-pair-spec =

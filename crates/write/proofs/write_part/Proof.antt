@@ -1,72 +1,106 @@
--- `write::write_part` meets its contract: each form of a part has its own function. Assumes nothing.
-use Prim.Native.Nat.{_-_}
-use Rattle.write.proofs.WriteLaws.{as-term, as-power, as-number, ask-term, ask-power, ask-number}
+-- `write::write_part` meets its contract: each form of a part has its own function, and a part of that form is a term or a factor, whose member
+-- is the part's member. So the room that the contract asks for is the room that the function asks for, and the function's answer is
+-- the answer. Assumes nothing.
+use Prim.Native.Nat.{ℕ}
+use mathlib.Core.Path.{_≡_, sym, subst}
+use mathlib.Core.Bool.{Bool}
+use mathlib.Core.List.{List}
+use Rattle.paper.specs.Tree.{Tree}
+use Rattle.part.specs.Like.{Like, join}
+use Rattle.write.specs.declared.Written.{Written}
+use Rattle.write.specs.Written.{WrittenIs, Fitting}
+use Rattle.write.proofs.WriteLaws.{a-term, a-power, a-number}
 use borrow.Author.Needs.{needs}
 use Rattle.write.proofs.write_part.Statement.{statement}
 use Rattle.write.proofs.write_part.Tie as tie
+
+abbrev start-of : tie.After-shared-slice-known → tie.Start
+start-of c = c .before .before
+
+-- from the end of each arm, its call
+abbrev term-of : tie.After-slice-known2 → tie.After-write-term-arg
+term-of c = c .before .before .before
+
+abbrev power-of : tie.After-slice-known3 → tie.After-write-power-arg
+power-of c = c .before .before .before
+
+abbrev number-of : tie.After-slice-known4 → tie.After-write-number-arg
+number-of c = c .before .before .before
+
+-- where the member that the part becomes is y, there is room for y, and an answer for y is the answer
+module _ (c : tie.Start) where
+  fitting : (y : Tree × Bool) → join (c .pre .0) (c .pre .1) ≡ y → Fitting y (c .args .out .now) (c .args .m)
+  fitting y e = subst (λ (y : Tree × Bool). Fitting y (c .args .out .now) (c .args .m)) e (c .pre .3)
+
+  answered : (b : Bool) (x : Like b) (out' : List ℕ) (r : Written) (y : Tree × Bool) → join b x ≡ y
+      → WrittenIs y (c .args .out .now) out' (c .args .m) r → WrittenIs (join b x) (c .args .out .now) out' (c .args .m) r
+  answered b x out' r y e = subst (λ (y : Tree × Bool). WrittenIs y (c .args .out .now) out' (c .args .m) r) (sym e)
 
 enum-known-c : tie.Need-enum-known-c
 enum-known-c c = search needs
 
 write-term-requires : tie.Need-write-term-requires
 write-term-requires c κs =
-    let the-c = c .before .before .c in
-    let g = c .before .before .before .before .before .before .args in
-    let q = c .before .before .before .before .before .before .pre in
-    ask-term (g .s .now) (g .out .now) (g .m) _ _ (q .0) (q .1) (rw (the-c .given .1) at (q .2)) (q .3)
+    let form = c .before .before in
+    let start = start-of (form .before .before) in
+    let q = start .pre in
+    let t = a-term (start .args .s .now) (form .c .given .1) (q .0) (q .1) (q .2) in
+    (t .0, t .1, fitting start _ (t .2))
 
 enum-known-c-2 : tie.Need-enum-known-c-2
 enum-known-c-2 c = search needs
 
 write-power-requires : tie.Need-write-power-requires
 write-power-requires c κs =
-    let the-c2 = c .before .before .c2 in
-    let g = c .before .before .before .before .before .before .args in
-    let q = c .before .before .before .before .before .before .pre in
-    ask-power (g .s .now) (g .out .now) (g .m) _ _ _ (q .0) (q .1) (rw (the-c2 .given .1) at (q .2)) (q .3)
+    let form = c .before .before in
+    let start = start-of (form .before .before) in
+    let q = start .pre in
+    let t = a-power (start .args .s .now) (form .c2 .given .1) (q .0) (q .1) (q .2) in
+    (t .0, t .1, fitting start _ (t .2))
 
 enum-known-c-3 : tie.Need-enum-known-c-3
 enum-known-c-3 c = search needs
 
 write-number-requires : tie.Need-write-number-requires
 write-number-requires c κs =
-    let the-c3 = c .before .before .c3 in
-    let g = c .before .before .before .before .before .before .args in
-    let q = c .before .before .before .before .before .before .pre in
-    ask-number (g .s .now) (g .out .now) (g .m) _ _ (q .0) (q .1) (rw (the-c3 .given .1) at (q .2)) (q .3)
+    let form = c .before .before in
+    let start = start-of (form .before .before) in
+    let q = start .pre in
+    let t = a-number (start .args .s .now) (form .c3 .given .1) (q .0) (q .1) (q .2) in
+    (t .0, t .1, fitting start _ (t .2))
 
 same-length : tie.Need-same-length
 same-length c = search needs
 
 returns : tie.Need-returns
-returns c =
-    let the-write-term = c .before .before .write-term in
-    let the-c = c .before .before .before .before .before .c in
-    let g = c .before .before .before .before .before .before .before .before .before .args in
-    λ b x h.
-    as-term (g .s .now) (g .out .now) _ (g .m) (the-write-term .result) _ _ (the-write-term .ensures) b x (rw (the-c .given .1) at h)
+returns c b x h =
+    let form = term-of c .before .before in
+    let start = start-of (form .before .before) in
+    let w = c .before .before .write-term in
+    let t = a-term (start .args .s .now) (form .c .given .1) b x h in
+    answered start b x (w .last .0) (w .result) _ (t .2) (w .ensures (t .0) (t .1))
 
 same-length-2 : tie.Need-same-length-2
 same-length-2 c = search needs
 
 returns-2 : tie.Need-returns-2
-returns-2 c =
-    let the-write-power = c .before .before .write-power in
-    let the-c2 = c .before .before .before .before .before .c2 in
-    let g = c .before .before .before .before .before .before .before .before .before .args in
-    λ b x h.
-    as-power (g .s .now) (g .out .now) _ (g .m) (the-write-power .result) _ _ _ (the-write-power .ensures) b x (rw (the-c2 .given .1) at h)
+returns-2 c b x h =
+    let form = power-of c .before .before in
+    let start = start-of (form .before .before) in
+    let w = c .before .before .write-power in
+    let t = a-power (start .args .s .now) (form .c2 .given .1) b x h in
+    answered start b x (w .last .0) (w .result) _ (t .2) (w .ensures (t .0) (t .1))
 
 same-length-3 : tie.Need-same-length-3
 same-length-3 c = search needs
 
 returns-3 : tie.Need-returns-3
-returns-3 c =
-    let the-write-number = c .before .before .write-number in
-    let the-c3 = c .before .before .before .before .before .c3 in
-    let g = c .before .before .before .before .before .before .before .before .before .args in
-    λ b x h.
-    as-number (g .s .now) (g .out .now) _ (g .m) (the-write-number .result) _ _ (the-write-number .ensures) b x (rw (the-c3 .given .1) at h)
+returns-3 c b x h =
+    let form = number-of c .before .before in
+    let start = start-of (form .before .before) in
+    let w = c .before .before .write-number in
+    let t = a-number (start .args .s .now) (form .c3 .given .1) b x h in
+    answered start b x (w .last .0) (w .result) _ (t .2) (w .ensures (t .0) (t .1))
 
 pub write-part-spec : {M : Type 1} → statement M
 write-part-spec =

@@ -1,24 +1,30 @@
--- `write::write_power` meets its contract: an exponent 1 leaves the base, any other stands after it. Assumes nothing.
-use Prim.Native.Nat.{_-_}
+-- `write::write_power` meets its contract: the factor's base is the tree of k records at record i. With the exponent 1 the answer is the base,
+-- with any other it is the record of a power, the base, and the exponent, two records more; the contract asks for room for the
+-- answer. Assumes nothing.
+use Prim.Native.Nat.{_+_, _*_, _≤_}
 use mathlib.Core.Path.{refl}
 use native.Mathlib.Omega.{arith}
-use mathlib.Core.Bool.{true}
-use Rattle.paper.specs.Tree.{power}
-use Rattle.paper.specs.Rules.{fromFactor}
-use Rattle.write.proofs.Encoded.{power-records}
-use Rattle.write.proofs.WriteLaws.{from-one, from-more, written-to, fits-as, power-written}
+use lib.ListN.{length}
+use Rattle.write.proofs.Becomes.{power-shown}
+use Rattle.write.proofs.WriteLaws.{base-room, base-answer, power-room, power-answer}
 use borrow.Author.Needs.{needs}
 use Rattle.write.proofs.write_power.Statement.{statement}
 use Rattle.write.proofs.write_power.Tie as tie
 
+abbrev start-of : tie.After-shared-slice-known → tie.Start
+start-of c = c .before .before
+
+-- ---- with the exponent 1
+abbrev one-of : tie.After-slice-known2 → tie.Then1
+one-of c = c .before .before .before .before
+
+room-for-base : (c : tie.Then1) → let g = start-of (c .before) .args in (g .m + g .k) * 16 ≤ length (g .out .now)
+room-for-base c =
+    let start = start-of (c .before) in
+    base-room (power-shown (start .pre .1)) (start .args .out .now) (start .args .m) (c .if1 .taken) (start .pre .2)
+
 copy-tree-requires : tie.Need-copy-tree-requires
-copy-tree-requires c κs =
-    let g = c .before .before .before .before .args in
-    let q = c .before .before .before .before .pre in
-    let is = from-one (q .0) (g .e) (q .1 .exponent) (q .1 .good) (c .before .if1 .taken) in
-    let room = fits-as (fromFactor (q .0)) (q .0 .base) (g .out .now) (g .m) true is (q .2) in
-    let k = q .1 .sized .size in
-    ((q .0 .base, q .1 .sized), omega arith)
+copy-tree-requires c κs = let q = start-of (c .before .before) .pre in ((q .0 .base, q .1 .sized), room-for-base (c .before))
 
 add-t11 : tie.Need-add-t11
 add-t11 c = search needs
@@ -27,38 +33,37 @@ same-length : tie.Need-same-length
 same-length c = search needs
 
 returns : tie.Need-returns
-returns c =
-    let the-copy-tree = c .before .before .copy-tree in
-    let the-if1 = c .before .before .before .before .if1 in
-    λ x h.
-    let g = c .before .before .before .before .before .before .before .args in
-    let is = from-one x (g .e) (h .exponent) (h .good) (the-if1 .taken) in
-    written-to (fromFactor x) (x .base) (g .out .now) (g .m) _ _ is (omega (arith, h .sized .size)) (the-copy-tree .ensures (x .base) (h .sized))
+returns c x h =
+    let test = one-of c in
+    let g = start-of (test .before) .args in
+    base-answer (power-shown h) (g .out .now) (g .m) (test .if1 .taken) _ (c .before .before .copy-tree .ensures (x .base) (h .sized))
+
+-- ---- with any other: from where the base is copied, where the exponent is written, and the end, the place before
+abbrev more-of : tie.After-copy-tree-arg2 → tie.Else1
+more-of c = c .before .before .before .before .before
+
+abbrev base-of : tie.After-write-record-arg2 → tie.After-copy-tree-arg2
+base-of c = c .before .before .before .before
+
+abbrev exponent-of : tie.After-slice-known5 → tie.After-write-record-arg2
+exponent-of c = c .before .before .before
+
+room-for-power : (c : tie.Else1) → let g = start-of (c .before) .args in (g .m + (g .k + 2)) * 16 ≤ length (g .out .now)
+room-for-power c =
+    let start = start-of (c .before) in
+    power-room (power-shown (start .pre .1)) (start .args .out .now) (start .args .m) (c .if1 .left) (start .pre .2)
 
 write-record-requires : tie.Need-write-record-requires
-write-record-requires c κs =
-    let g = c .before .before .before .before .args in
-    let q = c .before .before .before .before .pre in
-    let is = from-more (q .0) (g .e) (q .1 .exponent) (q .1 .good) (c .before .if1 .left) in
-    let room = fits-as (fromFactor (q .0)) (power (q .0 .base) (g .e)) (g .out .now) (g .m) true is (q .2) in
-    let size = power-records (q .0 .base) (g .e) in
-    let k = q .1 .sized .size in
-    omega arith
+write-record-requires c κs = omega (arith, room-for-power (c .before))
 
 add-copy-tree : tie.Need-add-copy-tree
 add-copy-tree c = search needs
 
 copy-tree-requires-2 : tie.Need-copy-tree-requires-2
 copy-tree-requires-2 c κs =
-    let the-write-record = c .before .before .before .write-record in
-    let the-if1 = c .before .before .before .before .before .if1 in
-    let g = c .before .before .before .before .before .before .before .before .args in
-    let q = c .before .before .before .before .before .before .before .before .pre in
-    let is = from-more (q .0) (g .e) (q .1 .exponent) (q .1 .good) (the-if1 .left) in
-    let room = fits-as (fromFactor (q .0)) (power (q .0 .base) (g .e)) (g .out .now) (g .m) true is (q .2) in
-    let size = power-records (q .0 .base) (g .e) in
-    let k = q .1 .sized .size in
-    ((q .0 .base, q .1 .sized), omega (arith, the-write-record .kept .0))
+    let test = more-of c in
+    let q = start-of (test .before) .pre in
+    ((q .0 .base, q .1 .sized), omega (arith, room-for-power test, c .before .before .before .write-record .kept .0))
 
 add-write-record : tie.Need-add-write-record
 add-write-record c = search needs
@@ -68,16 +73,10 @@ add-write-record-2 c = search needs
 
 write-record-requires-2 : tie.Need-write-record-requires-2
 write-record-requires-2 c κs =
-    let the-copy-tree2 = c .before .before .before .copy-tree2 in
-    let the-write-record = c .before .before .before .before .before .before .before .write-record in
-    let the-if1 = c .before .before .before .before .before .before .before .before .before .if1 in
-    let g = c .before .before .before .before .before .before .before .before .before .before .before .before .args in
-    let q = c .before .before .before .before .before .before .before .before .before .before .before .before .pre in
-    let is = from-more (q .0) (g .e) (q .1 .exponent) (q .1 .good) (the-if1 .left) in
-    let room = fits-as (fromFactor (q .0)) (power (q .0 .base) (g .e)) (g .out .now) (g .m) true is (q .2) in
-    let size = power-records (q .0 .base) (g .e) in
-    let k = q .1 .sized .size in
-    omega (arith, the-write-record .kept .0, the-copy-tree2 .kept .0)
+    let base = base-of c in
+    let kept = base .before .before .before .write-record .kept .0 in
+    let kept-2 = c .before .before .before .copy-tree2 .kept .0 in
+    omega (arith, room-for-power (more-of base))
 
 add-t17 : tie.Need-add-t17
 add-t17 c = search needs
@@ -89,26 +88,15 @@ same-length-2 : tie.Need-same-length-2
 same-length-2 c = search needs
 
 returns-2 : tie.Need-returns-2
-returns-2 c =
-    let past = c .before .before .before .before .before .before .before .before .before .before in
-    let the-write-record2 = c .before .before .write-record2 in
-    let the-copy-tree2 = c .before .before .before .before .before .before .copy-tree2 in
-    let the-write-record = c .before .before .before .before .before .before .before .before .before .before .write-record in
-    let the-if1 = past .before .before .if1 in
-    let the-fits = past .before .before .before .before .before .fits in
-    λ x h.
-    let g = past .before .before .before .before .before .args in
-    let q = past .before .before .before .before .before .pre in
-    let is = from-more (q .0) (g .e) (q .1 .exponent) (q .1 .good) (the-if1 .left) in
-    let room = fits-as (fromFactor (q .0)) (power (q .0 .base) (g .e)) (g .out .now) (g .m) true is (q .2) in
-    let size = power-records (q .0 .base) (g .e) in
-    let k = q .1 .sized .size in
-    let is' = from-more x (g .e) (h .exponent) (h .good) (the-if1 .left) in
-    let size' = power-records (x .base) (g .e) in
-    written-to (fromFactor x) (power (x .base) (g .e)) (g .out .now) (g .m) _ _ is' (omega (arith, h .sized .size))
-    (power-written (g .out .now) _ _ _ (g .m) (g .e) (the-fits .e .fits) (x .base) (g .k) _ (h .sized .size) refl (omega arith)
-    (the-write-record .ensures)
-    (the-copy-tree2 .ensures (x .base) (h .sized)) (the-write-record2 .ensures))
+returns-2 c x h =
+    let exponent = exponent-of c in
+    let base = base-of exponent in
+    let test = more-of base in
+    let g = start-of (test .before) .args in
+    power-answer (power-shown h) (g .out .now) (g .m) (test .if1 .left) (room-for-power test) _ _ _ _ _ refl (omega arith)
+    (base .before .before .before .write-record .ensures)
+    (exponent .before .before .before .copy-tree2 .ensures (x .base) (h .sized))
+    (c .before .before .write-record2 .ensures)
 
 pub write-power-spec : {M : Type 1} → statement M
 write-power-spec =

@@ -1,106 +1,134 @@
--- `write::write_term` meets its contract: the rest is 1, a tree or a product without a member, and each has its own function. Assumes nothing.
-use Prim.Native.Nat.{_-_}
-use mathlib.Core.Path.{sym, ap, _∙_}
-use native.Mathlib.Omega.{arith}
+-- `write::write_term` meets its contract. The term becomes its coefficient n times the rest of the member, and `rest_of` tells what that rest
+-- is: 1, and the coefficient is written by itself; a tree that stands at a record; or a product without one of its members. For the
+-- last two there is a function that writes n times such a rest, and its contract is this one. Assumes nothing.
+use Prim.Native.Nat.{ℕ, _*_}
+use mathlib.Core.Path.{_≡_, refl, sym, subst}
 use mathlib.Core.Bool.{Bool}
-use mathlib.Core.List.{[]}
-use Rattle.paper.specs.Bytes.{signed}
-use Rattle.paper.specs.Tree.{Tree, integer}
-use Rattle.paper.specs.Rules.{termOf, fromTerm}
+use mathlib.Core.List.{List}
+use native.Mathlib.Omega.{arith}
+use Rattle.paper.specs.Tree.{Tree}
+use Rattle.paper.specs.Rules.{Term, termOf, fromTerm}
 use Rattle.paper.proofs.EncodeLaws.{records-pos}
+use Rattle.split.specs.Rest.{StandsFor}
+use Rattle.split.specs.declared.Rest.{Rest}
+use Rattle.part.specs.Part.{ShowsTerm}
+use Rattle.write.specs.declared.Written.{Written}
 use Rattle.write.specs.Written.{timed, WrittenIs, Fitting}
-use Rattle.write.proofs.WriteLaws.{from-term, timed-unit, integer-records, written-to, integer-written}
-use mathlib.Core.Path.{subst}
+use Rattle.write.proofs.Becomes.{from-term, unit-becomes, written}
+use Rattle.write.proofs.WriteLaws.{integer-written}
 use borrow.Author.Needs.{needs}
 use Rattle.write.proofs.write_term.Statement.{statement}
 use Rattle.write.proofs.write_term.Tie as tie
 
-rest-of-requires : tie.Need-rest-of-requires
-rest-of-requires c κs =
-    let q = c .before .before .pre in
-    record { tree = q .1 .member; there = q .1 .there }
+-- places on the way through the code: where the rest is known, and from there the start; and from each answer back to where the rest is known
+abbrev Known : Type 0
+Known = tie.After-rest-of
 
+abbrev start-of : Known → tie.Start
+start-of c = c .before .before .before
+
+abbrev one-of : tie.After-slice-known2 → tie.After-enum-told
+one-of c = c .before .before .before .before
+
+abbrev at-of : tie.After-slice-known3 → tie.After-write-times-arg
+at-of c = c .before .before .before
+
+abbrev without-of : tie.After-slice-known4 → tie.After-write-without-arg
+without-of c = c .before .before .before
+
+-- ---- any term that n and the member at record i show: what its rest is, by the answer r; and it becomes n times its rest
+module _ (c : Known) where
+  abbrev Shown : Term → Type 0
+  Shown x = let g = start-of c .args in ShowsTerm (g .s .now) (g .n) (g .i) x
+
+  abbrev rest : {x : Term} → Shown x → Tree
+  rest h = termOf (h .member) .rest
+
+  stands-for : {x : Term} (h : Shown x) (r : Rest) → c .rest-of .result ≡ r
+      → let g = start-of c .args in StandsFor (g .s .now) (g .i) r (rest h)
+  stands-for h r e =
+      let g = start-of c .args in subst (λ (r : Rest). StandsFor (g .s .now) (g .i) r (rest h)) e (c .rest-of .ensures (h .member) (h .there))
+
+  answered : {x : Term} (h : Shown x) (out' : List ℕ) (r : Written)
+      → let g = start-of c .args in
+      WrittenIs (timed (g .n) (rest h)) (g .out .now) out' (g .m) r → WrittenIs (fromTerm x) (g .out .now) out' (g .m) r
+  answered h out' r = let g = start-of c .args in subst (λ (x : Tree × Bool). WrittenIs x (g .out .now) out' (g .m) r) (sym (from-term h))
+
+  -- the term that the contract asks for
+  abbrev asked : Shown (start-of c .pre .0)
+  asked = start-of c .pre .1
+
+  fitting : let g = start-of c .args in Fitting (timed (g .n) (rest asked)) (g .out .now) (g .m)
+  fitting =
+      let start = start-of c in
+      subst (λ (x : Tree × Bool). Fitting x (start .args .out .now) (start .args .m)) (from-term asked) (start .pre .2)
+
+rest-of-requires : tie.Need-rest-of-requires
+rest-of-requires c κs = let h = c .before .before .pre .1 in record { tree = h .member; there = h .there }
+
+-- ---- the rest is 1
 enum-told : tie.Need-enum-told
 enum-told c = search needs
 
 write-record-requires : tie.Need-write-record-requires
 write-record-requires c κs =
-    let q = c .before .before .before .before .before .before .pre in
+    let q = start-of (c .before .before .before) .pre in
     omega (arith, records-pos (fromTerm (q .0) .0), q .2)
 
 add-t14 : tie.Need-add-t14
 add-t14 c = search needs
 
+-- ---- the rest is a tree at a record
 enum-known-rest : tie.Need-enum-known-rest
 enum-known-rest c = search needs
 
 write-times-requires : tie.Need-write-times-requires
 write-times-requires c κs =
-    let the-rest = c .before .before .rest in
-    let the-rest-of = c .before .before .before .before .rest-of in
-    let g = c .before .before .before .before .before .before .before .args in
-    let q = c .before .before .before .before .before .before .before .pre in
-    let is = from-term (g .s .now) (g .n) (g .i) (q .0) (q .1) in
-    let r = rw (the-rest .given .1) at (the-rest-of .ensures (q .1 .member) (q .1 .there)) in
-    (termOf (q .1 .member) .rest, r, subst (λ (x : Tree × Bool). Fitting x (g .out .now) (g .m)) is (q .2))
+    let answer = c .before .before in
+    let known = answer .before .before in
+    (rest known (asked known), stands-for known (asked known) _ (answer .rest .given .1), fitting known)
 
+-- ---- the rest is a product without one of its members
 enum-known-rest-2 : tie.Need-enum-known-rest-2
 enum-known-rest-2 c = search needs
 
 write-without-requires : tie.Need-write-without-requires
 write-without-requires c κs =
-    let the-rest2 = c .before .before .rest2 in
-    let the-rest-of = c .before .before .before .before .rest-of in
-    let g = c .before .before .before .before .before .before .before .args in
-    let q = c .before .before .before .before .before .before .before .pre in
-    let is = from-term (g .s .now) (g .n) (g .i) (q .0) (q .1) in
-    let r = rw (the-rest2 .given .1) at (the-rest-of .ensures (q .1 .member) (q .1 .there)) in
-    (termOf (q .1 .member) .rest, r .1, subst (λ (x : Tree × Bool). Fitting x (g .out .now) (g .m)) is (q .2))
+    let answer = c .before .before in
+    let known = answer .before .before in
+    (rest known (asked known), stands-for known (asked known) _ (answer .rest2 .given .1) .1, fitting known)
 
+-- ---- the answers
 same-length : tie.Need-same-length
 same-length c = search needs
 
 returns : tie.Need-returns
-returns c =
-    let the-write-record = c .before .before .write-record in
-    let the-enum-told = c .before .before .before .before .enum-told in
-    let the-rest-of = c .before .before .before .before .before .before .rest-of in
-    λ x h.
-    let g = c .before .before .before .before .before .before .before .before .before .args in
-    let r = rw (the-enum-told .given .1) at (the-rest-of .ensures (h .member) (h .there)) in
-    let is = from-term (g .s .now) (g .n) (g .i) x h ∙ ap (timed (g .n)) r ∙ timed-unit (g .n) (h .bits) in
-    written-to (fromTerm x) (integer (signed (g .n))) (g .out .now) (g .m) _ _ is (omega (arith, integer-records (signed (g .n))))
-    (integer-written (g .out .now) _ [] [] (g .m) (g .n) (h .bits) (the-write-record .ensures))
+returns c x h =
+    let answer = one-of c in
+    let known = answer .before .before in
+    let g = start-of known .args in
+    written (unit-becomes h (stands-for known h _ (answer .enum-told .given .1))) (g .out .now) (g .m) _ _ refl
+    (integer-written (g .out .now) _ (g .m * 16) (g .n) (h .bits) (c .before .before .write-record .ensures))
 
 same-length-2 : tie.Need-same-length-2
 same-length-2 c = search needs
 
 returns-2 : tie.Need-returns-2
-returns-2 c =
-    let the-write-times = c .before .before .write-times in
-    let the-rest = c .before .before .before .before .before .rest in
-    let the-rest-of = c .before .before .before .before .before .before .before .rest-of in
-    λ x h.
-    let g = c .before .before .before .before .before .before .before .before .before .before .args in
-    let r = rw (the-rest .given .1) at (the-rest-of .ensures (h .member) (h .there)) in
-    let is = from-term (g .s .now) (g .n) (g .i) x h in
-    subst (λ (x : Tree × Bool). WrittenIs x (g .out .now) (the-write-times .last .0) (g .m) (the-write-times .result)) (sym is)
-    (the-write-times .ensures (termOf (h .member) .rest) r)
+returns-2 c x h =
+    let answer = at-of c .before .before in
+    let known = answer .before .before in
+    let w = c .before .before .write-times in
+    answered known h (w .last .0) (w .result) (w .ensures (rest known h) (stands-for known h _ (answer .rest .given .1)))
 
 same-length-3 : tie.Need-same-length-3
 same-length-3 c = search needs
 
 returns-3 : tie.Need-returns-3
-returns-3 c =
-    let the-write-without = c .before .before .write-without in
-    let the-rest2 = c .before .before .before .before .before .rest2 in
-    let the-rest-of = c .before .before .before .before .before .before .before .rest-of in
-    λ x h.
-    let g = c .before .before .before .before .before .before .before .before .before .before .args in
-    let r = rw (the-rest2 .given .1) at (the-rest-of .ensures (h .member) (h .there)) in
-    let is = from-term (g .s .now) (g .n) (g .i) x h in
-    subst (λ (x : Tree × Bool). WrittenIs x (g .out .now) (the-write-without .last .0) (g .m) (the-write-without .result)) (sym is)
-    (the-write-without .ensures (termOf (h .member) .rest) (r .1))
+returns-3 c x h =
+    let answer = without-of c .before .before in
+    let known = answer .before .before in
+    let w = c .before .before .write-without in
+    answered known h (w .last .0) (w .result) (w .ensures (rest known h) (stands-for known h _ (answer .rest2 .given .1) .1))
 
 pub write-term-spec : {M : Type 1} → statement M
 write-term-spec =

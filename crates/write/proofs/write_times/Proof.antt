@@ -1,86 +1,127 @@
--- `write::write_times` meets its contract: each test tells what the coefficient times the tree is. Assumes nothing.
-use Prim.Native.Nat.{_-_}
-use mathlib.Core.Path.{refl, sym, ap, _∙_}
+-- `write::write_times` meets its contract. By the tests that the code makes, the coefficient n times the tree of k records is one of four
+-- members: with n = 1 the tree itself; for an integer the product of the two, if that is in range; for a product the same with n after
+-- its members, one record more; for any other tree the product of n and the tree, two records more (the laws of Becomes). The contract
+-- asks for room for that member, so there is room for the records that are written; and the function that is called puts that member
+-- there. Assumes nothing.
+use Prim.Native.Nat.{ℕ, _+_, _-_, _*_, _≤_}
+use mathlib.Core.Path.{_≡_, refl, sym, ap, _∙_, subst}
+use mathlib.Core.List.{[], _∷_, _++_}
 use native.Mathlib.Omega.{arith}
-use mathlib.Core.Bool.{Bool, true}
+use lib.ListN.{length}
 use Rattle.paper.specs.Bytes.{signed}
-use Rattle.paper.specs.Tree.{Tree, integer, product, records}
-use Rattle.paper.specs.Rules.{times}
+use Rattle.paper.specs.Tree.{Tree, integer, product, toList, ofList, records}
 use Rattle.paper.proofs.EncodeLaws.{records-pos}
-use Rattle.write.specs.Written.{timed}
-use Rattle.split.proofs.StandingLaws.{tree-within, record-within}
-use Rattle.write.proofs.Encoded.{pair-records, longer-records}
-use Rattle.part.proofs.PartLaws.{sized, integer-there}
-use Rattle.write.proofs.WriteLaws.{timed-one, timed-more, times-is, times-out, product-bits, integer-records, times-product, times-other, is-product}
-use Rattle.write.proofs.WriteLaws.{written-to, fits-as, integer-written}
 use Rattle.split.specs.Standing.{TreeIn}
-use mathlib.Core.List.{[]}
-use mathlib.Core.Path.{subst}
+use Rattle.split.proofs.StandingLaws.{record-within}
+use Rattle.part.specs.Part.{Sized}
+use Rattle.part.proofs.PartLaws.{sized, integer-there}
+use Rattle.write.specs.Written.{timed}
+use Rattle.write.proofs.Becomes.{Becomes, room, written, one-becomes, longer-becomes, pair-becomes}
+use Rattle.write.proofs.Becomes.{integer-becomes, integer-over, product-bits}
+use Rattle.write.proofs.WriteLaws.{IsProduct, is-product, integer-written}
 use borrow.Author.Needs.{needs}
 use Rattle.write.proofs.write_times.Statement.{statement}
 use Rattle.write.proofs.write_times.Tie as tie
 
+-- places on the way through the code: where the tree's length is known, and from there the start; where its kind is known, and from there
+-- the place before; and from the end of each case, its test
+abbrev Known : Type 0
+Known = tie.After-skip-tree
+
+abbrev Kind : Type 0
+Kind = tie.After-kind
+
+abbrev start-of : Known → tie.Start
+start-of c = c .before .before .before
+
+abbrev known-of : Kind → Known
+known-of c = c .before .before
+
+abbrev one-of : tie.After-slice-known2 → tie.Then1
+one-of c = c .before .before .before .before
+
+abbrev mul-of : tie.After-product → tie.After-mul
+mul-of c = c .before .before
+
+abbrev product-of : tie.After-slice-known4 → tie.Then3
+product-of c = c .before .before .before .before
+
+abbrev other-of : tie.After-slice-known5 → tie.Else3
+other-of c = c .before .before .before .before
+
+-- ---- any tree t that stands at record i has k records; and where the tree that the contract asks for becomes a member of r records, there
+-- is room for those
+module _ (c : Known) where
+  abbrev At : Tree → Type 0
+  At t = let g = start-of c .args in TreeIn (g .s .now) (g .i) t
+
+  abbrev k : ℕ
+  k = c .skip-tree .result - start-of c .args .i
+
+  size : (t : Tree) → At t → k ≡ records t
+  size t h = omega (arith, c .skip-tree .ensures t h)
+
+  stands : (t : Tree) → At t → let g = start-of c .args in Sized (g .s .now) (g .i) k t
+  stands t h = let g = start-of c .args in sized (g .s .now) (g .i) k t h (size t h)
+
+  abbrev asked : Tree
+  asked = start-of c .pre .0
+
+  abbrev there : At asked
+  there = start-of c .pre .1
+
+  abbrev Room : ℕ → Type 0
+  Room r = let g = start-of c .args in (g .m + r) * 16 ≤ length (g .out .now)
+
+  fitting : {u : Tree} {r : ℕ} → Becomes (timed (start-of c .args .n) asked) u r → Room r
+  fitting b = let start = start-of c in room b (start .args .out .now) (start .args .m) (start .pre .2)
+
 skip-tree-requires : tie.Need-skip-tree-requires
-skip-tree-requires c κs =
-    let q = c .before .before .pre in
-    record { tree = q .0; there = q .1 }
+skip-tree-requires c κs = let q = c .before .before .pre in record { tree = q .0; there = q .1 }
 
 sub-k : tie.Need-sub-k
-sub-k c =
-    let q = c .before .before .before .pre in
-    let k = c .skip-tree .ensures (q .0) (q .1) in omega arith
+sub-k c = omega (arith, c .skip-tree .ensures (asked c) (there c))
+
+-- ---- with n = 1, the tree
+module _ (c : tie.Then1) where
+  one : (t : Tree) → At (c .before) t → Becomes (timed (start-of (c .before) .args .n) t) t (k (c .before))
+  one t h = one-becomes _ (size (c .before) t h) (c .if1 .taken)
+
+  one-room : Room (c .before) (k (c .before))
+  one-room = fitting (c .before) (one (asked (c .before)) (there (c .before)))
 
 copy-tree-requires : tie.Need-copy-tree-requires
-copy-tree-requires c κs =
-    let the-skip-tree = c .before .before .skip-tree in
-    let g = c .before .before .before .before .before .args in
-    let q = c .before .before .before .before .before .pre in
-    let t = q .0 in
-    let there = q .1 in
-    let k = the-skip-tree .ensures t there in
-    let w = tree-within there in
-    let is = timed-one (g .n) t (c .before .if1 .taken) in
-    let room = fits-as (timed (g .n) t) t (g .out .now) (g .m) true is (q .2) in
-    ((t, record { there = there; size = omega arith }), omega arith)
+copy-tree-requires c κs = let known = c .before .before in ((asked known, stands known (asked known) (there known)), one-room (c .before))
 
 add-t15 : tie.Need-add-t15
-add-t15 c =
-    let the-if1 = c .before .before .before .before .if1 in
-    let the-skip-tree = c .before .before .before .before .before .skip-tree in
-    let g = c .before .before .before .before .before .before .before .before .args in
-    let q = c .before .before .before .before .before .before .before .before .pre in
-    let t = q .0 in
-    let there = q .1 in
-    let k = the-skip-tree .ensures t there in
-    let w = tree-within there in
-    let is = timed-one (g .n) t (the-if1 .taken) in
-    let room = fits-as (timed (g .n) t) t (g .out .now) (g .m) true is (q .2) in
-    record { fits = omega arith }
+add-t15 c = record { fits = omega (arith, one-room (one-of c)) }
 
 same-length : tie.Need-same-length
 same-length c = search needs
 
 returns : tie.Need-returns
-returns c =
-    let the-copy-tree = c .before .before .copy-tree in
-    let the-if1 = c .before .before .before .before .if1 in
-    let the-skip-tree = c .before .before .before .before .before .skip-tree in
-    λ t h.
-    let g = c .before .before .before .before .before .before .before .before .args in
-    let k = the-skip-tree .ensures t h in
-    let is = timed-one (g .n) t (the-if1 .taken) in
-    let s = sized (g .s .now) (g .i) (the-skip-tree .result - g .i) t h (omega arith) in
-    written-to (timed (g .n) t) t (g .out .now) (g .m) _ _ is (omega arith) (the-copy-tree .ensures t s)
+returns c t h =
+    let known = one-of c .before in
+    let g = start-of known .args in
+    written (one (one-of c) t h) (g .out .now) (g .m) _ _ refl (c .before .before .copy-tree .ensures t (stands known t h))
+
+-- ---- for an integer, the product of the two
+module _ (c : tie.After-mul) where
+  abbrev bits : ℕ
+  bits = c .before .bits .result
+
+  an-integer : (t : Tree) → At (known-of (c .before .before .before)) t → t ≡ integer (signed bits)
+  an-integer t h =
+      let kind = c .before .before .before in
+      let g = start-of (known-of kind) .args in
+      let z = integer-there (g .s .now) (g .i) t h (omega (arith, kind .kind .ensures, c .before .before .if2 .taken)) in
+      z .0 ∙ ap (λ b. integer (signed b)) (sym (c .before .bits .ensures))
 
 kind-requires : tie.Need-kind-requires
-kind-requires c κs =
-    let q = c .before .before .before .before .pre in
-    record-within (q .1)
+kind-requires c κs = record-within (there (c .before))
 
 bits-requires : tie.Need-bits-requires
-bits-requires c κs =
-    let q = c .before .before .before .before .before .before .pre in
-    record-within (q .1)
+bits-requires c κs = record-within (there (known-of (c .before)))
 
 mul-requires : tie.Need-mul-requires
 mul-requires c κs = search needs
@@ -88,16 +129,11 @@ mul-requires c κs = search needs
 enum-known-product : tie.Need-enum-known-product
 enum-known-product c = search needs
 
+-- any member has a record
 write-record-requires : tie.Need-write-record-requires
 write-record-requires c κs =
-    let the-skip-tree = c .before .before .before .before .before .before .before .before .before .skip-tree in
-    let g = c .before .before .before .before .before .before .before .before .before .before .before .before .args in
-    let q = c .before .before .before .before .before .before .before .before .before .before .before .before .pre in
-    let t = q .0 in
-    let there = q .1 in
-    let k = the-skip-tree .ensures t there in
-    let w = tree-within there in
-    omega (arith, records-pos (timed (g .n) t .0), q .2)
+    let start = start-of (known-of (mul-of (c .before .before) .before .before .before)) in
+    omega (arith, records-pos (timed (start .args .n) (start .pre .0) .0), start .pre .2)
 
 add-t21 : tie.Need-add-t21
 add-t21 c = search needs
@@ -109,212 +145,107 @@ same-length-2 : tie.Need-same-length-2
 same-length-2 c = search needs
 
 returns-2 : tie.Need-returns-2
-returns-2 c =
-    let past = c .before .before .before .before .before .before .before .before .before .before in
-    let the-write-record = c .before .before .write-record in
-    let the-product = c .before .before .before .before .before .product in
-    let the-mul = c .before .before .before .before .before .before .before .mul in
-    let the-bits = c .before .before .before .before .before .before .before .before .bits in
-    let the-kind = c .before .before .before .before .before .before .before .before .before .before .kind in
-    let the-if2 = c .before .before .before .before .before .before .before .before .before .if2 in
-    let the-if1 = past .before .if1 in
-    let the-skip-tree = past .before .before .skip-tree in
-    let the-fits = past .before .before .before .before .before .fits in
-    λ t h.
-    let g = past .before .before .before .before .before .args in
-    let k = the-skip-tree .ensures t h in
-    let more = timed-more (g .n) t (the-fits .n .fits) (the-if1 .left) in
-    let z = integer-there (g .s .now) (g .i) t h (omega (arith, the-kind .ensures, the-if2 .taken)) in
-    let is-integer = z .0 ∙ ap (λ b. integer (signed b)) (sym (the-bits .ensures)) in
-    let one = integer-records (signed (the-bits .result)) in
-    let answer = sym (the-mul .ensures) ∙ the-product .given .1 in
-    let is = more ∙ ap (times (signed (g .n))) is-integer ∙ times-is (g .n) (the-bits .result) _ answer in
-    let l = product-bits (g .n) (the-bits .result) _ answer in
-    written-to (timed (g .n) t) _ (g .out .now) (g .m) _ _ is (omega (arith, integer-records (signed (the-product .given .0 .0))))
-    (integer-written (g .out .now) _ [] [] (g .m) _ l (the-write-record .ensures))
+returns-2 c t h =
+    let is = c .before .before .before .before .before in
+    let mul = mul-of is in
+    let kind = mul .before .before .before in
+    let start = start-of (known-of kind) in
+    let g = start .args in
+    let answer = sym (mul .mul .ensures) ∙ is .product .given .1 in
+    let becomes = integer-becomes (g .n) (bits mul) (start .fits .n .fits) (kind .before .if1 .left) (an-integer mul t h) _ answer in
+    written becomes (g .out .now) (g .m) _ _ refl
+    (integer-written (g .out .now) _ (g .m * 16) _ (product-bits (g .n) (bits mul) _ answer) (c .before .before .write-record .ensures))
 
 returns-3 : tie.Need-returns-3
-returns-3 c =
-    let the-mul = c .before .before .mul in
-    let the-bits = c .before .before .before .bits in
-    let the-kind = c .before .before .before .before .before .kind in
-    let the-if1 = c .before .before .before .before .before .before .if1 in
-    let the-skip-tree = c .before .before .before .before .before .before .before .skip-tree in
-    let the-fits = c .before .before .before .before .before .before .before .before .before .before .fits in
-    λ t h.
-    let g = c .before .before .before .before .before .before .before .before .before .before .args in
-    let k = the-skip-tree .ensures t h in
-    let more = timed-more (g .n) t (the-fits .n .fits) (the-if1 .left) in
-    let z = integer-there (g .s .now) (g .i) t h (omega (arith, the-kind .ensures)) in
-    let is-integer = z .0 ∙ ap (λ b. integer (signed b)) (sym (the-bits .ensures)) in
-    let one = integer-records (signed (the-bits .result)) in
-    let answer = sym (the-mul .ensures) ∙ c .enum-told .given .1 in
-    (ap (λ (p : Tree × Bool). p .1) (more ∙ ap (times (signed (g .n))) is-integer) ∙ times-out (g .n) (the-bits .result) answer, refl)
+returns-3 c t h =
+    let mul = c .before .before in
+    let kind = mul .before .before .before in
+    let start = start-of (known-of kind) in
+    let answer = sym (mul .mul .ensures) ∙ c .enum-told .given .1 in
+    (integer-over (start .args .n) (bits mul) (start .fits .n .fits) (kind .before .if1 .left) (an-integer mul t h) answer, refl)
+
+-- ---- for a product, the same with n after its members
+module _ (c : tie.Then3) where
+  abbrev product-known : Known
+  product-known = known-of (c .before .before)
+
+  a-product : (t : Tree) → At product-known t → IsProduct t
+  a-product t h =
+      let g = start-of product-known .args in
+      is-product (g .s .now) (g .i) t h (sym (c .before .before .kind .ensures) ∙ c .if3 .taken)
+
+  product-stands : (t : Tree) (h : At product-known t)
+      → let g = start-of product-known .args in Sized (g .s .now) (g .i) (k product-known) (product (a-product t h .members))
+  product-stands t h = stands product-known _ (subst (At product-known) (a-product t h .is) h)
+
+  longer : (t : Tree) (h : At product-known t)
+      → let g = start-of product-known .args in
+      Becomes (timed (g .n) t) (product (ofList (toList (a-product t h .members) ++ (integer (signed (g .n)) ∷ [])))) (k product-known + 1)
+  longer t h =
+      longer-becomes _ (size product-known t h) (start-of product-known .fits .n .fits) (c .before .before .before .if1 .left)
+      (a-product t h .is)
+
+  longer-room : Room product-known (k product-known + 1)
+  longer-room = fitting product-known (longer (asked product-known) (there product-known))
 
 write-longer-requires : tie.Need-write-longer-requires
 write-longer-requires c κs =
-    let the-kind = c .before .before .before .kind in
-    let the-if1 = c .before .before .before .before .if1 in
-    let the-skip-tree = c .before .before .before .before .before .skip-tree in
-    let the-fits = c .before .before .before .before .before .before .before .before .fits in
-    let g = c .before .before .before .before .before .before .before .before .args in
-    let q = c .before .before .before .before .before .before .before .before .pre in
-    let t = q .0 in
-    let there = q .1 in
-    let k = the-skip-tree .ensures t there in
-    let w = tree-within there in
-    let more = timed-more (g .n) t (the-fits .n .fits) (the-if1 .left) in
-    let p = is-product (g .s .now) (g .i) t there (sym (the-kind .ensures) ∙ c .before .if3 .taken) in
-    let is = more ∙ ap (times (signed (g .n))) (p .is) ∙ times-product (signed (g .n)) (p .members) in
-    let size = longer-records (p .members) (signed (g .n)) in
-    let same = ap records (p .is) in
-    let room = fits-as (timed (g .n) t) _ (g .out .now) (g .m) true is (q .2) in
-    ((p .members, record { there = subst (TreeIn (g .s .now) (g .i)) (p .is) there; size = omega arith }), omega arith)
+    let known = product-known (c .before) in
+    ((_, product-stands (c .before) (asked known) (there known)), longer-room (c .before))
 
 add-t25 : tie.Need-add-t25
-add-t25 c =
-    let the-if3 = c .before .before .before .before .if3 in
-    let the-kind = c .before .before .before .before .before .before .kind in
-    let the-if1 = c .before .before .before .before .before .before .before .if1 in
-    let the-skip-tree = c .before .before .before .before .before .before .before .before .skip-tree in
-    let the-fits = c .before .before .before .before .before .before .before .before .before .before .before .fits in
-    let g = c .before .before .before .before .before .before .before .before .before .before .before .args in
-    let q = c .before .before .before .before .before .before .before .before .before .before .before .pre in
-    let t = q .0 in
-    let there = q .1 in
-    let k = the-skip-tree .ensures t there in
-    let w = tree-within there in
-    let more = timed-more (g .n) t (the-fits .n .fits) (the-if1 .left) in
-    let p = is-product (g .s .now) (g .i) t there (sym (the-kind .ensures) ∙ the-if3 .taken) in
-    let is = more ∙ ap (times (signed (g .n))) (p .is) ∙ times-product (signed (g .n)) (p .members) in
-    let size = longer-records (p .members) (signed (g .n)) in
-    let same = ap records (p .is) in
-    let room = fits-as (timed (g .n) t) _ (g .out .now) (g .m) true is (q .2) in
-    record { fits = omega arith }
+add-t25 c = record { fits = omega (arith, longer-room (product-of c)) }
 
 add-t26 : tie.Need-add-t26
-add-t26 c =
-    let the-if3 = c .before .before .before .before .if3 in
-    let the-kind = c .before .before .before .before .before .before .kind in
-    let the-if1 = c .before .before .before .before .before .before .before .if1 in
-    let the-skip-tree = c .before .before .before .before .before .before .before .before .skip-tree in
-    let the-fits = c .before .before .before .before .before .before .before .before .before .before .before .fits in
-    let g = c .before .before .before .before .before .before .before .before .before .before .before .args in
-    let q = c .before .before .before .before .before .before .before .before .before .before .before .pre in
-    let t = q .0 in
-    let there = q .1 in
-    let k = the-skip-tree .ensures t there in
-    let w = tree-within there in
-    let more = timed-more (g .n) t (the-fits .n .fits) (the-if1 .left) in
-    let p = is-product (g .s .now) (g .i) t there (sym (the-kind .ensures) ∙ the-if3 .taken) in
-    let is = more ∙ ap (times (signed (g .n))) (p .is) ∙ times-product (signed (g .n)) (p .members) in
-    let size = longer-records (p .members) (signed (g .n)) in
-    let same = ap records (p .is) in
-    let room = fits-as (timed (g .n) t) _ (g .out .now) (g .m) true is (q .2) in
-    record { fits = omega arith }
+add-t26 c = record { fits = omega (arith, longer-room (product-of c)) }
 
 same-length-3 : tie.Need-same-length-3
 same-length-3 c = search needs
 
 returns-4 : tie.Need-returns-4
-returns-4 c =
-    let the-write-longer = c .before .before .write-longer in
-    let the-if3 = c .before .before .before .before .if3 in
-    let the-kind = c .before .before .before .before .before .before .kind in
-    let the-if1 = c .before .before .before .before .before .before .before .if1 in
-    let the-skip-tree = c .before .before .before .before .before .before .before .before .skip-tree in
-    let the-fits = c .before .before .before .before .before .before .before .before .before .before .before .fits in
-    λ t h.
-    let g = c .before .before .before .before .before .before .before .before .before .before .before .args in
-    let k = the-skip-tree .ensures t h in
-    let more = timed-more (g .n) t (the-fits .n .fits) (the-if1 .left) in
-    let p = is-product (g .s .now) (g .i) t h (sym (the-kind .ensures) ∙ the-if3 .taken) in
-    let is = more ∙ ap (times (signed (g .n))) (p .is) ∙ times-product (signed (g .n)) (p .members) in
-    let size = longer-records (p .members) (signed (g .n)) in
-    let same = ap records (p .is) in
-    let s = sized (g .s .now) (g .i) (the-skip-tree .result - g .i) (product (p .members)) (subst (TreeIn (g .s .now) (g .i)) (p .is) h)
-    (omega arith) in
-    written-to (timed (g .n) t) _ (g .out .now) (g .m) _ _ is (omega arith) (the-write-longer .ensures (p .members) s)
+returns-4 c t h =
+    let test = product-of c in
+    let g = start-of (product-known test) .args in
+    written (longer test t h) (g .out .now) (g .m) _ _ (omega arith)
+    (c .before .before .write-longer .ensures _ (product-stands test t h))
+
+-- ---- for any other tree, the product of n and the tree
+module _ (c : tie.Else3) where
+  abbrev other-known : Known
+  other-known = known-of (c .before .before)
+
+  pair : (t : Tree) → At other-known t
+      → let g = start-of other-known .args in
+      Becomes (timed (g .n) t) (product (ofList (integer (signed (g .n)) ∷ t ∷ []))) (k other-known + 2)
+  pair t h =
+      let kind = c .before .before in
+      let start = start-of other-known in
+      pair-becomes _ (size other-known t h) (start .fits .n .fits) (kind .before .if1 .left) (start .args .s .now) (start .args .i) h
+      (omega (arith, kind .kind .ensures)) (λ e. c .if3 .left (kind .kind .ensures ∙ e))
+
+  pair-room : Room other-known (k other-known + 2)
+  pair-room = fitting other-known (pair (asked other-known) (there other-known))
 
 write-pair-requires : tie.Need-write-pair-requires
 write-pair-requires c κs =
-    let the-kind = c .before .before .before .kind in
-    let the-if1 = c .before .before .before .before .if1 in
-    let the-skip-tree = c .before .before .before .before .before .skip-tree in
-    let the-fits = c .before .before .before .before .before .before .before .before .fits in
-    let g = c .before .before .before .before .before .before .before .before .args in
-    let q = c .before .before .before .before .before .before .before .before .pre in
-    let t = q .0 in
-    let there = q .1 in
-    let k = the-skip-tree .ensures t there in
-    let w = tree-within there in
-    let more = timed-more (g .n) t (the-fits .n .fits) (the-if1 .left) in
-    let is = more ∙ times-other (g .s .now) (g .i) (signed (g .n)) t there (omega (arith, the-kind .ensures))
-    (λ e. c .before .if3 .left (the-kind .ensures ∙ e)) in
-    let size = pair-records (signed (g .n)) t in
-    let room = fits-as (timed (g .n) t) _ (g .out .now) (g .m) true is (q .2) in
-    ((t, record { there = there; size = omega arith }), omega arith)
+    let known = other-known (c .before) in
+    ((asked known, stands known (asked known) (there known)), pair-room (c .before))
 
 add-t10 : tie.Need-add-t10
-add-t10 c =
-    let the-if3 = c .before .before .before .before .if3 in
-    let the-kind = c .before .before .before .before .before .before .kind in
-    let the-if1 = c .before .before .before .before .before .before .before .if1 in
-    let the-skip-tree = c .before .before .before .before .before .before .before .before .skip-tree in
-    let the-fits = c .before .before .before .before .before .before .before .before .before .before .before .fits in
-    let g = c .before .before .before .before .before .before .before .before .before .before .before .args in
-    let q = c .before .before .before .before .before .before .before .before .before .before .before .pre in
-    let t = q .0 in
-    let there = q .1 in
-    let k = the-skip-tree .ensures t there in
-    let w = tree-within there in
-    let more = timed-more (g .n) t (the-fits .n .fits) (the-if1 .left) in
-    let is = more ∙ times-other (g .s .now) (g .i) (signed (g .n)) t there (omega (arith, the-kind .ensures))
-    (λ e. the-if3 .left (the-kind .ensures ∙ e)) in
-    let size = pair-records (signed (g .n)) t in
-    let room = fits-as (timed (g .n) t) _ (g .out .now) (g .m) true is (q .2) in
-    record { fits = omega arith }
+add-t10 c = record { fits = omega (arith, pair-room (other-of c)) }
 
 add-t30 : tie.Need-add-t30
-add-t30 c =
-    let the-if3 = c .before .before .before .before .if3 in
-    let the-kind = c .before .before .before .before .before .before .kind in
-    let the-if1 = c .before .before .before .before .before .before .before .if1 in
-    let the-skip-tree = c .before .before .before .before .before .before .before .before .skip-tree in
-    let the-fits = c .before .before .before .before .before .before .before .before .before .before .before .fits in
-    let g = c .before .before .before .before .before .before .before .before .before .before .before .args in
-    let q = c .before .before .before .before .before .before .before .before .before .before .before .pre in
-    let t = q .0 in
-    let there = q .1 in
-    let k = the-skip-tree .ensures t there in
-    let w = tree-within there in
-    let more = timed-more (g .n) t (the-fits .n .fits) (the-if1 .left) in
-    let is = more ∙ times-other (g .s .now) (g .i) (signed (g .n)) t there (omega (arith, the-kind .ensures))
-    (λ e. the-if3 .left (the-kind .ensures ∙ e)) in
-    let size = pair-records (signed (g .n)) t in
-    let room = fits-as (timed (g .n) t) _ (g .out .now) (g .m) true is (q .2) in
-    record { fits = omega arith }
+add-t30 c = record { fits = omega (arith, pair-room (other-of c)) }
 
 same-length-4 : tie.Need-same-length-4
 same-length-4 c = search needs
 
 returns-5 : tie.Need-returns-5
-returns-5 c =
-    let the-write-pair = c .before .before .write-pair in
-    let the-if3 = c .before .before .before .before .if3 in
-    let the-kind = c .before .before .before .before .before .before .kind in
-    let the-if1 = c .before .before .before .before .before .before .before .if1 in
-    let the-skip-tree = c .before .before .before .before .before .before .before .before .skip-tree in
-    let the-fits = c .before .before .before .before .before .before .before .before .before .before .before .fits in
-    λ t h.
-    let g = c .before .before .before .before .before .before .before .before .before .before .before .args in
-    let k = the-skip-tree .ensures t h in
-    let more = timed-more (g .n) t (the-fits .n .fits) (the-if1 .left) in
-    let is = more ∙ times-other (g .s .now) (g .i) (signed (g .n)) t h (omega (arith, the-kind .ensures))
-    (λ e. the-if3 .left (the-kind .ensures ∙ e)) in
-    let size = pair-records (signed (g .n)) t in
-    let s = sized (g .s .now) (g .i) (the-skip-tree .result - g .i) t h (omega arith) in
-    written-to (timed (g .n) t) _ (g .out .now) (g .m) _ _ is (omega arith) (the-write-pair .ensures t s)
+returns-5 c t h =
+    let test = other-of c in
+    let known = other-known test in
+    let g = start-of known .args in
+    written (pair test t h) (g .out .now) (g .m) _ _ (omega arith) (c .before .before .write-pair .ensures t (stands known t h))
 
 pub write-times-spec : {M : Type 1} → statement M
 write-times-spec =
