@@ -1,14 +1,24 @@
 -- Two answers that meet the contract of the equality test, as the check reads it from the source, are the same: the contract gives the
--- paper's answer, and its fields are those of the code's. Assumes nothing.
+-- paper's answer, and its fields are those of the code's. So are two of the comparisons inside: trees stand at the records, and the answer
+-- is the paper's of those trees. Of the marks nothing is said. Assumes nothing.
 use mathlib.Core.Path.{_≡_, sym, ap, _∙_}
 use borrow.Fn.Kinds.{Dens, endedOf}
 use contract.Lifetimes.{Lfts}
 use denote.Triple.Clauses.{AtExit}
 use Rattle.paper.specs.Answers as paper
+use Rattle.paper.specs.Once.{Once}
 use Rattle.equal.specs.Compared.{says}
 use Rattle.equal.specs.declared.Compared.{Compared}
 use Rattle.equal.proofs.equal.Reads as reads
 use Rattle.equal.proofs.equal.Kinds as kinds
+use Rattle.equal.proofs.same_tree.Reads as same-tree
+use Rattle.equal.proofs.same_tree.Kinds as same-tree-kinds
+use Rattle.equal.proofs.same.Reads as same
+use Rattle.equal.proofs.same.Kinds as same-kinds
+use Rattle.equal.proofs.same_rest.Reads as same-rest
+use Rattle.equal.proofs.same_rest.Kinds as same-rest-kinds
+use Rattle.equal.proofs.same_number.Reads as same-number
+use Rattle.equal.proofs.same_number.Kinds as same-number-kinds
 
 says-once : (r r′ : Compared) → says r ≡ says r′ → r ≡ r′
 says-once r r′ e =
@@ -17,3 +27,18 @@ says-once r r′ e =
 pub equal-once : (κs : Lfts 2) (a : Dens κs kinds.ps) (r r′ : Compared) (x x′ : AtExit (endedOf 2 kinds.ps kinds.r) κs)
     → reads.Post κs a r x → reads.Post κs a r′ x′ → r ≡ r′
 equal-once κs a r r′ x x′ p p′ = says-once r r′ (p ∙ sym p′)
+
+pub same-tree-once : Once 3 same-tree-kinds.ps same-tree-kinds.r same-tree.Pre same-tree.Post
+same-tree-once κs a v v' x x' q p p' =
+    p (q .one) (q .other) (q .one-there) (q .other-there) ∙ sym (p' (q .one) (q .other) (q .one-there) (q .other-there))
+
+pub same-once : Once 3 same-kinds.ps same-kinds.r same.Pre same.Post
+same-once κs a v v' x x' q p p' =
+    p (q .one) (q .other) (q .one-there) (q .other-there) ∙ sym (p' (q .one) (q .other) (q .one-there) (q .other-there))
+
+pub same-rest-once : Once 2 same-rest-kinds.ps same-rest-kinds.r same-rest.Pre same-rest.Post
+same-rest-once κs a v v' x x' q p p' =
+    p (q .one) (q .other) (q .one-there) (q .other-there) ∙ sym (p' (q .one) (q .other) (q .one-there) (q .other-there))
+
+pub same-number-once : Once 1 same-number-kinds.ps same-number-kinds.r same-number.Pre same-number.Post
+same-number-once κs a v v' x x' q p p' = p (q .tree) (q .there) ∙ sym (p' (q .tree) (q .there))

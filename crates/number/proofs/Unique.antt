@@ -1,12 +1,10 @@
 -- Each contract, as the check reads it off the source, leaves one answer open and no other: two ends of a call that both meet it
 -- give the same, since both equal one definition of what was given. Assumes nothing.
-use Prim.Native.Nat.{ℕ}
 use mathlib.Core.Path.{_≡_, sym, _∙_}
-use mathlib.Core.List.{List}
 use borrow.Fn.Kinds.{Dens, endedOf}
 use contract.Lifetimes.{Lfts}
 use denote.Triple.Clauses.{AtExit}
-use Rattle.number.specs.declared.Num.{Num}
+use Rattle.paper.specs.Once.{Once}
 use Rattle.number.proofs.read2.Reads as read2
 use Rattle.number.proofs.read2.Kinds as read2-kinds
 use Rattle.number.proofs.read8.Reads as read8
@@ -24,34 +22,27 @@ use Rattle.number.proofs.wrapping_mul.Kinds as wrapping-mul-kinds
 use Rattle.number.proofs.wrapping_pow.Reads as wrapping-pow
 use Rattle.number.proofs.wrapping_pow.Kinds as wrapping-pow-kinds
 
-pub read2-once : (κs : Lfts 1) (a : Dens κs read2-kinds.ps) (r r' : ℕ) (x x' : AtExit (endedOf 1 read2-kinds.ps read2-kinds.r) κs)
-    → read2.Post κs a r x → read2.Post κs a r' x' → r ≡ r'
-read2-once κs a r r' x x' p q = p .0 ∙ sym (q .0)
+pub read2-once : Once 1 read2-kinds.ps read2-kinds.r read2.Pre read2.Post
+read2-once κs a v v' x x' h p q = p .0 ∙ sym (q .0)
 
-pub read8-once : (κs : Lfts 1) (a : Dens κs read8-kinds.ps) (r r' : ℕ) (x x' : AtExit (endedOf 1 read8-kinds.ps read8-kinds.r) κs)
-    → read8.Post κs a r x → read8.Post κs a r' x' → r ≡ r'
-read8-once κs a r r' x x' p q = p ∙ sym q
+pub read8-once : Once 1 read8-kinds.ps read8-kinds.r read8.Pre read8.Post
+read8-once κs a v v' x x' h p q = p ∙ sym q
 
-pub bytes8-once : (κs : Lfts 0) (a : Dens κs bytes8-kinds.ps) (r r' : List ℕ) (x x' : AtExit (endedOf 0 bytes8-kinds.ps bytes8-kinds.r) κs)
-    → bytes8.Post κs a r x → bytes8.Post κs a r' x' → r ≡ r'
-bytes8-once κs a r r' x x' p q = p ∙ sym q
+pub bytes8-once : Once 0 bytes8-kinds.ps bytes8-kinds.r bytes8.Pre bytes8.Post
+bytes8-once κs a v v' x x' h p q = p ∙ sym q
 
 pub write8-once : (κs : Lfts 1) (a : Dens κs write8-kinds.ps) (r r' : Unit {0}) (x x' : AtExit (endedOf 1 write8-kinds.ps write8-kinds.r) κs)
     → write8.Post κs a r x → write8.Post κs a r' x' → x .0 .now ≡ x' .0 .now
 write8-once κs a r r' x x' p q = p ∙ sym q
 
-pub add-once : (κs : Lfts 0) (a : Dens κs add-kinds.ps) (r r' : Num) (x x' : AtExit (endedOf 0 add-kinds.ps add-kinds.r) κs)
-    → add.Post κs a r x → add.Post κs a r' x' → r ≡ r'
-add-once κs a r r' x x' p q = p ∙ sym q
+pub add-once : Once 0 add-kinds.ps add-kinds.r add.Pre add.Post
+add-once κs a v v' x x' h p q = p ∙ sym q
 
-pub mul-once : (κs : Lfts 0) (a : Dens κs mul-kinds.ps) (r r' : Num) (x x' : AtExit (endedOf 0 mul-kinds.ps mul-kinds.r) κs)
-    → mul.Post κs a r x → mul.Post κs a r' x' → r ≡ r'
-mul-once κs a r r' x x' p q = p ∙ sym q
+pub mul-once : Once 0 mul-kinds.ps mul-kinds.r mul.Pre mul.Post
+mul-once κs a v v' x x' h p q = p ∙ sym q
 
-pub wrapping-mul-once : (κs : Lfts 0) (a : Dens κs wrapping-mul-kinds.ps) (r r' : ℕ) (x x' : AtExit (endedOf 0 wrapping-mul-kinds.ps wrapping-mul-kinds.r) κs)
-    → wrapping-mul.Post κs a r x → wrapping-mul.Post κs a r' x' → r ≡ r'
-wrapping-mul-once κs a r r' x x' p q = p ∙ sym q
+pub wrapping-mul-once : Once 0 wrapping-mul-kinds.ps wrapping-mul-kinds.r wrapping-mul.Pre wrapping-mul.Post
+wrapping-mul-once κs a v v' x x' h p q = p ∙ sym q
 
-pub wrapping-pow-once : (κs : Lfts 0) (a : Dens κs wrapping-pow-kinds.ps) (r r' : ℕ) (x x' : AtExit (endedOf 0 wrapping-pow-kinds.ps wrapping-pow-kinds.r) κs)
-    → wrapping-pow.Post κs a r x → wrapping-pow.Post κs a r' x' → r ≡ r'
-wrapping-pow-once κs a r r' x x' p q = p ∙ sym q
+pub wrapping-pow-once : Once 0 wrapping-pow-kinds.ps wrapping-pow-kinds.r wrapping-pow.Pre wrapping-pow.Post
+wrapping-pow-once κs a v v' x x' h p q = p ∙ sym q

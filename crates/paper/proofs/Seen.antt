@@ -12,9 +12,10 @@ use Rattle.paper.specs.Tree.{Tree, Forest, integer, symbol, sum, product
 use Rattle.paper.specs.WellFormed.{WF, WFs, InRange}
 use Rattle.paper.specs.Record.{kind, countIn, bits, symbolIn}
 use Rattle.paper.specs.Table.{recordOf, encode, encodes}
+use Rattle.paper.specs.Standing.{Stands, SeenMembers}
 use Rattle.paper.proofs.Congruence.{word-lt}
 use Rattle.paper.proofs.EncodeLaws.{encode-length, encodes-length, records-pos, count-records, kind-there, count-there, bits-there, symbol-there}
-use Rattle.paper.proofs.Stands.{Stands, sum-record, sum-members, product-record, product-members, power-record, power-base, power-exponent}
+use Rattle.paper.proofs.Stands.{sum-record, sum-members, product-record, product-members, power-record, power-base, power-exponent}
 
 -- the tree t stands at record i of s, told by the fields of the record there and by what stands after it
 pub data Seen (s : List ℕ) (i : ℕ) : Tree → Type 0 where
@@ -53,13 +54,6 @@ see s i (power b e) w r h =
     a-power (kind-there s i 4 0 0 (q .after) (q .there)) (w .0) (power-base b e h) (w .1) (w .2)
     (subst (λ n. Stands s j (recordOf 0 0 n)) (sym (exponent-word e (w .2))) x) (kind-there s j 0 0 e (x .after) (x .there))
     (bits-there s j 0 0 e (x .after) (x .there) (omega arith))
-
--- the members of a sum or a product
-pub record SeenMembers (s : List ℕ) (i : ℕ) (f : Forest) : Type 0 where
-  pub counted : countIn s i ≡ count f
-  pub two : 2 ≤ count f
-  pub wf : WFs f
-  pub stand : Stands s (i + 1) (encodes f)
 
 -- the base and the exponent of a power
 pub record SeenPower (s : List ℕ) (i : ℕ) (b : Tree) (e : ℕ) : Type 0 where

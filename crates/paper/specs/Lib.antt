@@ -19,3 +19,4 @@ pub mod Demands
 pub mod Takeover
 pub mod Worthless
 pub mod Examples
+pub mod Once

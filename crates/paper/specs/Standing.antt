@@ -1,11 +1,12 @@
 -- Bytes and trees that stand in a table from a record on: what code that reads trees from records asks for, and what its promises
 -- speak of.
-use Prim.Native.Nat.{ℕ, _*_, _<_}
+use Prim.Native.Nat.{ℕ, _+_, _*_, _≤_, _<_}
 use mathlib.Core.Path.{_≡_}
 use mathlib.Core.List.{List, _++_}
 use lib.ListN.{drop}
 use Rattle.paper.specs.Tree.{Tree, Forest, count, records, recordses}
 use Rattle.paper.specs.WellFormed.{WF, WFs}
+use Rattle.paper.specs.Record.{countIn}
 use Rattle.paper.specs.Table.{encode, encodes}
 
 -- the bytes p stand in the table s from record i on
@@ -35,3 +36,10 @@ pub record SomeTree (s : List ℕ) (i : ℕ) : Type 0 where
 pub record SomeTrees (s : List ℕ) (i n : ℕ) : Type 0 where
   pub trees : Forest
   pub there : TreesIn s i n trees
+
+-- the members f of a sum or a product stand behind its record i of the table s, which counts them
+pub record SeenMembers (s : List ℕ) (i : ℕ) (f : Forest) : Type 0 where
+  pub counted : countIn s i ≡ count f
+  pub two : 2 ≤ count f
+  pub wf : WFs f
+  pub stand : Stands s (i + 1) (encodes f)

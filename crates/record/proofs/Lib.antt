@@ -1,3 +1,4 @@
 pub mod KindLaws
 pub mod StrayLaws
 pub mod TidyLaws
+pub mod Unique

@@ -13,11 +13,12 @@ use Rattle.paper.specs.Tree.{Tree, Forest, integer, sum, product, toList, count
 use Rattle.paper.specs.Record.{kind}
 use Rattle.paper.specs.Bytes.{word}
 use Rattle.paper.specs.Table.{recordOf, encode, encodes}
+use Rattle.paper.specs.Standing.{SeenMembers}
 use Rattle.paper.specs.Rules as paper
 use Rattle.paper.specs.Rules.{onSumMembers, onProductMembers, appliesIf, anyOf, isThe, dropAll}
 use Rattle.paper.specs.Rules.{addZero, combineLikeTerms, multiplyZero, multiplyOne, combineLikeFactors}
 use Rattle.paper.proofs.EncodeLaws.{encode-length, records-pos, records-weight, record-length}
-use Rattle.paper.proofs.Seen.{Seen, an-integer, a-symbol, a-sum, a-product, a-power, SeenMembers, see, seen-sum, seen-product}
+use Rattle.paper.proofs.Seen.{Seen, an-integer, a-symbol, a-sum, a-product, a-power, see, seen-sum, seen-product}
 use Rattle.split.specs.Standing.{TreeIn}
 use Rattle.stretch.specs.Put.{put}
 use Rattle.stretch.proofs.Laws.{drop-put-at}

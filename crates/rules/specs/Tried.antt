@@ -9,9 +9,8 @@ use Rattle.paper.specs.Tree.{Tree, Forest, weights, count, records, recordses, 
 use Rattle.paper.specs.WellFormed.{WFs}
 use Rattle.paper.specs.Record.{countIn}
 use Rattle.paper.specs.Table.{encode, encodes}
+use Rattle.paper.specs.Standing.{Stands, SeenMembers}
 use Rattle.paper.specs.Rules as paper
-use Rattle.paper.proofs.Stands.{Stands}
-use Rattle.paper.proofs.Seen.{SeenMembers}
 use Rattle.part.specs.Like.{nodeOf}
 use Rattle.rules.specs.declared.Tried.{Tried}
 use Rattle.rules.specs.declared.Tried.the-variants.{Idle, Applied, Over}

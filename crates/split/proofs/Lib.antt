@@ -1,3 +1,4 @@
 pub mod StandingLaws
 pub mod OwedLaws
 pub mod SplitLaws
+pub mod Unique

@@ -7,15 +7,19 @@ use mathlib.Core.Option.{Option, none, some}
 use native.Mathlib.Omega.{arith}
 use lib.ListN.{length, length-append}
 use lib.IntN.{ℤ, pos}
-use Rattle.paper.specs.Bytes.{signed}
+use borrow.Author.Tests.{lt-ltb, le-ltb, eq-eqb, ne-eqb}
+use Rattle.paper.specs.Bytes.{signed, word}
 use Rattle.paper.specs.Record.{kind, countIn, bits}
-use Rattle.paper.specs.Tree.{Tree, Forest, integer, symbol, sum, product, power, nil, cons, records, recordses, toList, ofList}
+use Rattle.paper.specs.Tree.{Tree, Forest, integer, symbol, sum, product, power, nil, cons, count, records, recordses, toList, ofList}
 use Rattle.paper.specs.Rules.{asInteger, behind, orFirst, firstInteger, productTerm, productOf, collapse, term, termOf, factor, factorOf}
+use Rattle.paper.specs.WellFormed.{InRange}
 use Rattle.paper.proofs.EncodeLaws.{signed-word, records-pos}
 use Rattle.paper.proofs.Seen.{Seen, SeenPower, seen-power, seen-product, an-integer, a-symbol, a-sum, a-product, a-power}
 use Rattle.paper.proofs.WFLaws.{of-to-list, list-count}
 use Rattle.split.specs.Standing.{TreeIn, TreesIn, SomeTree, SomeProduct}
-use Rattle.split.specs.Rest.{FirstInteger, Lessened}
+use Rattle.split.specs.Place.{baseAt, hereOr, integerAt, productRest, restAt}
+use Rattle.split.specs.Rest.{Lessened}
+use Rattle.split.specs.declared.Rest.the-variants.{One, At, Without}
 use Rattle.split.proofs.StandingLaws.{seen, tree-within, power-tree, product-trees, FirstOf, first-tree, other-trees, first-of, none-of}
 
 -- ---- base and exponent
@@ -41,6 +45,21 @@ module _ {s : List ℕ} {i : ℕ} where
       by (sum f) h q = h
       by (product f) h q = h
       by (power b x) h (a-power e w m p q o y z) = absurd (k e)
+
+  pub base-behind : (t : Tree) → TreeIn s i t → kind s i ≡ 4 → i + 1 ≡ baseAt i t
+  unfolding baseAt
+  base-behind t h k = ap (baseAt i) (sym (seen-power (seen h) k .2))
+
+  pub base-here : (t : Tree) → TreeIn s i t → (kind s i ≡ 4 → ⊥) → i ≡ baseAt i t
+  unfolding baseAt
+  base-here t h k = by t (seen h)
+    where
+      by : (t : Tree) → Seen s i t → i ≡ baseAt i t
+      by (integer z) q = refl
+      by (symbol v) q = refl
+      by (sum f) q = refl
+      by (product f) q = refl
+      by (power b x) (a-power e w m p q o y z) = absurd (k e)
 
   pub exponent-itself : (t : Tree) → TreeIn s i t → (kind s i ≡ 4 → ⊥) → 1 ≡ factorOf t .exponent
   unfolding factorOf factor
@@ -83,38 +102,26 @@ module _ {s : List ℕ} {i : ℕ} where
           }
 
 -- ---- the first integer of a product, one member at a time
-first-none : (s : List ℕ) (i : ℕ) → FirstInteger s i nil 0 (firstInteger (toList nil))
-unfolding firstInteger toList
-first-none s i = refl
+-- of the trees f, from record i of the table s on, the integer z stands at record x, and the others, in order, are l
+record Parted (s : List ℕ) (i x : ℕ) (f : Forest) (z : ℤ) (l : List Tree) : Type 0 where
+  front : List Tree
+  back : List Tree
+  whole : toList f ≡ front ++ (integer z ∷ back)
+  others : l ≡ front ++ back
+  place : x ≡ i + recordses (ofList front)
+  number : bits s x ≡ word z
+  range : InRange z
 
-module _ {s : List ℕ} {i : ℕ} where
-  first-here : {t : Tree} (f : Forest) → TreeIn s i t → kind s i < 1 → FirstInteger s i (cons t f) i (firstInteger (toList (cons t f)))
-  unfolding firstInteger toList orFirst asInteger ofList records
-  first-here {t} f h k = by t (seen h)
-    where
-      by : (t : Tree) → Seen s i t → FirstInteger s i (cons t f) i (firstInteger (toList (cons t f)))
-      by (integer z) (an-integer e b w) =
-          record { front = []; back = toList f; whole = refl; others = refl; place = omega arith; number = b; range = w }
-      by (symbol v) (a-symbol e b w) = absurd (omega arith)
-      by (sum f) (a-sum e n c w m) = absurd (omega arith)
-      by (product f) (a-product e n c w m) = absurd (omega arith)
-      by (power b x) (a-power e w m p q o y z) = absurd (omega arith)
+-- the record of the first integer among the trees f, 0 where there is none; and the others
+abbrev FirstInteger : List ℕ → ℕ → Forest → ℕ → Option (ℤ × List Tree) → Type 0
+FirstInteger s i f x none = x ≡ 0
+FirstInteger s i f x (some r) = Parted s i x f (r .0) (r .1)
 
-  other-integer : {t : Tree} → TreeIn s i t → 1 ≤ kind s i → asInteger t ≡ none
-  unfolding asInteger
-  other-integer {t} h k = by t (seen h)
-    where
-      by : (t : Tree) → Seen s i t → asInteger t ≡ none
-      by (integer z) (an-integer e b w) = absurd (omega arith)
-      by (symbol v) q = refl
-      by (sum f) q = refl
-      by (product f) q = refl
-      by (power b x) q = refl
-
-  first-later : {t : Tree} (f : Forest) (x : ℕ) → TreeIn s i t → 1 ≤ kind s i
-      → FirstInteger s (i + records t) f x (firstInteger (toList f)) → FirstInteger s i (cons t f) x (firstInteger (toList (cons t f)))
+module _ (s : List ℕ) (i : ℕ) where
+  further : (t : Tree) (f : Forest) (x : ℕ) → asInteger t ≡ none → FirstInteger s (i + records t) f x (firstInteger (toList f))
+      → FirstInteger s i (cons t f) x (firstInteger (toList (cons t f)))
   unfolding firstInteger toList orFirst behind ofList records
-  first-later {t} f x h k r = rw (other-integer h k) (by (firstInteger (toList f)) r)
+  further t f x e r = rw e (by (firstInteger (toList f)) r)
     where
       by : (o : Option (ℤ × List Tree)) → FirstInteger s (i + records t) f x o → FirstInteger s i (cons t f) x (behind t o)
       by none r = r
@@ -129,20 +136,58 @@ module _ {s : List ℕ} {i : ℕ} where
             range = r .range;
           }
 
+-- the first integer stands where `integerAt` says
+first-there : (s : List ℕ) (i n : ℕ) (f : Forest) → TreesIn s i n f → FirstInteger s i f (integerAt i f) (firstInteger (toList f))
+unfolding firstInteger toList orFirst asInteger ofList records integerAt hereOr
+first-there s i n nil h = refl
+first-there s i n (cons t f) h = by t (seen (first-tree h)) (first-there s (i + records t) (n - 1) f (other-trees h))
+  where
+    by : (t : Tree) → Seen s i t → FirstInteger s (i + records t) f (integerAt (i + records t) f) (firstInteger (toList f))
+        → FirstInteger s i (cons t f) (integerAt i (cons t f)) (firstInteger (toList (cons t f)))
+    by (integer z) (an-integer e b w) r =
+        record { front = []; back = toList f; whole = refl; others = refl; place = omega arith; number = b; range = w }
+    by (symbol v) q r = further s i (symbol v) f _ refl r
+    by (sum g) q r = further s i (sum g) f _ refl r
+    by (product g) q r = further s i (product g) f _ refl r
+    by (power b x) q r = further s i (power b x) f _ refl r
+
+module _ {s : List ℕ} {i : ℕ} where
+  integer-here : {t : Tree} (f : Forest) → TreeIn s i t → kind s i < 1 → integerAt i (cons t f) ≡ i
+  unfolding integerAt hereOr asInteger
+  integer-here {t} f h k = by t (seen h)
+    where
+      by : (t : Tree) → Seen s i t → integerAt i (cons t f) ≡ i
+      by (integer z) q = refl
+      by (symbol v) (a-symbol e b w) = absurd (omega arith)
+      by (sum g) (a-sum e n c w m) = absurd (omega arith)
+      by (product g) (a-product e n c w m) = absurd (omega arith)
+      by (power b x) (a-power e w m p q o y z) = absurd (omega arith)
+
+  integer-later : {t : Tree} (f : Forest) → TreeIn s i t → 1 ≤ kind s i → integerAt i (cons t f) ≡ integerAt (i + records t) f
+  unfolding integerAt hereOr asInteger
+  integer-later {t} f h k = by t (seen h)
+    where
+      by : (t : Tree) → Seen s i t → integerAt i (cons t f) ≡ integerAt (i + records t) f
+      by (integer z) (an-integer e b w) = absurd (omega arith)
+      by (symbol v) q = refl
+      by (sum g) q = refl
+      by (product g) q = refl
+      by (power b x) q = refl
+
 -- the members of the product f at record i from record `at` on, `left` of them: their first integer is the product's
 pub record Searched (s : List ℕ) (i at left : ℕ) (f : Forest) : Type 0 where
   pub rest : Forest
   pub stand : TreesIn s at left rest
-  pub found : (x : ℕ) → FirstInteger s at rest x (firstInteger (toList rest)) → FirstInteger s (i + 1) f x (firstInteger (toList f))
+  pub found : integerAt at rest ≡ integerAt (i + 1) f
 
 module _ {s : List ℕ} {i : ℕ} {f : Forest} where
   pub searched-start : TreeIn s i (product f) → Searched s i (i + 1) (countIn s i) f
-  searched-start h = record { rest = f; stand = product-trees h; found = λ x q. q }
+  searched-start h = record { rest = f; stand = product-trees h; found = refl }
 
   module _ {at left : ℕ} (h : Searched s i at left f) where
-    pub searched-none : left ≡ 0 → FirstInteger s (i + 1) f 0 (firstInteger (toList f))
-    searched-none e =
-        h .found 0 (subst (λ g. FirstInteger s at g 0 (firstInteger (toList g))) (sym (none-of (h .rest) (h .stand) e)) (first-none s at))
+    pub searched-none : left ≡ 0 → 0 ≡ integerAt (i + 1) f
+    unfolding integerAt
+    searched-none e = ap (integerAt at) (sym (none-of (h .rest) (h .stand) e)) ∙ h .found
 
     module _ (l : 0 < left) where
       next : FirstOf s at left (h .rest)
@@ -151,10 +196,8 @@ module _ {s : List ℕ} {i : ℕ} {f : Forest} where
       pub searched-tree : SomeTree s at
       searched-tree = record { tree = next .tree; there = next .there }
 
-      pub searched-here : kind s at < 1 → FirstInteger s (i + 1) f at (firstInteger (toList f))
-      searched-here k =
-          h .found at
-          (subst (λ g. FirstInteger s at g at (firstInteger (toList g))) (sym (next .whole)) (first-here (next .others) (next .there) k))
+      pub searched-here : kind s at < 1 → at ≡ integerAt (i + 1) f
+      searched-here k = sym (integer-here (next .others) (next .there) k) ∙ ap (integerAt at) (sym (next .whole)) ∙ h .found
 
       pub searched-later : 1 ≤ kind s at → (j : ℕ) → ((t : Tree) → TreeIn s at t → j ≡ at + records t) → Searched s i j (left - 1) f
       searched-later k j ends =
@@ -163,10 +206,7 @@ module _ {s : List ℕ} {i : ℕ} {f : Forest} where
           (record {
             rest = next .others;
             stand = next .after;
-            found = λ x q.
-                h .found x
-                (subst (λ g. FirstInteger s at g x (firstInteger (toList g))) (sym (next .whole))
-                (first-later (next .others) x (next .there) k q));
+            found = sym (integer-later (next .others) (next .there) k) ∙ ap (integerAt at) (sym (next .whole)) ∙ h .found;
           })
 
 -- ---- coefficient and rest
@@ -193,10 +233,59 @@ module _ {s : List ℕ} {i : ℕ} where
       by (product f) (a-product e c o w m) = absurd (n e)
       by (power b x) q = refl
 
+  pub place-integer : (t : Tree) → TreeIn s i t → kind s i < 1 → One ≡ restAt i t
+  unfolding restAt
+  place-integer t h k = by t (seen h)
+    where
+      by : (t : Tree) → Seen s i t → One ≡ restAt i t
+      by (integer z) q = refl
+      by (symbol v) (a-symbol e b w) = absurd (omega arith)
+      by (sum f) (a-sum e n c w m) = absurd (omega arith)
+      by (product f) (a-product e n c w m) = absurd (omega arith)
+      by (power b x) (a-power e w m p q o y z) = absurd (omega arith)
+
+  pub place-other : (t : Tree) → TreeIn s i t → 1 ≤ kind s i → (kind s i ≡ 3 → ⊥) → At i ≡ restAt i t
+  unfolding restAt
+  place-other t h k n = by t (seen h)
+    where
+      by : (t : Tree) → Seen s i t → At i ≡ restAt i t
+      by (integer z) (an-integer e b w) = absurd (omega arith)
+      by (symbol v) q = refl
+      by (sum f) q = refl
+      by (product f) (a-product e c o w m) = absurd (n e)
+      by (power b x) q = refl
+
   pub some-product : SomeTree s i → kind s i ≡ 3 → SomeProduct s i
   some-product h k =
       let p = seen-product (seen (h .there)) k in
       record { members = p .0; there = subst (TreeIn s i) (p .1) (h .there) }
+
+-- where the rest of a product stands, by its first integer's record and its count
+module _ {s : List ℕ} {i : ℕ} (t : Tree) (h : TreeIn s i t) (k : kind s i ≡ 3) (x : ℕ)
+    (found : (f : Forest) → TreeIn s i (product f) → x ≡ integerAt (i + 1) f) where
+  product-place : productRest i (countIn s i) x ≡ restAt i t
+  unfolding restAt
+  product-place =
+      let p = seen-product (seen h) k in
+      let e = found (p .0) (subst (TreeIn s i) (p .1) h) in
+      ap (λ n. productRest i n x) (p .2 .counted) ∙ ap (productRest i (count (p .0))) e ∙ ap (restAt i) (sym (p .1))
+
+  pub place-whole : x < 1 → At i ≡ restAt i t
+  unfolding productRest
+  place-whole l = rw (lt-ltb x 1 l) at product-place
+
+  module _ (l : 1 ≤ x) where
+    pub place-without : 2 < countIn s i → Without i x ≡ restAt i t
+    unfolding productRest
+    place-without m = rw (le-ltb x 1 l, lt-ltb 2 (countIn s i) m) at product-place
+
+    pub place-second : countIn s i ≤ 2 → x ≡ i + 1 → At (i + 2) ≡ restAt i t
+    unfolding productRest
+    place-second m e = rw (le-ltb x 1 l, le-ltb 2 (countIn s i) m, eq-eqb x (i + 1) e) at product-place
+
+    pub place-first : countIn s i ≤ 2 → (x ≡ i + 1 → ⊥) → At (i + 1) ≡ restAt i t
+    unfolding productRest
+    place-first m e = rw (le-ltb x 1 l, le-ltb 2 (countIn s i) m, ne-eqb x (i + 1) e) at product-place
 
 -- the records of a list of trees with one integer in it
 listed : (l m : List Tree) (z : ℤ) → recordses (ofList (l ++ (integer z ∷ m))) ≡ recordses (ofList l) + 1 + recordses (ofList m)
@@ -213,12 +302,14 @@ pub data Split (s : List ℕ) (i x : ℕ) (t : Tree) : Type 0 where
 
 module _ {s : List ℕ} {i : ℕ} where
   pub split-product : (t : Tree) → TreeIn s i t → kind s i ≡ 3 → (x : ℕ)
-      → ((f : Forest) → TreeIn s i (product f) → FirstInteger s (i + 1) f x (firstInteger (toList f))) → Split s i x t
+      → ((f : Forest) → TreeIn s i (product f) → x ≡ integerAt (i + 1) f) → Split s i x t
   unfolding termOf productTerm records
   split-product t h k x found =
       let p = seen-product (seen h) k in
       let g : TreeIn s i (product (p .0)) = subst (TreeIn s i) (p .1) h in
-      subst (Split s i x) (sym (p .1)) (by (p .0) g (firstInteger (toList (p .0))) refl (found (p .0) g))
+      let r = first-there s (i + 1) (countIn s i) (p .0) (product-trees g) in
+      let there = subst (λ y. FirstInteger s (i + 1) (p .0) y (firstInteger (toList (p .0)))) (sym (found (p .0) g)) r in
+      subst (Split s i x) (sym (p .1)) (by (p .0) g (firstInteger (toList (p .0))) refl there)
     where
       by : (f : Forest) → TreeIn s i (product f) → (o : Option (ℤ × List Tree)) → firstInteger (toList f) ≡ o → FirstInteger s (i + 1) f x o
           → Split s i x (product f)

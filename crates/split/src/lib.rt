@@ -2,10 +2,11 @@
 ghost use mathlib.Core.Path.{_≡_};
 ghost use Prim.Native.Nat.{_+_, _^_, _<_};
 ghost use Rattle.paper.specs.Bytes.{signed};
-ghost use Rattle.paper.specs.Tree.{Tree, Forest, product, records, toList};
-ghost use Rattle.paper.specs.Rules.{firstInteger, termOf, factorOf};
+ghost use Rattle.paper.specs.Tree.{Tree, Forest, product, records};
+ghost use Rattle.paper.specs.Rules.{termOf, factorOf};
 ghost use Rattle.split.specs.Standing.{TreeIn, SomeTree, SomeProduct};
-ghost use Rattle.split.specs.Rest.{FirstInteger, StandsFor};
+ghost use Rattle.split.specs.Place.{baseAt, integerAt, restAt};
+ghost use Rattle.split.specs.Rest.{StandsFor};
 
 // The rest of a member: 1, which stands in no record; the tree at a record; the product at the first record without its member
 // at the second, two members or more being left.
@@ -35,8 +36,7 @@ pub fn skip_tree(s: &[u8], i: usize) -> usize
 // The record of the first integer among the members of the product at record i; 0 where there is none.
 fn first_integer(s: &[u8], i: usize) -> usize
     requires { ⌜ SomeProduct (now s) i ⌝ }
-    ensures { λ r. ⌜ ((f : Forest) → TreeIn (now (s .entry)) i (product f)
-        → FirstInteger (now (s .entry)) (i + 1) f r (firstInteger (toList f))) ⌝ }
+    ensures { λ r. ⌜ ((f : Forest) → TreeIn (now (s .entry)) i (product f) → r ≡ integerAt (i + 1) f) ⌝ }
 {
     let mut at = i + 1;
     let mut left = record::count(s, i);
@@ -73,6 +73,7 @@ pub fn coefficient(s: &[u8], i: usize) -> u64
 pub fn rest_of(s: &[u8], i: usize) -> Rest
     requires { ⌜ SomeTree (now s) i ⌝ }
     ensures { λ r. ⌜ ((t : Tree) → TreeIn (now (s .entry)) i t → StandsFor (now (s .entry)) i r (termOf t .rest)) ⌝ }
+    ensures place { λ r. ⌜ ((t : Tree) → TreeIn (now (s .entry)) i t → r ≡ restAt i t) ⌝ }
 {
     let k = record::kind(s, i);
     if k < 1 {
@@ -98,6 +99,7 @@ pub fn rest_of(s: &[u8], i: usize) -> Rest
 pub fn base(s: &[u8], i: usize) -> usize
     requires { ⌜ SomeTree (now s) i ⌝ }
     ensures { λ r. ⌜ ((t : Tree) → TreeIn (now (s .entry)) i t → TreeIn (now (s .entry)) r (factorOf t .base)) ⌝ }
+    ensures place { λ r. ⌜ ((t : Tree) → TreeIn (now (s .entry)) i t → r ≡ baseAt i t) ⌝ }
 {
     if record::kind(s, i) == 4 {
         return i + 1;

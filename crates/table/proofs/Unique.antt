@@ -1,5 +1,5 @@
--- Two answers that meet the contract of `check`, or of `weight`, as the check reads it from the source, are the same: the paper's
--- numbers tell every answer of the code from every other. Assumes nothing.
+-- Two answers that meet the contract of `check`, of `weight`, of `fault_of` or of `weight_of`, as the check reads it from the source, are
+-- the same: the paper's numbers tell every answer of the code from every other, and the weight is one number. Assumes nothing.
 use Prim.Native.Nat.{ℕ, zero, suc}
 use mathlib.Core.Path.{_≡_, refl, sym, ap, _∙_}
 use borrow.Fn.Kinds.{Dens, endedOf}
@@ -7,15 +7,21 @@ use contract.Lifetimes.{Lfts}
 use denote.Triple.Clauses.{AtExit}
 use Rattle.paper.specs.Verdict.{Verdict}
 use Rattle.paper.specs.Answers as paper
-use Rattle.table.specs.Judged.{standsFor}
+use Rattle.paper.specs.Once.{Once}
+use Rattle.table.specs.Judged.{standsFor, verdictOf}
 use Rattle.table.specs.Measured.{says}
 use Rattle.table.specs.declared.Judged.{Judged}
 use Rattle.table.specs.declared.Judged.the-variants.{Fine, Length, Record, Heavy, Shape, Exponent}
+use Rattle.table.specs.declared.Fault.{Fault}
 use Rattle.table.specs.declared.Measured.{Measured}
 use Rattle.table.proofs.check.Reads as check-reads
 use Rattle.table.proofs.check.Kinds as check-kinds
 use Rattle.table.proofs.weight.Reads as weight-reads
 use Rattle.table.proofs.weight.Kinds as weight-kinds
+use Rattle.table.proofs.fault_of.Reads as fault-of-reads
+use Rattle.table.proofs.fault_of.Kinds as fault-of-kinds
+use Rattle.table.proofs.weight_of.Reads as weight-of-reads
+use Rattle.table.proofs.weight_of.Kinds as weight-of-kinds
 
 -- the answer that has this number, at this place
 answer : ℕ → ℕ → Judged
@@ -38,6 +44,9 @@ answer-stands (Exponent p) = refl
 stands-once : (r r′ : Judged) → standsFor r ≡ standsFor r′ → r ≡ r′
 stands-once r r′ e = sym (answer-stands r) ∙ ap (λ (v : Verdict). answer (v .number) (v .place)) e ∙ answer-stands r′
 
+fault-once : (r r′ : Fault) → verdictOf r ≡ verdictOf r′ → r ≡ r′
+fault-once r r′ e = ap (λ (v : Verdict). record { number = v .number; place = v .place }) e
+
 says-once : (r r′ : Measured) → says r ≡ says r′ → r ≡ r′
 says-once r r′ e = ap (λ (m : paper.Measured). record { number = m .number; place = m .place; result = m .result }) e
 
@@ -48,3 +57,9 @@ check-once κs a r r′ x x′ p p′ = stands-once r r′ (p ∙ sym p′)
 pub weight-once : (κs : Lfts 1) (a : Dens κs weight-kinds.ps) (r r′ : Measured) (x x′ : AtExit (endedOf 1 weight-kinds.ps weight-kinds.r) κs)
     → weight-reads.Post κs a r x → weight-reads.Post κs a r′ x′ → r ≡ r′
 weight-once κs a r r′ x x′ p p′ = says-once r r′ (p ∙ sym p′)
+
+pub fault-of-once : Once 0 fault-of-kinds.ps fault-of-kinds.r fault-of-reads.Pre fault-of-reads.Post
+fault-of-once κs a v v' x x' q p p' = fault-once v v' (p ∙ sym p')
+
+pub weight-of-once : Once 1 weight-of-kinds.ps weight-of-kinds.r weight-of-reads.Pre weight-of-reads.Post
+weight-of-once κs a v v' x x' q p p' = p ∙ sym p'

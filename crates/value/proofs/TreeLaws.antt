@@ -10,10 +10,10 @@ use Rattle.paper.specs.Limits.{modulus}
 use Rattle.paper.specs.Tree.{Tree, Forest, power, records, recordses, value, sumValue, productValue}
 use Rattle.paper.specs.Record.{kind, countIn, bits, symbolIn}
 use Rattle.paper.proofs.EncodeLaws.{records-pos}
-use Rattle.paper.proofs.Seen.{Seen, see, SeenMembers, SeenPower, seen-kind, stands-within}
+use Rattle.paper.proofs.Seen.{Seen, see, SeenPower, seen-kind, stands-within}
 use Rattle.paper.proofs.Seen.{seen-integer, seen-symbol, seen-sum, seen-product, seen-power}
 use Rattle.value.specs.declared.Valued.{Valued}
-use Rattle.paper.specs.Standing.{TreeIn, TreesIn, SomeTree, SomeTrees}
+use Rattle.paper.specs.Standing.{TreeIn, TreesIn, SomeTree, SomeTrees, SeenMembers}
 use Rattle.value.specs.Evaluated.{Evaluated}
 
 module _ {s : List ℕ} {i : ℕ} where

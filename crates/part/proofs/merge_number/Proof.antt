@@ -19,7 +19,7 @@ base-requires c κs = search needs
 kind-requires : tie.Need-kind-requires
 kind-requires c κs =
     let q = c .before .before .pre in
-    record-within (c .base .ensures (q .tree) (q .there))
+    record-within (c .base .ensures .0 (q .tree) (q .there))
 
 returns : tie.Need-returns
 returns c =
@@ -27,7 +27,7 @@ returns c =
       λ x t h w.
           let g = c .before .before .before .before .args in
           number-apart (g .e) (g .v) x h t
-          (no-integer-there (g .s .now) (the-base .result) (factorOf t .base) (the-base .ensures t w) (omega (arith, c .before .kind .ensures))),
+          (no-integer-there (g .s .now) (the-base .result) (factorOf t .base) (the-base .ensures .0 t w) (omega (arith, c .before .kind .ensures))),
       λ p. tt,
     )
 
@@ -35,7 +35,7 @@ bits-requires : tie.Need-bits-requires
 bits-requires c κs =
     let the-base = c .before .before .base in
     let q = c .before .before .before .before .pre in
-    record-within (the-base .ensures (q .tree) (q .there))
+    record-within (the-base .ensures .0 (q .tree) (q .there))
 
 exponent-requires : tie.Need-exponent-requires
 exponent-requires c κs = search needs
@@ -61,7 +61,7 @@ returns-2 c =
           let g = c .before .before .before .before .before .before .before .before .before .before .before .args in
           let other = the-exponent .ensures t w in
           let k : kind (g .s .now) (the-base .result) ≤ 0 = omega (arith, the-kind .ensures) in
-          let z = integer-there (g .s .now) (the-base .result) (factorOf t .base) (the-base .ensures t w) k in
+          let z = integer-there (g .s .now) (the-base .result) (factorOf t .base) (the-base .ensures .0 t w) k in
           let v : factorOf t .base ≡ integer (signed (the-bits .result)) = z .0 ∙ ap (λ n. integer (signed n)) (sym (the-bits .ensures)) in
           let l : the-bits .result < 2 ^ 64 = omega (arith, the-bits .ensures, z .1) in
           number-times (g .e) (g .v) x h t (the-bits .result) (the-exponent .result) v l (other .0) (other .1) _ (the-if2 .taken)
@@ -81,7 +81,7 @@ returns-3 c =
           let g = c .before .before .before .before .before .before .before .before .before .before .args in
           let other = the-exponent .ensures t w in
           let k : kind (g .s .now) (the-base .result) ≤ 0 = omega (arith, the-kind .ensures) in
-          let z = integer-there (g .s .now) (the-base .result) (factorOf t .base) (the-base .ensures t w) k in
+          let z = integer-there (g .s .now) (the-base .result) (factorOf t .base) (the-base .ensures .0 t w) k in
           let v : factorOf t .base ≡ integer (signed (the-bits .result)) = z .0 ∙ ap (λ n. integer (signed n)) (sym (the-bits .ensures)) in
           let l : the-bits .result < 2 ^ 64 = omega (arith, the-bits .ensures, z .1) in
           number-times-over (g .e) (g .v) x h t (the-bits .result) (the-exponent .result) v l (other .0) (other .1) (the-if2 .taken)
@@ -99,7 +99,7 @@ returns-4 c =
           let g = c .before .before .before .before .before .before .before .before .args in
           let other = the-exponent .ensures t w in
           let k : kind (g .s .now) (the-base .result) ≤ 0 = omega (arith, the-kind .ensures) in
-          let z = integer-there (g .s .now) (the-base .result) (factorOf t .base) (the-base .ensures t w) k in
+          let z = integer-there (g .s .now) (the-base .result) (factorOf t .base) (the-base .ensures .0 t w) k in
           let v : factorOf t .base ≡ integer (signed (the-bits .result)) = z .0 ∙ ap (λ n. integer (signed n)) (sym (the-bits .ensures)) in
           let l : the-bits .result < 2 ^ 64 = omega (arith, the-bits .ensures, z .1) in
           number-other (g .e) (g .v) x h t (the-bits .result) (the-exponent .result) v l (other .0) (other .1) (c .before .if2 .left) (c .if3 .taken),
@@ -128,7 +128,7 @@ returns-5 c =
           let g = c .before .before .before .before .before .before .before .before .before .before .before .before .args in
           let other = the-exponent .ensures t w in
           let k : kind (g .s .now) (the-base .result) ≤ 0 = omega (arith, the-kind .ensures) in
-          let z = integer-there (g .s .now) (the-base .result) (factorOf t .base) (the-base .ensures t w) k in
+          let z = integer-there (g .s .now) (the-base .result) (factorOf t .base) (the-base .ensures .0 t w) k in
           let v : factorOf t .base ≡ integer (signed (the-bits .result)) = z .0 ∙ ap (λ n. integer (signed n)) (sym (the-bits .ensures)) in
           let l : the-bits .result < 2 ^ 64 = omega (arith, the-bits .ensures, z .1) in
           number-raised (g .e) (g .v) x h t (the-bits .result) (the-exponent .result) v l (other .0) (other .1) (the-if2 .left) _ (the-if3 .left)
@@ -149,7 +149,7 @@ returns-6 c =
           let g = c .before .before .before .before .before .before .before .before .before .before .before .args in
           let other = the-exponent .ensures t w in
           let k : kind (g .s .now) (the-base .result) ≤ 0 = omega (arith, the-kind .ensures) in
-          let z = integer-there (g .s .now) (the-base .result) (factorOf t .base) (the-base .ensures t w) k in
+          let z = integer-there (g .s .now) (the-base .result) (factorOf t .base) (the-base .ensures .0 t w) k in
           let v : factorOf t .base ≡ integer (signed (the-bits .result)) = z .0 ∙ ap (λ n. integer (signed n)) (sym (the-bits .ensures)) in
           let l : the-bits .result < 2 ^ 64 = omega (arith, the-bits .ensures, z .1) in
           number-raised-over (g .e) (g .v) x h t (the-bits .result) (the-exponent .result) v l (other .0) (other .1) (the-if2 .left) (the-if3 .left)

@@ -17,7 +17,7 @@ same-requires c κs =
       one = q .one;
       other = factorOf (q .other) .base;
       one-there = q .one-there;
-      other-there = c .before .base .ensures (q .other) (q .other-there);
+      other-there = c .before .base .ensures .0 (q .other) (q .other-there);
       enough = omega (arith, q .enough, base-size (q .other));
     }
 
@@ -48,7 +48,7 @@ returns c =
     let the-base = c .before .before .before .before .before .before .base in (
       λ x t h w.
           let g = c .before .before .before .before .before .before .before .before .before .args in
-          let met = the-same .ensures (x .base) (factorOf t .base) (h .sized .there) (the-base .ensures t w) in
+          let met = the-same .ensures (x .base) (factorOf t .base) (h .sized .there) (the-base .ensures .0 t w) in
           power-apart (g .s .now) (g .e) (g .i) (g .k) x h t (unmatched _ _ (sym met ∙ c .enum-told .given .1)),
       λ p h. tt,
     )
@@ -65,7 +65,7 @@ returns-2 c =
     let the-base = c .before .before .before .before .before .before .before .before .before .before .before .base in (
       λ x t h w.
           let g = c .before .before .before .before .before .before .before .before .before .before .before .before .before .before .args in
-          let met = the-same .ensures (x .base) (factorOf t .base) (h .sized .there) (the-base .ensures t w) in
+          let met = the-same .ensures (x .base) (factorOf t .base) (h .sized .there) (the-base .ensures .0 t w) in
           let other = the-exponent .ensures t w in
           power-into (g .s .now) (g .e) (g .i) (g .k) x h t _ (other .0) (other .1) (matched _ _ _ (sym met ∙ the-enum-told2 .given .1)) _
           (sym (the-add .ensures) ∙ c .before .sum .given .1),
@@ -84,7 +84,7 @@ returns-3 c =
     let the-base = c .before .before .before .before .before .before .before .before .before .before .base in (
       λ x t h w.
           let g = c .before .before .before .before .before .before .before .before .before .before .before .before .before .args in
-          let met = the-same .ensures (x .base) (factorOf t .base) (h .sized .there) (the-base .ensures t w) in
+          let met = the-same .ensures (x .base) (factorOf t .base) (h .sized .there) (the-base .ensures .0 t w) in
           let other = the-exponent .ensures t w in
           power-over (g .s .now) (g .e) (g .i) (g .k) x h t _ (other .0) (other .1) (matched _ _ _ (sym met ∙ the-enum-told2 .given .1))
           (sym (the-add .ensures) ∙ c .enum-told3 .given .1),

@@ -32,13 +32,13 @@ base-requires c κs =
 kind-requires : tie.Need-kind-requires
 kind-requires c κs =
     let q = c .before .before .before .before .pre in
-    record-within (c .base .ensures (q .0) (q .1 .there))
+    record-within (c .base .ensures .0 (q .0) (q .1 .there))
 
 bits-requires : tie.Need-bits-requires
 bits-requires c κs =
     let the-base = c .before .before .base in
     let q = c .before .before .before .before .before .before .pre in
-    record-within (the-base .ensures (q .0) (q .1 .there))
+    record-within (the-base .ensures .0 (q .0) (q .1 .there))
 
 returns-2 : tie.Need-returns-2
 returns-2 c =
@@ -48,7 +48,7 @@ returns-2 c =
     let the-if1 = c .before .before .before .before .before .if1 in (
       λ t h.
           let g = c .before .before .before .before .before .before .before .args in
-          let b = the-base .ensures t (h .there) in
+          let b = the-base .ensures .0 t (h .there) in
           let e = the-exponent .ensures t (h .there) in
           rw (the-if1 .left) (number-part (g .s .now) _ (the-base .result) _ t b (omega (arith, the-kind .ensures)) (c .bits .ensures) (e .0) (e .1)),
       λ p h. tt,
@@ -77,7 +77,7 @@ returns-3 c =
     let the-if1 = c .before .before .before .before .before .before .if1 in (
       λ t h.
           let g = c .before .before .before .before .before .before .before .before .args in
-          let b = the-base .ensures t (h .there) in
+          let b = the-base .ensures .0 t (h .there) in
           let e = the-exponent .ensures t (h .there) in
           let other = no-integer-there (g .s .now) (the-base .result) _ b (omega (arith, the-kind .ensures)) in
           rw (the-if1 .left) (power-part (g .s .now) _ (g .at) (g .size) t h other (e .0) (e .1) (sym (c .before .kind2 .ensures) ∙ c .if3 .taken)),
@@ -92,7 +92,7 @@ returns-4 c =
     let the-if1 = c .before .before .before .before .before .before .if1 in (
       λ t h.
           let g = c .before .before .before .before .before .before .before .before .args in
-          let b = the-base .ensures t (h .there) in
+          let b = the-base .ensures .0 t (h .there) in
           let e = the-exponent .ensures t (h .there) in
           let other = no-integer-there (g .s .now) (the-base .result) _ b (omega (arith, the-kind .ensures)) in
           rw (the-if1 .left) (base-part (g .s .now) _ (g .at) (g .size) t h other (e .0) (e .1) (λ k. c .if3 .left (c .before .kind2 .ensures ∙ k))),

@@ -47,7 +47,7 @@ module _ (c : Known) where
   stands-for : {x : Term} (h : Shown x) (r : Rest) → c .rest-of .result ≡ r
       → let g = start-of c .args in StandsFor (g .s .now) (g .i) r (rest h)
   stands-for h r e =
-      let g = start-of c .args in subst (λ (r : Rest). StandsFor (g .s .now) (g .i) r (rest h)) e (c .rest-of .ensures (h .member) (h .there))
+      let g = start-of c .args in subst (λ (r : Rest). StandsFor (g .s .now) (g .i) r (rest h)) e (c .rest-of .ensures .0 (h .member) (h .there))
 
   answered : {x : Term} (h : Shown x) (out' : List ℕ) (r : Written)
       → let g = start-of c .args in

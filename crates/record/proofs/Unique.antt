@@ -1,0 +1,73 @@
+-- Each contract, as the check reads it off the source, leaves one answer open and no other: each answer equals one definition of what was
+-- given. What is wrong with a record is told from every other flaw by the paper's value; of `write_record` it is the bytes at exit that are
+-- one. Assumes nothing.
+use mathlib.Core.Path.{_≡_, refl, sym, ap, _∙_}
+use borrow.Fn.Kinds.{Dens, endedOf}
+use contract.Lifetimes.{Lfts}
+use denote.Triple.Clauses.{AtExit}
+use Rattle.paper.specs.Record as paper
+use Rattle.paper.specs.Once.{Once}
+use Rattle.record.specs.Flaw.{flawOf}
+use Rattle.record.specs.declared.Flaw.{Flaw}
+use Rattle.record.specs.declared.Flaw.the-variants.{Sound, Kind, Byte, Count}
+use Rattle.record.proofs.kind.Reads as kind
+use Rattle.record.proofs.kind.Kinds as kind-kinds
+use Rattle.record.proofs.count.Reads as count
+use Rattle.record.proofs.count.Kinds as count-kinds
+use Rattle.record.proofs.bits.Reads as bits
+use Rattle.record.proofs.bits.Kinds as bits-kinds
+use Rattle.record.proofs.symbol.Reads as symbol
+use Rattle.record.proofs.symbol.Kinds as symbol-kinds
+use Rattle.record.proofs.arity.Reads as arity
+use Rattle.record.proofs.arity.Kinds as arity-kinds
+use Rattle.record.proofs.is_positive.Reads as is-positive
+use Rattle.record.proofs.is_positive.Kinds as is-positive-kinds
+use Rattle.record.proofs.judge_record.Reads as judge-record
+use Rattle.record.proofs.judge_record.Kinds as judge-record-kinds
+use Rattle.record.proofs.is_flawed.Reads as is-flawed
+use Rattle.record.proofs.is_flawed.Kinds as is-flawed-kinds
+use Rattle.record.proofs.write_record.Reads as write-record
+use Rattle.record.proofs.write_record.Kinds as write-record-kinds
+
+pub kind-once : Once 1 kind-kinds.ps kind-kinds.r kind.Pre kind.Post
+kind-once κs a v v' x x' q p p' = p ∙ sym p'
+
+pub count-once : Once 1 count-kinds.ps count-kinds.r count.Pre count.Post
+count-once κs a v v' x x' q p p' = p .0 ∙ sym (p' .0)
+
+pub bits-once : Once 1 bits-kinds.ps bits-kinds.r bits.Pre bits.Post
+bits-once κs a v v' x x' q p p' = p ∙ sym p'
+
+pub symbol-once : Once 1 symbol-kinds.ps symbol-kinds.r symbol.Pre symbol.Post
+symbol-once κs a v v' x x' q p p' = p ∙ sym p'
+
+pub arity-once : Once 1 arity-kinds.ps arity-kinds.r arity.Pre arity.Post
+arity-once κs a v v' x x' q p p' = p .0 ∙ sym (p' .0)
+
+pub is-positive-once : Once 1 is-positive-kinds.ps is-positive-kinds.r is-positive.Pre is-positive.Post
+is-positive-once κs a v v' x x' q p p' = p ∙ sym p'
+
+pub is-flawed-once : Once 0 is-flawed-kinds.ps is-flawed-kinds.r is-flawed.Pre is-flawed.Post
+is-flawed-once κs a v v' x x' q p p' = p ∙ sym p'
+
+-- the code's answer that has this value
+codeOf : paper.Flaw → Flaw
+codeOf paper.sound = Sound
+codeOf paper.bad-kind = Kind
+codeOf (paper.bad-byte j) = Byte j
+codeOf paper.bad-count = Count
+
+code-of : (f : Flaw) → codeOf (flawOf f) ≡ f
+unfolding codeOf
+code-of Sound = refl
+code-of Kind = refl
+code-of (Byte j) = refl
+code-of Count = refl
+
+pub judge-record-once : Once 1 judge-record-kinds.ps judge-record-kinds.r judge-record.Pre judge-record.Post
+judge-record-once κs a v v' x x' q p p' = sym (code-of v) ∙ ap codeOf (p ∙ sym p') ∙ code-of v'
+
+pub write-record-once : (κs : Lfts 1) (a : Dens κs write-record-kinds.ps) (v v' : Unit {0})
+    (x x' : AtExit (endedOf 1 write-record-kinds.ps write-record-kinds.r) κs)
+    → write-record.Post κs a v x → write-record.Post κs a v' x' → x .0 .now ≡ x' .0 .now
+write-record-once κs a v v' x x' p p' = p ∙ sym p'
