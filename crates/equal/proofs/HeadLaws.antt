@@ -1,6 +1,6 @@
 -- Trees that begin otherwise are not equal. First records that differ in kind or in number are those of different trees, a sum's, a
 -- product's and a power's number being 0; and powers whose bases differ are different. Assumes nothing.
-use Prim.Native.Nat.{ℕ, _+_, _*_, _≤_, _<_}
+use Prim.Native.Nat.{ℕ, _+_, _*_, _≤_}
 use mathlib.Core.Path.{_≡_, refl, sym, _∙_, subst}
 use mathlib.Core.Bool.{Bool, true, false, cond, _&&_}
 use mathlib.Core.List.{List}

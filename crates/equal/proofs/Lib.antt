@@ -5,5 +5,6 @@ pub mod MatchLaws
 pub mod NumberLaws
 pub mod MarkOutLaws
 pub mod ViewLaws
+pub mod RestLaws
 pub mod ComparedLaws
 pub mod Unique

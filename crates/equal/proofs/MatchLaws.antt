@@ -74,7 +74,8 @@ module _ {a : List ℕ} {i x : ℕ} {f g : Forest} where
         let w : without at x (h .rest) ≡ [] = ap (without at x) z in
         let r : recordses (h .rest) ≡ 0 = ap recordses z in
         let l : length (without at x (h .rest)) ≡ 0 = ap length w in
-        (sym (h .same) ∙ ap (λ k. sameBag equal k (unmarked us 0 g)) w ∙ bag-end (unmarked us 0 g) (omega (arith, h .as-many)), omega (arith, h .ends))
+        let all = bag-end (unmarked us 0 g) (omega (arith, h .as-many)) in
+        (sym (h .same) ∙ ap (λ k. sameBag equal k (unmarked us 0 g)) w ∙ all, omega (arith, h .ends))
 
     module _ (l : 0 < left) where
       next : FirstOf a at left (h .rest)

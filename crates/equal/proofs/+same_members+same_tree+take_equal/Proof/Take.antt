@@ -1,0 +1,227 @@
+-- `equal::take_equal` meets its contract. The loop's invariant, for all trees that stand there: of the trees passed over none could be
+-- taken, and the marks of all are as they were (`Looked`). The next tree, where it is unmarked, is compared with its mark set: equal, it
+-- is the one that is taken; else its mark is cleared again, and it is passed over like one that was marked before. The loop's measure is
+-- the number of trees left. Assumes nothing.
+use Prim.Native.Nat.{ℕ, _+_, _-_, _<_, _≤_}
+use mathlib.Core.Path.{_≡_, refl, sym, ap, _∙_}
+use mathlib.Core.Logic.{⊎-elim}
+use mathlib.Core.List.{List}
+use native.Mathlib.Omega.{arith}
+use borrow.Author.Needs.{needs}
+use borrow.Rule.Slice.PartMut.{putMid, same-len-mid}
+use lib.ListN.{length, set, length-set, length-take, length-drop}
+use Rattle.paper.specs.Tree.{Tree, Forest, records}
+use Rattle.paper.specs.Equal.{equal}
+use Rattle.paper.proofs.EncodeLaws.{count-records}
+use Rattle.split.specs.Standing.{TreeIn, TreesIn}
+use Rattle.equal.specs.Matching.{matchOf}
+use Rattle.equal.specs.declared.Match.{Match}
+use Rattle.equal.specs.declared.Match.the-variants.{Different, Ends}
+use Rattle.equal.proofs.SameLaws.{match-ends, match-differs}
+use Rattle.equal.proofs.MarkLaws.{MarkedAt, lent-marked, marked-back}
+use Rattle.equal.proofs.MarkLaws.{Looked, looked-start, looked-none, looked-tree, looked-pair, looked-next, looked-found}
+use Rattle.equal.proofs.take_equal.Reads as reads
+use Rattle.equal.proofs.same_tree.Reads as tree
+use Rattle.split.proofs.skip_tree.Reads as skip-tree-reads
+use Rattle.equal.proofs.+same_members+same_tree+take_equal.Lts-take_equal as lts
+use Rattle.equal.proofs.+same_members+same_tree+take_equal.Proof.Cycle.{take-at, tree-below}
+
+abbrev pub claims : ℕ → lts.Claims
+claims t = (tree-below t, tree.Post, skip-tree-reads.Asked, skip-tree-reads.Learnt)
+
+abbrev pub Inv : lts.InvT-loop
+Inv a i b j m marks₀ at₀ k₀ marks at k =
+    (k ≤ m) × (length marks ≡ length marks₀)
+    × ((t : Tree) (g : Forest) → TreeIn a i t → TreesIn b j m g → Looked t b m marks₀ marks g at k)
+
+abbrev pub μ : lts.MeasureT-loop
+μ a i b j m marks₀ at₀ k₀ marks at k = m - k
+
+module _ (t : ℕ) where
+  -- places on the way through the code, and from each the one before it: the entry, the head of the loop, a turn of it, where the next
+  -- tree is unmarked, and after it was compared
+  abbrev Entry : Type 0
+  Entry = lts.Start (claims t) (take-at t) reads.Post Inv μ
+
+  abbrev Head : Type 0
+  Head = lts.At-loop (claims t) (take-at t) reads.Post Inv μ
+
+  abbrev Turn : Type 0
+  Turn = lts.In-loop (claims t) (take-at t) reads.Post Inv μ
+
+  abbrev Free : Type 0
+  Free = lts.Then1 (claims t) (take-at t) reads.Post Inv μ
+
+  abbrev Compared : Type 0
+  Compared = lts.After-same-tree (claims t) (take-at t) reads.Post Inv μ
+
+  abbrev entry-of : Head → Entry
+  entry-of c = c .before .before .before .before
+
+  abbrev head-of : Turn → Head
+  head-of c = c .before
+
+  abbrev turn-of : Free → Turn
+  turn-of c = c .before .before
+
+  abbrev free-of : Compared → Free
+  free-of c = c .before .before
+
+  -- each of the m trees has a mark, and there is room past the marks
+  room : (c : Head) → entry-of c .args .m < length (c .loop .marks)
+  room c =
+      let some = entry-of c .pre .1 in
+      omega (arith, some .enough, c .loop .inv .1, some .others-there .counted, count-records (some .others))
+
+  -- the search, for the trees that the contract says stand there
+  look : (c : Head)
+      → let entry = entry-of c in
+      let some = entry .pre .1 in
+      Looked (some .one) (entry .args .b .now) (entry .args .m) (entry .args .marks .now) (c .loop .marks) (some .others) (c .loop .at) (c .loop .k)
+  look c =
+      let some = entry-of c .pre .1 in
+      c .loop .inv .2 (some .one) (some .others) (some .one-there) (some .others-there)
+
+  -- ---- the next tree, compared: its mark is set before that, and the marks past those of the m trees are lent
+  abbrev head-at : Compared → Head
+  head-at c = head-of (turn-of (free-of c))
+
+  abbrev trees-of : Head → ℕ
+  trees-of c = entry-of c .args .m
+
+  abbrev before-it : Head → List ℕ
+  before-it c = set (c .loop .marks) (c .loop .k) 1
+
+  wide : (c : Free) → let head = head-of (turn-of c) in trees-of head ≤ length (before-it head)
+  wide c = simp length-set (omega (arith, room (head-of (turn-of c))))
+
+  abbrev lent-part : Compared → List ℕ
+  lent-part c = c .same-tree .last .1 .1 .1 .1 .0
+
+  abbrev after-it : Compared → List ℕ
+  after-it c = let head = head-at c in putMid (trees-of head) (length (before-it head) - trees-of head) (before-it head) (lent-part c)
+
+  length-kept : (c : Compared) → length (after-it c) ≡ length (entry-of (head-at c) .args .marks .now)
+  length-kept c =
+      let head = head-at c in
+      let l = head .loop in
+      same-len-mid (trees-of head) (length (before-it head) - trees-of head) (before-it head) (lent-part c) (c .same-tree .kept .1 .1 .1 .1 .0)
+      ∙ length-set (l .marks) (l .k) 1
+      ∙ l .inv .1
+
+  marked : (c : Compared) → let head = head-at c in MarkedAt (head .loop .marks) (after-it c) (trees-of head) (head .loop .k)
+  marked c =
+      let head = head-at c in
+      let l = head .loop in
+      lent-marked (l .marks) (lent-part c) (trees-of head) (length (before-it head) - trees-of head) (l .k)
+      (omega (arith, room head)) (turn-of (free-of c) .loop-test .taken) (omega (arith, room head, length-kept c, l .inv .1))
+
+  -- what the comparison's answer r says of it
+  told : (c : Compared) (r : Match)
+      → let a = entry-of (head-at c) .args in
+      c .same-tree .result ≡ r → (x u : Tree) → TreeIn (a .a .now) (a .i) x → TreeIn (a .b .now) (head-at c .loop .at) u
+      → matchOf (equal x u) (a .i + records x) ≡ r
+  told c r e x u h v = sym (c .same-tree .ensures x u h v) ∙ e
+
+  pub loop-holds : lts.Need-loop-holds (claims t) (take-at t) reads.Post Inv μ
+  loop-holds c = (omega arith, refl, λ x g h q. looked-start _ _ q)
+
+  pub slice-read-if1 : lts.Need-slice-read-if1 (claims t) (take-at t) reads.Post Inv μ
+  slice-read-if1 c = omega (arith, room (head-of (c .before)))
+
+  pub slice-write-marks : lts.Need-slice-write-marks (claims t) (take-at t) reads.Post Inv μ
+  slice-write-marks c = omega (arith, room (head-of (turn-of c)))
+
+  pub sub-same-tree : lts.Need-sub-same-tree (claims t) (take-at t) reads.Post Inv μ
+  sub-same-tree c = wide c
+
+  pub part-same-tree-start : lts.Need-part-same-tree-start (claims t) (take-at t) reads.Post Inv μ
+  part-same-tree-start c = wide c
+
+  pub part-same-tree-end : lts.Need-part-same-tree-end (claims t) (take-at t) reads.Post Inv μ
+  part-same-tree-end c = omega arith
+
+  pub same-tree-requires : lts.Need-same-tree-requires (claims t) (take-at t) reads.Post Inv μ
+  same-tree-requires c κs =
+      let turn = turn-of (c .before) in
+      let head = head-of turn in
+      let some = entry-of head .pre .1 in (
+        omega arith,
+        looked-pair (look head) (turn .loop-test .taken) _ (some .one-there) (omega (arith, some .enough, head .loop .inv .1))
+            (simp (length-take, length-drop, length-set) (omega arith)),
+      )
+
+  pub enum-known-e : lts.Need-enum-known-e (claims t) (take-at t) reads.Post Inv μ
+  enum-known-e c = search needs
+
+  pub same-length : lts.Need-same-length (claims t) (take-at t) reads.Post Inv μ
+  same-length c = length-kept (c .before .before .before .before .before)
+
+  pub returns : lts.Need-returns (claims t) (take-at t) reads.Post Inv μ
+  returns c =
+      let compared = c .before .before .before .before .before in
+      let free = free-of compared in
+      let turn = turn-of free in
+      let more = turn .loop-test .taken in
+      let e = c .before .e .given .0 .0 in
+      let says = told compared (Ends e) (c .before .e .given .1) in
+      λ x g h q.
+      let look = head-of turn .loop .inv .2 x g h q in
+      let o = looked-tree look more in (
+        match-ends (equal x (o .tree)) _ e (says x (o .tree) h (o .there)) .1,
+        looked-found look more (after-it compared) (marked compared) (omega (arith, free .if1 .taken))
+            (λ u v. match-ends (equal x u) _ e (says x u h v) .0),
+      )
+
+  pub enum-told : lts.Need-enum-told (claims t) (take-at t) reads.Post Inv μ
+  enum-told c = search needs
+
+  pub slice-write-marks-2 : lts.Need-slice-write-marks-2 (claims t) (take-at t) reads.Post Inv μ
+  slice-write-marks-2 c = marked (c .before .before .before .before) .there
+
+  pub skip-tree-requires : lts.Need-skip-tree-requires (claims t) (take-at t) reads.Post Inv μ
+  skip-tree-requires c κs =
+      let turn = c .before .before in
+      looked-tree (look (head-of turn)) (turn .loop-test .taken)
+
+  pub add-k : lts.Need-add-k (claims t) (take-at t) reads.Post Inv μ
+  add-k c = omega arith
+
+  pub loop-less : lts.Need-loop-less (claims t) (take-at t) reads.Post Inv μ
+  loop-less c = omega arith
+
+  -- by the way that the turn went. The next tree was compared: its test w .0, the comparison w .2 and its answer w .6, the marks after it
+  -- w .7; or it was marked: its test w .0, the marks w .1
+  pub loop-again : lts.Need-loop-again (claims t) (take-at t) reads.Post Inv μ
+  loop-again c =
+      let joined = c .before in
+      let turn = joined .before .before in
+      let l = head-of turn .loop in
+      let more = turn .loop-test .taken in
+      let past = c .skip-tree in
+      ⊎-elim
+      (λ w.
+      let free : Free = record { before = joined .before; if1 = w .0 } in
+      let compared : Compared = record { before = record { before = free; same-tree-arg = w .1 }; same-tree = w .2 } in
+      let says = told compared Different (w .6 .given .1) in
+      let back = marked-back (marked compared) in (
+        omega arith,
+        ap length (w .7) ∙ length-set (after-it compared) (l .k) _ ∙ length-kept compared,
+        λ x g h q. rw (w .7)
+            (looked-next (l .inv .2 x g h q) more _ (past .result) (back _ (omega (arith, w .0 .taken))) (past .ensures)
+            (λ z u v. match-differs (equal x u) _ (says x u h v))),
+      ))
+      (λ w. (
+        omega arith,
+        ap length (w .1) ∙ l .inv .1,
+        λ x g h q. rw (w .1)
+            (looked-next (l .inv .2 x g h q) more (l .marks) (past .result) (λ n v. refl) (past .ensures)
+            (λ z. absurd (omega (arith, w .0 .left)))),
+      ))
+      (joined .if1 .came)
+
+  pub same-length-2 : lts.Need-same-length-2 (claims t) (take-at t) reads.Post Inv μ
+  same-length-2 c = c .before .loop .inv .1
+
+  pub returns-2 : lts.Need-returns-2 (claims t) (take-at t) reads.Post Inv μ
+  returns-2 c = λ x g h q. looked-none (c .before .loop .inv .2 x g h q) (c .loop-test .left)
