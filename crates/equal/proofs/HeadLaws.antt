@@ -1,25 +1,28 @@
 -- Trees that begin otherwise are not equal. First records that differ in kind or in number are those of different trees, a sum's, a
--- product's and a power's number being 0; and powers whose bases differ are different. Assumes nothing.
-use Prim.Native.Nat.{ℕ, _+_, _*_, _≤_}
-use mathlib.Core.Path.{_≡_, refl, sym, _∙_, subst}
-use mathlib.Core.Bool.{Bool, true, false, cond, _&&_}
+-- product's and a power's number being 0; and powers whose bases differ are different. So a tree that begins otherwise is passed by where
+-- one is looked for, and rests that are whole trees and begin otherwise are not equal. Assumes nothing.
+use Prim.Native.Nat.{ℕ, zero, suc, _+_, _*_, _≤_, _<_}
+use mathlib.Core.Path.{_≡_, refl, sym, ap, _∙_, subst}
+use mathlib.Core.Bool.{Bool, true, false, cond, not, _&&_}
 use mathlib.Core.List.{List}
 use native.Mathlib.Decide.{decLe}
 use native.Mathlib.Omega.{arith}
-use borrow.Author.Tests.{eqb-true, eqb-false}
-use lib.ListN.{length}
+use borrow.Author.Tests.{eq-eqb, eqb-true, eqb-false}
+use lib.ListN.{length, getD}
 use lib.Dec.{eqb}
 use Rattle.paper.specs.Record.{kind, bits}
-use Rattle.paper.specs.Tree.{Tree, integer, symbol, sum, product, power, count}
+use Rattle.paper.specs.Tree.{Tree, integer, symbol, sum, product, power, count, records}
 use Rattle.paper.specs.Equal.{equal}
+use Rattle.paper.specs.Rules.{Term, term, termOf}
 use Rattle.paper.proofs.Tests.{and-both, true-not-false}
 use Rattle.paper.proofs.EncodeLaws.{bits-there}
 use Rattle.paper.proofs.Seen.{Seen, an-integer, a-symbol, seen-power}
 use Rattle.paper.proofs.Stands.{sum-record, product-record, power-record}
 use Rattle.split.specs.Standing.{TreeIn}
 use Rattle.split.proofs.StandingLaws.{seen, record-within, power-tree}
-use Rattle.equal.specs.Head.{sameHead, beginAlike}
-use Rattle.equal.proofs.SameLaws.{kinds-differ, leaves-differ, powers-differ, is-different}
+use Rattle.split.proofs.SplitLaws.{term-other}
+use Rattle.equal.specs.Head.{sameHead, beginAlike, isCandidate, isWhole, restsDiffer}
+use Rattle.equal.proofs.SameLaws.{kinds-differ, leaf-records, leaves-equal, leaves-differ, powers-differ, is-different}
 use Rattle.equal.specs.declared.Match.the-variants.{Different}
 
 -- the number of a record that is no leaf's is 0
@@ -67,3 +70,48 @@ module _ {a : List ℕ} {i : ℕ} {b : List ℕ} {j : ℕ} {t u : Tree} (h : Tre
           let k = heads-kinds a i b j e in
           powers-differ h g k (eqb-true _ _ f) Different (λ v w x y. is-different _ (heads-differ x y z)) refl
       by true e false f z = absurd (true-not-false refl z)
+
+  -- leaves that begin alike are equal, and have one record
+  pub leaves-alike : beginAlike a i b j ≡ true → kind a i < 2 → (equal t u ≡ true) × (records t ≡ 1)
+  unfolding beginAlike sameHead
+  leaves-alike e l =
+      let head = and-both (sameHead a i b j) (cond (eqb (kind a i) 4) (sameHead a (i + 1) b (j + 1)) true) e .0 in
+      let k = heads-kinds a i b j head in
+      let n = eqb-true _ _ (and-both (eqb (bits a i) (bits b j)) (eqb (kind a i) (kind b j)) head .0) in
+      (leaves-equal h g k l n, leaf-records h g k l)
+
+  -- a tree with no mark that is no candidate is not equal
+  pub passed-by : (us : List ℕ) (k : ℕ) → isCandidate a i b j us k ≡ false → getD us k 0 ≡ 0 → equal t u ≡ false
+  unfolding isCandidate
+  passed-by us k e z = begins-differ (sym (rw (eq-eqb (getD us k 0) 0 z)) ∙ e)
+
+pub candidate-free : (a : List ℕ) (i : ℕ) (b : List ℕ) (j : ℕ) (us : List ℕ) (k : ℕ) → isCandidate a i b j us k ≡ true → getD us k 0 ≡ 0
+unfolding isCandidate
+candidate-free a i b j us k e = eqb-true _ _ (and-both (eqb (getD us k 0) 0) (beginAlike a i b j) e .0)
+
+-- ---- rests
+not-so-false : (x : Bool) → not x ≡ true → x ≡ false
+not-so-false true e = absurd (true-not-false e refl)
+not-so-false false e = refl
+
+positive : (k : ℕ) → (k ≡ 0 → ⊥) → 1 ≤ k
+positive zero h = absurd (h refl)
+positive (suc k) h = omega arith
+
+module _ {s : List ℕ} where
+  -- a whole tree is its own rest
+  whole-rest : {i : ℕ} {t : Tree} → TreeIn s i t → isWhole s i ≡ true → termOf t .rest ≡ t
+  unfolding isWhole term
+  whole-rest {i} {t} h e =
+      let b = and-both (not (eqb (kind s i) 0)) (not (eqb (kind s i) 3)) e in
+      let integer = eqb-false (kind s i) 0 (not-so-false (eqb (kind s i) 0) (b .0)) in
+      let product = eqb-false (kind s i) 3 (not-so-false (eqb (kind s i) 3) (b .1)) in
+      ap (λ (x : Term). x .rest) (term-other t h (positive (kind s i) integer) product)
+
+  pub rests-unlike : {i j : ℕ} {t u : Tree} → TreeIn s i t → TreeIn s j u → restsDiffer s i j ≡ true
+      → equal (termOf t .rest) (termOf u .rest) ≡ false
+  unfolding restsDiffer
+  rests-unlike {i} {j} {t} {u} h g e =
+      let b = and-both (isWhole s i && isWhole s j) (not (beginAlike s i s j)) e in
+      let w = and-both (isWhole s i) (isWhole s j) (b .0) in
+      rw (whole-rest h (w .0), whole-rest g (w .1)) (begins-differ h g (not-so-false _ (b .1)))

@@ -244,7 +244,7 @@ opened-none inside (t ∷ l) e =
     let o = openOne-none t (inside t) (opened inside l) e in
     o .1 ∙ ap (λ m. t ∷ m) (opened-none inside l (o .0))
 
-collapse-none : (emptied : Tree) (node : Forest → Tree) (l : List Tree) → 2 ≤ length l → collapse emptied node l ≡ node (ofList l)
+pub collapse-none : (emptied : Tree) (node : Forest → Tree) (l : List Tree) → 2 ≤ length l → collapse emptied node l ≡ node (ofList l)
 unfolding collapse
 collapse-none emptied node [] h = absurd (omega arith)
 collapse-none emptied node (t ∷ []) h = absurd (omega arith)

@@ -1,9 +1,9 @@
 -- The parts of members, as the code holds them: what is read off a member's records shows the paper's part of it, and a part that
 -- takes up a later one shows what the paper's part becomes, or leaves the range with it. A base that is an integer is compared by its
 -- bits, any other by its records. By cases on the tests. Assumes nothing.
-use Prim.Native.Nat.{ℕ, _+_, _-_, _*_, _^_, _<_, _≤_}
+use Prim.Native.Nat.{ℕ, _+_, _-_, _^_, _<_, _≤_}
 use mathlib.Core.Path.{_≡_, refl, sym, ap, _∙_}
-use mathlib.Core.Bool.{Bool, true, false, _&&_, cond}
+use mathlib.Core.Bool.{Bool, true, false, cond}
 use mathlib.Core.List.{List}
 use mathlib.Core.Option.{Option, none, some}
 use native.Mathlib.Omega.{arith}
@@ -19,6 +19,7 @@ use Rattle.paper.specs.Rules.{Factor, factor, factorOf, raiseIf, bothIntegers, 
 use Rattle.paper.proofs.Congruence.{word-lt}
 use Rattle.paper.proofs.EncodeLaws.{signed-word, word-signed}
 use Rattle.paper.proofs.Tests.{eqZ-true, eqZ-self, not-so}
+use Rattle.paper.proofs.MergeFactors.{timesBases, addExponents}
 use Rattle.paper.proofs.Seen.{Seen, an-integer, a-symbol, a-sum, a-product, a-power}
 use Rattle.number.specs.declared.Num.the-variants.{Is, Out}
 use Rattle.number.specs.Num.{numOf}
@@ -26,8 +27,6 @@ use Rattle.number.proofs.NumLaws.{numOf-is, numOf-is-out, add-exponents}
 use Rattle.split.specs.Standing.{TreeIn, SomeTree}
 use Rattle.split.proofs.StandingLaws.{seen}
 use Rattle.split.proofs.SplitLaws.{base-power, base-itself}
-use Rattle.equal.specs.declared.Match.the-variants.{Different, Ends}
-use Rattle.equal.specs.Matching.{matchOf}
 use Rattle.part.specs.Like.{Like, split}
 use Rattle.part.specs.Part.{Sized, ShowsTerm, ShowsPower, ShowsNumber, Shows, MergedIs}
 use Rattle.part.specs.declared.Part.the-variants as part
@@ -155,8 +154,8 @@ module _ (s : List ℕ) (e i k : ℕ) (t : Tree) (h : Sized s i k t) (other : as
 pub power-two : (s : List ℕ) (i k : ℕ) (t : Tree) → Sized s i k t → kind s i ≡ 4 → 2 ≤ k
 power-two s i k t h q = omega (arith, h .size, power-size s i t (h .there) q)
 
--- ---- terms that meet
-module _ (s : List ℕ) (n i : ℕ) (c : Term) (h : ShowsTerm s n i c) (u : Tree) where
+-- ---- terms that meet: the one that the code holds, and the term of a later member u
+module _ {s : List ℕ} {n i : ℕ} {c : Term} (h : ShowsTerm s n i c) (u : Tree) where
   abbrev same : Bool
   same = equal (termOf (h .member) .rest) (termOf u .rest)
 
@@ -175,10 +174,10 @@ module _ (s : List ℕ) (n i : ℕ) (c : Term) (h : ShowsTerm s n i c) (u : Tree
     total : c .coefficient +ℤ termOf u .coefficient ≡ signed n +ℤ signed m
     total = rw (h .coefficient, sym other) refl
 
-    pub term-into : (v : ℕ) → numOf (signed n +ℤ signed m) ≡ Is v
+    pub term-into : {v : ℕ} → numOf (signed n +ℤ signed m) ≡ Is v
         → (d : Term) × (mergeTerms c (termOf u) ≡ some d) × ShowsTerm s v i d
     unfolding added
-    term-into v q =
+    term-into {v} q =
         let z = numOf-is (signed n +ℤ signed m) v q in
         let l = word-lt (signed n +ℤ signed m) in (
           added c (termOf u),
@@ -201,38 +200,53 @@ module _ (s : List ℕ) (n i : ℕ) (c : Term) (h : ShowsTerm s n i c) (u : Tree
       rw (h .good, termOf-good u, ap fits total ∙ numOf-is-out (signed n +ℤ signed m) q) refl,
     )
 
--- ---- factors that meet
-raised : Factor → Factor → Factor
-raised c x =
-    record {
-      base = c .base;
-      exponent = c .exponent + x .exponent;
-      inRange = c .inRange && x .inRange && ltb (c .exponent + x .exponent) (2 ^ 63);
-    }
+-- ---- exponents that are added: the code's sum is the paper's, and is in range with it
+pub record Raised (c : Factor) (e : ℕ) : Type 0 where
+  pub exponent : c .exponent ≡ e
+  pub most : e < 2 ^ 63
+  pub good : c .inRange ≡ true
 
--- the sum of two exponents, judged
-exponents : (e f : ℕ) → e < 2 ^ 63 → f < 2 ^ 63 → (v : ℕ) → numOf (signed e +ℤ signed f) ≡ Is v → (ltb (e + f) (2 ^ 63) ≡ true) × (v ≡ e + f)
-exponents e f h k v q = by (ltb (e + f) (2 ^ 63)) refl
-  where
-    by : (t : Bool) → ltb (e + f) (2 ^ 63) ≡ t → (ltb (e + f) (2 ^ 63) ≡ true) × (v ≡ e + f)
-    by true p =
-        let z : Is v ≡ Is (e + f) = sym q ∙ add-exponents e f h k ∙ ap (λ t. cond t (Is (e + f)) Out) p in
-        (p, cc)
-    by false p =
-        let z : Is v ≡ Out = sym q ∙ add-exponents e f h k ∙ ap (λ t. cond t (Is (e + f)) Out) p in
-        absurd (let o : _≡_ {A = ℕ} 0 1 = cc in omega arith)
+module _ {c x : Factor} {e f : ℕ} (one : Raised c e) (other : Raised x f) where
+  total-is : c .exponent + x .exponent ≡ e + f
+  total-is = omega (arith, one .exponent, other .exponent)
 
-exponents-out : (e f : ℕ) → e < 2 ^ 63 → f < 2 ^ 63 → numOf (signed e +ℤ signed f) ≡ Out → ltb (e + f) (2 ^ 63) ≡ false
-exponents-out e f h k q = by (ltb (e + f) (2 ^ 63)) refl
-  where
-    by : (t : Bool) → ltb (e + f) (2 ^ 63) ≡ t → ltb (e + f) (2 ^ 63) ≡ false
-    by true p =
-        let z : Out ≡ Is (e + f) = sym q ∙ add-exponents e f h k ∙ ap (λ t. cond t (Is (e + f)) Out) p in
-        absurd (let o : _≡_ {A = ℕ} 0 1 = cc in omega arith)
-    by false p = p
+  judged : numOf (signed e +ℤ signed f) ≡ cond (ltb (e + f) (2 ^ 63)) (Is (e + f)) Out
+  judged = add-exponents e f (one .most) (other .most)
+
+  pub exponents-in : {v : ℕ} → numOf (signed e +ℤ signed f) ≡ Is v → Raised (addExponents c x) v
+  unfolding addExponents
+  exponents-in {v} q = by (ltb (e + f) (2 ^ 63)) refl
+    where
+      by : (t : Bool) → ltb (e + f) (2 ^ 63) ≡ t → Raised (addExponents c x) v
+      by true p =
+          let z : Is v ≡ Is (e + f) = sym q ∙ judged ∙ ap (λ t. cond t (Is (e + f)) Out) p in
+          let same : v ≡ e + f = cc in
+          record {
+            exponent = omega (arith, total-is);
+            most = omega (arith, ltb-true (e + f) (2 ^ 63) p);
+            good = rw (one .good, other .good, total-is, p) refl;
+          }
+      by false p =
+          let z : Is v ≡ Out = sym q ∙ judged ∙ ap (λ t. cond t (Is (e + f)) Out) p in
+          absurd (let o : _≡_ {A = ℕ} 0 1 = cc in omega arith)
+
+  pub exponents-out : numOf (signed e +ℤ signed f) ≡ Out → addExponents c x .inRange ≡ false
+  unfolding addExponents
+  exponents-out q = by (ltb (e + f) (2 ^ 63)) refl
+    where
+      by : (t : Bool) → ltb (e + f) (2 ^ 63) ≡ t → addExponents c x .inRange ≡ false
+      by true p =
+          let z : Out ≡ Is (e + f) = sym q ∙ judged ∙ ap (λ t. cond t (Is (e + f)) Out) p in
+          absurd (let o : _≡_ {A = ℕ} 0 1 = cc in omega arith)
+      by false p = rw (one .good, other .good, total-is, p) refl
+
+-- ---- factors that meet: the one that the code holds, and that of a later member
+pub raised-later : (u : Tree) {f : ℕ} → f ≡ factorOf u .exponent → f < 2 ^ 63 → Raised (factorOf u) f
+raised-later u x m = record { exponent = sym x; most = m; good = factorOf-good u }
 
 -- where the bases are not both integers, only equal bases merge
-by-base : (c x : Factor) → bothIntegers (asInteger (c .base)) (asInteger (x .base)) ≡ none → mergeFactors c x ≡ raiseIf (equal (c .base) (x .base)) c x
+by-base : (c x : Factor) → bothIntegers (asInteger (c .base)) (asInteger (x .base)) ≡ none
+    → mergeFactors c x ≡ raiseIf (equal (c .base) (x .base)) c x
 unfolding mergeFactors multiplyIf
 by-base c x n = go (eqb (c .exponent) (x .exponent)) _ n
   where
@@ -241,44 +255,37 @@ by-base c x n = go (eqb (c .exponent) (x .exponent)) _ n
     go true (some z) e = absurd (let o : _≡_ {A = ℕ} 0 1 = cc in omega arith)
     go false w e = refl
 
-module _ (s : List ℕ) (e i k : ℕ) (c : Factor) (h : ShowsPower s e i k c) (u : Tree) where
-  one-way : mergeFactors c (factorOf u) ≡ raiseIf (equal (c .base) (factorOf u .base)) c (factorOf u)
+-- a base that is no integer
+module _ {s : List ℕ} {e i k : ℕ} {c : Factor} (h : ShowsPower s e i k c) (x : Factor) where
+  one-way : mergeFactors c x ≡ raiseIf (equal (c .base) (x .base)) c x
   unfolding bothIntegers
-  one-way = by-base c (factorOf u) (rw (h .other) refl)
+  one-way = by-base c x (rw (h .other) refl)
 
-  pub power-apart : equal (c .base) (factorOf u .base) ≡ false → mergeFactors c (factorOf u) ≡ none
+  pub power-apart : equal (c .base) (x .base) ≡ false → mergeFactors c x ≡ none
   unfolding raiseIf
   power-apart q = one-way ∙ rw q refl
 
-  module _ (f : ℕ) (other : f ≡ factorOf u .exponent) (small : f < 2 ^ 63) (q : equal (c .base) (factorOf u .base) ≡ true) where
-    exponent-sum : c .exponent + factorOf u .exponent ≡ e + f
-    exponent-sum = omega (arith, h .exponent)
+  module _ {f : ℕ} (other : Raised x f) (q : equal (c .base) (x .base) ≡ true) where
+    one-raised : Raised c e
+    one-raised = record { exponent = h .exponent; most = h .most; good = h .good }
 
-    pub power-into : (v : ℕ) → numOf (signed e +ℤ signed f) ≡ Is v
-        → (d : Factor) × (mergeFactors c (factorOf u) ≡ some d) × ShowsPower s v i k d
-    unfolding raiseIf raised
-    power-into v r =
-        let z = exponents e f (h .most) small v r in (
-          raised c (factorOf u),
-          one-way ∙ rw q refl,
-          record {
-            sized = h .sized;
-            other = h .other;
-            exponent = omega (arith, exponent-sum, z .1);
-            most = omega (arith, z .1, ltb-true (e + f) (2 ^ 63) (z .0));
-            good = rw (h .good, factorOf-good u, exponent-sum, z .0) refl;
-          },
+    raises : mergeFactors c x ≡ some (addExponents c x)
+    unfolding raiseIf addExponents
+    raises = one-way ∙ rw q refl
+
+    pub power-into : {v : ℕ} → numOf (signed e +ℤ signed f) ≡ Is v → (d : Factor) × (mergeFactors c x ≡ some d) × ShowsPower s v i k d
+    unfolding addExponents
+    power-into r =
+        let z = exponents-in one-raised other r in (
+          addExponents c x,
+          raises,
+          record { sized = h .sized; other = h .other; exponent = z .exponent; most = z .most; good = z .good },
         )
 
-    pub power-over : numOf (signed e +ℤ signed f) ≡ Out → (d : Factor) × (mergeFactors c (factorOf u) ≡ some d) × (d .inRange ≡ false)
-    unfolding raiseIf raised
-    power-over r = (
-      raised c (factorOf u),
-      one-way ∙ rw q refl,
-      rw (h .good, factorOf-good u, exponent-sum, exponents-out e f (h .most) small r) refl,
-    )
+    pub power-over : numOf (signed e +ℤ signed f) ≡ Out → (d : Factor) × (mergeFactors c x ≡ some d) × (d .inRange ≡ false)
+    power-over r = (addExponents c x, raises, exponents-out one-raised other r)
 
--- ---- an integer base that meets another base
+-- an integer base that meets one that is none
 other-than : (z : ℤ) (t : Tree) → asInteger t ≡ none → equal (integer z) t ≡ false
 unfolding equal onInteger asInteger
 other-than z (integer y) e = absurd (let o : _≡_ {A = ℕ} 0 1 = cc in omega arith)
@@ -287,106 +294,84 @@ other-than z (sum f) e = refl
 other-than z (product f) e = refl
 other-than z (power b x) e = refl
 
+pub number-apart : {e v : ℕ} {c : Factor} → ShowsNumber e v c → (x : Factor) → asInteger (x .base) ≡ none → mergeFactors c x ≡ none
+unfolding bothIntegers raiseIf asInteger
+number-apart {e} {v} {c} h x n =
+    by-base c x (rw (h .base, n) refl) ∙ rw (ap (λ b. equal b (x .base)) (h .base) ∙ other-than (signed v) (x .base) n) refl
+
 pub same-bits : (v w : ℕ) → v < 2 ^ 64 → w < 2 ^ 64 → signed v ≡ signed w → v ≡ w
 same-bits v w h k e = sym (word-signed v h) ∙ ap word e ∙ word-signed w k
 
-multiplied : Factor → Factor → ℤ → Factor
-multiplied c x z = record { base = integer z; exponent = c .exponent; inRange = c .inRange && x .inRange && fits z }
+-- two integer bases: equal exponents multiply the bases, else equal bases add the exponents
+module _ {e v f w : ℕ} {c x : Factor} (h : ShowsNumber e v c) (k : ShowsNumber f w x) where
+  by-integers : mergeFactors c x ≡ multiplyIf (eqb e f) (some (signed v *ℤ signed w)) c x
+  unfolding mergeFactors bothIntegers asInteger
+  by-integers = rw (h .base, k .base, h .exponent, k .exponent) refl
 
-module _ (e v : ℕ) (c : Factor) (h : ShowsNumber e v c) (u : Tree) where
-  pub number-apart : asInteger (factorOf u .base) ≡ none → mergeFactors c (factorOf u) ≡ none
-  unfolding bothIntegers raiseIf asInteger
-  number-apart n =
-      by-base c (factorOf u) (rw (h .base, n) refl)
-      ∙ rw (ap (λ b. equal b (factorOf u .base)) (h .base) ∙ other-than (signed v) (factorOf u .base) n) refl
+  module _ (q : e ≡ f) where
+    multiplies : mergeFactors c x ≡ some (timesBases c x (signed v *ℤ signed w))
+    unfolding multiplyIf timesBases
+    multiplies = by-integers ∙ rw (eq-eqb e f q) refl
 
-  module _ (w f : ℕ) (base : factorOf u .base ≡ integer (signed w)) (small : w < 2 ^ 64) (exponent : f ≡ factorOf u .exponent)
-      (most : f < 2 ^ 63) where
-    by-integers : mergeFactors c (factorOf u) ≡ multiplyIf (eqb e f) (some (signed v *ℤ signed w)) c (factorOf u)
-    unfolding mergeFactors bothIntegers asInteger
-    by-integers = rw (h .base, base, h .exponent, exponent) refl
-
-    pub number-times : (x : ℕ) → e ≡ f → numOf (signed v *ℤ signed w) ≡ Is x
-        → (d : Factor) × (mergeFactors c (factorOf u) ≡ some d) × ShowsNumber e x d
-    unfolding multiplyIf multiplied
-    number-times x q r =
-        let z = numOf-is (signed v *ℤ signed w) x r in
+    pub number-times : {n : ℕ} → numOf (signed v *ℤ signed w) ≡ Is n → (d : Factor) × (mergeFactors c x ≡ some d) × ShowsNumber e n d
+    unfolding timesBases
+    number-times {n} r =
+        let z = numOf-is (signed v *ℤ signed w) n r in
         let l = word-lt (signed v *ℤ signed w) in (
-          multiplied c (factorOf u) (signed v *ℤ signed w),
-          by-integers ∙ rw (eq-eqb e f q) refl,
+          timesBases c x (signed v *ℤ signed w),
+          multiplies,
           record {
             base = ap integer (sym (z .2));
             bits = omega (arith, z .1);
             exponent = h .exponent;
             most = h .most;
-            good = rw (h .good, factorOf-good u, z .0) refl;
+            good = rw (h .good, k .good, z .0) refl;
           },
         )
 
-    pub number-times-over : e ≡ f → numOf (signed v *ℤ signed w) ≡ Out
-        → (d : Factor) × (mergeFactors c (factorOf u) ≡ some d) × (d .inRange ≡ false)
-    unfolding multiplyIf multiplied
-    number-times-over q r = (
-      multiplied c (factorOf u) (signed v *ℤ signed w),
-      by-integers ∙ rw (eq-eqb e f q) refl,
-      rw (h .good, factorOf-good u, numOf-is-out (signed v *ℤ signed w) r) refl,
+    pub number-times-over : numOf (signed v *ℤ signed w) ≡ Out → (d : Factor) × (mergeFactors c x ≡ some d) × (d .inRange ≡ false)
+    unfolding timesBases
+    number-times-over r = (
+      timesBases c x (signed v *ℤ signed w),
+      multiplies,
+      rw (h .good, k .good, numOf-is-out (signed v *ℤ signed w) r) refl,
     )
 
-    module _ (apart : e ≡ f → ⊥) where
-      by-bits : mergeFactors c (factorOf u) ≡ raiseIf (eqZ (signed v) (signed w)) c (factorOf u)
-      unfolding multiplyIf equal onInteger
-      by-bits =
-          by-integers
-          ∙ rw (ne-eqb e f apart) refl
-          ∙ ap (λ b. raiseIf b c (factorOf u)) (ap (λ b. equal b (factorOf u .base)) (h .base) ∙ ap (equal (integer (signed v))) base)
+  module _ (apart : e ≡ f → ⊥) where
+    by-bits : mergeFactors c x ≡ raiseIf (eqZ (signed v) (signed w)) c x
+    unfolding multiplyIf equal onInteger
+    by-bits =
+        by-integers
+        ∙ rw (ne-eqb e f apart) refl
+        ∙ ap (λ b. raiseIf b c x) (ap (λ b. equal b (x .base)) (h .base) ∙ ap (equal (integer (signed v))) (k .base))
 
-      pub number-other : (v ≡ w → ⊥) → mergeFactors c (factorOf u) ≡ none
-      unfolding raiseIf
-      number-other n =
-          by-bits
-          ∙ rw (not-so (eqZ (signed v) (signed w)) (λ t. n (same-bits v w (h .bits) small (eqZ-true (signed v) (signed w) t)))) refl
+    pub number-other : (v ≡ w → ⊥) → mergeFactors c x ≡ none
+    unfolding raiseIf
+    number-other n =
+        by-bits
+        ∙ rw (not-so (eqZ (signed v) (signed w)) (λ t. n (same-bits v w (h .bits) (k .bits) (eqZ-true (signed v) (signed w) t)))) refl
 
-      merges : v ≡ w → mergeFactors c (factorOf u) ≡ some (raised c (factorOf u))
-      unfolding raiseIf raised
-      merges q = by-bits ∙ rw (ap (λ b. eqZ (signed v) (signed b)) (sym q) ∙ eqZ-self (signed v)) refl
+    module _ (q : v ≡ w) where
+      one-of : Raised c e
+      one-of = record { exponent = h .exponent; most = h .most; good = h .good }
 
-      number-sum : c .exponent + factorOf u .exponent ≡ e + f
-      number-sum = omega (arith, h .exponent)
+      other-of : Raised x f
+      other-of = record { exponent = k .exponent; most = k .most; good = k .good }
 
-      pub number-raised : (x : ℕ) → v ≡ w → numOf (signed e +ℤ signed f) ≡ Is x
-          → (d : Factor) × (mergeFactors c (factorOf u) ≡ some d) × ShowsNumber x v d
-      unfolding raised
-      number-raised x q r =
-          let z = exponents e f (h .most) most x r in (
-            raised c (factorOf u),
-            merges q,
-            record {
-              base = h .base;
-              bits = h .bits;
-              exponent = omega (arith, number-sum, z .1);
-              most = omega (arith, z .1, ltb-true (e + f) (2 ^ 63) (z .0));
-              good = rw (h .good, factorOf-good u, number-sum, z .0) refl;
-            },
-          )
+      merges : mergeFactors c x ≡ some (addExponents c x)
+      unfolding raiseIf addExponents
+      merges = by-bits ∙ rw (ap (λ b. eqZ (signed v) (signed b)) (sym q) ∙ eqZ-self (signed v)) refl
 
-      pub number-raised-over : v ≡ w → numOf (signed e +ℤ signed f) ≡ Out
-          → (d : Factor) × (mergeFactors c (factorOf u) ≡ some d) × (d .inRange ≡ false)
-      unfolding raised
-      number-raised-over q r = (
-        raised c (factorOf u),
-        merges q,
-        rw (h .good, factorOf-good u, number-sum, exponents-out e f (h .most) most r) refl,
-      )
+      pub number-raised : {n : ℕ} → numOf (signed e +ℤ signed f) ≡ Is n → (d : Factor) × (mergeFactors c x ≡ some d) × ShowsNumber n v d
+      unfolding addExponents
+      number-raised r =
+          let z = exponents-in one-of other-of r in
+          (addExponents c x, merges, record { base = h .base; bits = h .bits; exponent = z .exponent; most = z .most; good = z .good })
+
+      pub number-raised-over : numOf (signed e +ℤ signed f) ≡ Out → (d : Factor) × (mergeFactors c x ≡ some d) × (d .inRange ≡ false)
+      number-raised-over r = (addExponents c x, merges, exponents-out one-of other-of r)
 
 -- ---- what the code's answers say
-pub unmatched : (b : Bool) (e : ℕ) → matchOf b e ≡ Different → b ≡ false
-unmatched true e q = absurd (let o : _≡_ {A = ℕ} 0 1 = cc in omega arith)
-unmatched false e q = refl
-
-pub matched : (b : Bool) (e x : ℕ) → matchOf b e ≡ Ends x → b ≡ true
-matched true e x q = refl
-matched false e x q = absurd (let o : _≡_ {A = ℕ} 0 1 = cc in omega arith)
-
 module _ (s : List ℕ) (t : Tree) (r : Merged) where
   pub of-term : (n i : ℕ) → ((c : Term) → ShowsTerm s n i c → MergedIs true s c (termOf t) r)
       → (b : Bool) (x : Like b) → Shows b s (part.Term n i) x → MergedIs b s x (split b t) r

@@ -30,7 +30,11 @@ pub record Alike (b : Bool) (s : List ℕ) (r r' : Part) : Type 0 where
   pub other : Shows b s r' shown
 
 pub part-of-once : (κs : Lfts 1) (a : Dens κs part-kinds.ps) (t : Tree) (r r' : Part) (x x' : AtExit (endedOf 1 part-kinds.ps part-kinds.r) κs)
-    → Sized (a .0 .now) (a .1 .0) (a .1 .1 .0) t → part-reads.Post κs a r x → part-reads.Post κs a r' x' → Alike (a .1 .1 .1 .0) (a .0 .now) r r'
+    → let s = a .0 .now in
+    let at = a .1 .0 in
+    let size = a .1 .1 .0 in
+    let terms = a .1 .1 .1 .0 in
+    Sized s at size t → part-reads.Post κs a r x → part-reads.Post κs a r' x' → Alike terms s r r'
 part-of-once κs a t r r' x x' h p p' = record { shown = split (a .1 .1 .1 .0) t; one = p .0 t h; other = p' .0 t h }
 
 -- both say no, or leave the range, or show what the current part becomes
@@ -75,6 +79,9 @@ module _ (b : Bool) (s : List ℕ) (c x : Like b) where
       (in-and-out b s p (h' .0) (h' .2) (subst (λ y. inRange b y ≡ false) (sym (same-part (h' .0) (h .0) (h' .1) (h .1))) (h .2)))
   merged-once Over Over h h' = tt
 
-pub merge-once : (κs : Lfts 2) (a : Dens κs kinds.ps) (b : Bool) (c : Like b) (t : Tree) (r r' : Merged) (x x' : AtExit (endedOf 2 kinds.ps kinds.r) κs)
-    → Shows b (a .0 .now) (a .1 .0) c → TreeIn (a .0 .now) (a .1 .1 .0) t → reads.Post κs a r x → reads.Post κs a r' x' → SayAlike b (a .0 .now) r r'
-merge-once κs a b c t r r' x x' s h p p' = merged-once b (a .0 .now) c (split b t) r r' (p .0 b c t s h) (p' .0 b c t s h)
+pub merge-once : (κs : Lfts 2) (a : Dens κs kinds.ps) (b : Bool) (x : Like b) (t : Tree) (r r' : Merged) (y y' : AtExit (endedOf 2 kinds.ps kinds.r) κs)
+    → let s = a .0 .now in
+    let c = a .1 .0 in
+    let at = a .1 .1 .0 in
+    Shows b s c x → TreeIn s at t → reads.Post κs a r y → reads.Post κs a r' y' → SayAlike b s r r'
+merge-once κs a b c t r r' y y' s h p p' = merged-once b (a .0 .now) c (split b t) r r' (p .0 b c t s h) (p' .0 b c t s h)

@@ -1,68 +1,80 @@
 -- The rules, asked one after the other: as long as none applies, asking all of them is asking those that are left, and all is ready for
--- the next; the first that applies, or leaves the range, gives the answer. Assumes nothing.
-use Prim.Native.Nat.{ℕ, _*_}
+-- the next; the first that applies, or leaves the range, gives the answer. The i-th that is asked is the rule of the i-th step of the
+-- paper's order. Assumes nothing.
+use Prim.Native.Nat.{ℕ, zero, suc, _+_, _*_, _<_}
 use mathlib.Core.Path.{_≡_, refl, ap, _∙_}
 use mathlib.Core.List.{List, [], _∷_}
-use lib.ListN.{length, take}
+use native.Mathlib.Omega.{arith}
+use borrow.Author.Tests.{ne-eqb}
+use lib.ListN.{length, take, drop, getD}
 use Rattle.paper.specs.Tree.{Tree}
 use Rattle.paper.specs.Rules as paper
-use Rattle.paper.specs.Rules.{Rule, editionOne, addZero, combineLikeTerms, multiplyZero, multiplyOne, combineLikeFactors}
+use Rattle.paper.specs.Rules.{editionOne}
 use Rattle.paper.specs.Driver.{Asked, step, out-of-range, ask}
+use Rattle.rules.specs.Alike.{numbered, ruleOf}
 use Rattle.rules.specs.Asked.{Ready, AskedIs}
 use Rattle.rules.specs.Tried.{Answers}
-use Rattle.rules.specs.declared.Asked.the-variants.{Nothing, Step, Over}
+use Rattle.rules.specs.declared.Asked.the-variants.{Nothing, Step}
 use Rattle.rules.specs.declared.Tried.the-variants as tried
 use Rattle.rules.proofs.RuleLaws.{ready-again}
 
--- what is left of the rules, before each of them
-abbrev pub from-six : List Rule
-from-six = record { number = 6; try = combineLikeFactors } ∷ []
+-- the i-th step of the paper's order, and its rule
+abbrev pub stepAt : ℕ → ℕ
+stepAt i = getD (1 ∷ 2 ∷ 3 ∷ 4 ∷ 6 ∷ []) i 0
 
-abbrev pub from-four : List Rule
-from-four = record { number = 4; try = multiplyOne } ∷ from-six
+first-left : (i : ℕ) → i < 5 → drop i editionOne ≡ record { number = stepAt i; try = ruleOf (stepAt i) } ∷ drop (i + 1) editionOne
+unfolding editionOne ruleOf numbered
+first-left zero h = refl
+first-left (suc zero) h = refl
+first-left (suc (suc zero)) h = refl
+first-left (suc (suc (suc zero))) h = refl
+first-left (suc (suc (suc (suc zero)))) h = refl
+first-left (suc (suc (suc (suc (suc i))))) h = absurd (omega arith)
 
-abbrev pub from-three : List Rule
-from-three = record { number = 3; try = multiplyZero } ∷ from-four
+none-left : (i : ℕ) → i ≡ 5 → drop i editionOne ≡ []
+unfolding editionOne
+none-left i e = ap (λ n. drop n editionOne) e
 
-abbrev pub from-two : List Rule
-from-two = record { number = 2; try = combineLikeTerms } ∷ from-three
+-- a step that none of the rules has
+pub no-rule-of : (k : ℕ) (t : Tree) → (k ≡ 1 → ⊥) → (k ≡ 2 → ⊥) → (k ≡ 3 → ⊥) → (k ≡ 4 → ⊥) → (k ≡ 6 → ⊥) → ruleOf k t ≡ paper.does-not-apply
+unfolding editionOne ruleOf numbered
+no-rule-of k t a b c d e = simp (ne-eqb k 1 a, ne-eqb k 2 b, ne-eqb k 3 c, ne-eqb k 4 d, ne-eqb k 6 e)
 
-abbrev pub from-one : List Rule
-from-one = record { number = 1; try = addZero } ∷ from-two
-
-abbrev chosen : Rule → List Rule → Tree → paper.Tried → Asked
-chosen r rs t x = elim x [ paper.does-not-apply ↦ ask rs t | paper.applies u ↦ step (r .number) u | paper.range-exceeded ↦ out-of-range ]
-
--- the rules rs are left to ask, and all is ready for them
-pub record Going (t : Tree) (rest o : List ℕ) (d p : ℕ) (rs : List Rule) (o' w' : List ℕ) : Type 0 where
-  pub same : ask editionOne t ≡ ask rs t
+-- those from the i-th on are left to ask, and all is ready for them
+pub record Going (t : Tree) (rest o : List ℕ) (d p i : ℕ) (o' w' : List ℕ) : Type 0 where
+  pub same : ask editionOne t ≡ ask (drop i editionOne) t
   pub ready : Ready o' w' d p t rest
   pub done : take (d * 16) o' ≡ take (d * 16) o
 
-pub begins : {t : Tree} {rest o w : List ℕ} {d p : ℕ} → Ready o w d p t rest → Going t rest o d p from-one o w
-unfolding editionOne
+pub begins : {t : Tree} {rest o w : List ℕ} {d p : ℕ} → Ready o w d p t rest → Going t rest o d p 0 o w
 begins h = record { same = refl; ready = h; done = refl }
 
-module _ {t : Tree} {rest o : List ℕ} {d p : ℕ} {r : Rule} {rs : List Rule} {o₁ w₁ : List ℕ} (g : Going t rest o d p (r ∷ rs) o₁ w₁) where
-  answered : (x : paper.Tried) → r .try t ≡ x → ask editionOne t ≡ chosen r rs t x
+pub ends : {t : Tree} {rest o : List ℕ} {d p i : ℕ} {o₁ w₁ : List ℕ} → i ≡ 5 → Going t rest o d p i o₁ w₁ → AskedIs t rest o o₁ w₁ d p Nothing
+unfolding ask
+ends {t} {i = i} e g = (g .same ∙ ap (λ rs. ask rs t) (none-left i e), g .ready .stands, g .done)
+
+-- the i-th is asked
+module _ {t : Tree} {rest o : List ℕ} {d p i : ℕ} {o₁ w₁ : List ℕ} (g : Going t rest o d p i o₁ w₁) (l : i < 5) where
+  abbrev chosen : paper.Tried → Asked
+  chosen x =
+      elim x [ paper.does-not-apply ↦ ask (drop (i + 1) editionOne) t | paper.applies u ↦ step (stepAt i) u | paper.range-exceeded ↦ out-of-range ]
+
+  answered : (x : paper.Tried) → ruleOf (stepAt i) t ≡ x → ask editionOne t ≡ chosen x
   unfolding ask
-  answered x e = g .same ∙ ap (chosen r rs t) e
+  answered x e = g .same ∙ ap (λ rs. ask rs t) (first-left i l) ∙ ap chosen e
+
+  pub leaves : ruleOf (stepAt i) t ≡ paper.range-exceeded → ask editionOne t ≡ out-of-range
+  leaves e = answered paper.range-exceeded e
 
   module _ (o₂ w₂ : List ℕ) where
-    pub goes-on : length o₂ ≡ length o₁ → length w₂ ≡ length w₁ → Answers (r .try t) rest o₁ o₂ w₁ w₂ d p tried.Idle → Going t rest o d p rs o₂ w₂
+    pub goes-on : length o₂ ≡ length o₁ → length w₂ ≡ length w₁ → Answers (ruleOf (stepAt i) t) rest o₁ o₂ w₁ w₂ d p tried.Idle
+        → Going t rest o d p (i + 1) o₂ w₂
     goes-on a b x =
         record {
           same = answered paper.does-not-apply (x .0);
-          ready = ready-again o₁ w₁ d p t rest (g .ready) o₂ w₂ a b (x .1);
+          ready = ready-again (g .ready) o₂ w₂ a b (x .1);
           done = x .2 ∙ g .done;
         }
 
-    pub steps : (q : ℕ) → Answers (r .try t) rest o₁ o₂ w₁ w₂ d p (tried.Applied q) → AskedIs t rest o o₂ w₂ d p (Step (r .number) q)
+    pub steps : (q : ℕ) → Answers (ruleOf (stepAt i) t) rest o₁ o₂ w₁ w₂ d p (tried.Applied q) → AskedIs t rest o o₂ w₂ d p (Step (stepAt i) q)
     steps q x = (x .0, answered (paper.applies (x .0)) (x .1), x .2, x .3 ∙ g .done)
-
-    pub leaves : Answers (r .try t) rest o₁ o₂ w₁ w₂ d p tried.Over → AskedIs t rest o o₂ w₂ d p Over
-    leaves x = answered paper.range-exceeded x
-
-pub ends : {t : Tree} {rest o : List ℕ} {d p : ℕ} {o₁ w₁ : List ℕ} → Going t rest o d p [] o₁ w₁ → AskedIs t rest o o₁ w₁ d p Nothing
-unfolding ask
-ends g = (g .same, g .ready .stands, g .done)

@@ -23,13 +23,13 @@ module _ {o w : List ℕ} {d p : ℕ} {f : Forest} {rest : List ℕ} (h : Held o
   -- the table of entries lies before the node
   pub held-low : countIn w p * 4 ≤ p * 16
   held-low =
-      let long = held-length o w d p f rest h in
+      let long = held-length h in
       omega (arith, h .light, h .counted, h .work-room, count-records f, recordses-weights f)
 
   pub listable : Listable w p f
   listable =
-      let long = held-length o w d p f rest h in
-      record { stand = members-in w p f (held-members o w d p f rest h); low = held-low; within = omega arith }
+      let long = held-length h in
+      record { stand = members-in w p f (held-members h); low = held-low; within = omega arith }
 
   pub held-after : drop ((p + 1 + recordses f) * 16) w ≡ rest
   held-after =
@@ -70,8 +70,8 @@ module _ {o w : List ℕ} {d p : ℕ} {f : Forest} {rest : List ℕ} (h : Held o
       -- it is short enough to end where the node ended
       pub came-short : e ≤ d + end
       came-short =
-          let long = held-length o w d p f rest h in
+          let long = held-length h in
           omega (arith, c .small, same, h .work-room, k .end)
 
     pub end-within : end * 16 ≤ length w
-    end-within = let long = held-length o w d p f rest h in omega (arith, k .end)
+    end-within = let long = held-length h in omega (arith, k .end)

@@ -23,17 +23,17 @@ use Rattle.split.proofs.StandingLaws.{FirstOf, first-of, none-of}
 use Rattle.rules.proofs.Nodes.{after-first, members-in}
 
 -- what a function that only reads asks for
-pub held-members : (o w : List ℕ) (d p : ℕ) (f : Forest) (rest : List ℕ) → Held o w d p f rest → MembersIn w p f
-held-members o w d p f rest h =
+pub held-members : {o w : List ℕ} {d p : ℕ} {f : Forest} {rest : List ℕ} → Held o w d p f rest → MembersIn w p f
+held-members {f = f} {rest = rest} h =
     record {
       seen = record { counted = h .counted; two = h .two; wf = h .wf; stand = record { after = rest; there = h .stand } };
       few = omega (arith, h .light, recordses-weights f);
     }
 
 -- the records of the members, and of what follows, are all that is left of the table
-pub held-length : (o w : List ℕ) (d p : ℕ) (f : Forest) (rest : List ℕ) → Held o w d p f rest
+pub held-length : {o w : List ℕ} {d p : ℕ} {f : Forest} {rest : List ℕ} → Held o w d p f rest
     → length w ≡ (p + 1 + recordses f) * 16 + length rest
-held-length o w d p f rest h =
+held-length {w = w} {p = p} {f = f} {rest = rest} h =
     let e : length w - (p + 1) * 16 ≡ length (encodes f) + length rest =
     sym (length-drop ((p + 1) * 16) w) ∙ ap length (h .stand) ∙ length-append (encodes f) rest in
     omega (arith, encodes-length f, h .work-room, recordses-weights f, records-two f (h .two))
@@ -42,7 +42,7 @@ held-length o w d p f rest h =
     records-two f t = omega (arith, count-records f)
 
 module _ (z : ℕ) where
-  abbrev kept : List Tree → List Tree
+  abbrev pub kept : List Tree → List Tree
   kept l = dropAll (isThe (pos z)) l
 
   pub record Dropping (o₀ w : List ℕ) (d p : ℕ) (f : Forest) (rest o : List ℕ) (at left e n : ℕ) : Type 0 where
@@ -57,139 +57,151 @@ module _ (z : ℕ) where
     pub room : e + recordses others ≤ d + 1 + recordses f
     pub place : at + recordses others ≡ p + 1 + recordses f
 
-  module _ (o₀ w : List ℕ) (d p : ℕ) (f : Forest) (rest : List ℕ) (h : Held o₀ w d p f rest) where
-    pub begins : (n : ℕ) → n ≡ countIn w p → Dropping o₀ w d p f rest o₀ (p + 1) n (d + 1) 0
-    unfolding ofList records encode
-    begins n c =
-        record {
-          done = [];
-          others = f;
-          stand = subst (λ n. TreesIn w (p + 1) n f) (sym c) (members-in w p f (held-members o₀ w d p f rest h));
-          follow = h .stand;
-          built = sym (append-nil (take ((d + 1) * 16) o₀));
-          end = omega arith;
-          many = refl;
-          same = refl;
-          room = omega arith;
-          place = refl;
-        }
+  -- none is left: all that is kept stands in `out`, and what follows the node follows
+  pub record Ended (o₀ w : List ℕ) (d p : ℕ) (f : Forest) (rest o : List ℕ) (at e n : ℕ) : Type 0 where
+    pub built : Built o d e (kept (toList f))
+    pub many : length (kept (toList f)) ≡ n
+    pub done : take (d * 16) o ≡ take (d * 16) o₀
+    pub follow : drop (at * 16) w ≡ rest
+    pub within : at * 16 ≤ length w
+    pub short : e ≤ d + at
 
-    module _ (o : List ℕ) (at left e n : ℕ) (v : Dropping o₀ w d p f rest o at left e n) (l : 0 < left) where
-      abbrev head : FirstOf w at left (v .others)
-      head = first-of (v .others) (v .stand) l
+-- the member from record at up to record next can be read, and copied to record e of `out`; no more are kept than stand there
+pub record Room (o₀ w o : List ℕ) (at next e n : ℕ) : Type 0 where
+  pub long : length o ≡ length o₀
+  pub forward : at ≤ next
+  pub read : next * 16 ≤ length w
+  pub written : (e + (next - at)) * 16 ≤ length o₀
+  pub few : n ≤ e
 
-      pub some-member : SomeTree w at
-      some-member = record { tree = head .tree; there = head .there }
+module _ {z : ℕ} {o₀ w : List ℕ} {d p : ℕ} {f : Forest} {rest : List ℕ} (h : Held o₀ w d p f rest) where
+  pub begins : {n : ℕ} → n ≡ countIn w p → Dropping z o₀ w d p f rest o₀ (p + 1) n (d + 1) 0
+  unfolding ofList records encode
+  begins c =
+      record {
+        done = [];
+        others = f;
+        stand = subst (λ n. TreesIn w (p + 1) n f) (sym c) (members-in w p f (held-members h));
+        follow = h .stand;
+        built = sym (append-nil (take ((d + 1) * 16) o₀));
+        end = omega arith;
+        many = refl;
+        same = refl;
+        room = omega arith;
+        place = refl;
+      }
 
-      sizes : recordses (v .others) ≡ records (head .tree) + recordses (head .others)
-      unfolding records
-      sizes = ap recordses (head .whole)
+  module _ {o : List ℕ} {at left e n : ℕ} (v : Dropping z o₀ w d p f rest o at left e n) (l : 0 < left) where
+    -- the first of those that are left
+    abbrev pub head : FirstOf w at left (v .others)
+    head = first-of (v .others) (v .stand) l
 
-      module _ (next : ℕ) (q : next ≡ at + records (head .tree)) where
-        follows : drop (next * 16) w ≡ encodes (head .others) ++ rest
-        unfolding encode
-        follows =
-            let x = encode (head .tree) in
-            let y = encodes (head .others) in
-            let sum : next * 16 ≡ at * 16 + records (head .tree) * 16 = omega arith in
-            ap (λ k. drop k w) sum
-            ∙ sym (drop-drop (records (head .tree) * 16) (at * 16) w)
-            ∙ ap (drop (records (head .tree) * 16)) (v .follow ∙ ap (λ g. encodes g ++ rest) (head .whole) ∙ append-assoc x y rest)
-            ∙ drop-at x (y ++ rest) (records (head .tree) * 16) (encode-length (head .tree) ∙ omega arith)
+    pub some-member : SomeTree w at
+    some-member = record { tree = head .tree; there = head .there }
 
-        -- a member that is dropped
-        pub passes : isThe (pos z) (head .tree) ≡ true → Dropping o₀ w d p f rest o next (left - 1) e n
-        unfolding toList dropAll unless
-        passes t =
-            let s = sizes in
-            record {
-              done = v .done;
-              others = head .others;
-              stand = after-first head next q;
-              follow = follows;
-              built = v .built;
-              end = v .end;
-              many = v .many;
-              same =
-                  v .same
-                  ∙ ap (λ g. v .done ++ kept (toList g)) (head .whole)
-                  ∙ ap (λ b. v .done ++ unless b (head .tree) (kept (toList (head .others)))) t;
-              room = omega (arith, v .room);
-              place = omega (arith, v .place);
-            }
+    sizes : recordses (v .others) ≡ records (head .tree) + recordses (head .others)
+    unfolding records
+    sizes = ap recordses (head .whole)
 
-        -- a member that is kept
-        pub keeps : (o' : List ℕ) → isThe (pos z) (head .tree) ≡ false → e * 16 ≤ length o
-            → o' ≡ put o (e * 16) (part w (at * 16) ((next - at) * 16)) → Dropping o₀ w d p f rest o' next (left - 1) (e + (next - at)) (n + 1)
-        unfolding toList dropAll unless
-        keeps o' t r c =
-            let s = sizes in
-            let m : (next - at) * 16 ≡ records (head .tree) * 16 = omega arith in
-            let copied = c ∙ ap (put o (e * 16)) (stands-part w at ((next - at) * 16) (head .tree) (head .there .stands) m) in
-            let sum : e + (next - at) ≡ e + records (head .tree) = omega arith in
-            record {
-              done = v .done ++ (head .tree ∷ []);
-              others = head .others;
-              stand = after-first head next q;
-              follow = follows;
-              built = built-more o o' (take ((d + 1) * 16) o₀) e (e + (next - at)) (v .done) (head .tree) (v .built) r copied sum;
-              end = omega (arith, v .end, recordses-snoc (v .done) (head .tree));
-              many = omega (arith, v .many, length-append (v .done) (head .tree ∷ []));
-              same =
-                  v .same
-                  ∙ ap (λ g. v .done ++ kept (toList g)) (head .whole)
-                  ∙ ap (λ b. v .done ++ unless b (head .tree) (kept (toList (head .others)))) t
-                  ∙ sym (append-assoc (v .done) (head .tree ∷ []) (kept (toList (head .others))));
-              room = omega (arith, v .room);
-              place = omega (arith, v .place);
-            }
+    module _ (next : ℕ) (q : next ≡ at + records (head .tree)) (long : length o ≡ length o₀) where
+      pub room : Room o₀ w o at next e n
+      room =
+          let s = sizes in
+          let far = held-length h in
+          record {
+            long = long;
+            forward = omega arith;
+            read = omega (arith, v .place);
+            written = omega (arith, v .room, h .out-room, recordses-weights f);
+            few = omega (arith, v .many, list-count (v .done), count-records (ofList (v .done)), v .end);
+          }
 
-      -- no more are kept than stand in `out`
-      pub few-kept : n ≤ e
-      few-kept = omega (arith, v .many, list-count (v .done), count-records (ofList (v .done)), v .end)
+      follows : drop (next * 16) w ≡ encodes (head .others) ++ rest
+      unfolding encode
+      follows =
+          let x = encode (head .tree) in
+          let y = encodes (head .others) in
+          let sum : next * 16 ≡ at * 16 + records (head .tree) * 16 = omega arith in
+          ap (λ k. drop k w) sum
+          ∙ sym (drop-drop (records (head .tree) * 16) (at * 16) w)
+          ∙ ap (drop (records (head .tree) * 16)) (v .follow ∙ ap (λ g. encodes g ++ rest) (head .whole) ∙ append-assoc x y rest)
+          ∙ drop-at x (y ++ rest) (records (head .tree) * 16) (encode-length (head .tree) ∙ omega arith)
 
-      -- it lies before the node's end
-      pub sized : at + records (head .tree) ≤ p + 1 + recordses f
-      sized = omega (arith, sizes, v .place)
-
-      -- there is room for it
-      pub fits-in : (e + records (head .tree)) * 16 ≤ length o₀
-      fits-in = omega (arith, sizes, v .room, h .out-room, recordses-weights f)
-
-    -- none is left: all that is kept stands in `out`
-    pub record Ended (o : List ℕ) (at e n : ℕ) : Type 0 where
-      pub built : Built o d e (kept (toList f))
-      pub many : length (kept (toList f)) ≡ n
-      pub follow : drop (at * 16) w ≡ rest
-      pub place : at ≡ p + 1 + recordses f
-
-    pub ends : (o : List ℕ) (at left e n : ℕ) → length o ≡ length o₀ → Dropping o₀ w d p f rest o at left e n → left ≤ 0 → Ended o at e n
-    unfolding toList dropAll encode records
-    ends o at left e n long v l =
-        let none : v .others ≡ nil = none-of (v .others) (v .stand) (omega arith) in
-        let all : kept (toList f) ≡ v .done =
-        v .same ∙ ap (λ g. v .done ++ kept (toList g)) none ∙ append-nil (v .done) in
-        let zero : recordses (v .others) ≡ 0 = ap recordses none in
-        record {
-          built = subst (Built o d e) (sym all) (record {
-            front = take ((d + 1) * 16) o₀;
-            free = length-take-le ((d + 1) * 16) o₀ (omega (arith, h .out-room));
+      -- a member that is dropped
+      pub passes : isThe (pos z) (head .tree) ≡ true → Dropping z o₀ w d p f rest o next (left - 1) e n
+      unfolding toList dropAll unless
+      passes t =
+          let s = sizes in
+          record {
+            done = v .done;
+            others = head .others;
+            stand = after-first head next q;
+            follow = follows;
             built = v .built;
             end = v .end;
-            within = omega (arith, v .room, h .out-room, recordses-weights f);
-          });
-          many = ap length all ∙ sym (v .many);
-          follow = v .follow ∙ ap (λ g. encodes g ++ rest) none;
-          place = omega (arith, v .place);
-        }
+            many = v .many;
+            same =
+                v .same
+                ∙ ap (λ g. v .done ++ kept z (toList g)) (head .whole)
+                ∙ ap (λ b. v .done ++ unless b (head .tree) (kept z (toList (head .others)))) t;
+            room = omega (arith, v .room);
+            place = omega (arith, v .place);
+          }
 
-    -- what is done stays
-    pub done-stays : (o : List ℕ) (at left e n : ℕ) → length o ≡ length o₀ → Dropping o₀ w d p f rest o at left e n
-        → take (d * 16) o ≡ take (d * 16) o₀
-    done-stays o at left e n long v =
-        let front = take ((d + 1) * 16) o₀ in
-        let size : length front ≡ (d + 1) * 16 = length-take-le ((d + 1) * 16) o₀ (omega (arith, h .out-room)) in
-        sym (take-take (d * 16) (e * 16) o (omega (arith, v .end)))
-        ∙ ap (take (d * 16)) (v .built)
-        ∙ take-append-le (d * 16) front (encodes (ofList (v .done))) (omega arith)
-        ∙ take-take (d * 16) ((d + 1) * 16) o₀ (omega arith)
+      -- a member that is kept
+      pub keeps : (o' : List ℕ) → isThe (pos z) (head .tree) ≡ false
+          → o' ≡ put o (e * 16) (part w (at * 16) ((next - at) * 16)) → Dropping z o₀ w d p f rest o' next (left - 1) (e + (next - at)) (n + 1)
+      unfolding toList dropAll unless
+      keeps o' t c =
+          let s = sizes in
+          let r : e * 16 ≤ length o = omega (arith, long, room .written) in
+          let m : (next - at) * 16 ≡ records (head .tree) * 16 = omega arith in
+          let copied = c ∙ ap (put o (e * 16)) (stands-part w at ((next - at) * 16) (head .tree) (head .there .stands) m) in
+          let sum : e + (next - at) ≡ e + records (head .tree) = omega arith in
+          record {
+            done = v .done ++ (head .tree ∷ []);
+            others = head .others;
+            stand = after-first head next q;
+            follow = follows;
+            built = built-more o o' (take ((d + 1) * 16) o₀) e (e + (next - at)) (v .done) (head .tree) (v .built) r copied sum;
+            end = omega (arith, v .end, recordses-snoc (v .done) (head .tree));
+            many = omega (arith, v .many, length-append (v .done) (head .tree ∷ []));
+            same =
+                v .same
+                ∙ ap (λ g. v .done ++ kept z (toList g)) (head .whole)
+                ∙ ap (λ b. v .done ++ unless b (head .tree) (kept z (toList (head .others)))) t
+                ∙ sym (append-assoc (v .done) (head .tree ∷ []) (kept z (toList (head .others))));
+            room = omega (arith, v .room);
+            place = omega (arith, v .place);
+          }
+
+  -- none is left
+  pub ends : {o : List ℕ} {at left e n : ℕ} → length o ≡ length o₀ → Dropping z o₀ w d p f rest o at left e n → left ≤ 0
+      → Ended z o₀ w d p f rest o at e n
+  unfolding toList dropAll encode records
+  ends {o} {at} {left} {e} {n} long v l =
+      let none : v .others ≡ nil = none-of (v .others) (v .stand) (omega arith) in
+      let all : kept z (toList f) ≡ v .done =
+      v .same ∙ ap (λ g. v .done ++ kept z (toList g)) none ∙ append-nil (v .done) in
+      let zero : recordses (v .others) ≡ 0 = ap recordses none in
+      let far = held-length h in
+      let front = take ((d + 1) * 16) o₀ in
+      let size : length front ≡ (d + 1) * 16 = length-take-le ((d + 1) * 16) o₀ (omega (arith, h .out-room)) in
+      record {
+        built = subst (Built o d e) (sym all) (record {
+          front = front;
+          free = size;
+          built = v .built;
+          end = v .end;
+          within = omega (arith, v .room, h .out-room, recordses-weights f);
+        });
+        many = ap length all ∙ sym (v .many);
+        done =
+            sym (take-take (d * 16) (e * 16) o (omega (arith, v .end)))
+            ∙ ap (take (d * 16)) (v .built)
+            ∙ take-append-le (d * 16) front (encodes (ofList (v .done))) (omega arith)
+            ∙ take-take (d * 16) ((d + 1) * 16) o₀ (omega arith);
+        follow = v .follow ∙ ap (λ g. encodes g ++ rest) none;
+        within = omega (arith, v .place);
+        short = omega (arith, v .place, v .room, h .light, h .work-room, recordses-weights f);
+      }

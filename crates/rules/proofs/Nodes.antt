@@ -27,7 +27,8 @@ use Rattle.part.specs.Like.{nodeKind, neutral, nodeOf}
 use Rattle.rules.specs.Tried.{MembersIn}
 
 -- ---- members that are read one after the other
-pub after-first : {s : List ℕ} {i n : ℕ} {g : Forest} (h : FirstOf s i n g) (next : ℕ) → next ≡ i + records (h .tree) → TreesIn s next (n - 1) (h .others)
+pub after-first : {s : List ℕ} {i n : ℕ} {g : Forest} (h : FirstOf s i n g) (next : ℕ) → next ≡ i + records (h .tree)
+    → TreesIn s next (n - 1) (h .others)
 after-first {s} {i} {n} h next e = subst (λ k. TreesIn s k (n - 1) (h .others)) (sym e) (h .after)
 
 pub members-in : (s : List ℕ) (p : ℕ) (f : Forest) → MembersIn s p f → TreesIn s (p + 1) (countIn s p) f

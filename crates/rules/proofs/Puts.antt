@@ -101,3 +101,8 @@ put-back b l out out' work work' d e end r q h at low high w =
           ∙ ap (λ m. x ++ drop m work) place;
       done = h .done;
     }
+
+-- what followed the node is known, and what was done before the members were built
+pub put-follows : {b : Bool} {l : List Tree} {x rest o o₀ o' w' : List ℕ} {d q : ℕ} → PutBack b l x o o' w' d q → x ≡ rest
+    → take (d * 16) o ≡ take (d * 16) o₀ → PutBack b l rest o₀ o' w' d q
+put-follows {b} {l} h e k = record { stands = h .stands ∙ ap (λ y. encode (nodeOf b l) ++ y) e; done = h .done ∙ k }

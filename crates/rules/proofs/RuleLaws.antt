@@ -1,6 +1,6 @@
--- The rules at the tree that is pending: what the kind of its record tells, that a rule for another kind does not apply, and what the
--- answers of the functions on members say of the tree. And that a rule that does not apply leaves all as it must be for the next.
--- Assumes nothing.
+-- The rules at the tree that is pending, sums and products by one flag, true for a sum. The kind of its record tells what it is: of
+-- another kind, a rule does not apply; of the rule's kind, the tree is a node whose members stand behind its record, and the rule is what
+-- it does to those. And where a rule does not apply, all is ready for the next. Assumes nothing.
 use Prim.Native.Nat.{ℕ, _+_, _-_, _*_, _≤_}
 use mathlib.Core.Path.{_≡_, refl, sym, ap, _∙_}
 use mathlib.Core.Bool.{Bool, true, false}
@@ -11,9 +11,9 @@ use lib.Seq.{drop-drop, drop-at}
 use lib.IntN.{pos}
 use Rattle.paper.specs.Tree.{Tree, Forest, integer, sum, product, toList, count, weight, weights, records}
 use Rattle.paper.specs.Record.{kind}
+use Rattle.paper.specs.Standing.{SeenMembers}
 use Rattle.paper.specs.Bytes.{word}
 use Rattle.paper.specs.Table.{recordOf, encode, encodes}
-use Rattle.paper.specs.Standing.{SeenMembers}
 use Rattle.paper.specs.Rules as paper
 use Rattle.paper.specs.Rules.{onSumMembers, onProductMembers, appliesIf, anyOf, isThe, dropAll}
 use Rattle.paper.specs.Rules.{addZero, combineLikeTerms, multiplyZero, multiplyOne, combineLikeFactors}
@@ -22,12 +22,53 @@ use Rattle.paper.proofs.Seen.{Seen, an-integer, a-symbol, a-sum, a-product, a-p
 use Rattle.split.specs.Standing.{TreeIn}
 use Rattle.stretch.specs.Put.{put}
 use Rattle.stretch.proofs.Laws.{drop-put-at}
-use Rattle.part.specs.Like.{nodeOf}
+use Rattle.part.specs.Like.{nodeKind, neutral, nodeOf}
 use Rattle.walk.specs.Walked.{combined}
+use Rattle.rules.specs.Alike.{dropNeutral, combineLike}
 use Rattle.rules.specs.Asked.{Ready}
 use Rattle.rules.specs.Tried.{Held}
 
-module _ (o w : List ℕ) (d p : ℕ) (t : Tree) (rest : List ℕ) (h : Ready o w d p t rest) where
+-- ---- a sum or a product, and a rule on its members
+abbrev node : Bool → Forest → Tree
+node true f = sum f
+node false f = product f
+
+abbrev pub onMembers : Bool → (List Tree → paper.Tried) → Tree → paper.Tried
+onMembers true k t = onSumMembers k t
+onMembers false k t = onProductMembers k t
+
+-- what such a rule does to the members l, if it applies where one of them is the integer z, and makes u of them
+abbrev pub ifAny : ℕ → (List Tree → Tree) → List Tree → paper.Tried
+ifAny z u l = appliesIf (anyOf (isThe (pos z)) l) (u l)
+
+if-any : (z : ℕ) (u : List Tree → Tree) (l : List Tree) → anyOf (isThe (pos z)) l ≡ true → ifAny z u l ≡ paper.applies (u l)
+unfolding appliesIf
+if-any z u l e = ap (λ c. appliesIf c (u l)) e
+
+if-none : (z : ℕ) (u : List Tree → Tree) (l : List Tree) → anyOf (isThe (pos z)) l ≡ false → ifAny z u l ≡ paper.does-not-apply
+unfolding appliesIf
+if-none z u l e = ap (λ c. appliesIf c (u l)) e
+
+-- the paper's rules are such rules: r looks for a member that is z
+pub record LooksFor (b : Bool) (z : ℕ) (u : List Tree → Tree) (r : Tree → paper.Tried) : Type 0 where
+  pub is : (t : Tree) → r t ≡ onMembers b (ifAny z u) t
+
+pub drops : (b : Bool) → LooksFor b (neutral b) (λ l. nodeOf b (dropAll (isThe (pos (neutral b))) l)) (dropNeutral b)
+unfolding addZero multiplyOne
+drops true = record { is = λ t. refl }
+drops false = record { is = λ t. refl }
+
+pub zeroes : LooksFor false 0 (λ l. integer (pos 0)) multiplyZero
+unfolding multiplyZero
+zeroes = record { is = λ t. refl }
+
+combine-is : (b : Bool) (t : Tree) → combineLike b t ≡ onMembers b (combined b) t
+unfolding combineLikeTerms combineLikeFactors
+combine-is true t = refl
+combine-is false t = refl
+
+-- ---- the tree that is pending
+module _ {o w : List ℕ} {d p : ℕ} {t : Tree} {rest : List ℕ} (h : Ready o w d p t rest) where
   pub ready-tree : TreeIn w p t
   ready-tree = record { wf = h .wf; few = omega (arith, h .light, records-weight t); stands = record { after = rest; there = h .stands } }
 
@@ -61,42 +102,35 @@ module _ (o w : List ℕ) (d p : ℕ) (t : Tree) (rest : List ℕ) (h : Ready o 
         work-room = omega (arith, h .work-room);
       }
 
-  -- ---- a rule for another kind
-  pub no-sum : (k : List Tree → paper.Tried) → (kind w p ≡ 2 → ⊥) → onSumMembers k t ≡ paper.does-not-apply
-  unfolding onSumMembers
-  no-sum k n = go ready-seen
+  -- a rule for another kind
+  on-other : (b : Bool) (k : List Tree → paper.Tried) → (kind w p ≡ nodeKind b → ⊥) → onMembers b k t ≡ paper.does-not-apply
+  unfolding onSumMembers onProductMembers
+  on-other b k = go b ready-seen
     where
-      go : {t : Tree} → Seen w p t → onSumMembers k t ≡ paper.does-not-apply
-      go (an-integer e b w) = refl
-      go (a-symbol e v w) = refl
-      go (a-sum e m c w s) = absurd (n e)
-      go (a-product e m c w s) = refl
-      go (a-power e w b p q x y z) = refl
+      go : (b : Bool) {t : Tree} → Seen w p t → (kind w p ≡ nodeKind b → ⊥) → onMembers b k t ≡ paper.does-not-apply
+      go true (an-integer e b w) n = refl
+      go true (a-symbol e v w) n = refl
+      go true (a-sum e m c w s) n = absurd (n e)
+      go true (a-product e m c w s) n = refl
+      go true (a-power e w b p q x y z) n = refl
+      go false (an-integer e b w) n = refl
+      go false (a-symbol e v w) n = refl
+      go false (a-sum e m c w s) n = refl
+      go false (a-product e m c w s) n = absurd (n e)
+      go false (a-power e w b p q x y z) n = refl
 
-  pub no-product : (k : List Tree → paper.Tried) → (kind w p ≡ 3 → ⊥) → onProductMembers k t ≡ paper.does-not-apply
-  unfolding onProductMembers
-  no-product k n = go ready-seen
-    where
-      go : {t : Tree} → Seen w p t → onProductMembers k t ≡ paper.does-not-apply
-      go (an-integer e b w) = refl
-      go (a-symbol e v w) = refl
-      go (a-sum e m c w s) = refl
-      go (a-product e m c w s) = absurd (n e)
-      go (a-power e w b p q x y z) = refl
+  pub looks-elsewhere : {b : Bool} {z : ℕ} {u : List Tree → Tree} {r : Tree → paper.Tried} → LooksFor b z u r → (kind w p ≡ nodeKind b → ⊥)
+      → r t ≡ paper.does-not-apply
+  looks-elsewhere {b} {z} {u} q n = q .is t ∙ on-other b (ifAny z u) n
 
--- ---- the members of a sum or a product
-members-held : (o w : List ℕ) (d p : ℕ) (f : Forest) (rest : List ℕ) (n : ℕ) → SeenMembers w p f → n ≡ 1 + weights f → n ≤ 3072
-    → drop ((p + 1) * 16) w ≡ encodes f ++ rest → 16 * (d + n) ≤ length o → 16384 + (16 * n + length rest) ≤ length w → Held o w d p f rest
-members-held o w d p f rest n s e l q a b =
-    record {
-      wf = s .wf;
-      two = s .two;
-      light = omega arith;
-      counted = s .counted;
-      stand = q;
-      out-room = omega arith;
-      work-room = omega arith;
-    }
+  pub combine-other : (b : Bool) → (kind w p ≡ nodeKind b → ⊥) → combineLike b t ≡ paper.does-not-apply
+  combine-other b n = combine-is b t ∙ on-other b (combined b) n
+
+-- ---- the tree is a node of the rule's kind: its members are held, and a rule on them is what it does to them
+pub record IsNode (b : Bool) (o w : List ℕ) (d p : ℕ) (t : Tree) (rest : List ℕ) : Type 0 where
+  pub members : Forest
+  pub held : Held o w d p members rest
+  pub on : (k : List Tree → paper.Tried) → onMembers b k t ≡ k (toList members)
 
 behind-record : (w : List ℕ) (p k c : ℕ) (x rest : List ℕ) → drop (p * 16) w ≡ (recordOf k c 0 ++ x) ++ rest → drop ((p + 1) * 16) w ≡ x ++ rest
 behind-record w p k c x rest e =
@@ -106,60 +140,68 @@ behind-record w p k c x rest e =
     ∙ ap (drop 16) (e ∙ append-assoc (recordOf k c 0) x rest)
     ∙ drop-at (recordOf k c 0) (x ++ rest) 16 (record-length k c 0)
 
--- the tree is a sum, or a product, of the members that are held
-pub record IsSum (o w : List ℕ) (d p : ℕ) (t : Tree) (rest : List ℕ) : Type 0 where
-  pub members : Forest
-  pub is : t ≡ sum members
-  pub held : Held o w d p members rest
+module _ (b : Bool) (f : Forest) where
+  node-weight : weight (node b f) ≡ 1 + weights f
+  unfolding weight
+  node-weight = go b
+    where
+      go : (b : Bool) → weight (node b f) ≡ 1 + weights f
+      go true = refl
+      go false = refl
 
-pub record IsProduct (o w : List ℕ) (d p : ℕ) (t : Tree) (rest : List ℕ) : Type 0 where
-  pub members : Forest
-  pub is : t ≡ product members
-  pub held : Held o w d p members rest
+  node-encode : encode (node b f) ≡ recordOf (nodeKind b) (count f) 0 ++ encodes f
+  unfolding encode
+  node-encode = go b
+    where
+      go : (b : Bool) → encode (node b f) ≡ recordOf (nodeKind b) (count f) 0 ++ encodes f
+      go true = refl
+      go false = refl
 
-module _ (o w : List ℕ) (d p : ℕ) (t : Tree) (rest : List ℕ) (h : Ready o w d p t rest) where
-  pub is-sum : kind w p ≡ 2 → IsSum o w d p t rest
-  unfolding weight encode
-  is-sum k =
-      let q = seen-sum (ready-seen o w d p t rest h) k in
+  on-node : (k : List Tree → paper.Tried) → onMembers b k (node b f) ≡ k (toList f)
+  unfolding onSumMembers onProductMembers
+  on-node k = go b
+    where
+      go : (b : Bool) → onMembers b k (node b f) ≡ k (toList f)
+      go true = refl
+      go false = refl
+
+module _ {o w : List ℕ} {d p : ℕ} {t : Tree} {rest : List ℕ} (h : Ready o w d p t rest) where
+  seen-node : (b : Bool) → kind w p ≡ nodeKind b → (f : Forest) × (t ≡ node b f) × SeenMembers w p f
+  seen-node true k = seen-sum (ready-seen h) k
+  seen-node false k = seen-product (ready-seen h) k
+
+  pub is-node : (b : Bool) → kind w p ≡ nodeKind b → IsNode b o w d p t rest
+  is-node b k =
+      let q = seen-node b k in
       let f = q .0 in
+      let s = q .2 in
+      let heavy = ap weight (q .1) ∙ node-weight b f in
+      let stands = h .stands ∙ ap (λ x. x ++ rest) (ap encode (q .1) ∙ node-encode b f) in
       record {
         members = f;
-        is = q .1;
-        held =
-            members-held o w d p f rest (weight t) (q .2) (ap weight (q .1)) (h .light)
-            (behind-record w p 2 (count f) (encodes f) rest (h .stands ∙ ap (λ u. encode u ++ rest) (q .1))) (h .out-room) (h .work-room);
+        held = record {
+          wf = s .wf;
+          two = s .two;
+          light = omega (arith, heavy, h .light);
+          counted = s .counted;
+          stand = behind-record w p (nodeKind b) (count f) (encodes f) rest stands;
+          out-room = omega (arith, heavy, h .out-room);
+          work-room = omega (arith, heavy, h .work-room);
+        };
+        on = λ k. ap (onMembers b k) (q .1) ∙ on-node b f k;
       }
 
-  pub is-product : kind w p ≡ 3 → IsProduct o w d p t rest
-  unfolding weight encode
-  is-product k =
-      let q = seen-product (ready-seen o w d p t rest h) k in
-      let f = q .0 in
-      record {
-        members = f;
-        is = q .1;
-        held =
-            members-held o w d p f rest (weight t) (q .2) (ap weight (q .1)) (h .light)
-            (behind-record w p 3 (count f) (encodes f) rest (h .stands ∙ ap (λ u. encode u ++ rest) (q .1))) (h .out-room) (h .work-room);
-      }
+-- the rules at such a node
+module _ {b : Bool} {o w : List ℕ} {d p : ℕ} {t : Tree} {rest : List ℕ} (s : IsNode b o w d p t rest) where
+  module _ {z : ℕ} {u : List Tree → Tree} {r : Tree → paper.Tried} (q : LooksFor b z u r) where
+    pub finds : anyOf (isThe (pos z)) (toList (s .members)) ≡ true → r t ≡ paper.applies (u (toList (s .members)))
+    finds e = q .is t ∙ s .on (ifAny z u) ∙ if-any z u (toList (s .members)) e
 
--- ---- the rules at a sum and at a product
-pub at-sum : (k : List Tree → paper.Tried) (t : Tree) (f : Forest) → t ≡ sum f → onSumMembers k t ≡ k (toList f)
-unfolding onSumMembers
-at-sum k t f e = ap (onSumMembers k) e
+    pub finds-none : anyOf (isThe (pos z)) (toList (s .members)) ≡ false → r t ≡ paper.does-not-apply
+    finds-none e = q .is t ∙ s .on (ifAny z u) ∙ if-none z u (toList (s .members)) e
 
-pub at-product : (k : List Tree → paper.Tried) (t : Tree) (f : Forest) → t ≡ product f → onProductMembers k t ≡ k (toList f)
-unfolding onProductMembers
-at-product k t f e = ap (onProductMembers k) e
-
-pub if-true : (b : Bool) (u : Tree) → b ≡ true → appliesIf b u ≡ paper.applies u
-unfolding appliesIf
-if-true b u e = ap (λ c. appliesIf c u) e
-
-pub if-false : (b : Bool) (u : Tree) → b ≡ false → appliesIf b u ≡ paper.does-not-apply
-unfolding appliesIf
-if-false b u e = ap (λ c. appliesIf c u) e
+  pub combine-at : combineLike b t ≡ combined b (toList (s .members))
+  combine-at = combine-is b t ∙ s .on (combined b)
 
 -- ---- 0 in place of the whole product
 pub zero-put : (w w' : List ℕ) (q : ℕ) (rest : List ℕ) → (q + 1) * 16 ≤ length w → drop ((q + 1) * 16) w ≡ rest
@@ -172,48 +214,3 @@ zero-put w w' q rest r e s =
     ∙ drop-put-at w (q * 16) (recordOf 0 0 0) (omega arith)
     ∙ ap (λ n. recordOf 0 0 0 ++ drop n w) place
     ∙ ap (λ (x : List ℕ). recordOf 0 0 0 ++ x) e
-
--- ---- each rule by name
-module _ (t : Tree) (f : Forest) where
-  pub add-zero-at : t ≡ sum f
-      → addZero t ≡ appliesIf (anyOf (isThe (pos 0)) (toList f)) (nodeOf true (dropAll (isThe (pos 0)) (toList f)))
-  unfolding addZero
-  add-zero-at e = at-sum _ t f e
-
-  pub multiply-zero-at : t ≡ product f → multiplyZero t ≡ appliesIf (anyOf (isThe (pos 0)) (toList f)) (integer (pos 0))
-  unfolding multiplyZero
-  multiply-zero-at e = at-product _ t f e
-
-  pub multiply-one-at : t ≡ product f
-      → multiplyOne t ≡ appliesIf (anyOf (isThe (pos 1)) (toList f)) (nodeOf false (dropAll (isThe (pos 1)) (toList f)))
-  unfolding multiplyOne
-  multiply-one-at e = at-product _ t f e
-
-  pub like-terms-at : t ≡ sum f → combineLikeTerms t ≡ combined true (toList f)
-  unfolding combineLikeTerms
-  like-terms-at e = at-sum _ t f e
-
-  pub like-factors-at : t ≡ product f → combineLikeFactors t ≡ combined false (toList f)
-  unfolding combineLikeFactors
-  like-factors-at e = at-product _ t f e
-
-module _ (o w : List ℕ) (d p : ℕ) (t : Tree) (rest : List ℕ) (h : Ready o w d p t rest) where
-  pub add-zero-other : (kind w p ≡ 2 → ⊥) → addZero t ≡ paper.does-not-apply
-  unfolding addZero
-  add-zero-other n = no-sum o w d p t rest h _ n
-
-  pub like-terms-other : (kind w p ≡ 2 → ⊥) → combineLikeTerms t ≡ paper.does-not-apply
-  unfolding combineLikeTerms
-  like-terms-other n = no-sum o w d p t rest h _ n
-
-  pub multiply-zero-other : (kind w p ≡ 3 → ⊥) → multiplyZero t ≡ paper.does-not-apply
-  unfolding multiplyZero
-  multiply-zero-other n = no-product o w d p t rest h _ n
-
-  pub multiply-one-other : (kind w p ≡ 3 → ⊥) → multiplyOne t ≡ paper.does-not-apply
-  unfolding multiplyOne
-  multiply-one-other n = no-product o w d p t rest h _ n
-
-  pub like-factors-other : (kind w p ≡ 3 → ⊥) → combineLikeFactors t ≡ paper.does-not-apply
-  unfolding combineLikeFactors
-  like-factors-other n = no-product o w d p t rest h _ n

@@ -63,4 +63,5 @@ pub ask-once : (κs : Lfts 2) (a : Dens κs kinds.ps) (t : Tree) (rest : List �
     → reads.Post κs a r x → reads.Post κs a r' x'
     → (r ≡ r') × Left (a .1 .1 .0) (a .1 .1 .1 .0) (x .0 .now) (x' .0 .now) (x .1 .0 .now) (x' .1 .0 .now) r
 ask-once κs a t rest r r' x x' h l p p' =
-    answered-once t rest (a .0 .now) (x .0 .now) (x' .0 .now) (x .1 .0 .now) (x' .1 .0 .now) (a .1 .1 .0) (a .1 .1 .1 .0) l r r' (p t rest h) (p' t rest h)
+    answered-once t rest (a .0 .now) (x .0 .now) (x' .0 .now) (x .1 .0 .now) (x' .1 .0 .now) (a .1 .1 .0) (a .1 .1 .1 .0) l r r'
+    (p t rest h) (p' t rest h)

@@ -15,13 +15,7 @@ pub fn add_zero(out: &mut [u8], work: &mut [u8], d: usize, p: usize) -> Tried
     ensures { λ r. ⌜ ((t : Tree) (rest : List ℕ) → Ready (now (out .entry)) (now (work .entry)) d p t rest
         → Answers (addZero t) rest (now (out .entry)) (now (out .exit)) (now (work .entry)) (now (work .exit)) d p r) ⌝ }
 {
-    if record::kind(work, p) != 2 {
-        return Tried::Idle;
-    }
-    if members::any_member(work, p, 0) {
-        return Tried::Applied(members::drop_members(out, work, d, p, true));
-    }
-    Tried::Idle
+    members::drop_neutral(out, work, d, p, true)
 }
 
 // Step 2: a + a = 2 * a.
@@ -30,8 +24,5 @@ pub fn combine_like_terms(out: &mut [u8], work: &mut [u8], d: usize, p: usize) -
     ensures { λ r. ⌜ ((t : Tree) (rest : List ℕ) → Ready (now (out .entry)) (now (work .entry)) d p t rest
         → Answers (combineLikeTerms t) rest (now (out .entry)) (now (out .exit)) (now (work .entry)) (now (work .exit)) d p r) ⌝ }
 {
-    if record::kind(work, p) != 2 {
-        return Tried::Idle;
-    }
     combine::combine(out, work, d, p, true)
 }

@@ -2,7 +2,9 @@
 ghost use mathlib.Core.List.{List};
 ghost use Prim.Native.Nat.{ℕ};
 ghost use Rattle.paper.specs.Tree.{Tree};
+ghost use Rattle.rules.specs.Alike.{ruleOf};
 ghost use Rattle.rules.specs.Asked.{Ready, AskedIs};
+ghost use Rattle.rules.specs.Tried.{Answers};
 
 mod add;
 mod combine;
@@ -23,40 +25,41 @@ pub enum Tried {
     Over,
 }
 
+// The steps, in the paper's order.
+const STEPS: [u8; 5] = [1, 2, 3, 4, 6];
+
+// Tries the rule of one step on the node at record p of work. A number that no rule has never applies.
+fn try_step(out: &mut [u8], work: &mut [u8], d: usize, p: usize, step: u8) -> Tried
+    requires { ⌜ ((t : Tree) × (rest : List ℕ) × Ready (now out) (now work) d p t rest) ⌝ }
+    ensures { λ r. ⌜ ((t : Tree) (rest : List ℕ) → Ready (now (out .entry)) (now (work .entry)) d p t rest
+        → Answers (ruleOf step t) rest (now (out .entry)) (now (out .exit)) (now (work .entry)) (now (work .exit)) d p r) ⌝ }
+{
+    match step {
+        1 => add::add_zero(out, work, d, p),
+        2 => add::combine_like_terms(out, work, d, p),
+        3 => multiply::multiply_zero(out, work, d, p),
+        4 => multiply::multiply_one(out, work, d, p),
+        6 => multiply::combine_like_factors(out, work, d, p),
+        _ => Tried::Idle,
+    }
+}
+
 // Tries the rules, in the paper's order, on the node at record p of work. A rule builds its result in out, from record d on.
 pub fn ask(out: &mut [u8], work: &mut [u8], d: usize, p: usize) -> Asked
     requires { ⌜ ((t : Tree) × (rest : List ℕ) × Ready (now out) (now work) d p t rest) ⌝ }
     ensures { λ r. ⌜ ((t : Tree) (rest : List ℕ) → Ready (now (out .entry)) (now (work .entry)) d p t rest
         → AskedIs t rest (now (out .entry)) (now (out .exit)) (now (work .exit)) d p r) ⌝ }
 {
-    let one = add::add_zero(out, work, d, p);
-    match one {
-        Tried::Idle => {}
-        Tried::Applied(q) => return Asked::Step(1, q),
-        Tried::Over => return Asked::Over,
+    let mut i: usize = 0;
+    while i < 5 {
+        let step = STEPS[i];
+        let tried = try_step(out, work, d, p, step);
+        match tried {
+            Tried::Idle => {}
+            Tried::Applied(q) => return Asked::Step(step, q),
+            Tried::Over => return Asked::Over,
+        }
+        i += 1;
     }
-    let two = add::combine_like_terms(out, work, d, p);
-    match two {
-        Tried::Idle => {}
-        Tried::Applied(q) => return Asked::Step(2, q),
-        Tried::Over => return Asked::Over,
-    }
-    let three = multiply::multiply_zero(out, work, d, p);
-    match three {
-        Tried::Idle => {}
-        Tried::Applied(q) => return Asked::Step(3, q),
-        Tried::Over => return Asked::Over,
-    }
-    let four = multiply::multiply_one(out, work, d, p);
-    match four {
-        Tried::Idle => {}
-        Tried::Applied(q) => return Asked::Step(4, q),
-        Tried::Over => return Asked::Over,
-    }
-    let six = multiply::combine_like_factors(out, work, d, p);
-    match six {
-        Tried::Idle => Asked::Nothing,
-        Tried::Applied(q) => Asked::Step(6, q),
-        Tried::Over => Asked::Over,
-    }
+    Asked::Nothing
 }

@@ -8,10 +8,13 @@ ghost use Rattle.paper.specs.Tree.{Tree, Forest, toList};
 ghost use Rattle.paper.specs.Rules.{isThe, anyOf, dropAll};
 ghost use Rattle.split.specs.Standing.{TreeIn, SomeTree};
 ghost use Rattle.part.specs.Like.{nodeKind, neutral};
-ghost use Rattle.rules.specs.Tried.{Held, MembersIn, Built, Collapsed, PutBack};
+ghost use Rattle.rules.specs.Alike.{dropNeutral};
+ghost use Rattle.rules.specs.Asked.{Ready};
+ghost use Rattle.rules.specs.Tried.{Answers, Held, MembersIn, Built, Collapsed, PutBack};
+use crate::Tried;
 
 // The kind of a sum or of a product.
-fn node_kind(sum: bool) -> u8
+pub fn node_kind(sum: bool) -> u8
     ensures { λ r. ⌜ r ≡ nodeKind sum ⌝ }
 {
     if sum { 2 } else { 3 }
@@ -90,13 +93,12 @@ pub fn put_back(
     q
 }
 
-// Drops the members of the node at record p that are the integer it can do without.
-pub fn drop_members(out: &mut [u8], work: &mut [u8], d: usize, p: usize, sum: bool) -> usize
-    requires { ⌜ ((f : Forest) × (rest : List ℕ) × Held (now out) (now work) d p f rest) ⌝ }
+// Drops the members of the node at record p that are the integer z, 0 or 1.
+fn drop_members(out: &mut [u8], work: &mut [u8], d: usize, p: usize, sum: bool, z: u64) -> usize
+    requires { ⌜ ((f : Forest) × (rest : List ℕ) × Held (now out) (now work) d p f rest) × (z < 2) ⌝ }
     ensures { λ r. ⌜ ((f : Forest) (rest : List ℕ) → Held (now (out .entry)) (now (work .entry)) d p f rest
-        → PutBack sum (dropAll (isThe (pos (neutral sum))) (toList f)) rest (now (out .entry)) (now (out .exit)) (now (work .exit)) d r) ⌝ }
+        → PutBack sum (dropAll (isThe (pos z)) (toList f)) rest (now (out .entry)) (now (out .exit)) (now (work .exit)) d r) ⌝ }
 {
-    let z = neutral(sum);
     let mut at = p + 1;
     let mut left = record::count(work, p);
     let mut e = d + 1;
@@ -112,4 +114,20 @@ pub fn drop_members(out: &mut [u8], work: &mut [u8], d: usize, p: usize, sum: bo
         left -= 1;
     }
     put_back(out, work, d, e, at, kept, sum)
+}
+
+// Steps 1 and 4 alike: where a member of the sum, or of the product, at record p is the integer it can do without, drops all such.
+pub fn drop_neutral(out: &mut [u8], work: &mut [u8], d: usize, p: usize, sum: bool) -> Tried
+    requires { ⌜ ((t : Tree) × (rest : List ℕ) × Ready (now out) (now work) d p t rest) ⌝ }
+    ensures { λ r. ⌜ ((t : Tree) (rest : List ℕ) → Ready (now (out .entry)) (now (work .entry)) d p t rest
+        → Answers (dropNeutral sum t) rest (now (out .entry)) (now (out .exit)) (now (work .entry)) (now (work .exit)) d p r) ⌝ }
+{
+    if record::kind(work, p) != node_kind(sum) {
+        return Tried::Idle;
+    }
+    let z = neutral(sum);
+    if any_member(work, p, z) {
+        return Tried::Applied(drop_members(out, work, d, p, sum, z));
+    }
+    Tried::Idle
 }

@@ -32,13 +32,7 @@ pub fn multiply_one(out: &mut [u8], work: &mut [u8], d: usize, p: usize) -> Trie
     ensures { λ r. ⌜ ((t : Tree) (rest : List ℕ) → Ready (now (out .entry)) (now (work .entry)) d p t rest
         → Answers (multiplyOne t) rest (now (out .entry)) (now (out .exit)) (now (work .entry)) (now (work .exit)) d p r) ⌝ }
 {
-    if record::kind(work, p) != 3 {
-        return Tried::Idle;
-    }
-    if members::any_member(work, p, 1) {
-        return Tried::Applied(members::drop_members(out, work, d, p, false));
-    }
-    Tried::Idle
+    members::drop_neutral(out, work, d, p, false)
 }
 
 // Step 6: a * a = a^2, and 2^3 * 5^3 = 10^3.
@@ -47,8 +41,5 @@ pub fn combine_like_factors(out: &mut [u8], work: &mut [u8], d: usize, p: usize)
     ensures { λ r. ⌜ ((t : Tree) (rest : List ℕ) → Ready (now (out .entry)) (now (work .entry)) d p t rest
         → Answers (combineLikeFactors t) rest (now (out .entry)) (now (out .exit)) (now (work .entry)) (now (work .exit)) d p r) ⌝ }
 {
-    if record::kind(work, p) != 3 {
-        return Tried::Idle;
-    }
     combine::combine(out, work, d, p, false)
 }

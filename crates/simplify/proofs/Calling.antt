@@ -1,15 +1,13 @@
 -- The public call: what the checker's answer and the tests of the areas say of the paper's judgement, and how a run in stretches of
 -- the areas gives the areas afterwards. Assumes nothing.
-use Prim.Native.Nat.{ℕ, suc, _-_, _*_, _<_, _≤_}
+use Prim.Native.Nat.{ℕ, _-_, _*_, _<_, _≤_}
 use mathlib.Core.Path.{_≡_, refl, sym, ap, _∙_}
 use mathlib.Core.Bool.{true, false}
-use mathlib.Core.List.{List, [], _∷_, _++_, append-assoc}
+use mathlib.Core.List.{List, [], _++_, append-assoc}
 use native.Mathlib.Omega.{arith}
-use lib.ListN.{length, take, drop, getD, replicate}
+use lib.ListN.{length, take, drop, replicate}
 use lib.Seq.{length-take-le}
 use lib.Dec.{eqb}
-use mir.Syntax.{w8}
-use mir.Val.{Fits}
 use borrow.Author.Tests.{eq-eqb, ne-eqb, lt-ltb, le-ltb}
 use borrow.Rule.Slice.PartMut.{putMid, mid-len}
 use Rattle.paper.specs.Bytes.{Bytes, stretch}
@@ -24,11 +22,6 @@ use Rattle.table.specs.Measured as table
 use Rattle.simplify.specs.declared.Answer.{Answer}
 use Rattle.simplify.specs.Answer.{says, lent, gives, filled, Lending, Leaves}
 use Rattle.simplify.proofs.Runs.{drives}
-
--- the bytes of a slice are bytes
-pub are-bytes : (s : List ℕ) → ((i : ℕ) → Fits w8 (getD s i 0)) → Bytes s
-are-bytes [] h = tt
-are-bytes (x ∷ s) h = let b : Fits w8 x = h 0 in (omega arith, are-bytes s (λ i. h (suc i)))
 
 -- a stretch that was lent and filled
 pub lent-stretch : (n : ℕ) (d l xs : List ℕ) → n ≤ length d → l ≡ filled (length (take (n - 0) (drop 0 d))) xs → putMid 0 (n - 0) d l ≡ stretch n xs d
@@ -102,57 +95,74 @@ module _ (s : List ℕ) (m : Measured) (e : table.says m ≡ paper.weighed s) wh
         let k : paper.cramped (tableWeight s) (lent out steps work) ≡ true = ap (λ i. paper.cramped i (lent out steps work)) (sym weight-is) ∙ c in
         rw (fine, k) (same-given q refl)
 
-    module _ (b : Bytes s) (out steps work : List ℕ) (room : 16 * m .result ≤ length out) (space : m .result ≤ length steps) (big : 65536 ≤ length work) where
-      uncramped : paper.cramped (tableWeight s) (lent out steps work) ≡ false
-      unfolding paper.cramped
-      uncramped =
-          ap (λ i. paper.cramped i (lent out steps work)) (sym weight-is)
-          ∙ rw (le-ltb (length out) (16 * m .result) room, le-ltb (length steps) (m .result) space, le-ltb (length work) 65536 big) refl
+-- a call that is accepted: the table is fine, and the areas have room
+pub record Accepted (s : List ℕ) (m : Measured) (out steps work : List ℕ) : Type 0 where
+  pub says-so : table.says m ≡ paper.weighed s
+  pub none-refused : m .number ≤ 0
+  pub bytes : Bytes s
+  pub out-room : 16 * m .result ≤ length out
+  pub steps-room : m .result ≤ length steps
+  pub work-room : 65536 ≤ length work
 
-      pub on : RunOn drives s (lent out steps work)
-      on = go (call drives s (lent out steps work) b)
-        where
-          go : Call drives s (lent out steps work) → RunOn drives s (lent out steps work)
-          go (is-run r) = r
-          go (is-turned-down d) =
-              absurd (let z = ap (λ v. v .number) (accepted-judgement s (lent out steps work) fine uncramped) in omega (arith, d .number))
+module _ {s : List ℕ} {m : Measured} {out steps work : List ℕ} (c : Accepted s m out steps work) where
+  weighs : m .result ≡ tableWeight s
+  weighs = weight-is s m (c .says-so) (c .none-refused)
 
-      abbrev pub tree : Tree
-      tree = on .holds .tree
+  uncramped : paper.cramped (tableWeight s) (lent out steps work) ≡ false
+  unfolding paper.cramped
+  uncramped =
+      ap (λ i. paper.cramped i (lent out steps work)) (sym weighs)
+      ∙ rw (
+        le-ltb (length out) (16 * m .result) (c .out-room),
+        le-ltb (length steps) (m .result) (c .steps-room),
+        le-ltb (length work) 65536 (c .work-room),
+      ) refl
 
-      -- what is lent to the run
-      pub lending : Lending s (take (16 * m .result - 0) (drop 0 out)) (take (m .result - 0) (drop 0 steps)) (take (65536 - 0) (drop 0 work)) (m .result) tree
-      lending =
-          let k = on .holds in
-          let w : m .result ≡ weight tree = weight-is ∙ k .weighs in
-          let l = k .light in
-          let lo = mid-len 0 (16 * m .result) out room in
-          let lz = mid-len 0 (m .result) steps space in
-          let lw = mid-len 0 65536 work big in
-          record {
-            wf = k .wf;
-            light = l;
-            written = k .written;
-            weighs = w;
-            out-room = omega arith;
-            steps-room = omega arith;
-            work-room = omega arith;
-            work-records = omega arith;
-          }
+  pub on : RunOn drives s (lent out steps work)
+  on = go (call drives s (lent out steps work) (c .bytes))
+    where
+      go : Call drives s (lent out steps work) → RunOn drives s (lent out steps work)
+      go (is-run r) = r
+      go (is-turned-down d) =
+          let j = accepted-judgement s (lent out steps work) (fine s m (c .says-so) (c .none-refused)) uncramped in
+          absurd (let z = ap (λ v. v .number) j in omega (arith, d .number))
 
-      -- the run's answer, and the areas with their stretches back
-      pub ran : (a : Answer) (out' steps' work' : List ℕ)
-          → Leaves (drives tree) (m .result) a (take (16 * m .result - 0) (drop 0 out)) out' (take (m .result - 0) (drop 0 steps)) steps'
-          (take (65536 - 0) (drop 0 work)) work'
-          → gives a (putMid 0 (16 * m .result - 0) out out') (putMid 0 (m .result - 0) steps steps') (putMid 0 (65536 - 0) work work')
-          ≡ paper.simplified s (lent out steps work)
-      unfolding paper.simplified simplifiedBy lentAfter outAfter stepsAfter workAfter
-      ran a out' steps' work' r =
-          let w : m .result ≡ weight tree = weight-is ∙ on .holds .weighs in
-          same-given
-          (r .answer ∙ ap (λ i. paper.ranAnswer i (drives tree)) w ∙ sym (on .answer))
-          (same-lent
-          (lent-stretch (16 * m .result) out out' (paper.written (drives tree)) room (r .out-is))
-          (lent-stretch (m .result) steps steps' (paper.noted (drives tree)) space (r .steps-is))
-          (lent-stretch 65536 work work' [] big (r .work-is))
-          ∙ ap (λ i. paper.lentAfter (paper.ran i (drives tree)) (lent out steps work)) w ∙ sym (on .lent))
+  abbrev pub tree : Tree
+  tree = on .holds .tree
+
+  -- what is lent to the run
+  pub lending : Lending s (take (16 * m .result - 0) (drop 0 out)) (take (m .result - 0) (drop 0 steps)) (take (65536 - 0) (drop 0 work)) (m .result) tree
+  lending =
+      let k = on .holds in
+      let w : m .result ≡ weight tree = weighs ∙ k .weighs in
+      let l = k .light in
+      let lo = mid-len 0 (16 * m .result) out (c .out-room) in
+      let lz = mid-len 0 (m .result) steps (c .steps-room) in
+      let lw = mid-len 0 65536 work (c .work-room) in
+      record {
+        wf = k .wf;
+        light = l;
+        written = k .written;
+        weighs = w;
+        out-room = omega arith;
+        steps-room = omega arith;
+        work-room = omega arith;
+        work-records = omega arith;
+      }
+
+  -- the run's answer, and the areas with their stretches back
+  pub ran : (a : Answer) (out' steps' work' : List ℕ)
+      → Leaves (drives tree) (m .result) a (take (16 * m .result - 0) (drop 0 out)) out' (take (m .result - 0) (drop 0 steps)) steps'
+      (take (65536 - 0) (drop 0 work)) work'
+      → gives a (putMid 0 (16 * m .result - 0) out out') (putMid 0 (m .result - 0) steps steps') (putMid 0 (65536 - 0) work work')
+      ≡ paper.simplified s (lent out steps work)
+  unfolding paper.simplified simplifiedBy lentAfter outAfter stepsAfter workAfter
+  ran a out' steps' work' r =
+      let w : m .result ≡ weight tree = weighs ∙ on .holds .weighs in
+      same-given
+      (r .answer ∙ ap (λ i. paper.ranAnswer i (drives tree)) w ∙ sym (on .answer))
+      (same-lent
+      (lent-stretch (16 * m .result) out out' (paper.written (drives tree)) (c .out-room) (r .out-is))
+      (lent-stretch (m .result) steps steps' (paper.noted (drives tree)) (c .steps-room) (r .steps-is))
+      (lent-stretch 65536 work work' [] (c .work-room) (r .work-is))
+      ∙ ap (λ i. paper.lentAfter (paper.ran i (drives tree)) (lent out steps work)) w ∙ sym (on .lent))

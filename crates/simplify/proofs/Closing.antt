@@ -10,17 +10,17 @@ use lib.ListN.{length, take, drop, length-append, take-append-drop}
 use lib.Seq.{length-take-le, drop-at, take-at, take-take, drop-drop}
 use Rattle.paper.specs.Bytes.{word}
 use Rattle.paper.specs.Tree.{Tree, Forest, integer, symbol, sum, product, power, ofList, records}
-use Rattle.paper.specs.Table.{recordOf, encode, encodes}
+use Rattle.paper.specs.Table.{recordOf, encode}
 use Rattle.paper.specs.Rules.{collapse, sumOf, productOf}
 use Rattle.paper.specs.Driver.{baseFrom}
-use Rattle.paper.proofs.EncodeLaws.{record-length}
+use Rattle.paper.proofs.EncodeLaws.{record-length, encodes-length}
+use Rattle.paper.proofs.GatherLaws.{collapse-none}
 use Rattle.paper.proofs.WFLaws.{list-count}
 use Rattle.stretch.specs.Put.{part, put}
 use Rattle.stretch.proofs.Laws.{take-put-end}
 use Rattle.simplify.specs.Driven.{encodeAll, recordsAll, kindNumber, firstRecord, closedOver, Shape, Gathers, Closed}
-use Rattle.simplify.proofs.Forests.{all-length, first-length, exponent-record, list-encodes, list-records}
+use Rattle.simplify.proofs.Forests.{first-length, exponent-record}
 use Rattle.simplify.proofs.Places.{none-of, part-end}
-use Rattle.simplify.proofs.Settled.{two-kept}
 
 -- another first record before what stands after it
 new-front : (o x f y r : List ℕ) (a m : ℕ) → take m o ≡ x ++ (f ++ y) → length x ≡ a → length f ≡ length r → m ≤ length o
@@ -61,7 +61,7 @@ abbrev Same : Tree → List Tree → Type 0
 Same t l = (firstRecord t ++ encodeAll l ≡ encode (closedOver t l)) × (1 + recordsAll l ≡ records (closedOver t l))
 
 same-leaf : (t : Tree) (l : List Tree) → Shape t l → kindNumber t < 2 → Same t l
-unfolding kindNumber firstRecord closedOver encode encodeAll records recordsAll
+unfolding kindNumber firstRecord closedOver encode records ofList
 same-leaf (integer z) l s h = (ap (λ i. recordOf 0 0 (word z) ++ encodeAll i) s ∙ append-nil (recordOf 0 0 (word z)), ap (λ i. 1 + recordsAll i) s)
 same-leaf (symbol v) l s h = (ap (λ i. recordOf 1 0 v ++ encodeAll i) s ∙ append-nil (recordOf 1 0 v), ap (λ i. 1 + recordsAll i) s)
 same-leaf (sum f) l s h = absurd (omega arith)
@@ -69,7 +69,7 @@ same-leaf (product f) l s h = absurd (omega arith)
 same-leaf (power b x) l s h = absurd (omega arith)
 
 same-power : (t : Tree) (l : List Tree) → Shape t l → 3 < kindNumber t → Same t l
-unfolding kindNumber firstRecord closedOver encode encodeAll records recordsAll baseFrom
+unfolding kindNumber firstRecord closedOver encode records baseFrom ofList
 same-power (integer z) l s h = absurd (omega arith)
 same-power (symbol v) l s h = absurd (omega arith)
 same-power (sum f) l s h = absurd (omega arith)
@@ -106,16 +106,16 @@ collapses (sum f) a b =
     record {
       node = sum;
       is = λ l. refl;
-      written = λ l. ap (λ n. recordOf 2 n 0 ++ encodes (ofList l)) (list-count l) ∙ ap (λ (i : List ℕ). recordOf 2 (length l) 0 ++ i) (list-encodes l);
-      recorded = λ l. ap (λ n. 1 + n) (list-records l);
+      written = λ l. ap (λ n. recordOf 2 n 0 ++ encodeAll l) (list-count l);
+      recorded = λ l. refl;
       low = omega arith;
     }
 collapses (product f) a b =
     record {
       node = product;
       is = λ l. refl;
-      written = λ l. ap (λ n. recordOf 3 n 0 ++ encodes (ofList l)) (list-count l) ∙ ap (λ (i : List ℕ). recordOf 3 (length l) 0 ++ i) (list-encodes l);
-      recorded = λ l. ap (λ n. 1 + n) (list-records l);
+      written = λ l. ap (λ n. recordOf 3 n 0 ++ encodeAll l) (list-count l);
+      recorded = λ l. refl;
       low = omega arith;
     }
 collapses (power b x) a c = absurd (omega arith)
@@ -147,7 +147,7 @@ module _ {t : Tree} {l : List Tree} {out : List ℕ} {d e k m : ℕ} (g : Gather
 
   pub one-left : 1 ≤ m → m < 2 → (out' : List ℕ) → out' ≡ put out (d * 16) (part out (d * 16 + 16) ((e - d - 1) * 16))
       → Closed (closedOver t l) out out' d (e - 1)
-  unfolding collapse records encodeAll recordsAll x
+  unfolding collapse records encode x ofList
   one-left a b out' w = go l refl (omega (arith, g .many))
     where
       go : (i : List Tree) → l ≡ i → length i ≡ 1 → Closed (closedOver t l) out out' d (e - 1)
@@ -161,7 +161,7 @@ module _ {t : Tree} {l : List Tree} {out : List ℕ} {d e k m : ℕ} (g : Gather
           = there g in-out ∙ sym (append-assoc (take (d * 16) out) (firstRecord t) (encodeAll l)) in
           let p : length (take (d * 16) out ++ firstRecord t) ≡ d * 16 + 16
           = length-append (take (d * 16) out) (firstRecord t) ∙ omega (arith, x-long g in-out, first-length t) in
-          let j : length (encodeAll l) ≡ (e - d - 1) * 16 = omega (arith, all-length l, g .end) in
+          let j : length (encodeAll l) ≡ (e - d - 1) * 16 = omega (arith, encodes-length (ofList l), g .end) in
           let o : e * 16 ≡ d * 16 + 16 + (e - d - 1) * 16 = omega (arith, g .end) in
           let r : (e - 1) * 16 ≡ d * 16 + length (encodeAll l) = omega (arith, g .end) in
           let f = within in
@@ -179,7 +179,7 @@ module _ {t : Tree} {l : List Tree} {out : List ℕ} {d e k m : ℕ} (g : Gather
   pub two-left : 2 ≤ m → (out' : List ℕ) → out' ≡ put out (d * 16) (recordOf k m 0) → Closed (closedOver t l) out out' d e
   unfolding x
   two-left h out' w =
-      let q : closedOver t l ≡ c .node (ofList l) = c .is l ∙ two-kept (integer (pos (k - 2))) (c .node) l (omega (arith, g .many)) in
+      let q : closedOver t l ≡ c .node (ofList l) = c .is l ∙ collapse-none (integer (pos (k - 2))) (c .node) l (omega (arith, g .many)) in
       let f : length (firstRecord t) ≡ length (recordOf k m 0) = first-length t ∙ sym (record-length k m 0) in
       subst (λ u. Closed u out out' d e) (sym q)
       (record {

@@ -2,12 +2,11 @@
 -- the tree that stands there now, after the steps and openings so far; and that tree weighs less by as many. Each way that a turn
 -- goes is one law: a step, a refusal, nothing changed, begun again, settled. Assumes nothing.
 use Prim.Native.Nat.{ℕ, _+_, _-_, _*_, _<_, _≤_}
-use mathlib.Core.Path.{_≡_, refl, sym, ap, _∙_, subst}
+use mathlib.Core.Path.{_≡_, refl, sym, ap, _∙_}
 use mathlib.Core.List.{List, [], _∷_, _++_, append-nil, append-assoc}
 use native.Mathlib.Omega.{arith}
 use native.Mathlib.Nat.{add-zero}
 use lib.ListN.{length, take, drop, set, length-append, length-set}
-use lib.Seq.{length-take-le}
 use Rattle.paper.specs.Tree.{Tree, records, weight}
 use Rattle.paper.specs.WellFormed.{WF}
 use Rattle.paper.specs.Table.{encode}
@@ -23,7 +22,7 @@ use Rattle.stretch.proofs.Laws.{take-put-end}
 use Rattle.rules.specs.declared.Asked.the-variants.{Nothing, Step}
 use Rattle.rules.specs.Asked.{AskedIs}
 use Rattle.simplify.specs.Driven.{passed, Set, Drove}
-use Rattle.simplify.proofs.Forests.{set-once}
+use Rattle.simplify.proofs.Forests.{front-long}
 use Rattle.simplify.proofs.Weighs.{weighs-tree}
 use Rattle.simplify.proofs.Places.{none-of, advance, part-there, part-end, ends-after, put-before, noted-one, front-of}
 use Rattle.simplify.proofs.Runs.{drives, visit-step, visit-over, pass-over, pass-done, pass-again, pass-kept}
@@ -77,6 +76,16 @@ pub record Idle (out₀ work₀ steps₀ : List ℕ) (d p s : ℕ) (out work ste
   pub inv : DInv out₀ work₀ steps₀ d p s out work steps at n o size
   pub none : ask editionOne (inv .u) ≡ no-rule
 
+-- where a pass is done, with records up to e in out, what is pending from record q on in work, j steps noted and b openings: its
+-- places are in order, and within the areas
+pub record PassFits (out work : List ℕ) (d n o e q j b : ℕ) : Type 0 where
+  pub more-noted : n ≤ j
+  pub more-done : d ≤ e
+  pub room-before : e - d ≤ q
+  pub in-work : q * 16 ≤ length work
+  pub in-out : e * 16 ≤ length out
+  pub few : o + b + j ≤ n + 3072
+
 after-done : (ks : List ℕ) (o : ℕ) (u : Tree) → after ks o (done u [] 0) ≡ done u ks o
 unfolding after
 after-done ks o u = ap (λ (x : List ℕ). done u x (o + 0)) (append-nil ks) ∙ ap (done u ks) (add-zero o)
@@ -87,12 +96,6 @@ after-over ks o k = refl
 
 module _ {out₀ work₀ steps₀ : List ℕ} {d p s : ℕ} {out work steps : List ℕ} {at n o size : ℕ}
     (v : DInv out₀ work₀ steps₀ d p s out work steps at n o size) where
-  -- what holds of the tree that stood there holds of every tree that stood there
-  pub for-every : (Q : Tree → List ℕ → Type 0) → Q (v .t) (v .rest) → (t : Tree) (rest : List ℕ) → Set out₀ work₀ steps₀ d p s t rest → Q t rest
-  for-every Q q t rest h =
-      let e = set-once (v .set-up) h in
-      subst (λ x. Q t x) (e .1) (subst (λ x. Q x (v .rest)) (e .0) q)
-
   pub set-now : Set out work steps d at n (v .u) (v .rest)
   set-now =
       let r = v .set-up .ready in
@@ -196,9 +199,6 @@ module _ {out₀ work₀ steps₀ : List ℕ} {d p s : ℕ} {out work steps : Li
   abbrev pub v : DInv out₀ work₀ steps₀ d p s out work steps at n o size
   v = w .inv
 
-  front-long : length (take (d * 16) out) ≡ d * 16
-  front-long = length-take-le (d * 16) out (omega (arith, set-now v .ready .out-room))
-
   -- the tree comes from a pass: it is finished, and moves to what is done
   module _ (h : 0 < size) where
     finished : drives (v .u) ≡ done (v .u) [] 0
@@ -256,21 +256,19 @@ module _ {out₀ work₀ steps₀ : List ℕ} {d p s : ℕ} {out work steps : Li
     pub less : WF (a .to) × (length (a .ks) + b + weight (a .to) ≤ weight (v .u))
     less = run-lighter (v .u) (a .to) (a .ks) b _ (pass-kept (v .u) (v .wf)) (a .ran)
 
-    pub pass-fits : (n ≤ j) × (d ≤ e) × (e - d ≤ q) × (q * 16 ≤ length work') × (e * 16 ≤ length out')
-        × (o + b + j ≤ n + 3072) × (q * 16 ≤ length work₀) × (e * 16 ≤ length out₀)
+    pub pass-fits : PassFits out' work' d n o e q j b
     pass-fits =
         let l = less .1 in
         let r = set-now v .ready in
-        let c = records-weight (a .to) in (
-          omega (arith, a .noted-end),
-          omega (arith, a .end),
-          omega (arith, a .end, a .place, r .work-room),
-          omega (arith, a .place),
-          omega (arith, a .end, r .out-room),
-          omega (arith, a .noted-end, v .lighter, v .set-up .ready .light),
-          omega (arith, a .place, v .work-long),
-          omega (arith, a .end, r .out-room, v .out-long),
-        )
+        let c = records-weight (a .to) in
+        record {
+          more-noted = omega (arith, a .noted-end);
+          more-done = omega (arith, a .end);
+          room-before = omega (arith, a .end, a .place, r .work-room);
+          in-work = omega (arith, a .place);
+          in-out = omega (arith, a .end, r .out-room);
+          few = omega (arith, a .noted-end, v .lighter, v .set-up .ready .light);
+        }
 
     -- nothing changed: the node is finished
     pub nothing-changed : j - n + b < 1 → Drove (drives (v .t)) (v .rest) out₀ out' work' steps₀ steps' d s e q n o
@@ -298,22 +296,19 @@ module _ {out₀ work₀ steps₀ : List ℕ} {d p s : ℕ} {out work steps : Li
 
       back-stands : drop ((q - (e - d)) * 16) work'' ≡ encode (a .to) ++ v .rest
       back-stands =
-          let f1 = pass-fits .1 in
-          let f2 = pass-fits .2 in
-          let f3 = pass-fits .3 in
-          let f4 = pass-fits .4 in
+          let f = pass-fits in
           let l = back-length in
           let ends : e * 16 ≡ d * 16 + (e - d) * 16 = omega arith in
           let room : (q - (e - d)) * 16 + length (encode (a .to)) ≡ q * 16 = omega arith in
           ap (drop ((q - (e - d)) * 16))
           (c ∙ ap (put work' ((q - (e - d)) * 16)) (part-end out' (take (d * 16) out) (encode (a .to)) (d * 16) ((e - d) * 16)
-          (e * 16) (a .wrote) ends front-long l (omega arith)))
+          (e * 16) (a .wrote) ends (front-long (set-now v)) l (omega arith)))
           ∙ put-before work' (encode (a .to)) (v .rest) ((q - (e - d)) * 16) (q * 16) room (a .left) (omega arith)
 
       pub again : length work'' ≡ length work' → DInv out₀ work₀ steps₀ d p s out' work'' steps' (q - (e - d)) j (o + b) (e - d)
       again l2 =
           let l = less .1 in
-          let f1 = pass-fits .1 in
+          let f = pass-fits in
           record {
             t = v .t;
             rest = v .rest;
@@ -322,7 +317,7 @@ module _ {out₀ work₀ steps₀ : List ℕ} {d p s : ℕ} {out work steps : Li
             ks = v .ks ++ a .ks;
             wf = less .0;
             stands = back-stands;
-            kept = front-of out' (take (d * 16) out) (encode (a .to)) (d * 16) (e * 16) (a .wrote) front-long (omega arith) ∙ v .kept;
+            kept = front-of out' (take (d * 16) out) (encode (a .to)) (d * 16) (e * 16) (a .wrote) (front-long (set-now v)) (omega arith) ∙ v .kept;
             noted-end = omega (arith, v .noted-end, a .noted-end, length-append (v .ks) (a .ks));
             noted = a .noted ∙ ap (λ (x : List ℕ). x ++ a .ks) (v .noted) ∙ append-assoc (take s steps₀) (v .ks) (a .ks);
             goes-on =

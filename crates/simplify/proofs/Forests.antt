@@ -1,80 +1,46 @@
--- Trees that stand one after the other: how long their records are, what they weigh, and that bytes hold one such list of a given
--- length at the most, since reading gives back what was written. Assumes nothing.
+-- Trees that stand one after the other. Their records, and what they weigh, are those of the forest of them, so the paper's laws of
+-- forests hold of them; a node is its first record and its members; and bytes hold one tree, and one list of trees of a given length,
+-- at the most, since reading gives back what was written. Assumes nothing.
 use Prim.Native.Nat.{ℕ, _+_, _*_, _^_, _<_, _≤_}
-use mathlib.Core.Path.{_≡_, refl, sym, ap, _∙_}
+use mathlib.Core.Path.{_≡_, refl, sym, ap, _∙_, subst}
 use mathlib.Core.List.{List, [], _∷_, _++_, append-assoc, append-nil}
 use mathlib.Core.Option.{Option, some}
 use native.Mathlib.Omega.{arith}
 use native.Mathlib.Nat.{mod-eq-of-lt}
-use lib.ListN.{length, length-append}
+use lib.ListN.{length, take}
+use lib.Seq.{length-take-le}
 use lib.IntN.{pos}
 use Rattle.paper.specs.Limits.{modulus}
 use Rattle.paper.specs.Bytes.{word}
-use Rattle.paper.specs.Tree.{Tree, Forest, integer, symbol, sum, product, power, nil, cons, toList, ofList, count, records, recordses, weight}
+use Rattle.paper.specs.Tree.{Tree, integer, symbol, sum, product, power, ofList, count, records, recordses, weight}
 use Rattle.paper.specs.WellFormed.{WF, WFl}
 use Rattle.paper.specs.Table.{recordOf, encode, encodes, readTree}
 use Rattle.paper.specs.Driver.{members}
-use Rattle.paper.proofs.EncodeLaws.{record-length, encode-length, records-pos, records-weight}
+use Rattle.paper.proofs.EncodeLaws.{record-length, records-weight, recordses-weights, count-records}
+use Rattle.paper.proofs.WFLaws.{list-count, of-to-list}
 use Rattle.paper.proofs.ReadLaws.{read-written}
-use Rattle.paper.proofs.Value.{total}
+use Rattle.paper.proofs.Value.{list-weights}
 use Rattle.paper.proofs.Fuel.{members-lighter}
 use Rattle.simplify.specs.Driven.{encodeAll, recordsAll, weightAll, firstRecord, Set, SetAll}
 
 -- ---- lists of trees
-pub encodes-list : (f : Forest) → encodes f ≡ encodeAll (toList f)
-unfolding encode encodeAll toList
-encodes-list nil = refl
-encodes-list (cons t f) = ap (λ (l : List ℕ). encode t ++ l) (encodes-list f)
-
-pub list-encodes : (l : List Tree) → encodes (ofList l) ≡ encodeAll l
-unfolding encode encodeAll ofList
-list-encodes [] = refl
-list-encodes (t ∷ l) = ap (λ (m : List ℕ). encode t ++ m) (list-encodes l)
-
 pub encode-both : (l m : List Tree) → encodeAll (l ++ m) ≡ encodeAll l ++ encodeAll m
-unfolding encodeAll
+unfolding encode ofList
 encode-both [] m = refl
 encode-both (t ∷ l) m = ap (λ (x : List ℕ). encode t ++ x) (encode-both l m) ∙ sym (append-assoc (encode t) (encodeAll l) (encodeAll m))
 
 pub records-both : (l m : List Tree) → recordsAll (l ++ m) ≡ recordsAll l + recordsAll m
-unfolding recordsAll
+unfolding records ofList
 records-both [] m = omega arith
 records-both (t ∷ l) m = omega (arith, records-both l m)
 
 pub weight-both : (l m : List Tree) → weightAll (l ++ m) ≡ weightAll l + weightAll m
-unfolding weightAll
+unfolding weight ofList
 weight-both [] m = omega arith
 weight-both (t ∷ l) m = omega (arith, weight-both l m)
 
-pub all-length : (l : List Tree) → length (encodeAll l) ≡ 16 * recordsAll l
-unfolding encodeAll recordsAll
-all-length [] = refl
-all-length (t ∷ l) = simp length-append (omega (arith, encode-length t, all-length l))
-
-pub all-weight : (l : List Tree) → recordsAll l ≤ weightAll l
-unfolding recordsAll weightAll
-all-weight [] = omega arith
-all-weight (t ∷ l) = omega (arith, records-weight t, all-weight l)
-
 pub all-many : (l : List Tree) → length l ≤ recordsAll l
-unfolding recordsAll
-all-many [] = omega arith
-all-many (t ∷ l) = omega (arith, records-pos t, all-many l)
-
-pub list-records : (l : List Tree) → recordses (ofList l) ≡ recordsAll l
-unfolding records recordsAll ofList
-list-records [] = refl
-list-records (t ∷ l) = ap (λ n. records t + n) (list-records l)
-
-pub forest-records : (f : Forest) → recordses f ≡ recordsAll (toList f)
-unfolding records recordsAll toList
-forest-records nil = refl
-forest-records (cons t f) = ap (λ n. records t + n) (forest-records f)
-
-pub weight-total : (l : List Tree) → weightAll l ≡ total weight l
-unfolding weightAll total
-weight-total [] = refl
-weight-total (t ∷ l) = ap (λ n. weight t + n) (weight-total l)
+all-many l = omega (arith, count-records (ofList l), list-count l)
 
 -- ---- a node: its first record, and its members
 pub first-length : (t : Tree) → length (firstRecord t) ≡ 16
@@ -90,24 +56,29 @@ unfolding encode word
 exponent-record e h = ap (recordOf 0 0) (mod-eq-of-lt {n = e} {m = modulus} (omega arith))
 
 pub encode-first : (t : Tree) → WF t → encode t ≡ firstRecord t ++ encodeAll (members t)
-unfolding encode firstRecord members encodeAll
+unfolding encode firstRecord members ofList
 encode-first (integer z) w = sym (append-nil (recordOf 0 0 (word z)))
 encode-first (symbol s) w = sym (append-nil (recordOf 1 0 s))
-encode-first (sum f) w = ap (λ (l : List ℕ). recordOf 2 (count f) 0 ++ l) (encodes-list f)
-encode-first (product f) w = ap (λ (l : List ℕ). recordOf 3 (count f) 0 ++ l) (encodes-list f)
+encode-first (sum f) w = ap (λ g. recordOf 2 (count f) 0 ++ encodes g) (sym (of-to-list f))
+encode-first (product f) w = ap (λ g. recordOf 3 (count f) 0 ++ encodes g) (sym (of-to-list f))
 encode-first (power b e) w =
     ap (λ (l : List ℕ). recordOf 4 0 0 ++ (encode b ++ l)) (sym (exponent-record e (w .2)) ∙ sym (append-nil (encode (integer (pos e)))))
 
 pub records-first : (t : Tree) → records t ≡ 1 + recordsAll (members t)
-unfolding records members recordsAll
+unfolding records members ofList
 records-first (integer z) = refl
 records-first (symbol s) = refl
-records-first (sum f) = ap (λ n. 1 + n) (forest-records f)
-records-first (product f) = ap (λ n. 1 + n) (forest-records f)
+records-first (sum f) = ap (λ g. 1 + recordses g) (sym (of-to-list f))
+records-first (product f) = ap (λ g. 1 + recordses g) (sym (of-to-list f))
 records-first (power b e) = omega arith
 
 pub members-weigh : (t : Tree) → weightAll (members t) < weight t
-members-weigh t = omega (arith, members-lighter t, weight-total (members t))
+members-weigh t = omega (arith, members-lighter t, list-weights (members t))
+
+-- ---- where a tree is set up, the records done end within the area
+pub front-long : {out work steps : List ℕ} {d p s : ℕ} {t : Tree} {rest : List ℕ} → Set out work steps d p s t rest
+    → length (take (d * 16) out) ≡ d * 16
+front-long {out = out} {d = d} h = length-take-le (d * 16) out (omega (arith, h .ready .out-room))
 
 -- ---- what stands there is determined
 pub tree-once : (t u : Tree) (r q : List ℕ) → WF t → WF u → records t < 65536 → records u < 65536 → encode t ++ r ≡ encode u ++ q
@@ -126,9 +97,16 @@ set-once {t = t} {u = u} {r = r} {q = q} a b =
     tree-once t u r q (a .ready .wf) (b .ready .wf) (omega (arith, records-weight t, a .ready .light)) (omega (arith, records-weight u, b .ready .light))
     (sym (a .ready .stands) ∙ b .ready .stands)
 
+-- what holds of the tree that is set up, and of what is pending after it, holds of whichever are
+pub for-every : {out work steps : List ℕ} {d p s : ℕ} {t : Tree} {rest : List ℕ} → Set out work steps d p s t rest
+    → (Q : Tree → List ℕ → Type 0) → Q t rest → (u : Tree) (r : List ℕ) → Set out work steps d p s u r → Q u r
+for-every {rest = rest} h Q q u r g =
+    let e = set-once h g in
+    subst (λ x. Q u x) (e .1) (subst (λ x. Q x rest) (e .0) q)
+
 pub trees-once : (l m : List Tree) (r q : List ℕ) → WFl l → WFl m → recordsAll l < 65536 → recordsAll m < 65536 → length l ≡ length m
     → encodeAll l ++ r ≡ encodeAll m ++ q → (l ≡ m) × (r ≡ q)
-unfolding encodeAll recordsAll
+unfolding encode records ofList
 trees-once [] [] r q v w h k n e = (refl, e)
 trees-once [] (u ∷ m) r q v w h k n e = absurd (omega arith)
 trees-once (t ∷ l) [] r q v w h k n e = absurd (omega arith)
@@ -141,5 +119,5 @@ trees-once (t ∷ l) (u ∷ m) r q v w h k n e =
 pub set-all-once : {out work steps : List ℕ} {d p s : ℕ} {l m : List Tree} {r q : List ℕ}
     → SetAll out work steps d p s l r → SetAll out work steps d p s m q → length l ≡ length m → (l ≡ m) × (r ≡ q)
 set-all-once {l = l} {m = m} {r = r} {q = q} a b n =
-    trees-once l m r q (a .wf) (b .wf) (omega (arith, all-weight l, a .light)) (omega (arith, all-weight m, b .light)) n
+    trees-once l m r q (a .wf) (b .wf) (omega (arith, recordses-weights (ofList l), a .light)) (omega (arith, recordses-weights (ofList m), b .light)) n
     (sym (a .stands) ∙ b .stands)

@@ -6,6 +6,7 @@ pub mod Places
 pub mod Driving
 pub mod FirstRecords
 pub mod Opening
+pub mod Leaves
 pub mod Membering
 pub mod Passing
 pub mod Closing

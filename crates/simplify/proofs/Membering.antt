@@ -5,13 +5,14 @@ use mathlib.Core.Path.{_≡_, refl, sym, ap, _∙_, subst}
 use mathlib.Core.List.{List, [], _∷_, _++_, append-nil, append-assoc}
 use native.Mathlib.Omega.{arith}
 use lib.ListN.{length, take, drop, length-append}
-use Rattle.paper.specs.Tree.{Tree, weight}
+use Rattle.paper.specs.Tree.{Tree, ofList, records, weight}
 use Rattle.paper.specs.WellFormed.{WF, WFl}
 use Rattle.paper.specs.Table.{encode}
 use Rattle.paper.specs.Verdict.{tableWeight}
 use Rattle.paper.specs.Driver.{overs, each}
+use Rattle.paper.proofs.EncodeLaws.{encodes-length, recordses-weights}
 use Rattle.simplify.specs.Driven.{encodeAll, recordsAll, weightAll, inside, openedRuns, Set, SetAll, Gave}
-use Rattle.simplify.proofs.Forests.{encode-both, records-both, weight-both, all-length, all-weight, all-many, set-all-once}
+use Rattle.simplify.proofs.Forests.{encode-both, records-both, weight-both, all-many, set-all-once}
 use Rattle.simplify.proofs.Weighs.{weighs-all}
 use Rattle.simplify.proofs.Runs.{drives, drives-kept, run-lighter, before, joined, before-none, before-joined, gather-first, gather-none, same-dones}
 use Rattle.simplify.proofs.Places.{none-of}
@@ -43,7 +44,7 @@ pub record MInv (out₀ work₀ steps₀ : List ℕ) (k c d p s : ℕ) (out work
 
 pub start : {out work steps : List ℕ} {d p s : ℕ} {l : List Tree} {rest : List ℕ} (k c : ℕ) → length l ≡ c → SetAll out work steps d p s l rest
     → MInv out work steps k c d p s out work steps 0 d p s 0 0
-unfolding encodeAll recordsAll weightAll
+unfolding encode records weight ofList
 start {out = out} {steps = steps} {d = d} {s = s} {l = l} {rest = rest} k c e h =
     record {
       l = l;
@@ -89,9 +90,9 @@ module _ {out₀ work₀ steps₀ : List ℕ} {k c d p s : ℕ} {out work steps 
 
   pub small : (o < 3073) × (m < 3073) × (i ≤ c) × (c < 3073)
   small =
-      let a = all-weight (v .g) in
+      let a = recordses-weights (ofList (v .g)) in
       let b = all-many (v .g) in
-      let f = all-weight (v .l) in
+      let f = recordses-weights (ofList (v .l)) in
       let j = all-many (v .l) in (
         omega (arith, v .lighter, v .set-up .light),
         omega (arith, v .gathered, v .lighter, v .set-up .light),
@@ -120,11 +121,11 @@ module _ {out₀ work₀ steps₀ : List ℕ} {k c d p s : ℕ} {out work steps 
     rest-after = encodeAll (f .xs) ++ v .rest
 
     weight-next : weightAll (v .r) ≡ weight x + weightAll (f .xs)
-    unfolding weightAll
+    unfolding weight ofList
     weight-next = ap weightAll (f .is)
 
     stands-next : drop (q * 16) work ≡ encode x ++ rest-after
-    unfolding encodeAll
+    unfolding encode ofList
     stands-next = v .stands ∙ ap (λ r. encodeAll r ++ v .rest) (f .is) ∙ append-assoc (encode x) (encodeAll (f .xs)) (v .rest)
 
     wf-next : WF x × WFl (f .xs)
@@ -132,10 +133,10 @@ module _ {out₀ work₀ steps₀ : List ℕ} {k c d p s : ℕ} {out work steps 
 
     pub set-next : Set out work steps e q n x rest-after
     set-next =
-        let a = all-weight (v .g) in
+        let a = recordses-weights (ofList (v .g)) in
         let b = weight-next in
-        let w = all-weight (f .xs) in
-        let y = all-length (f .xs) in
+        let w = recordses-weights (ofList (f .xs)) in
+        let y = encodes-length (ofList (f .xs)) in
         let z : length rest-after ≡ length (encodeAll (f .xs)) + length (v .rest) = length-append (encodeAll (f .xs)) (v .rest) in
         let u = v .set-up in
         record {
@@ -176,7 +177,7 @@ module _ {out₀ work₀ steps₀ : List ℕ} {k c d p s : ℕ} {out work steps 
       sums-fit =
           let w = weighs in
           let z = weight-next in
-          let b = all-weight (a .to) in
+          let b = recordses-weights (ofList (a .to)) in
           let y = all-many (a .to) in
           (omega (arith, v .lighter, v .set-up .light), omega (arith, small .1, a .many, v .lighter, v .set-up .light))
 
@@ -216,7 +217,7 @@ module _ {out₀ work₀ steps₀ : List ℕ} {k c d p s : ℕ} {out work steps 
 
   -- all members are gathered
   pub finish : c ≤ i → Gave (openedRuns (inside k) (each drives (v .l))) (v .rest) out₀ out work steps₀ steps d s e q n o m
-  unfolding before encodeAll
+  unfolding before encode ofList
   finish h =
       let z : v .r ≡ [] = none-of (v .r) (omega (arith, v .to-go)) in
       record {

@@ -8,19 +8,19 @@ use mathlib.Core.Option.{Option, none, some}
 use native.Mathlib.Omega.{arith}
 use lib.Dec.{eqb}
 use lib.ListN.{length, take, drop, length-append, take-append-drop}
-use lib.Seq.{length-take-le, drop-at}
-use Rattle.paper.specs.Tree.{Tree, records, weight}
+use lib.Seq.{drop-at}
+use Rattle.paper.specs.Tree.{Tree, ofList, records, weight}
 use Rattle.paper.specs.Record.{kind, countIn, isNode}
 use Rattle.paper.specs.WellFormed.{WF}
 use Rattle.paper.specs.Table.{encode}
 use Rattle.paper.specs.Driver.{Ran, done, over, dones, overs, andThen, each, members, openOne, opened}
-use Rattle.paper.proofs.EncodeLaws.{records-pos, records-weight}
-use Rattle.paper.proofs.Value.{total}
+use Rattle.paper.proofs.EncodeLaws.{encodes-length, records-pos, records-weight}
+use Rattle.paper.proofs.Value.{total, list-weights}
 use Rattle.paper.proofs.GatherLaws.{opened-weight}
 use Rattle.stretch.specs.Put.{part, put}
 use Rattle.stretch.proofs.Laws.{take-put-end}
 use Rattle.simplify.specs.Driven.{encodeAll, recordsAll, weightAll, kindNumber, firstRecord, inside, openedRuns, Set, Drove, Gave}
-use Rattle.simplify.proofs.Forests.{all-length, encode-first, records-first, first-length, weight-total}
+use Rattle.simplify.proofs.Forests.{encode-first, records-first, first-length, front-long}
 use Rattle.simplify.proofs.Places.{part-end, front-of}
 use Rattle.simplify.proofs.Runs.{drives, drives-kept, run-lighter, same-dones}
 use Rattle.simplify.proofs.FirstRecords.{kind-first, Open, is-opened, is-kept, inside-opens}
@@ -60,7 +60,7 @@ one-weighs k t (done u s o) h l ks n e =
     let c : o + 0 + opened (inside k) (u ∷ []) .1 ≡ n = cc in
     let d : total weight (opened (inside k) (u ∷ []) .0) + opened (inside k) (u ∷ []) .1 ≡ weight u + 0
     = opened-weight (inside-opens k) (u ∷ []) ∙ unfold total in refl in
-    let f : weightAll l ≡ total weight (opened (inside k) (u ∷ []) .0) = weight-total l ∙ ap (total weight) (sym a) in
+    let f : weightAll l ≡ total weight (opened (inside k) (u ∷ []) .0) = list-weights l ∙ ap (total weight) (sym a) in
     let g : length ks ≡ length s + 0 = ap length (sym b) ∙ length-append s [] in
     omega arith
 
@@ -82,9 +82,6 @@ module _ {t : Tree} {rest out out' work steps work' steps' : List ℕ} {d p s e 
   small : records (a .to) < 65536
   small = omega (arith, lighter, records-weight (a .to), h .ready .light)
 
-  front-long : length (take (d * 16) out) ≡ d * 16
-  front-long = length-take-le (d * 16) out (omega (arith, h .ready .out-room))
-
   pub member-fits : (d + 1 ≤ e) × (e * 16 ≤ length out') × (o < 3072)
   member-fits =
       let l = lighter in
@@ -97,7 +94,7 @@ module _ {t : Tree} {rest out out' work steps work' steps' : List ℕ} {d p s e 
       let past = drop (e * 16) out' in
       ap (drop (d * 16))
       (sym (take-append-drop (e * 16) out') ∙ ap (λ (x : List ℕ). x ++ past) (a .wrote) ∙ append-assoc (take (d * 16) out) (encode (a .to)) past)
-      ∙ drop-at (take (d * 16) out) (encode (a .to) ++ past) (d * 16) front-long
+      ∙ drop-at (take (d * 16) out) (encode (a .to) ++ past) (d * 16) (front-long h)
 
   pub member-kind : kind out' d ≡ kindNumber (a .to)
   member-kind = kind-first out' d (a .to) (drop (e * 16) out') stands
@@ -106,7 +103,7 @@ module _ {t : Tree} {rest out out' work steps work' steps' : List ℕ} {d p s e 
     -- it is not of the node's kind
     pub as-it-is : (eqb (kind out' d) k && isNode k) ≡ false
         → Gave (openedRuns (inside k) (each drives (t ∷ []))) rest out out' work' steps steps' d s e q n o 1
-    unfolding encodeAll recordsAll
+    unfolding encode records ofList
     as-it-is b =
         record {
           to = a .to ∷ [];
@@ -137,8 +134,8 @@ module _ {t : Tree} {rest out out' work steps work' steps' : List ℕ} {d p s e 
           = a .wrote ∙ ap (λ (x : List ℕ). take (d * 16) out ++ x) (encode-first (a .to) result-wf)
           ∙ sym (append-assoc (take (d * 16) out) (firstRecord (a .to)) (encodeAll l)) in
           let x : length (take (d * 16) out ++ firstRecord (a .to)) ≡ d * 16 + 16
-          = length-append (take (d * 16) out) (firstRecord (a .to)) ∙ omega (arith, front-long, first-length (a .to)) in
-          let y : length (encodeAll l) ≡ (e - d - 1) * 16 = omega (arith, all-length l, a .end) in
+          = length-append (take (d * 16) out) (firstRecord (a .to)) ∙ omega (arith, front-long h, first-length (a .to)) in
+          let y : length (encodeAll l) ≡ (e - d - 1) * 16 = omega (arith, encodes-length (ofList l), a .end) in
           let m : e * 16 ≡ d * 16 + 16 + (e - d - 1) * 16 = omega arith in
           let i : (e - 1) * 16 ≡ d * 16 + length (encodeAll l) = omega arith in
           record {
@@ -153,7 +150,7 @@ module _ {t : Tree} {rest out out' work steps work' steps' : List ℕ} {d p s e 
                 ((e - d - 1) * 16) (e * 16) g m x y (omega arith)))
                 ∙ take-put-end out' (d * 16) (encodeAll l) ((e - 1) * 16) i (omega arith)
                 ∙ ap (λ (z : List ℕ). z ++ encodeAll l)
-                (front-of out' (take (d * 16) out) (encode (a .to)) (d * 16) (e * 16) (a .wrote) front-long (omega arith));
+                (front-of out' (take (d * 16) out) (encode (a .to)) (d * 16) (e * 16) (a .wrote) (front-long h) (omega arith));
             left = a .left;
             place = a .place;
             noted-end = a .noted-end;

@@ -1,23 +1,23 @@
 -- A pass: the first record of the node goes to what is done, its members stand after it and are gathered behind it, and the gathered
 -- node is closed up. Assumes nothing.
 use Prim.Native.Nat.{ℕ, _+_, _*_, _<_, _≤_}
-use mathlib.Core.Path.{_≡_, sym, ap, _∙_, subst}
+use mathlib.Core.Path.{_≡_, sym, ap, _∙_}
 use mathlib.Core.List.{List, _++_, append-assoc}
 use native.Mathlib.Omega.{arith}
 use lib.ListN.{length, take, drop, length-append}
-use lib.Seq.{length-take-le, drop-at}
-use Rattle.paper.specs.Tree.{Tree, records, weight}
+use lib.Seq.{drop-at}
+use Rattle.paper.specs.Tree.{Tree, ofList, records, weight}
 use Rattle.paper.specs.Record.{kind, arity}
 use Rattle.paper.specs.Table.{encode}
 use Rattle.paper.specs.Verdict.{tableWeight}
 use Rattle.paper.specs.Driver.{over, overs, each, members}
-use Rattle.paper.proofs.EncodeLaws.{encode-length, records-pos, records-weight}
+use Rattle.paper.proofs.EncodeLaws.{encode-length, encodes-length, records-pos, records-weight}
 use Rattle.paper.proofs.GatherLaws.{members-wf}
 use Rattle.stretch.specs.Put.{part, put}
 use Rattle.stretch.proofs.Laws.{take-put-end}
 use Rattle.simplify.specs.Driven.{encodeAll, recordsAll, weightAll, kindNumber, firstRecord, inside, openedRuns, passed, closedOver}
 use Rattle.simplify.specs.Driven.{Set, SetAll, Drove, Gave, Gathers, Closed}
-use Rattle.simplify.proofs.Forests.{set-once, encode-first, records-first, first-length, members-weigh, all-length}
+use Rattle.simplify.proofs.Forests.{front-long, encode-first, records-first, first-length, members-weigh}
 use Rattle.simplify.proofs.Weighs.{weighs-tree, weighs-all}
 use Rattle.simplify.proofs.Places.{advance, part-there, ends-after, front-of, front-fits}
 use Rattle.simplify.proofs.Runs.{drives, closedRuns, pass-closed}
@@ -25,11 +25,6 @@ use Rattle.simplify.proofs.Settled.{shape}
 use Rattle.simplify.proofs.FirstRecords.{kind-first, arity-first}
 
 module _ {out work steps : List ℕ} {d p s : ℕ} {t : Tree} {rest : List ℕ} (h : Set out work steps d p s t rest) where
-  pub for-every : (Q : Tree → List ℕ → Type 0) → Q t rest → (u : Tree) (r : List ℕ) → Set out work steps d p s u r → Q u r
-  for-every Q q u r g =
-      let e = set-once h g in
-      subst (λ x. Q u x) (e .1) (subst (λ x. Q x rest) (e .0) q)
-
   small : records t < 65536
   small = omega (arith, records-weight t, h .ready .light)
 
@@ -61,9 +56,6 @@ module _ {out work steps : List ℕ} {d p s : ℕ} {t : Tree} {rest : List ℕ} 
       let b : tableWeight (drop (p * 16) work) ≡ weight t + tableWeight rest = ap tableWeight (h .ready .stands) ∙ weighs-tree t rest in
       omega (arith, members-weigh t)
 
-  front-long : length (take (d * 16) out) ≡ d * 16
-  front-long = length-take-le (d * 16) out (omega (arith, record-fits .1))
-
   -- the first record is copied
   module _ (out' : List ℕ) (c : out' ≡ put out (d * 16) (part work (p * 16) 16)) where
     front-now : take ((d + 1) * 16) out' ≡ take (d * 16) out ++ firstRecord t
@@ -79,7 +71,7 @@ module _ {out work steps : List ℕ} {d p s : ℕ} {t : Tree} {rest : List ℕ} 
         let w = members-weigh t in
         let r = h .ready in
         let x : length (encodeAll (members t) ++ rest) ≡ 16 * recordsAll (members t) + length rest
-        = length-append (encodeAll (members t)) rest ∙ ap (λ n. n + length rest) (all-length (members t)) in
+        = length-append (encodeAll (members t)) rest ∙ ap (λ n. n + length rest) (encodes-length (ofList (members t))) in
         record {
           wf = members-wf t (r .wf);
           light = omega (arith, r .light);
@@ -114,7 +106,7 @@ module _ {out work steps : List ℕ} {d p s : ℕ} {t : Tree} {rest : List ℕ} 
             omega arith,
             front-fits out'' (take (d * 16) out ++ (firstRecord t ++ encodeAll (a .to))) (e' * 16) gathered-all
                 (length-append (take (d * 16) out) (firstRecord t ++ encodeAll (a .to))
-                ∙ omega (arith, front-long, length-append (firstRecord t) (encodeAll (a .to)), all-length (a .to))),
+                ∙ omega (arith, front-long h, length-append (firstRecord t) (encodeAll (a .to)), encodes-length (ofList (a .to)))),
           )
 
       pub gathers : Gathers t (a .to) out'' d e' k m
@@ -124,7 +116,7 @@ module _ {out work steps : List ℕ} {d p s : ℕ} {t : Tree} {rest : List ℕ} 
             shape = shape t (h .ready .wf) (a .to) (a .ks) o (ap (λ j. openedRuns (inside j) (each drives (members t))) (sym e) ∙ a .ran);
             many = a .many;
             end = a .end;
-            there = ap (drop (d * 16)) gathered-all ∙ drop-at (take (d * 16) out) (firstRecord t ++ encodeAll (a .to)) (d * 16) front-long;
+            there = ap (drop (d * 16)) gathered-all ∙ drop-at (take (d * 16) out) (firstRecord t ++ encodeAll (a .to)) (d * 16) (front-long h);
           }
 
       pub closed-up : {out3 : List ℕ} {r : ℕ} → Closed (closedOver t (a .to)) out'' out3 d r
@@ -140,7 +132,7 @@ module _ {out work steps : List ℕ} {d p s : ℕ} {t : Tree} {rest : List ℕ} 
             end = b .end;
             wrote =
                 b .wrote ∙ ap (λ (x : List ℕ). x ++ encode (closedOver t (a .to)))
-                (front-of out'' (take (d * 16) out) (firstRecord t ++ encodeAll (a .to)) (d * 16) (e' * 16) gathered-all front-long (omega (arith, a .end)));
+                (front-of out'' (take (d * 16) out) (firstRecord t ++ encodeAll (a .to)) (d * 16) (e' * 16) gathered-all (front-long h) (omega (arith, a .end)));
             left = a .left;
             place = a .place;
             noted-end = a .noted-end;

@@ -8,16 +8,16 @@ use mathlib.Core.Option.{Option, none, some}
 use native.Mathlib.Omega.{arith}
 use lib.ListN.{length}
 use lib.IntN.{ℤ, pos}
-use Rattle.paper.specs.Tree.{Tree, Forest, integer, symbol, sum, product, power, toList, ofList}
+use Rattle.paper.specs.Tree.{Tree, integer, symbol, sum, product, power, toList, ofList}
 use Rattle.paper.specs.WellFormed.{WF, WFl}
 use Rattle.paper.specs.Rules.{editionOne, addZero, combineLikeTerms, multiplyZero, multiplyOne, combineLikeFactors, onSumMembers, onProductMembers}
-use Rattle.paper.specs.Rules.{collapse, sumOf, productOf}
+use Rattle.paper.specs.Rules.{sumOf, productOf}
 use Rattle.paper.specs.Driver.{no-rule, ask, Ran, done, over, Rans, dones, overs, andThen, each, members}
 use Rattle.paper.specs.Driver.{asSum, asProduct, openOne, opened, baseFrom, gather}
 use Rattle.paper.specs.Admits.{openingsAt, AdmitsNone, admits-none, AllAdmitNone, no-more, and-more}
 use Rattle.paper.proofs.EditionOne.{edition-one-good}
 use Rattle.paper.proofs.WFLaws.{to-of-list, count-list}
-use Rattle.paper.proofs.GatherLaws.{members-wf, gatheredList, gathers-two, kepts-length}
+use Rattle.paper.proofs.GatherLaws.{members-wf, gatheredList, gathers-two, kepts-length, collapse-none}
 use Rattle.paper.proofs.DriverLaws.{RunsKept, each-kept}
 use Rattle.paper.proofs.FinishedLaws.{Ended, simplify-ended}
 use Rattle.paper.proofs.Simplified.{simplify-again}
@@ -128,23 +128,17 @@ product-node (product f) l e (admits-none a o ms) = let k : toList f ≡ l = cc 
 product-node (power b x) l e h = none-some e
 
 -- ---- the gathered node
-pub two-kept : (emptied : Tree) (node : Forest → Tree) (l : List Tree) → 2 ≤ length l → collapse emptied node l ≡ node (ofList l)
-unfolding collapse
-two-kept emptied node [] h = absurd (omega arith)
-two-kept emptied node (t ∷ []) h = absurd (omega arith)
-two-kept emptied node (t ∷ u ∷ l) h = refl
-
 sum-finished : (m : List Tree) → 2 ≤ length m → Nones m → opened asSum m .1 ≡ 0 → ask editionOne (sumOf m) ≡ no-rule → None (sumOf m)
 unfolding sumOf members openingsAt gather
 sum-finished m h n o a =
-    let e : sumOf m ≡ sum (ofList m) = two-kept (integer (pos 0)) sum m h in
+    let e : sumOf m ≡ sum (ofList m) = collapse-none (integer (pos 0)) sum m h in
     let b : toList (ofList m) ≡ m = to-of-list m in
     subst None (sym e) (admits-none (ap (ask editionOne) (sym e) ∙ a) (subst (λ l. opened asSum l .1 ≡ 0) (sym b) o) (subst Nones (sym b) n))
 
 product-finished : (m : List Tree) → 2 ≤ length m → Nones m → opened asProduct m .1 ≡ 0 → ask editionOne (productOf m) ≡ no-rule → None (productOf m)
 unfolding productOf members openingsAt gather
 product-finished m h n o a =
-    let e : productOf m ≡ product (ofList m) = two-kept (integer (pos 1)) product m h in
+    let e : productOf m ≡ product (ofList m) = collapse-none (integer (pos 1)) product m h in
     let b : toList (ofList m) ≡ m = to-of-list m in
     subst None (sym e) (admits-none (ap (ask editionOne) (sym e) ∙ a) (subst (λ l. opened asProduct l .1 ≡ 0) (sym b) o) (subst Nones (sym b) n))
 

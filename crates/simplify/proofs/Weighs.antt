@@ -6,7 +6,7 @@ use mathlib.Core.List.{List, [], _∷_, _++_, append-assoc}
 use native.Mathlib.Omega.{arith}
 use lib.ListN.{length, getD, length-append}
 use lib.Seq.{getD-append-add}
-use Rattle.paper.specs.Tree.{Tree, records, weight}
+use Rattle.paper.specs.Tree.{Tree, ofList, records, weight}
 use Rattle.paper.specs.Record.{kind, weightFrom}
 use Rattle.paper.specs.Verdict.{recordsIn, tableWeight}
 use Rattle.paper.specs.Table.{encode}
@@ -41,7 +41,7 @@ weighs-tree t rest =
     ap (weightFrom s 0) n ∙ weight-both s 0 (records t) (length rest / 16) ∙ omega arith
 
 pub weighs-all : (l : List Tree) (rest : List ℕ) → tableWeight (encodeAll l ++ rest) ≡ weightAll l + tableWeight rest
-unfolding encodeAll weightAll
+unfolding encode weight ofList
 weighs-all [] rest = omega arith
 weighs-all (t ∷ l) rest =
     ap tableWeight (append-assoc (encode t) (encodeAll l) rest) ∙ weighs-tree t (encodeAll l ++ rest) ∙ omega (arith, weighs-all l rest)

@@ -10,9 +10,9 @@ use lib.Dec.{eqb}
 use lib.IntN.{pos}
 use Rattle.paper.specs.Limits.{maxWeight}
 use Rattle.paper.specs.Bytes.{word}
-use Rattle.paper.specs.Tree.{Tree, integer, symbol, sum, product, power, count, records, weight}
+use Rattle.paper.specs.Tree.{Tree, integer, symbol, sum, product, power, ofList, count, records, recordses, weight, weights}
 use Rattle.paper.specs.WellFormed.{WFl}
-use Rattle.paper.specs.Table.{recordOf, encode}
+use Rattle.paper.specs.Table.{recordOf, encode, encodes}
 use Rattle.paper.specs.Rules.{sumOf, productOf}
 use Rattle.paper.specs.Driver.{Ran, done, over, Rans, dones, overs, asSum, asProduct, opened, baseFrom, gather}
 use Rattle.simplify.specs.declared.driver.Driven.{Driven}
@@ -21,18 +21,15 @@ use Rattle.simplify.specs.declared.driver.Given.{Given}
 use Rattle.simplify.specs.declared.driver.Given.the-variants as given
 use Rattle.rules.specs.Asked.{Ready}
 
--- ---- trees that stand one after the other
-unfoldable pub encodeAll : List Tree → List ℕ
-encodeAll [] = []
-encodeAll (t ∷ l) = encode t ++ encodeAll l
+-- ---- trees that stand one after the other: their records, how many, and their weight, as of a node's members
+abbrev pub encodeAll : List Tree → List ℕ
+encodeAll l = encodes (ofList l)
 
-unfoldable pub recordsAll : List Tree → ℕ
-recordsAll [] = 0
-recordsAll (t ∷ l) = records t + recordsAll l
+abbrev pub recordsAll : List Tree → ℕ
+recordsAll l = recordses (ofList l)
 
-unfoldable pub weightAll : List Tree → ℕ
-weightAll [] = 0
-weightAll (t ∷ l) = weight t + weightAll l
+abbrev pub weightAll : List Tree → ℕ
+weightAll l = weights (ofList l)
 
 -- ---- a node by its first record: its kind, and the record itself
 unfoldable pub kindNumber : Tree → ℕ

@@ -47,9 +47,7 @@ pub fn drive(
     loop {
         let asked = rules::ask(out, work, d, at);
         match asked {
-            rules::Asked::Over => {
-                return Driven::Over(n);
-            }
+            rules::Asked::Over => return Driven::Over(n),
             rules::Asked::Step(k, q) => {
                 steps[n] = k;
                 n += 1;
@@ -63,9 +61,7 @@ pub fn drive(
                 }
                 let g = pass(out, work, steps, d, at, n);
                 match g {
-                    Driven::Over(k) => {
-                        return Driven::Over(k);
-                    }
+                    Driven::Over(k) => return Driven::Over(k),
                     Driven::Done(e, q, j, b) => {
                         if j - n + b < 1 {
                             return Driven::Done(e, q, n, o);
@@ -127,9 +123,7 @@ fn drive_members(
     while i < c {
         let g = drive_member(out, work, steps, k, e, q, n);
         match g {
-            Given::Over(j) => {
-                return Given::Over(j);
-            }
+            Given::Over(j) => return Given::Over(j),
             Given::Members(e1, q1, n1, o1, m1) => {
                 e = e1;
                 q = q1;
@@ -143,7 +137,7 @@ fn drive_members(
     Given::Members(e, q, n, o, m)
 }
 
-// Drives the member at record p of a node of kind k, and opens its result where that is of the node's kind.
+// Drives the member at record p of a node of kind k, and opens its result where that is of the node's kind. A leaf is finished, and kept.
 fn drive_member(
     out: &mut [u8],
     work: &mut [u8],
@@ -158,6 +152,11 @@ fn drive_member(
         → GivenIs (openedRuns (inside k) (each (simplify editionOne) (t ∷ []))) rest (now (out .entry)) (now (out .exit)) (now (work .exit))
         (now (steps .entry)) (now (steps .exit)) d s r) ⌝ }
 {
+    let j = record::kind(work, p);
+    if j < 2 {
+        record::write_record(out, d, j, 0, record::bits(work, p));
+        return Given::Members(d + 1, p + 1, s, 0, 1);
+    }
     let g = drive(out, work, steps, d, p, s);
     match g {
         Driven::Over(n) => Given::Over(n),

@@ -62,17 +62,25 @@ module _ (w w' : List ℕ) (p : ℕ) (same : drop (p * 16) w' ≡ drop (p * 16) 
       let a = s k (omega arith) (omega arith) in
       (moved k k t (a .0) (a .1) (h .0), entries-still (k + 1) l (λ j g u. s j (omega arith) (omega arith)) (h .1))
 
+-- ---- the member of entry k stands where the entry's start says
+pub entry-there : {w : List ℕ} {p k : ℕ} {t : Tree} → Entry w p k t → (start : ℕ) → start ≡ le2 w (k * 4) → TreeIn w (p + start) t
+entry-there {w} {p} {k} {t} h start e = subst (λ n. TreeIn w (p + n) t) (sym e) (h .there)
+
 -- ---- four bytes put at entry a
 module _ (w x : List ℕ) (a : ℕ) (four : length x ≡ 4) (room : a * 4 + 4 ≤ length w) where
   before : (j b : ℕ) → j < a → b < 3 → le2 (put w (a * 4) x) (j * 4 + b) ≡ le2 w (j * 4 + b)
   unfolding le2
   before j b h l =
-      rw (getD-put-before w (a * 4) x (j * 4 + b) (omega arith) (omega arith), getD-put-before w (a * 4) x (j * 4 + b + 1) (omega arith) (omega arith)) refl
+      let first = getD-put-before w (a * 4) x (j * 4 + b) (omega arith) (omega arith) in
+      let second = getD-put-before w (a * 4) x (j * 4 + b + 1) (omega arith) (omega arith) in
+      rw (first, second) refl
 
   past : (j b : ℕ) → a < j → le2 (put w (a * 4) x) (j * 4 + b) ≡ le2 w (j * 4 + b)
   unfolding le2
   past j b h =
-      rw (getD-put-after w (a * 4) x (j * 4 + b) (omega arith) (omega arith), getD-put-after w (a * 4) x (j * 4 + b + 1) (omega arith) (omega arith)) refl
+      let first = getD-put-after w (a * 4) x (j * 4 + b) (omega arith) (omega arith) in
+      let second = getD-put-after w (a * 4) x (j * 4 + b + 1) (omega arith) (omega arith) in
+      rw (first, second) refl
 
   pub put-other : (j : ℕ) → (j ≡ a → ⊥)
       → (le2 (put w (a * 4) x) (j * 4) ≡ le2 w (j * 4)) × (le2 (put w (a * 4) x) (j * 4 + 2) ≡ le2 w (j * 4 + 2))
@@ -109,7 +117,8 @@ unfolding entryOf bytes le2
 entry-size a b h = le-bytes 2 b h
 
 -- ---- entries in a row
-pub entries-snoc : (w : List ℕ) (p k n : ℕ) (l : List Tree) (t : Tree) → n ≡ k + length l → Entries w p k l → Entry w p n t → Entries w p k (l ++ (t ∷ []))
+pub entries-snoc : (w : List ℕ) (p k n : ℕ) (l : List Tree) (t : Tree) → n ≡ k + length l → Entries w p k l → Entry w p n t
+    → Entries w p k (l ++ (t ∷ []))
 entries-snoc w p k n [] t e h g = (subst (λ n. Entry w p n t) (e ∙ omega arith) g, tt)
 entries-snoc w p k n (u ∷ l) t e h g = (h .0, entries-snoc w p (k + 1) n l t (e ∙ omega arith) (h .1) g)
 
@@ -195,9 +204,9 @@ pub record Listing (w₀ w : List ℕ) (p n : ℕ) (f : Forest) (at k : ℕ) : T
   pub past : at ≡ p + (1 + recordses (ofList done))
   pub exact : w ≡ put w₀ 0 (entriesOf 1 done)
 
-pub listing-begins : (w : List ℕ) (p n : ℕ) (f : Forest) → Listable w p f → n ≡ countIn w p → Listing w w p n f (p + 1) 0
+pub listing-begins : {w : List ℕ} {p : ℕ} (n : ℕ) {f : Forest} → Listable w p f → n ≡ countIn w p → Listing w w p n f (p + 1) 0
 unfolding entriesOf ofList records
-listing-begins w p n f h e =
+listing-begins {w} {p} n {f} h e =
     record {
       done = [];
       others = f;
@@ -211,7 +220,7 @@ listing-begins w p n f h e =
       exact = sym (put-none w 0);
     }
 
-module _ (w₀ w : List ℕ) (p n : ℕ) (f : Forest) (at k : ℕ) (v : Listing w₀ w p n f at k) (l : k < n) where
+module _ {w₀ w : List ℕ} {p n : ℕ} {f : Forest} {at k : ℕ} (v : Listing w₀ w p n f at k) (l : k < n) where
   abbrev pub head : FirstOf w at (n - k) (v .others)
   head = first-of (v .others) (v .stand) (omega arith)
 
@@ -245,7 +254,7 @@ module _ (w₀ w : List ℕ) (p n : ℕ) (f : Forest) (at k : ℕ) (v : Listing 
       record {
         done = v .done ++ (t ∷ []);
         others = head .others;
-        whole = v .whole ∙ ap (λ g. v .done ++ toList g) (head .whole) ∙ snoc-cons (v .done) t (toList (head .others));
+        whole = v .whole ∙ ap (λ g. v .done ++ toList g) (head .whole) ∙ sym (append-assoc (v .done) (t ∷ []) (toList (head .others)));
         entries = entries-snoc w' p 0 k (v .done) t (sym (v .many) ∙ omega arith) kept entry;
         many = length-append (v .done) (t ∷ []) ∙ omega (arith, v .many);
         stand =
@@ -262,16 +271,12 @@ module _ (w₀ w : List ℕ) (p n : ℕ) (f : Forest) (at k : ℕ) (v : Listing 
             ∙ ap (λ n. put w₀ 0 (entriesOf 1 (v .done) ++ entryOf a n)) size-is
             ∙ ap (put w₀ 0) (sym (entriesOf-snoc 1 a (v .done) t (omega (arith, v .past))));
       }
-    where
-      snoc-cons : (l : List Tree) (t : Tree) (m : List Tree) → l ++ (t ∷ m) ≡ (l ++ (t ∷ [])) ++ m
-      snoc-cons [] t m = refl
-      snoc-cons (u ∷ l) t m = ap (λ x. u ∷ x) (snoc-cons l t m)
 
 -- all are filled in
-pub listing-ends : (w₀ w : List ℕ) (p n : ℕ) (f : Forest) (at k : ℕ) → Listing w₀ w p n f at k → n ≤ k → k ≤ n → n ≡ countIn w₀ p
+pub listing-ends : {w₀ w : List ℕ} {p n : ℕ} {f : Forest} {at k : ℕ} → Listing w₀ w p n f at k → n ≤ k → k ≤ n → n ≡ countIn w₀ p
     → n * 4 ≤ p * 16 → p * 16 ≤ length w → ListedIs w₀ w p f at
 unfolding toList records
-listing-ends w₀ w p n f at k v h g e low within =
+listing-ends {w₀} {w} {p} {n} {f} {at} {k} v h g e low within =
     let none : v .others ≡ nil = none-of (v .others) (v .stand) (omega arith) in
     let all : toList f ≡ v .done = v .whole ∙ ap (λ g. v .done ++ toList g) none ∙ append-nil (v .done) in
     let zero = ap recordses none in

@@ -1,7 +1,7 @@
 -- The states of the walk: what has come out, what is being looked at and what is left, so that the rest of the walk from here, put onto
 -- what was done, is the whole walk. Each step of the code leads from one such state to the next, by the law of the paper's walk for that
 -- step; where it ends, the whole walk's outcome is known. Assumes nothing.
-use Prim.Native.Nat.{ℕ, zero, suc, _+_, _-_, _*_, _≤_}
+use Prim.Native.Nat.{ℕ, zero, suc, _+_, _*_, _≤_}
 use mathlib.Core.Path.{_≡_, refl, sym, ap, _∙_}
 use mathlib.Core.Bool.{Bool, true, false, _&&_}
 use mathlib.Core.List.{List, [], _∷_, _++_, map}
@@ -167,7 +167,8 @@ module _ {b : Bool} {o₀ w₀ : List ℕ} {d p : ℕ} {o w : List ℕ} {i e : �
       sym (take-take (d * 16) ((d + 1) * 16) o less) ∙ ap (take (d * 16)) (v .front) ∙ take-take (d * 16) ((d + 1) * 16) o₀ less
 
 -- ---- a part that stands in a record is shown as long as what is pending stays
-pub shows-still : (b : Bool) (w w' : List ℕ) (p : ℕ) (c : Part) (x : Like b) → drop (p * 16) w' ≡ drop (p * 16) w → From p c → Shows b w c x → Shows b w' c x
+pub shows-still : (b : Bool) (w w' : List ℕ) (p : ℕ) (c : Part) (x : Like b) → drop (p * 16) w' ≡ drop (p * 16) w → From p c
+    → Shows b w c x → Shows b w' c x
 shows-still true w w' p (part.Term n i) x s f h =
     record {
       member = h .member;

@@ -51,7 +51,8 @@ pub record Outer (b : Bool) (l : List Tree) (o₀ w₀ : List ℕ) (d p count : 
   pub room : e + total weight left ≤ d + (1 + total weight l)
   pub common : Common b o₀ w₀ d p o w i e late done
 
-pub record Inner (b : Bool) (l : List Tree) (o₀ w₀ : List ℕ) (d p count : ℕ) (o w : List ℕ) (n i e : ℕ) (late : Bool) (c : Part) (j : ℕ) : Type 0 where
+pub record Inner (b : Bool) (l : List Tree) (o₀ w₀ : List ℕ) (d p count : ℕ) (o w : List ℕ) (n i e : ℕ) (late : Bool) (c : Part) (j : ℕ)
+    : Type 0 where
   pub done : List (Like b)
   pub removed : ℕ
   pub current : Like b
@@ -159,7 +160,9 @@ module _ {b : Bool} {l : List Tree} {o₀ w₀ : List ℕ} {d p count : ℕ} whe
           let came = subst (Came b d o₀ o e (v .done)) q (v .common .came) in
           let these : cameOut b l ≡ outs b (v .done) = ap (λ w. outs b (w .parts)) all-out in
           record {
-            applies = done-outcome b l (v .done) (v .removed) all-out (omega (arith, v .gone)) (came .0) ∙ ap (λ m. paper.applies (nodeOf b m)) (sym these);
+            applies =
+                done-outcome b l (v .done) (v .removed) all-out (omega (arith, v .gone)) (came .0)
+                ∙ ap (λ m. paper.applies (nodeOf b m)) (sym these);
             many = ap length these ∙ outs-many b (v .done) ∙ v .common .many;
             built = came .1 ∙ ap (λ m. take ((d + 1) * 16) o₀ ++ encodes (ofList m)) (sym these);
             end = came .2 ∙ ap (λ m. d + 1 + recordses (ofList m)) (sym these);
@@ -170,6 +173,9 @@ module _ {b : Bool} {l : List Tree} {o₀ w₀ : List ℕ} {d p count : ℕ} whe
     module _ (less : j < n) where
       abbrev pub next : Head w p j (v .left)
       next = head-of w p j (v .left) (v .entries) (omega (arith, v .many))
+
+      faced : walked b l ≡ rest-of-turn b (v .done) (v .removed) (v .current) (v .passed) (next .tree ∷ next .others)
+      faced = v .whole ∙ ap (rest-of-turn b (v .done) (v .removed) (v .current) (v .passed)) (next .is)
 
       pub enough : e * 16 + records (next .tree) ≤ (d + (1 + total weight l)) * 16
       unfolding total
@@ -193,8 +199,7 @@ module _ {b : Bool} {l : List Tree} {o₀ w₀ : List ℕ} {d p count : ℕ} whe
             shown = v .shown;
             place = v .place;
             whole =
-                v .whole
-                ∙ ap (rest-of-turn b (v .done) (v .removed) (v .current) (v .passed)) (next .is)
+                faced
                 ∙ passes-by (merge b) (v .done) (v .removed) (length (parts b m)) (v .current) (split b x) (parts b (v .passed)) (parts b m) q
                 ∙ ap (λ (y : List (Like b)). resumed (v .done) (v .removed) (after (merge b) (turn (merge b) (length (parts b m)) (v .current) y (parts b m))))
                 (sym (map-append (split b) (v .passed) (x ∷ [])));
@@ -232,8 +237,7 @@ module _ {b : Bool} {l : List Tree} {o₀ w₀ : List ℕ} {d p count : ℕ} whe
             shown = shows-still b w w' p c' x still f h;
             place = f;
             whole =
-                v .whole
-                ∙ ap (rest-of-turn b (v .done) (v .removed) (v .current) (v .passed)) (next .is)
+                faced
                 ∙ takes-up (merge b) (v .done) (v .removed) (length (parts b m)) (v .current) (split b t) x (parts b (v .passed)) (parts b m) q
                 ∙ ap (λ (y : List (Like b)). resumed (v .done) (v .removed + 1) (after (merge b) (turn (merge b) (length (parts b m)) x (parts b (v .passed)) y)))
                 (sym (map-lastFirst (split b) m))
@@ -241,7 +245,8 @@ module _ {b : Bool} {l : List Tree} {o₀ w₀ : List ℕ} {d p count : ℕ} whe
             gone = omega (arith, v .gone);
             behind = v .behind;
             many = omega (arith, lastFirst-length m);
-            passed-entries = swap-before w w' p j (n - 1) t m rest (omega arith) within k (i + 1) (v .passed) (omega (arith, v .behind)) (v .passed-entries);
+            passed-entries =
+                swap-before w w' p j (n - 1) t m rest (omega arith) within k (i + 1) (v .passed) (omega (arith, v .behind)) (v .passed-entries);
             entries = swap-after w w' p j (n - 1) t m rest (omega arith) within k (subst (Entries w p j) (next .is) (v .entries));
             room = omega (arith, v .room);
             common = common-marks (v .common) o' w' s still;
@@ -257,8 +262,7 @@ module _ {b : Bool} {l : List Tree} {o₀ w₀ : List ℕ} {d p count : ℕ} whe
           let rest = walk (merge b) (length (last .later)) (last .later) in
           let stays = turn-keeps (merge b) (λ y. inRange b y ≡ false) (λ y z u. stays-bad b y z u) (length m) x (parts b (v .passed)) (lastFirst m) bad in
           over-outcome b l (v .done ++ (last .current ∷ rest .parts)) (v .removed + 1 + (last .removed + rest .removed))
-          (v .whole
-          ∙ ap (rest-of-turn b (v .done) (v .removed) (v .current) (v .passed)) (next .is)
+          (faced
           ∙ takes-up (merge b) (v .done) (v .removed) (length m) (v .current) (split b t) x (parts b (v .passed)) m q)
           (omega arith) (all-snoc b (v .done) (rest .parts) (last .current) (joins-bad b (last .current) stays))
 

@@ -21,7 +21,9 @@ use Rattle.walk.proofs.walk.Reads as reads
 use Rattle.walk.proofs.walk.Kinds as kinds
 
 pub list-members-once : (κs : Lfts 1) (a : Dens κs list-kinds.ps) (f : Forest) (r r' : ℕ) (x x' : AtExit (endedOf 1 list-kinds.ps list-kinds.r) κs)
-    → Listable (a .0 .now) (a .1 .0) f → list-reads.Post κs a r x → list-reads.Post κs a r' x' → (r ≡ r') × (x .0 .now ≡ x' .0 .now)
+    → let work = a .0 .now in
+    let p = a .1 .0 in
+    Listable work p f → list-reads.Post κs a r x → list-reads.Post κs a r' x' → (r ≡ r') × (x .0 .now ≡ x' .0 .now)
 list-members-once κs a f r r' x x' h p p' =
     let u = p f h in
     let v = p' f h in
@@ -49,14 +51,22 @@ module _ (b : Bool) (l : List Tree) (s o o' : List ℕ) (d : ℕ) where
       (cc, h .built ∙ sym (h' .built) ∙ ap (λ k. take (k * 16) o') (sym end))
 
 pub walk-once : (κs : Lfts 2) (a : Dens κs kinds.ps) (l : List Tree) (r r' : Walked) (x x' : AtExit (endedOf 2 kinds.ps kinds.r) κs)
-    → Walkable (a .0 .now) (a .1 .0 .now) (a .1 .1 .0) (a .1 .1 .1 .0) (a .1 .1 .1 .1 .0) l → reads.Post κs a r x → reads.Post κs a r' x'
+    → let out = a .0 .now in
+    let work = a .1 .0 .now in
+    let d = a .1 .1 .0 in
+    let p = a .1 .1 .1 .0 in
+    let count = a .1 .1 .1 .1 .0 in
+    Walkable out work d p count l → reads.Post κs a r x → reads.Post κs a r' x'
     → ((r ≡ r') × BuiltAlike (x .0 .now) (x' .0 .now) r)
-    × (drop (a .1 .1 .1 .0 * 16) (x .1 .0 .now) ≡ drop (a .1 .1 .1 .0 * 16) (x' .1 .0 .now))
-    × (take (a .1 .1 .0 * 16) (x .0 .now) ≡ take (a .1 .1 .0 * 16) (x' .0 .now))
+    × (drop (p * 16) (x .1 .0 .now) ≡ drop (p * 16) (x' .1 .0 .now))
+    × (take (d * 16) (x .0 .now) ≡ take (d * 16) (x' .0 .now))
 walk-once κs a l r r' x x' h p p' =
+    let out = a .0 .now in
+    let d = a .1 .1 .0 in
+    let terms = a .1 .1 .1 .1 .1 .0 in
     let u = p l h in
     let v = p' l h in (
-      says-once (a .1 .1 .1 .1 .1 .0) l (a .0 .now) (x .0 .now) (x' .0 .now) (a .1 .1 .0) r r' (u .says) (v .says),
+      says-once terms l out (x .0 .now) (x' .0 .now) d r r' (u .says) (v .says),
       u .pending ∙ sym (v .pending),
       u .done ∙ sym (v .done),
     )

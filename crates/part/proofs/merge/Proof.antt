@@ -1,17 +1,54 @@
--- `part::merge` meets its contract: each form of the current part has its own function. Assumes nothing.
-use Rattle.part.proofs.PartLaws.{of-term, of-power, of-number, term-stands, power-stands}
+-- `part::merge` meets its contract: the part is a term, a power or a number, and what the function for that form promises is what is to be
+-- shown of it. The part shows a factor or a term by its form (`of-term`, `of-power`, `of-number`). Assumes nothing.
+use mathlib.Core.Path.{subst}
 use borrow.Author.Needs.{needs}
+use Rattle.part.specs.Part.{Shows}
+use Rattle.part.proofs.PartLaws.{of-term, of-power, of-number, term-stands, power-stands}
 use Rattle.part.proofs.merge.Statement.{statement}
 use Rattle.part.proofs.merge.Tie as tie
+
+-- places on the way through the code, and from each the one before it: the entry, where the part is a term and after that was merged,
+-- where it is a power and after that was merged, and where it is a number
+abbrev Entry : Type 0
+Entry = tie.Start
+
+abbrev Term : Type 0
+Term = tie.After-c
+
+abbrev Merged-term : Type 0
+Merged-term = tie.After-merge-term
+
+abbrev Power : Type 0
+Power = tie.After-c2
+
+abbrev Merged-power : Type 0
+Merged-power = tie.After-merge-power
+
+abbrev Number : Type 0
+Number = tie.After-c3
+
+abbrev term-entry : Term → Entry
+term-entry c = c .before .before .before .before
+
+abbrev term-of : Merged-term → Term
+term-of c = c .before .before .before
+
+abbrev power-entry : Power → Entry
+power-entry c = c .before .before .before .before
+
+abbrev power-of : Merged-power → Power
+power-of c = c .before .before .before
 
 enum-known-c : tie.Need-enum-known-c
 enum-known-c c = search needs
 
 merge-term-requires : tie.Need-merge-term-requires
 merge-term-requires c κs =
-    let the-c = c .before .before .c in
-    let q = c .before .before .before .before .before .before .pre in
-    let one = term-stands _ _ _ (q .flag) (q .current) (rw (the-c .given .1) at (q .shown)) in
+    let term = c .before .before in
+    let entry = term-entry term in
+    let q = entry .pre in
+    let shown = subst (λ k. Shows (q .flag) (entry .args .s .now) k (q .current)) (term .c .given .1) (q .shown) in
+    let one = term-stands _ _ _ (q .flag) (q .current) shown in
     record { one = one .tree; other = q .later; one-there = one .there; other-there = q .there; enough = q .enough }
 
 enum-known-c-2 : tie.Need-enum-known-c-2
@@ -19,9 +56,11 @@ enum-known-c-2 c = search needs
 
 merge-power-requires : tie.Need-merge-power-requires
 merge-power-requires c κs =
-    let the-c2 = c .before .before .c2 in
-    let q = c .before .before .before .before .before .before .pre in
-    let one = power-stands _ _ _ _ (q .flag) (q .current) (rw (the-c2 .given .1) at (q .shown)) in
+    let power = c .before .before in
+    let entry = power-entry power in
+    let q = entry .pre in
+    let shown = subst (λ k. Shows (q .flag) (entry .args .s .now) k (q .current)) (power .c2 .given .1) (q .shown) in
+    let one = power-stands _ _ _ _ (q .flag) (q .current) shown in
     record { one = one .tree; other = q .later; one-there = one .there; other-there = q .there; enough = q .enough }
 
 enum-known-c-3 : tie.Need-enum-known-c-3
@@ -35,12 +74,11 @@ same-length c = search needs
 
 returns : tie.Need-returns
 returns c =
-    let the-merge-term = c .before .before .merge-term in
-    let the-c = c .before .before .before .before .before .c in
-    let g = c .before .before .before .before .before .before .before .before .before .args in (
-      λ b x t h w.
-          of-term (g .s .now) t (the-merge-term .result) _ _ (λ y k. the-merge-term .ensures .0 y t k w) b x (rw (the-c .given .1) at h),
-      λ p h. the-merge-term .ensures .1 p (rw (the-c .given .1) at h),
+    let merged = c .before .before in
+    let is = term-of merged .c .given .1 in
+    let says = merged .merge-term in (
+      λ b x t h there. of-term _ t (says .result) _ _ (λ y k. says .ensures .0 y t k there) b x (rw is at h),
+      λ p h. says .ensures .1 p (rw is at h),
     )
 
 same-length-2 : tie.Need-same-length-2
@@ -48,21 +86,20 @@ same-length-2 c = search needs
 
 returns-2 : tie.Need-returns-2
 returns-2 c =
-    let the-merge-power = c .before .before .merge-power in
-    let the-c2 = c .before .before .before .before .before .c2 in
-    let g = c .before .before .before .before .before .before .before .before .before .args in (
-      λ b x t h w.
-          of-power (g .s .now) t (the-merge-power .result) _ _ _ (λ y k. the-merge-power .ensures .0 y t k w) b x (rw (the-c2 .given .1) at h),
-      λ p h. the-merge-power .ensures .1 p (rw (the-c2 .given .1) at h),
+    let merged = c .before .before in
+    let is = power-of merged .c2 .given .1 in
+    let says = merged .merge-power in (
+      λ b x t h there. of-power _ t (says .result) _ _ _ (λ y k. says .ensures .0 y t k there) b x (rw is at h),
+      λ p h. says .ensures .1 p (rw is at h),
     )
 
 returns-3 : tie.Need-returns-3
 returns-3 c =
-    let the-c3 = c .before .before .c3 in
-    let g = c .before .before .before .before .before .before .args in (
-      λ b x t h w.
-          of-number (g .s .now) t (c .merge-number .result) _ _ (λ y k. c .merge-number .ensures .0 y t k w) b x (rw (the-c3 .given .1) at h),
-      λ p h. c .merge-number .ensures .1 p,
+    let number : Number = c .before .before in
+    let is = number .c3 .given .1 in
+    let says = c .merge-number in (
+      λ b x t h there. of-number _ t (says .result) _ _ (λ y k. says .ensures .0 y t k there) b x (rw is at h),
+      λ p h. says .ensures .1 p,
     )
 
 pub merge-spec : {M : Type 1} → statement M

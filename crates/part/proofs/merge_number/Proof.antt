@@ -1,41 +1,90 @@
--- `part::merge_number` meets its contract: another base that is an integer is met by its bits, and none else. Assumes nothing.
-use mathlib.Core.Path.{_≡_, sym, ap, _∙_}
+-- `part::merge_number` meets its contract. Where the later member's base is no integer the two stay apart, since an integer base is like
+-- integers only. Where it is one, its bits and the exponent that was read show the later member as a number (`later`), and the tests
+-- decide as the paper's rule does: equal exponents multiply the bases; else equal bases add the exponents; else the two stay apart. Each
+-- return is the law of its case. Assumes nothing.
+use mathlib.Core.Path.{sym, _∙_}
 use native.Mathlib.Omega.{arith}
-use Prim.Native.Nat.{_^_, _<_, _≤_}
-use Rattle.paper.specs.Bytes.{signed}
-use Rattle.paper.specs.Tree.{integer}
-use Rattle.paper.specs.Record.{kind}
-use Rattle.paper.specs.Rules.{factorOf}
-use Rattle.split.proofs.StandingLaws.{record-within}
-use Rattle.part.proofs.PartLaws.{integer-there, no-integer-there, number-apart, number-times, number-times-over}
-use Rattle.part.proofs.PartLaws.{number-other, number-raised, number-raised-over}
 use borrow.Author.Needs.{needs}
+use Rattle.paper.specs.Tree.{Tree}
+use Rattle.paper.specs.Rules.{factorOf}
+use Rattle.split.specs.Standing.{TreeIn}
+use Rattle.split.proofs.StandingLaws.{record-within}
+use Rattle.part.specs.Part.{ShowsNumber}
+use Rattle.part.proofs.PartLaws.{no-integer-there, number-part, number-apart, number-times, number-times-over}
+use Rattle.part.proofs.PartLaws.{number-other, number-raised, number-raised-over}
 use Rattle.part.proofs.merge_number.Statement.{statement}
 use Rattle.part.proofs.merge_number.Tie as tie
+
+-- places on the way through the code, and from each the one before it: the entry, after the later base was found, after its kind was
+-- read, after its bits and the later exponent were read, and after the product or the sum was made
+abbrev Entry : Type 0
+Entry = tie.Start
+
+abbrev Found : Type 0
+Found = tie.After-base
+
+abbrev Known : Type 0
+Known = tie.After-kind
+
+abbrev Read : Type 0
+Read = tie.After-exponent
+
+abbrev Multiplied : Type 0
+Multiplied = tie.After-mul
+
+abbrev Added : Type 0
+Added = tie.After-add
+
+abbrev entry-of : Found → Entry
+entry-of c = c .before .before
+
+abbrev found-of : Known → Found
+found-of c = c .before
+
+abbrev known-of : Read → Known
+known-of c = c .before .before .before
+
+abbrev read-of : Multiplied → Read
+read-of c = c .before .before
+
+abbrev read-by : Added → Read
+read-by c = c .before .before .before
+
+-- the later member, once it is read
+later : (c : Read) (t : Tree)
+    → let g = entry-of (found-of (known-of c)) .args in
+    TreeIn (g .s .now) (g .at) t → ShowsNumber (c .exponent .result) (c .before .bits .result) (factorOf t)
+later c t there =
+    let known = known-of c in
+    let found = found-of known in
+    let integer = c .before .before .if1 .left in
+    let base = found .base .ensures .0 t there in
+    let exponent = c .exponent .ensures t there in
+    number-part _ _ (found .base .result) _ t base (omega (arith, known .kind .ensures, integer)) (c .before .bits .ensures) (exponent .0) (exponent .1)
 
 base-requires : tie.Need-base-requires
 base-requires c κs = search needs
 
 kind-requires : tie.Need-kind-requires
 kind-requires c κs =
-    let q = c .before .before .pre in
+    let q = entry-of c .pre in
     record-within (c .base .ensures .0 (q .tree) (q .there))
 
 returns : tie.Need-returns
 returns c =
-    let the-base = c .before .before .base in (
-      λ x t h w.
-          let g = c .before .before .before .before .args in
-          number-apart (g .e) (g .v) x h t
-          (no-integer-there (g .s .now) (the-base .result) (factorOf t .base) (the-base .ensures .0 t w) (omega (arith, c .before .kind .ensures))),
+    let known = c .before in
+    let found = found-of known in (
+      λ x t h there.
+          let base = found .base .ensures .0 t there in
+          number-apart h _ (no-integer-there _ (found .base .result) _ base (omega (arith, known .kind .ensures))),
       λ p. tt,
     )
 
 bits-requires : tie.Need-bits-requires
 bits-requires c κs =
-    let the-base = c .before .before .base in
-    let q = c .before .before .before .before .pre in
-    record-within (the-base .ensures .0 (q .tree) (q .there))
+    let found = found-of (c .before) in
+    let q = entry-of found .pre in
+    record-within (found .base .ensures .0 (q .tree) (q .there))
 
 exponent-requires : tie.Need-exponent-requires
 exponent-requires c κs = search needs
@@ -51,60 +100,22 @@ enum-told c = search needs
 
 returns-2 : tie.Need-returns-2
 returns-2 c =
-    let the-mul = c .before .before .before .mul in
-    let the-if2 = c .before .before .before .before .if2 in
-    let the-exponent = c .before .before .before .before .before .exponent in
-    let the-bits = c .before .before .before .before .before .before .bits in
-    let the-kind = c .before .before .before .before .before .before .before .before .kind in
-    let the-base = c .before .before .before .before .before .before .before .before .before .base in (
-      λ x t h w.
-          let g = c .before .before .before .before .before .before .before .before .before .before .before .args in
-          let other = the-exponent .ensures t w in
-          let k : kind (g .s .now) (the-base .result) ≤ 0 = omega (arith, the-kind .ensures) in
-          let z = integer-there (g .s .now) (the-base .result) (factorOf t .base) (the-base .ensures .0 t w) k in
-          let v : factorOf t .base ≡ integer (signed (the-bits .result)) = z .0 ∙ ap (λ n. integer (signed n)) (sym (the-bits .ensures)) in
-          let l : the-bits .result < 2 ^ 64 = omega (arith, the-bits .ensures, z .1) in
-          number-times (g .e) (g .v) x h t (the-bits .result) (the-exponent .result) v l (other .0) (other .1) _ (the-if2 .taken)
-          (sym (the-mul .ensures) ∙ c .before .product .given .1),
+    let multiplied = c .before .before .before in
+    let like = multiplied .before .if2 .taken in (
+      λ x t h there. number-times h (later (read-of multiplied) t there) like (sym (multiplied .mul .ensures) ∙ c .before .product .given .1),
       λ p. tt,
     )
 
 returns-3 : tie.Need-returns-3
 returns-3 c =
-    let the-mul = c .before .before .mul in
-    let the-if2 = c .before .before .before .if2 in
-    let the-exponent = c .before .before .before .before .exponent in
-    let the-bits = c .before .before .before .before .before .bits in
-    let the-kind = c .before .before .before .before .before .before .before .kind in
-    let the-base = c .before .before .before .before .before .before .before .before .base in (
-      λ x t h w.
-          let g = c .before .before .before .before .before .before .before .before .before .before .args in
-          let other = the-exponent .ensures t w in
-          let k : kind (g .s .now) (the-base .result) ≤ 0 = omega (arith, the-kind .ensures) in
-          let z = integer-there (g .s .now) (the-base .result) (factorOf t .base) (the-base .ensures .0 t w) k in
-          let v : factorOf t .base ≡ integer (signed (the-bits .result)) = z .0 ∙ ap (λ n. integer (signed n)) (sym (the-bits .ensures)) in
-          let l : the-bits .result < 2 ^ 64 = omega (arith, the-bits .ensures, z .1) in
-          number-times-over (g .e) (g .v) x h t (the-bits .result) (the-exponent .result) v l (other .0) (other .1) (the-if2 .taken)
-          (sym (the-mul .ensures) ∙ c .enum-told .given .1),
+    let multiplied = c .before .before in
+    let like = multiplied .before .if2 .taken in (
+      λ x t h there. number-times-over h (later (read-of multiplied) t there) like (sym (multiplied .mul .ensures) ∙ c .enum-told .given .1),
       λ p. tt,
     )
 
 returns-4 : tie.Need-returns-4
-returns-4 c =
-    let the-exponent = c .before .before .exponent in
-    let the-bits = c .before .before .before .bits in
-    let the-kind = c .before .before .before .before .before .kind in
-    let the-base = c .before .before .before .before .before .before .base in (
-      λ x t h w.
-          let g = c .before .before .before .before .before .before .before .before .args in
-          let other = the-exponent .ensures t w in
-          let k : kind (g .s .now) (the-base .result) ≤ 0 = omega (arith, the-kind .ensures) in
-          let z = integer-there (g .s .now) (the-base .result) (factorOf t .base) (the-base .ensures .0 t w) k in
-          let v : factorOf t .base ≡ integer (signed (the-bits .result)) = z .0 ∙ ap (λ n. integer (signed n)) (sym (the-bits .ensures)) in
-          let l : the-bits .result < 2 ^ 64 = omega (arith, the-bits .ensures, z .1) in
-          number-other (g .e) (g .v) x h t (the-bits .result) (the-exponent .result) v l (other .0) (other .1) (c .before .if2 .left) (c .if3 .taken),
-      λ p. tt,
-    )
+returns-4 c = (λ x t h there. number-other h (later (c .before .before) t there) (c .before .if2 .left) (c .if3 .taken), λ p. tt)
 
 add-requires : tie.Need-add-requires
 add-requires c κs = search needs
@@ -117,43 +128,19 @@ enum-told-2 c = search needs
 
 returns-5 : tie.Need-returns-5
 returns-5 c =
-    let the-add = c .before .before .before .add in
-    let the-if3 = c .before .before .before .before .if3 in
-    let the-if2 = c .before .before .before .before .before .if2 in
-    let the-exponent = c .before .before .before .before .before .before .exponent in
-    let the-bits = c .before .before .before .before .before .before .before .bits in
-    let the-kind = c .before .before .before .before .before .before .before .before .before .kind in
-    let the-base = c .before .before .before .before .before .before .before .before .before .before .base in (
-      λ x t h w.
-          let g = c .before .before .before .before .before .before .before .before .before .before .before .before .args in
-          let other = the-exponent .ensures t w in
-          let k : kind (g .s .now) (the-base .result) ≤ 0 = omega (arith, the-kind .ensures) in
-          let z = integer-there (g .s .now) (the-base .result) (factorOf t .base) (the-base .ensures .0 t w) k in
-          let v : factorOf t .base ≡ integer (signed (the-bits .result)) = z .0 ∙ ap (λ n. integer (signed n)) (sym (the-bits .ensures)) in
-          let l : the-bits .result < 2 ^ 64 = omega (arith, the-bits .ensures, z .1) in
-          number-raised (g .e) (g .v) x h t (the-bits .result) (the-exponent .result) v l (other .0) (other .1) (the-if2 .left) _ (the-if3 .left)
-          (sym (the-add .ensures) ∙ c .before .sum .given .1),
+    let added = c .before .before .before in
+    let apart = added .before .before .if2 .left in
+    let like = added .before .if3 .left in (
+      λ x t h there. number-raised h (later (read-by added) t there) apart like (sym (added .add .ensures) ∙ c .before .sum .given .1),
       λ p. tt,
     )
 
 returns-6 : tie.Need-returns-6
 returns-6 c =
-    let the-add = c .before .before .add in
-    let the-if3 = c .before .before .before .if3 in
-    let the-if2 = c .before .before .before .before .if2 in
-    let the-exponent = c .before .before .before .before .before .exponent in
-    let the-bits = c .before .before .before .before .before .before .bits in
-    let the-kind = c .before .before .before .before .before .before .before .before .kind in
-    let the-base = c .before .before .before .before .before .before .before .before .before .base in (
-      λ x t h w.
-          let g = c .before .before .before .before .before .before .before .before .before .before .before .args in
-          let other = the-exponent .ensures t w in
-          let k : kind (g .s .now) (the-base .result) ≤ 0 = omega (arith, the-kind .ensures) in
-          let z = integer-there (g .s .now) (the-base .result) (factorOf t .base) (the-base .ensures .0 t w) k in
-          let v : factorOf t .base ≡ integer (signed (the-bits .result)) = z .0 ∙ ap (λ n. integer (signed n)) (sym (the-bits .ensures)) in
-          let l : the-bits .result < 2 ^ 64 = omega (arith, the-bits .ensures, z .1) in
-          number-raised-over (g .e) (g .v) x h t (the-bits .result) (the-exponent .result) v l (other .0) (other .1) (the-if2 .left) (the-if3 .left)
-          (sym (the-add .ensures) ∙ c .enum-told2 .given .1),
+    let added = c .before .before in
+    let apart = added .before .before .if2 .left in
+    let like = added .before .if3 .left in (
+      λ x t h there. number-raised-over h (later (read-by added) t there) apart like (sym (added .add .ensures) ∙ c .enum-told2 .given .1),
       λ p. tt,
     )
 

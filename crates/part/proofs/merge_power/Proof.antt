@@ -1,23 +1,89 @@
--- `part::merge_power` meets its contract: the bases are compared, and the sum of the exponents is judged. Assumes nothing.
-use mathlib.Core.Path.{sym, _∙_}
+-- `part::merge_power` meets its contract. A base that is no integer is like an equal base only, so the comparison of the two bases decides:
+-- where they differ the two stay apart (`bases-differ`), where they are equal (`bases-equal`) the sum of the exponents is made and judged.
+-- Each return is the law of its case. Assumes nothing.
+use mathlib.Core.Path.{_≡_, sym, _∙_}
+use mathlib.Core.Bool.{true, false}
 use native.Mathlib.Omega.{arith}
-use Rattle.paper.specs.Rules.{factorOf}
-use Rattle.part.proofs.PartLaws.{base-size, matched, unmatched, power-apart, power-into, power-over}
 use borrow.Author.Needs.{needs}
+use Rattle.paper.specs.Tree.{Tree}
+use Rattle.paper.specs.Equal.{equal}
+use Rattle.paper.specs.Rules.{Factor, factorOf}
+use Rattle.split.specs.Standing.{TreeIn}
+use Rattle.equal.proofs.SameLaws.{match-ends, match-differs}
+use Rattle.part.specs.Part.{ShowsPower}
+use Rattle.part.proofs.PartLaws.{base-size, Raised, raised-later, power-apart, power-into, power-over}
 use Rattle.part.proofs.merge_power.Statement.{statement}
 use Rattle.part.proofs.merge_power.Tie as tie
+
+-- places on the way through the code, and from each the one before it: the entry, after the later base was found, after the bases were
+-- compared, where they differ, where they are equal, after the later exponent was read, and after the sum was made
+abbrev Entry : Type 0
+Entry = tie.Start
+
+abbrev Found : Type 0
+Found = tie.After-base
+
+abbrev Compared : Type 0
+Compared = tie.After-same
+
+abbrev Unlike : Type 0
+Unlike = tie.After-enum-told
+
+abbrev Alike : Type 0
+Alike = tie.After-enum-told2
+
+abbrev Read : Type 0
+Read = tie.After-exponent
+
+abbrev Added : Type 0
+Added = tie.After-add
+
+abbrev entry-of : Found → Entry
+entry-of c = c .before .before .before
+
+abbrev found-of : Compared → Found
+found-of c = c .before .before
+
+abbrev unlike-by : Unlike → Compared
+unlike-by c = c .before .before .before .before
+
+abbrev alike-by : Alike → Compared
+alike-by c = c .before .before .before .before
+
+-- the current part is x and the later member is t: what is known of their bases, and of the later exponent
+module _ (x : Factor) (t : Tree) where
+  abbrev Meets : Entry → Type 0
+  Meets c = let g = c .args in ShowsPower (g .s .now) (g .e) (g .i) (g .k) x × TreeIn (g .s .now) (g .at) t
+
+  bases-differ : (c : Unlike) → Meets (entry-of (found-of (unlike-by c))) → equal (x .base) (factorOf t .base) ≡ false
+  bases-differ c m =
+      let compared = unlike-by c in
+      let found = found-of compared in
+      match-differs _ _ (sym (compared .same .ensures _ _ (m .0 .sized .there) (found .base .ensures .0 t (m .1))) ∙ c .enum-told .given .1)
+
+  bases-equal : (c : Alike) → Meets (entry-of (found-of (alike-by c))) → equal (x .base) (factorOf t .base) ≡ true
+  bases-equal c m =
+      let compared = alike-by c in
+      let found = found-of compared in
+      match-ends _ _ _ (sym (compared .same .ensures _ _ (m .0 .sized .there) (found .base .ensures .0 t (m .1))) ∙ c .enum-told2 .given .1) .0
+
+  raised : (c : Read) → Meets (entry-of (found-of (alike-by (c .before)))) → Raised (factorOf t) (c .exponent .result)
+  raised c m =
+      let read = c .exponent .ensures t (m .1) in
+      raised-later t (read .0) (read .1)
 
 base-requires : tie.Need-base-requires
 base-requires c κs = search needs
 
 same-requires : tie.Need-same-requires
 same-requires c κs =
-    let q = c .before .before .before .before .pre in
+    let found = c .before in
+    let q = entry-of found .pre in
     record {
       one = q .one;
       other = factorOf (q .other) .base;
       one-there = q .one-there;
-      other-there = c .before .base .ensures .0 (q .other) (q .other-there);
+      other-there = found .base .ensures .0 (q .other) (q .other-there);
       enough = omega (arith, q .enough, base-size (q .other));
     }
 
@@ -43,32 +109,18 @@ same-length : tie.Need-same-length
 same-length c = search needs
 
 returns : tie.Need-returns
-returns c =
-    let the-same = c .before .before .before .before .same in
-    let the-base = c .before .before .before .before .before .before .base in (
-      λ x t h w.
-          let g = c .before .before .before .before .before .before .before .before .before .args in
-          let met = the-same .ensures (x .base) (factorOf t .base) (h .sized .there) (the-base .ensures .0 t w) in
-          power-apart (g .s .now) (g .e) (g .i) (g .k) x h t (unmatched _ _ (sym met ∙ c .enum-told .given .1)),
-      λ p h. tt,
-    )
+returns c = (λ x t h there. power-apart h _ (bases-differ x t c (h, there)), λ p h. tt)
 
 same-length-2 : tie.Need-same-length-2
 same-length-2 c = search needs
 
 returns-2 : tie.Need-returns-2
 returns-2 c =
-    let the-add = c .before .before .before .add in
-    let the-exponent = c .before .before .before .before .exponent in
-    let the-enum-told2 = c .before .before .before .before .before .enum-told2 in
-    let the-same = c .before .before .before .before .before .before .before .before .before .same in
-    let the-base = c .before .before .before .before .before .before .before .before .before .before .before .base in (
-      λ x t h w.
-          let g = c .before .before .before .before .before .before .before .before .before .before .before .before .before .before .args in
-          let met = the-same .ensures (x .base) (factorOf t .base) (h .sized .there) (the-base .ensures .0 t w) in
-          let other = the-exponent .ensures t w in
-          power-into (g .s .now) (g .e) (g .i) (g .k) x h t _ (other .0) (other .1) (matched _ _ _ (sym met ∙ the-enum-told2 .given .1)) _
-          (sym (the-add .ensures) ∙ c .before .sum .given .1),
+    let added = c .before .before .before in
+    let read = added .before in (
+      λ x t h there.
+          power-into h _ (raised x t read (h, there)) (bases-equal x t (read .before) (h, there))
+          (sym (added .add .ensures) ∙ c .before .sum .given .1),
       λ p h. h,
     )
 
@@ -77,17 +129,11 @@ same-length-3 c = search needs
 
 returns-3 : tie.Need-returns-3
 returns-3 c =
-    let the-add = c .before .before .add in
-    let the-exponent = c .before .before .before .exponent in
-    let the-enum-told2 = c .before .before .before .before .enum-told2 in
-    let the-same = c .before .before .before .before .before .before .before .before .same in
-    let the-base = c .before .before .before .before .before .before .before .before .before .before .base in (
-      λ x t h w.
-          let g = c .before .before .before .before .before .before .before .before .before .before .before .before .before .args in
-          let met = the-same .ensures (x .base) (factorOf t .base) (h .sized .there) (the-base .ensures .0 t w) in
-          let other = the-exponent .ensures t w in
-          power-over (g .s .now) (g .e) (g .i) (g .k) x h t _ (other .0) (other .1) (matched _ _ _ (sym met ∙ the-enum-told2 .given .1))
-          (sym (the-add .ensures) ∙ c .enum-told3 .given .1),
+    let added = c .before .before in
+    let read = added .before in (
+      λ x t h there.
+          power-over h _ (raised x t read (h, there)) (bases-equal x t (read .before) (h, there))
+          (sym (added .add .ensures) ∙ c .enum-told3 .given .1),
       λ p h. tt,
     )
 

@@ -1,9 +1,66 @@
--- `part::merge_term` meets its contract: the rests are compared, and the sum of the coefficients is judged. Assumes nothing.
-use mathlib.Core.Path.{sym, _∙_}
-use Rattle.part.proofs.PartLaws.{term-apart, term-into, term-over}
+-- `part::merge_term` meets its contract. Terms are like where their rests are equal, so the comparison of the rests decides: where they differ
+-- (`rests-differ`) the two stay apart, where they are equal (`rests-equal`) the sum of the coefficients is made and judged. Each return is
+-- the law of its case. Assumes nothing.
+use mathlib.Core.Path.{_≡_, sym, _∙_}
+use mathlib.Core.Bool.{true, false}
 use borrow.Author.Needs.{needs}
+use Rattle.paper.specs.Tree.{Tree}
+use Rattle.paper.specs.Equal.{equal}
+use Rattle.paper.specs.Rules.{Term, termOf}
+use Rattle.split.specs.Standing.{TreeIn}
+use Rattle.part.specs.Part.{ShowsTerm}
+use Rattle.part.proofs.PartLaws.{term-apart, term-into, term-over}
 use Rattle.part.proofs.merge_term.Statement.{statement}
 use Rattle.part.proofs.merge_term.Tie as tie
+
+-- places on the way through the code, and from each the one before it: the entry, after the rests were compared, where they are equal,
+-- where they differ, and after the sum was made
+abbrev Entry : Type 0
+Entry = tie.Start
+
+abbrev Compared : Type 0
+Compared = tie.After-same-rest
+
+abbrev Alike : Type 0
+Alike = tie.Then1
+
+abbrev Unlike : Type 0
+Unlike = tie.Else1
+
+abbrev Added : Type 0
+Added = tie.After-add
+
+abbrev entry-of : Compared → Entry
+entry-of c = c .before .before .before .before
+
+abbrev alike-by : Alike → Compared
+alike-by c = c .before .before .before
+
+abbrev unlike-by : Unlike → Compared
+unlike-by c = c .before .before .before
+
+abbrev alike-of : Added → Alike
+alike-of c = c .before .before
+
+-- the current part is x and the later member is t: what is known of their rests
+module _ (x : Term) (t : Tree) where
+  abbrev Shown : Entry → Type 0
+  Shown c = let g = c .args in ShowsTerm (g .s .now) (g .n) (g .i) x
+
+  abbrev There : Entry → Type 0
+  There c = let g = c .args in TreeIn (g .s .now) (g .at) t
+
+  rests-equal : (c : Alike) → let entry = entry-of (alike-by c) in (h : Shown entry) → There entry
+      → equal (termOf (h .member) .rest) (termOf t .rest) ≡ true
+  rests-equal c h there =
+      let same : alike-by c .same-rest .result ≡ true = c .if1 .taken in
+      sym (alike-by c .same-rest .ensures (h .member) t (h .there) there) ∙ same
+
+  rests-differ : (c : Unlike) → let entry = entry-of (unlike-by c) in (h : Shown entry) → There entry
+      → equal (termOf (h .member) .rest) (termOf t .rest) ≡ false
+  rests-differ c h there =
+      let different : unlike-by c .same-rest .result ≡ false = c .if1 .left in
+      sym (unlike-by c .same-rest .ensures (h .member) t (h .there) there) ∙ different
 
 same-rest-requires : tie.Need-same-rest-requires
 same-rest-requires c κs = search needs
@@ -25,16 +82,11 @@ same-length c = search needs
 
 returns : tie.Need-returns
 returns c =
-    let the-add = c .before .before .before .add in
-    let the-coefficient = c .before .before .before .before .coefficient in
-    let the-if1 = c .before .before .before .before .before .if1 in
-    let the-same-rest = c .before .before .before .before .before .before .before .before .same-rest in (
-      λ x t h w.
-          let g = c .before .before .before .before .before .before .before .before .before .before .before .before .args in
-          let same = the-same-rest .ensures (h .member) t (h .there) w in
-          let m = the-coefficient .result in
-          term-into (g .s .now) (g .n) (g .i) x h t m (the-coefficient .ensures t w) (sym same ∙ the-if1 .taken) _
-          (sym (the-add .ensures) ∙ c .before .sum .given .1),
+    let added = c .before .before .before in
+    let read = added .before .coefficient in (
+      λ x t h there.
+          term-into h t (read .result) (read .ensures t there) (rests-equal x t (alike-of added) h there)
+          (sym (added .add .ensures) ∙ c .before .sum .given .1),
       λ p h. h,
     )
 
@@ -43,16 +95,11 @@ same-length-2 c = search needs
 
 returns-2 : tie.Need-returns-2
 returns-2 c =
-    let the-add = c .before .before .add in
-    let the-coefficient = c .before .before .before .coefficient in
-    let the-if1 = c .before .before .before .before .if1 in
-    let the-same-rest = c .before .before .before .before .before .before .before .same-rest in (
-      λ x t h w.
-          let g = c .before .before .before .before .before .before .before .before .before .before .before .args in
-          let same = the-same-rest .ensures (h .member) t (h .there) w in
-          let m = the-coefficient .result in
-          term-over (g .s .now) (g .n) (g .i) x h t m (the-coefficient .ensures t w) (sym same ∙ the-if1 .taken)
-          (sym (the-add .ensures) ∙ c .enum-told .given .1),
+    let added = c .before .before in
+    let read = added .before .coefficient in (
+      λ x t h there.
+          term-over h t (read .result) (read .ensures t there) (rests-equal x t (alike-of added) h there)
+          (sym (added .add .ensures) ∙ c .enum-told .given .1),
       λ p h. tt,
     )
 
@@ -60,14 +107,7 @@ same-length-3 : tie.Need-same-length-3
 same-length-3 c = search needs
 
 returns-3 : tie.Need-returns-3
-returns-3 c =
-    let the-same-rest = c .before .before .before .same-rest in (
-      λ x t h w.
-          let g = c .before .before .before .before .before .before .before .args in
-          let same = the-same-rest .ensures (h .member) t (h .there) w in
-          term-apart (g .s .now) (g .n) (g .i) x h t (sym same ∙ c .if1 .left),
-      λ p h. tt,
-    )
+returns-3 c = (λ x t h there. term-apart h t (rests-differ x t c h there), λ p h. tt)
 
 pub merge-term-spec : {M : Type 1} → statement M
 merge-term-spec =

@@ -1,10 +1,51 @@
--- `part::part_of` meets its contract: what is read off the member's records shows its part. Assumes nothing.
-use mathlib.Core.Path.{sym, _∙_}
+-- `part::part_of` meets its contract. Of a sum's member the coefficient is read. Of a product's member the exponent and the record of the
+-- base: where an integer stands there its bits are read; else the base is the record after a power's own, with two records fewer, or the
+-- member itself. In each case what was read shows the member's part. Assumes nothing.
+use mathlib.Core.Path.{_≡_, sym, _∙_}
+use mathlib.Core.Option.{none}
 use native.Mathlib.Omega.{arith}
+use Rattle.paper.specs.Tree.{Tree}
+use Rattle.paper.specs.Rules.{asInteger, factorOf}
+use Rattle.split.specs.Standing.{TreeIn}
 use Rattle.split.proofs.StandingLaws.{record-within}
 use Rattle.part.proofs.PartLaws.{term-part, number-part, no-integer-there, power-part, base-part, power-two}
 use Rattle.part.proofs.part_of.Statement.{statement}
 use Rattle.part.proofs.part_of.Tie as tie
+
+-- places on the way through the code, and from each the one before it: the entry, after the exponent was read, after the base was found,
+-- after its kind was read, where it is no integer, and after the member's own kind was read
+abbrev Entry : Type 0
+Entry = tie.Start
+
+abbrev Read : Type 0
+Read = tie.After-exponent
+
+abbrev Found : Type 0
+Found = tie.After-base
+
+abbrev Known : Type 0
+Known = tie.After-kind
+
+abbrev Other : Type 0
+Other = tie.After-kind2
+
+abbrev entry-of : Read → Entry
+entry-of c = c .before .before .before
+
+abbrev found-of : Known → Found
+found-of c = c .before
+
+abbrev known-of : Other → Known
+known-of c = c .before .before
+
+-- the base is no integer
+no-integer : (c : Other) (t : Tree)
+    → let g = entry-of (found-of (known-of c) .before) .args in
+    TreeIn (g .s .now) (g .at) t → asInteger (factorOf t .base) ≡ none
+no-integer c t there =
+    let known = known-of c in
+    let found = found-of known in
+    no-integer-there _ (found .base .result) _ (found .base .ensures .0 t there) (omega (arith, known .kind .ensures, c .before .if2 .left))
 
 coefficient-requires : tie.Need-coefficient-requires
 coefficient-requires c κs =
@@ -13,9 +54,7 @@ coefficient-requires c κs =
 
 returns : tie.Need-returns
 returns c = (
-  λ t h.
-      let g = c .before .before .before .args in
-      rw (c .before .if1 .taken) (term-part (g .s .now) _ (g .at) t (h .there) (c .coefficient .ensures t (h .there)) (c .coefficient .ok)),
+  λ t h. rw (c .before .if1 .taken) (term-part _ _ _ t (h .there) (c .coefficient .ensures t (h .there)) (c .coefficient .ok)),
   λ p h. h,
 )
 
@@ -26,76 +65,65 @@ exponent-requires c κs =
 
 base-requires : tie.Need-base-requires
 base-requires c κs =
-    let q = c .before .before .before .pre in
+    let q = entry-of c .pre in
     record { tree = q .0; there = q .1 .there }
 
 kind-requires : tie.Need-kind-requires
 kind-requires c κs =
-    let q = c .before .before .before .before .pre in
+    let q = entry-of (c .before) .pre in
     record-within (c .base .ensures .0 (q .0) (q .1 .there))
 
 bits-requires : tie.Need-bits-requires
 bits-requires c κs =
-    let the-base = c .before .before .base in
-    let q = c .before .before .before .before .before .before .pre in
-    record-within (the-base .ensures .0 (q .0) (q .1 .there))
+    let found = found-of (c .before) in
+    let q = entry-of (found .before) .pre in
+    record-within (found .base .ensures .0 (q .0) (q .1 .there))
 
 returns-2 : tie.Need-returns-2
 returns-2 c =
-    let the-kind = c .before .before .kind in
-    let the-base = c .before .before .before .base in
-    let the-exponent = c .before .before .before .before .exponent in
-    let the-if1 = c .before .before .before .before .before .if1 in (
+    let known = c .before .before in
+    let found = found-of known in
+    let read = found .before in (
       λ t h.
-          let g = c .before .before .before .before .before .before .before .args in
-          let b = the-base .ensures .0 t (h .there) in
-          let e = the-exponent .ensures t (h .there) in
-          rw (the-if1 .left) (number-part (g .s .now) _ (the-base .result) _ t b (omega (arith, the-kind .ensures)) (c .bits .ensures) (e .0) (e .1)),
+          let e = read .exponent .ensures t (h .there) in
+          let b = found .base .ensures .0 t (h .there) in
+          rw (read .before .if1 .left)
+          (number-part _ _ (found .base .result) _ t b (omega (arith, known .kind .ensures)) (c .bits .ensures) (e .0) (e .1)),
       λ p h. tt,
     )
 
 kind-requires-2 : tie.Need-kind-requires-2
 kind-requires-2 c κs =
-    let q = c .before .before .before .before .before .before .pre in
+    let q = entry-of (found-of (c .before) .before) .pre in
     record-within (q .1 .there)
 
 add-t11 : tie.Need-add-t11
 add-t11 c =
-    let q = c .before .before .before .before .before .before .before .before .pre in
+    let q = entry-of (found-of (known-of (c .before)) .before) .pre in
     record { fits = omega (arith, record-within (q .1 .there)) }
 
 sub-t12 : tie.Need-sub-t12
 sub-t12 c =
-    let q = c .before .before .before .before .before .before .before .before .pre in
+    let q = entry-of (found-of (known-of (c .before)) .before) .pre in
     power-two _ _ _ (q .0) (q .1) (sym (c .before .kind2 .ensures) ∙ c .if3 .taken)
 
 returns-3 : tie.Need-returns-3
 returns-3 c =
-    let the-kind = c .before .before .before .kind in
-    let the-base = c .before .before .before .before .base in
-    let the-exponent = c .before .before .before .before .before .exponent in
-    let the-if1 = c .before .before .before .before .before .before .if1 in (
+    let read = found-of (known-of (c .before)) .before in (
       λ t h.
-          let g = c .before .before .before .before .before .before .before .before .args in
-          let b = the-base .ensures .0 t (h .there) in
-          let e = the-exponent .ensures t (h .there) in
-          let other = no-integer-there (g .s .now) (the-base .result) _ b (omega (arith, the-kind .ensures)) in
-          rw (the-if1 .left) (power-part (g .s .now) _ (g .at) (g .size) t h other (e .0) (e .1) (sym (c .before .kind2 .ensures) ∙ c .if3 .taken)),
+          let e = read .exponent .ensures t (h .there) in
+          let is-power = sym (c .before .kind2 .ensures) ∙ c .if3 .taken in
+          rw (read .before .if1 .left) (power-part _ _ _ _ t h (no-integer (c .before) t (h .there)) (e .0) (e .1) is-power),
       λ p h. omega arith,
     )
 
 returns-4 : tie.Need-returns-4
 returns-4 c =
-    let the-kind = c .before .before .before .kind in
-    let the-base = c .before .before .before .before .base in
-    let the-exponent = c .before .before .before .before .before .exponent in
-    let the-if1 = c .before .before .before .before .before .before .if1 in (
+    let read = found-of (known-of (c .before)) .before in (
       λ t h.
-          let g = c .before .before .before .before .before .before .before .before .args in
-          let b = the-base .ensures .0 t (h .there) in
-          let e = the-exponent .ensures t (h .there) in
-          let other = no-integer-there (g .s .now) (the-base .result) _ b (omega (arith, the-kind .ensures)) in
-          rw (the-if1 .left) (base-part (g .s .now) _ (g .at) (g .size) t h other (e .0) (e .1) (λ k. c .if3 .left (c .before .kind2 .ensures ∙ k))),
+          let e = read .exponent .ensures t (h .there) in
+          let other = no-integer (c .before) t (h .there) in
+          rw (read .before .if1 .left) (base-part _ _ _ _ t h other (e .0) (e .1) (λ k. c .if3 .left (c .before .kind2 .ensures ∙ k))),
       λ p h. h,
     )
 

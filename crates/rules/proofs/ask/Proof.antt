@@ -1,365 +1,174 @@
--- `rules::ask` meets its contract: the rules are tried one after the other, and the first that does not stay idle answers (AskLaws).
--- Assumes nothing.
-use Prim.Native.Nat.{ℕ}
-use mathlib.Core.Path.{_≡_, _∙_}
-use mathlib.Core.List.{List, []}
+-- `rules::ask` meets its contract. The loop's invariant: asking all the rules is asking those from the i-th on, and all is ready for them
+-- (`Going`). A rule that stays idle goes on to the next; the first that does not answers; when none is left, no rule applies (AskLaws). The
+-- measure is how many are left. Assumes nothing.
+use Prim.Native.Nat.{ℕ, _-_, _≤_}
+use mathlib.Core.Path.{_≡_, refl, _∙_, subst}
+use mathlib.Core.List.{List}
+use native.Mathlib.Omega.{arith}
+use borrow.Author.Needs.{needs}
 use lib.ListN.{length}
 use Rattle.paper.specs.Tree.{Tree}
+use Rattle.rules.specs.Alike.{ruleOf}
 use Rattle.rules.specs.Asked.{Ready}
-use Rattle.rules.proofs.AskLaws.{from-two, from-three, from-four, from-six, Going, begins, goes-on, steps, leaves, ends}
-use borrow.Author.Needs.{needs}
+use Rattle.rules.specs.Tried.{Answers}
+use Rattle.rules.specs.declared.Tried.{Tried}
+use Rattle.rules.proofs.AskLaws.{stepAt, Going, begins, goes-on, steps, leaves, ends}
 use Rattle.rules.proofs.ask.Statement.{statement}
 use Rattle.rules.proofs.ask.Tie as tie
 
--- where the function started, from the places where a rule stayed idle
-abbrev start-one : tie.After-enum-told → tie.Start
-start-one c = c .before .before .before .before .before .before .before .before .before .before .before
+abbrev Inv-loop : tie.InvT-loop
+Inv-loop out₀ work₀ d p i₀ out work i =
+    (i ≤ 5)
+    × (length out ≡ length out₀)
+    × (length work ≡ length work₀)
+    × ((t : Tree) (rest : List ℕ) → Ready out₀ work₀ d p t rest → Going t rest out₀ d p i out work)
 
-abbrev start-two : tie.After-enum-told3 → tie.Start
-start-two c = start-one (c .before .before .before .before .before .before .before .before .before)
+abbrev μ-loop : tie.MeasureT-loop
+μ-loop out₀ work₀ d p i₀ out work i = 5 - i
 
-abbrev start-three : tie.After-enum-told5 → tie.Start
-start-three c = start-two (c .before .before .before .before .before .before .before .before .before)
+-- places on the way through the code, and from each the one before it: the entry, the loop's head, where a rule is left, where it was
+-- tried, and where its answer is asked for
+abbrev Entry : Type 0
+Entry = tie.Start Inv-loop μ-loop
 
-abbrev start-four : tie.After-enum-told7 → tie.Start
-start-four c = start-three (c .before .before .before .before .before .before .before .before .before)
+abbrev Head : Type 0
+Head = tie.At-loop Inv-loop μ-loop
 
-abbrev start-six : tie.After-enum-told9 → tie.Start
-start-six c = start-four (c .before .before .before .before .before .before .before .before .before)
+abbrev Left : Type 0
+Left = tie.In-loop Inv-loop μ-loop
 
--- a rule stayed idle: all is ready for those after it
-idle-one : (c : tie.After-enum-told) (t : Tree) (rest : List ℕ)
-    → Ready (start-one c .args .out .now) (start-one c .args .work .now) (start-one c .args .d) (start-one c .args .p) t rest
-    → Going t rest (start-one c .args .out .now) (start-one c .args .d) (start-one c .args .p) from-two
-    (c .before .before .before .before .before .before .add-zero .last .0) (c .before .before .before .before .before .before .add-zero .last .1 .0)
-idle-one c t rest h =
-    let a = c .before .before .before .before .before .before .add-zero in
-    let v = begins h in
-    goes-on v (a .last .0) (a .last .1 .0) (a .kept .0) (a .kept .1 .0)
-    (rw (c .enum-told .given .1) at (a .ensures t rest (v .ready)))
+abbrev Asked : Type 0
+Asked = tie.After-try-step Inv-loop μ-loop
 
-idle-two : (c : tie.After-enum-told3) (t : Tree) (rest : List ℕ)
-    → Ready (start-two c .args .out .now) (start-two c .args .work .now) (start-two c .args .d) (start-two c .args .p) t rest
-    → Going t rest (start-two c .args .out .now) (start-two c .args .d) (start-two c .args .p) from-three
-    (c .before .before .before .before .before .before .combine-like-terms .last .0)
-    (c .before .before .before .before .before .before .combine-like-terms .last .1 .0)
-idle-two c t rest h =
-    let a = c .before .before .before .before .before .before .combine-like-terms in
-    let v = idle-one (c .before .before .before .before .before .before .before .before .before) t rest h in
-    goes-on v (a .last .0) (a .last .1 .0) (a .kept .0) (a .kept .1 .0)
-    (rw (c .enum-told3 .given .1) at (a .ensures t rest (v .ready)))
+abbrev Answered : Type 0
+Answered = tie.After-slice-known4 Inv-loop μ-loop
 
-idle-three : (c : tie.After-enum-told5) (t : Tree) (rest : List ℕ)
-    → Ready (start-three c .args .out .now) (start-three c .args .work .now) (start-three c .args .d) (start-three c .args .p) t rest
-    → Going t rest (start-three c .args .out .now) (start-three c .args .d) (start-three c .args .p) from-four
-    (c .before .before .before .before .before .before .multiply-zero .last .0) (c .before .before .before .before .before .before .multiply-zero .last .1 .0)
-idle-three c t rest h =
-    let a = c .before .before .before .before .before .before .multiply-zero in
-    let v = idle-two (c .before .before .before .before .before .before .before .before .before) t rest h in
-    goes-on v (a .last .0) (a .last .1 .0) (a .kept .0) (a .kept .1 .0)
-    (rw (c .enum-told5 .given .1) at (a .ensures t rest (v .ready)))
+abbrev entry-of : Head → Entry
+entry-of c = c .before .before .before
 
-idle-four : (c : tie.After-enum-told7) (t : Tree) (rest : List ℕ)
-    → Ready (start-four c .args .out .now) (start-four c .args .work .now) (start-four c .args .d) (start-four c .args .p) t rest
-    → Going t rest (start-four c .args .out .now) (start-four c .args .d) (start-four c .args .p) from-six
-    (c .before .before .before .before .before .before .multiply-one .last .0) (c .before .before .before .before .before .before .multiply-one .last .1 .0)
-idle-four c t rest h =
-    let a = c .before .before .before .before .before .before .multiply-one in
-    let v = idle-three (c .before .before .before .before .before .before .before .before .before) t rest h in
-    goes-on v (a .last .0) (a .last .1 .0) (a .kept .0) (a .kept .1 .0)
-    (rw (c .enum-told7 .given .1) at (a .ensures t rest (v .ready)))
+abbrev left-of : Asked → Left
+left-of c = c .before .before .before
 
-idle-six : (c : tie.After-enum-told9) (t : Tree) (rest : List ℕ)
-    → Ready (start-six c .args .out .now) (start-six c .args .work .now) (start-six c .args .d) (start-six c .args .p) t rest
-    → Going t rest (start-six c .args .out .now) (start-six c .args .d) (start-six c .args .p) []
-    (c .before .before .before .before .before .before .combine-like-factors .last .0)
-    (c .before .before .before .before .before .before .combine-like-factors .last .1 .0)
-idle-six c t rest h =
-    let a = c .before .before .before .before .before .before .combine-like-factors in
-    let v = idle-four (c .before .before .before .before .before .before .before .before .before) t rest h in
-    goes-on v (a .last .0) (a .last .1 .0) (a .kept .0) (a .kept .1 .0)
-    (rw (c .enum-told9 .given .1) at (a .ensures t rest (v .ready)))
+abbrev asked-of : Answered → Asked
+asked-of c = c .before .before .before .before
 
--- and both slices are as long as they were
-long-one : (c : tie.After-enum-told)
-    → (length (c .before .before .before .before .before .before .add-zero .last .0) ≡ length (start-one c .args .out .now))
-    × (length (c .before .before .before .before .before .before .add-zero .last .1 .0) ≡ length (start-one c .args .work .now))
-long-one c =
-    let a = c .before .before .before .before .before .before .add-zero in
-    (a .kept .0, a .kept .1 .0)
+-- a tree t is pending at the entry, and `rest` after it
+abbrev Pending : Entry → Tree → List ℕ → Type 0
+Pending c t rest = let g = c .args in Ready (g .out .now) (g .work .now) (g .d) (g .p) t rest
 
-long-two : (c : tie.After-enum-told3)
-    → (length (c .before .before .before .before .before .before .combine-like-terms .last .0) ≡ length (start-two c .args .out .now))
-    × (length (c .before .before .before .before .before .before .combine-like-terms .last .1 .0) ≡ length (start-two c .args .work .now))
-long-two c =
-    let a = c .before .before .before .before .before .before .combine-like-terms in
-    let b = long-one (c .before .before .before .before .before .before .before .before .before) in
-    (a .kept .0 ∙ b .0, a .kept .1 .0 ∙ b .1)
+-- those from the i-th on are left
+going : (c : Head) {t : Tree} {rest : List ℕ} → Pending (entry-of c) t rest
+    → let g = entry-of c .args in
+    let u = c .loop in
+    Going t rest (g .out .now) (g .d) (g .p) (u .i) (u .out) (u .work)
+going c h = c .loop .inv .3 _ _ h
 
-long-three : (c : tie.After-enum-told5)
-    → (length (c .before .before .before .before .before .before .multiply-zero .last .0) ≡ length (start-three c .args .out .now))
-    × (length (c .before .before .before .before .before .before .multiply-zero .last .1 .0) ≡ length (start-three c .args .work .now))
-long-three c =
-    let a = c .before .before .before .before .before .before .multiply-zero in
-    let b = long-two (c .before .before .before .before .before .before .before .before .before) in
-    (a .kept .0 ∙ b .0, a .kept .1 .0 ∙ b .1)
+-- what the answer x of the i-th says
+says : (c : Asked) {t : Tree} {rest : List ℕ} (h : Pending (entry-of (left-of c .before)) t rest) (x : Tried)
+    → let g = entry-of (left-of c .before) .args in
+    let u = left-of c .before .loop in
+    let r = c .try-step in
+    r .result ≡ x → Answers (ruleOf (stepAt (u .i)) t) rest (u .out) (r .last .0) (u .work) (r .last .1 .0) (g .d) (g .p) x
+says c {t} {rest} h x e =
+    let g = entry-of (left-of c .before) .args in
+    let u = left-of c .before .loop in
+    let r = c .try-step in
+    subst (Answers (ruleOf (stepAt (u .i)) t) rest (u .out) (r .last .0) (u .work) (r .last .1 .0) (g .d) (g .p)) e
+    (r .ensures t rest (going (left-of c .before) h .ready))
 
-long-four : (c : tie.After-enum-told7)
-    → (length (c .before .before .before .before .before .before .multiply-one .last .0) ≡ length (start-four c .args .out .now))
-    × (length (c .before .before .before .before .before .before .multiply-one .last .1 .0) ≡ length (start-four c .args .work .now))
-long-four c =
-    let a = c .before .before .before .before .before .before .multiply-one in
-    let b = long-three (c .before .before .before .before .before .before .before .before .before) in
-    (a .kept .0 ∙ b .0, a .kept .1 .0 ∙ b .1)
+-- both slices are as long as they were
+long : (c : Asked)
+    → let g = entry-of (left-of c .before) .args in
+    (length (c .try-step .last .0) ≡ length (g .out .now)) × (length (c .try-step .last .1 .0) ≡ length (g .work .now))
+long c =
+    let v = left-of c .before .loop .inv in
+    (c .try-step .kept .0 ∙ v .1, c .try-step .kept .1 .0 ∙ v .2)
 
-add-zero-requires : tie.Need-add-zero-requires
-add-zero-requires c κs = search needs
+loop-holds : tie.Need-loop-holds Inv-loop μ-loop
+loop-holds c = (omega arith, refl, refl, λ t rest h. begins h)
 
-enum-told : tie.Need-enum-told
+array-read-step : tie.Need-array-read-step Inv-loop μ-loop
+array-read-step c = search needs
+
+try-step-requires : tie.Need-try-step-requires Inv-loop μ-loop
+try-step-requires c κs =
+    let head = c .before .before .before in
+    let q = entry-of head .pre in
+    (q .0, q .1, going head (q .2) .ready)
+
+enum-told : tie.Need-enum-told Inv-loop μ-loop
 enum-told c = search needs
 
-enum-known-one : tie.Need-enum-known-one
-enum-known-one c = search needs
+enum-known-tried : tie.Need-enum-known-tried Inv-loop μ-loop
+enum-known-tried c = search needs
 
-same-length : tie.Need-same-length
-same-length c = search needs
+same-length : tie.Need-same-length Inv-loop μ-loop
+same-length c = long (asked-of (c .before .before .before)) .0
 
-same-length-2 : tie.Need-same-length-2
-same-length-2 c = search needs
+same-length-2 : tie.Need-same-length-2 Inv-loop μ-loop
+same-length-2 c = long (asked-of (c .before .before .before)) .1
 
-returns : tie.Need-returns
+returns : tie.Need-returns Inv-loop μ-loop
 returns c =
-    λ t rest h.
-    let a = c .before .before .before .before .before .before .before .add-zero in
-    let v = begins h in
-    steps v (a .last .0) (a .last .1 .0) (c .before .one .given .0 .0) (rw (c .before .one .given .1) at (a .ensures t rest (v .ready)))
+    let asked = asked-of (c .before .before .before) in
+    let left = left-of asked in
+    let is = c .before .tried .given in
+    λ t rest h. steps (going (left .before) h) (left .loop-test .taken) _ _ (is .0 .0) (says asked h _ (is .1))
 
-enum-told-2 : tie.Need-enum-told-2
+enum-told-2 : tie.Need-enum-told-2 Inv-loop μ-loop
 enum-told-2 c = search needs
 
-same-length-3 : tie.Need-same-length-3
-same-length-3 c = search needs
+same-length-3 : tie.Need-same-length-3 Inv-loop μ-loop
+same-length-3 c = long (asked-of (c .before .before)) .0
 
-same-length-4 : tie.Need-same-length-4
-same-length-4 c = search needs
+same-length-4 : tie.Need-same-length-4 Inv-loop μ-loop
+same-length-4 c = long (asked-of (c .before .before)) .1
 
-returns-2 : tie.Need-returns-2
+returns-2 : tie.Need-returns-2 Inv-loop μ-loop
 returns-2 c =
-    λ t rest h.
-    let a = c .before .before .before .before .before .before .add-zero in
-    let v = begins h in
-    leaves v (a .last .0) (a .last .1 .0) (rw (c .enum-told2 .given .1) at (a .ensures t rest (v .ready)))
+    let asked = asked-of (c .before .before) in
+    let left = left-of asked in
+    λ t rest h. leaves (going (left .before) h) (left .loop-test .taken) (says asked h _ (c .enum-told2 .given .1))
 
-combine-like-terms-requires : tie.Need-combine-like-terms-requires
-combine-like-terms-requires c κs =
-    let here = c .before .before in
-    let q = start-one here .pre in
-    let v = idle-one here (q .0) (q .1) (q .2) in
-    (q .0, q .1, v .ready)
+add-i : tie.Need-add-i Inv-loop μ-loop
+add-i c = search needs
 
-enum-told-3 : tie.Need-enum-told-3
-enum-told-3 c = search needs
+loop-less : tie.Need-loop-less Inv-loop μ-loop
+loop-less c = search needs
 
-enum-known-two : tie.Need-enum-known-two
-enum-known-two c = search needs
+loop-again : tie.Need-loop-again Inv-loop μ-loop
+loop-again c =
+    let asked = asked-of (c .before .before) in
+    let left = left-of asked in
+    let r = asked .try-step in
+    let l = long asked in (
+      omega arith,
+      l .0,
+      l .1,
+      λ t rest h.
+          goes-on (going (left .before) h) (left .loop-test .taken) _ _ (r .kept .0) (r .kept .1 .0) (says asked h _ (c .enum-told .given .1)),
+    )
 
-same-length-5 : tie.Need-same-length-5
-same-length-5 c = search needs
+same-length-5 : tie.Need-same-length-5 Inv-loop μ-loop
+same-length-5 c = c .before .loop .inv .1
 
-same-length-6 : tie.Need-same-length-6
-same-length-6 c = search needs
+same-length-6 : tie.Need-same-length-6 Inv-loop μ-loop
+same-length-6 c = c .before .loop .inv .2
 
-returns-3 : tie.Need-returns-3
-returns-3 c =
-    let here = c .before .before .before .before .before .before .before .before .before .before in
-    λ t rest h.
-    let a = c .before .before .before .before .before .before .before .combine-like-terms in
-    let v = idle-one here t rest h in
-    steps v (a .last .0) (a .last .1 .0) (c .before .two .given .0 .0) (rw (c .before .two .given .1) at (a .ensures t rest (v .ready)))
-
-enum-told-4 : tie.Need-enum-told-4
-enum-told-4 c = search needs
-
-same-length-7 : tie.Need-same-length-7
-same-length-7 c = search needs
-
-same-length-8 : tie.Need-same-length-8
-same-length-8 c = search needs
-
-returns-4 : tie.Need-returns-4
-returns-4 c =
-    let here = c .before .before .before .before .before .before .before .before .before in
-    λ t rest h.
-    let a = c .before .before .before .before .before .before .combine-like-terms in
-    let v = idle-one here t rest h in
-    leaves v (a .last .0) (a .last .1 .0) (rw (c .enum-told4 .given .1) at (a .ensures t rest (v .ready)))
-
-multiply-zero-requires : tie.Need-multiply-zero-requires
-multiply-zero-requires c κs =
-    let here = c .before .before in
-    let q = start-two here .pre in
-    let v = idle-two here (q .0) (q .1) (q .2) in
-    (q .0, q .1, v .ready)
-
-enum-told-5 : tie.Need-enum-told-5
-enum-told-5 c = search needs
-
-enum-known-three : tie.Need-enum-known-three
-enum-known-three c = search needs
-
-same-length-9 : tie.Need-same-length-9
-same-length-9 c = search needs
-
-same-length-10 : tie.Need-same-length-10
-same-length-10 c = search needs
-
-returns-5 : tie.Need-returns-5
-returns-5 c =
-    let here = c .before .before .before .before .before .before .before .before .before .before in
-    λ t rest h.
-    let a = c .before .before .before .before .before .before .before .multiply-zero in
-    let v = idle-two here t rest h in
-    steps v (a .last .0) (a .last .1 .0) (c .before .three .given .0 .0) (rw (c .before .three .given .1) at (a .ensures t rest (v .ready)))
-
-enum-told-6 : tie.Need-enum-told-6
-enum-told-6 c = search needs
-
-same-length-11 : tie.Need-same-length-11
-same-length-11 c = search needs
-
-same-length-12 : tie.Need-same-length-12
-same-length-12 c = search needs
-
-returns-6 : tie.Need-returns-6
-returns-6 c =
-    let here = c .before .before .before .before .before .before .before .before .before in
-    λ t rest h.
-    let a = c .before .before .before .before .before .before .multiply-zero in
-    let v = idle-two here t rest h in
-    leaves v (a .last .0) (a .last .1 .0) (rw (c .enum-told6 .given .1) at (a .ensures t rest (v .ready)))
-
-multiply-one-requires : tie.Need-multiply-one-requires
-multiply-one-requires c κs =
-    let here = c .before .before in
-    let q = start-three here .pre in
-    let v = idle-three here (q .0) (q .1) (q .2) in
-    (q .0, q .1, v .ready)
-
-enum-told-7 : tie.Need-enum-told-7
-enum-told-7 c = search needs
-
-enum-known-four : tie.Need-enum-known-four
-enum-known-four c = search needs
-
-same-length-13 : tie.Need-same-length-13
-same-length-13 c = search needs
-
-same-length-14 : tie.Need-same-length-14
-same-length-14 c = search needs
-
-returns-7 : tie.Need-returns-7
-returns-7 c =
-    let here = c .before .before .before .before .before .before .before .before .before .before in
-    λ t rest h.
-    let a = c .before .before .before .before .before .before .before .multiply-one in
-    let v = idle-three here t rest h in
-    steps v (a .last .0) (a .last .1 .0) (c .before .four .given .0 .0) (rw (c .before .four .given .1) at (a .ensures t rest (v .ready)))
-
-enum-told-8 : tie.Need-enum-told-8
-enum-told-8 c = search needs
-
-same-length-15 : tie.Need-same-length-15
-same-length-15 c = search needs
-
-same-length-16 : tie.Need-same-length-16
-same-length-16 c = search needs
-
-returns-8 : tie.Need-returns-8
-returns-8 c =
-    let here = c .before .before .before .before .before .before .before .before .before in
-    λ t rest h.
-    let a = c .before .before .before .before .before .before .multiply-one in
-    let v = idle-three here t rest h in
-    leaves v (a .last .0) (a .last .1 .0) (rw (c .enum-told8 .given .1) at (a .ensures t rest (v .ready)))
-
-combine-like-factors-requires : tie.Need-combine-like-factors-requires
-combine-like-factors-requires c κs =
-    let here = c .before .before in
-    let q = start-four here .pre in
-    let v = idle-four here (q .0) (q .1) (q .2) in
-    (q .0, q .1, v .ready)
-
-enum-told-9 : tie.Need-enum-told-9
-enum-told-9 c = search needs
-
-enum-known-six : tie.Need-enum-known-six
-enum-known-six c = search needs
-
-enum-told-10 : tie.Need-enum-told-10
-enum-told-10 c = search needs
-
-same-length-17 : tie.Need-same-length-17
-same-length-17 c =
-    let here = c .before .before .before .before .before .before .before .before .before in
-    let the-combine-like-factors = c .before .before .before .before .before .before .combine-like-factors in
-    the-combine-like-factors .kept .0 ∙ long-four here .0
-
-same-length-18 : tie.Need-same-length-18
-same-length-18 c =
-    let here = c .before .before .before .before .before .before .before .before .before in
-    let the-combine-like-factors = c .before .before .before .before .before .before .combine-like-factors in
-    the-combine-like-factors .kept .1 .0 ∙ long-four here .1
-
-returns-9 : tie.Need-returns-9
-returns-9 c = λ t rest h. ends (idle-six (c) t rest h)
-
-same-length-19 : tie.Need-same-length-19
-same-length-19 c =
-    let here = c .before .before .before .before .before .before .before .before .before .before in
-    let the-combine-like-factors = c .before .before .before .before .before .before .before .combine-like-factors in
-    the-combine-like-factors .kept .0 ∙ long-four here .0
-
-same-length-20 : tie.Need-same-length-20
-same-length-20 c =
-    let here = c .before .before .before .before .before .before .before .before .before .before in
-    let the-combine-like-factors = c .before .before .before .before .before .before .before .combine-like-factors in
-    the-combine-like-factors .kept .1 .0 ∙ long-four here .1
-
-returns-10 : tie.Need-returns-10
-returns-10 c =
-    let here = c .before .before .before .before .before .before .before .before .before .before in
-    λ t rest h.
-    let a = c .before .before .before .before .before .before .before .combine-like-factors in
-    let v = idle-four here t rest h in
-    steps v (a .last .0) (a .last .1 .0) (c .before .six .given .0 .0) (rw (c .before .six .given .1) at (a .ensures t rest (v .ready)))
-
-same-length-21 : tie.Need-same-length-21
-same-length-21 c =
-    let here = c .before .before .before .before .before .before .before .before .before in
-    let the-combine-like-factors = c .before .before .before .before .before .before .combine-like-factors in
-    the-combine-like-factors .kept .0 ∙ long-four here .0
-
-same-length-22 : tie.Need-same-length-22
-same-length-22 c =
-    let here = c .before .before .before .before .before .before .before .before .before in
-    let the-combine-like-factors = c .before .before .before .before .before .before .combine-like-factors in
-    the-combine-like-factors .kept .1 .0 ∙ long-four here .1
-
-returns-11 : tie.Need-returns-11
-returns-11 c =
-    let here = c .before .before .before .before .before .before .before .before .before in
-    λ t rest h.
-    let a = c .before .before .before .before .before .before .combine-like-factors in
-    let v = idle-four here t rest h in
-    leaves v (a .last .0) (a .last .1 .0) (rw (c .enum-told10 .given .1) at (a .ensures t rest (v .ready)))
+returns-3 : tie.Need-returns-3 Inv-loop μ-loop
+returns-3 c = λ t rest h. ends (omega arith) (going (c .before) h)
 
 pub ask-spec : {M : Type 1} → statement M
 ask-spec =
     tie.close
     (tie.spec
-    add-zero-requires
+    Inv-loop
+    μ-loop
+    loop-holds
+    array-read-step
+    try-step-requires
     enum-told
-    enum-known-one
+    enum-known-tried
     same-length
     same-length-2
     returns
@@ -367,46 +176,9 @@ ask-spec =
     same-length-3
     same-length-4
     returns-2
-    combine-like-terms-requires
-    enum-told-3
-    enum-known-two
+    add-i
+    loop-less
+    loop-again
     same-length-5
     same-length-6
-    returns-3
-    enum-told-4
-    same-length-7
-    same-length-8
-    returns-4
-    multiply-zero-requires
-    enum-told-5
-    enum-known-three
-    same-length-9
-    same-length-10
-    returns-5
-    enum-told-6
-    same-length-11
-    same-length-12
-    returns-6
-    multiply-one-requires
-    enum-told-7
-    enum-known-four
-    same-length-13
-    same-length-14
-    returns-7
-    enum-told-8
-    same-length-15
-    same-length-16
-    returns-8
-    combine-like-factors-requires
-    enum-told-9
-    enum-known-six
-    enum-told-10
-    same-length-17
-    same-length-18
-    returns-9
-    same-length-19
-    same-length-20
-    returns-10
-    same-length-21
-    same-length-22
-    returns-11)
+    returns-3)

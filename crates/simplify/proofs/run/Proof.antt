@@ -1,5 +1,6 @@
--- `simplify::run` meets its contract: each need is one law of Running, for the tree that the table holds. Assumes nothing.
-use Prim.Native.Nat.{_-_, _/_}
+-- `simplify::run` meets its contract: each need is one law of Running, for the tree that the table holds. That places fit where the run
+-- is done follows from `done-bounds`. Assumes nothing.
+use Prim.Native.Nat.{_-_, _*_, _/_, _≤_}
 use mathlib.Core.Path.{_≡_, _∙_, subst}
 use mathlib.Core.List.{[]}
 use native.Mathlib.Omega.{arith}
@@ -93,6 +94,17 @@ drove : (c : Finished)
     (n .0) (n .1 .0) (n .1 .1 .0) (n .1 .1 .1 .0)
 drove c = result (driven-of (cleared-of c)) _ (c .before .g2 .given .1)
 
+-- the result and its steps end within the areas
+done-bounds : (c : Finished)
+    → let r = called-of (driven-of (cleared-of c)) .drive in
+    let n = c .before .g2 .given .0 in
+    (n .0 * 16 ≤ length (r .last .0)) × (n .1 .1 .0 ≤ length (r .last .1 .1 .0))
+done-bounds c =
+    let called = called-of (driven-of (cleared-of c)) in
+    let moved = moved-of (copied-of called) in
+    let k = called .drive .kept in
+    done-fits (entry-of moved .pre .1) (drove c) (k .0) (k .1 .1 .0) (k .1 .0 ∙ moved .copy-bytes .kept .0)
+
 sub-p : tie.Need-sub-p
 sub-p c =
     let entry = c .before .before .before .before in
@@ -134,96 +146,27 @@ enum-known-g-2 : tie.Need-enum-known-g-2
 enum-known-g-2 c = search needs
 
 mul-clear : tie.Need-mul-clear
-mul-clear c =
-    let finished = c .before in
-    let called = called-of (driven-of (cleared-of finished)) in
-    let moved = moved-of (copied-of called) in
-    let entry = entry-of moved in
-    let r = called .drive in
-    let long = r .kept .1 .0 ∙ moved .copy-bytes .kept .0 in
-    let fits = done-fits (entry .pre .1) (drove finished) (r .kept .0) (r .kept .1 .1 .0) long in
-    let in-out = fits .0 in
-    let in-steps = fits .1 in
-    omega arith
+mul-clear c = omega (arith, done-bounds (c .before))
 
 mul-clear-2 : tie.Need-mul-clear-2
-mul-clear-2 c =
-    let finished = c .before in
-    let called = called-of (driven-of (cleared-of finished)) in
-    let moved = moved-of (copied-of called) in
-    let entry = entry-of moved in
-    let r = called .drive in
-    let long = r .kept .1 .0 ∙ moved .copy-bytes .kept .0 in
-    let fits = done-fits (entry .pre .1) (drove finished) (r .kept .0) (r .kept .1 .1 .0) long in
-    let in-out = fits .0 in
-    let in-steps = fits .1 in
-    omega arith
+mul-clear-2 c = omega (arith, done-bounds (c .before))
 
 sub-clear : tie.Need-sub-clear
-sub-clear c =
-    let finished = c .before in
-    let called = called-of (driven-of (cleared-of finished)) in
-    let moved = moved-of (copied-of called) in
-    let entry = entry-of moved in
-    let r = called .drive in
-    let long = r .kept .1 .0 ∙ moved .copy-bytes .kept .0 in
-    let fits = done-fits (entry .pre .1) (drove finished) (r .kept .0) (r .kept .1 .1 .0) long in
-    let in-out = fits .0 in
-    let in-steps = fits .1 in
-    omega arith
+sub-clear c = omega (arith, done-bounds (c .before))
 
 clear-requires-4 : tie.Need-clear-requires-4
-clear-requires-4 c κs =
-    let finished = c .before in
-    let called = called-of (driven-of (cleared-of finished)) in
-    let moved = moved-of (copied-of called) in
-    let entry = entry-of moved in
-    let r = called .drive in
-    let long = r .kept .1 .0 ∙ moved .copy-bytes .kept .0 in
-    let fits = done-fits (entry .pre .1) (drove finished) (r .kept .0) (r .kept .1 .1 .0) long in
-    let in-out = fits .0 in
-    let in-steps = fits .1 in
-    omega arith
+clear-requires-4 c κs = omega (arith, done-bounds (c .before))
 
 sub-clear-2 : tie.Need-sub-clear-2
-sub-clear-2 c =
-    let finished = c .before .before .before .before .before in
-    let called = called-of (driven-of (cleared-of finished)) in
-    let moved = moved-of (copied-of called) in
-    let entry = entry-of moved in
-    let r = called .drive in
-    let long = r .kept .1 .0 ∙ moved .copy-bytes .kept .0 in
-    let fits = done-fits (entry .pre .1) (drove finished) (r .kept .0) (r .kept .1 .1 .0) long in
-    let in-out = fits .0 in
-    let in-steps = fits .1 in
-    omega arith
+sub-clear-2 c = omega (arith, done-bounds (c .before .before .before .before .before))
 
 clear-requires-5 : tie.Need-clear-requires-5
-clear-requires-5 c κs =
-    let finished = c .before .before .before .before .before in
-    let called = called-of (driven-of (cleared-of finished)) in
-    let moved = moved-of (copied-of called) in
-    let entry = entry-of moved in
-    let r = called .drive in
-    let long = r .kept .1 .0 ∙ moved .copy-bytes .kept .0 in
-    let fits = done-fits (entry .pre .1) (drove finished) (r .kept .0) (r .kept .1 .1 .0) long in
-    let in-out = fits .0 in
-    let in-steps = fits .1 in
-    omega arith
+clear-requires-5 c κs = omega (arith, done-bounds (c .before .before .before .before .before))
 
 weight-of-requires : tie.Need-weight-of-requires
 weight-of-requires c κs =
-    let finished = c .before .before .before .before .before .before .before .before .before in
-    let called = called-of (driven-of (cleared-of finished)) in
-    let moved = moved-of (copied-of called) in
-    let entry = entry-of moved in
-    let r = called .drive in
-    let long = r .kept .1 .0 ∙ moved .copy-bytes .kept .0 in
-    let fits = done-fits (entry .pre .1) (drove finished) (r .kept .0) (r .kept .1 .1 .0) long in
-    let in-out = fits .0 in
-    let in-steps = fits .1 in
-    let same = c .before .before .before .before .before .before .before .clear4 .kept .0 in
-    omega arith
+    let cleared-out = c .before .before .before .before .before .before .before in
+    omega (arith, done-bounds (cleared-out .before .before), cleared-out .clear4 .kept .0)
 
 same-length : tie.Need-same-length
 same-length c = search needs

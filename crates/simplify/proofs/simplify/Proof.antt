@@ -1,13 +1,10 @@
 -- `simplify::simplify` meets its contract: each return is one law of Calling, on the checker's answer and the tests of the areas.
 -- Assumes nothing.
-use Prim.Native.Nat.{_-_, _*_}
 use native.Mathlib.Omega.{arith}
-use lib.ListN.{take, drop}
 use borrow.Author.Needs.{needs}
 use Rattle.paper.specs.Bytes.{Bytes}
-use Rattle.paper.specs.Tree.{Tree}
-use Rattle.simplify.specs.Answer.{Lending}
-use Rattle.simplify.proofs.Calling.{are-bytes, turned-down, light, cramped, tight-out, tight-steps, tight-work, tree, lending, ran}
+use Rattle.paper.proofs.BytesLaws.{are-bytes}
+use Rattle.simplify.proofs.Calling.{Accepted, turned-down, light, cramped, tight-out, tight-steps, tight-work, tree, lending, ran}
 use Rattle.simplify.proofs.simplify.Statement.{statement}
 use Rattle.simplify.proofs.simplify.Tie as tie
 
@@ -55,38 +52,24 @@ spacious-of c = c .before
 bytes : (c : Known) → let entry = entry-of c in Bytes (entry .args .table .now)
 bytes c = let entry = entry-of c in are-bytes (entry .args .table .now) (c .shared-slice-known .given)
 
--- where the call is accepted: the table's tree, and what is lent to the run on it
-abbrev tree-at : Able → Tree
-tree-at c =
-    let spacious = spacious-of c in
-    let roomy = roomy-of spacious in
-    let fine = fine-of roomy in
-    let weighed = weighed-of fine in
-    let known = known-of weighed in
-    let entry = entry-of known in
-    let g = entry .args in
-    let m = weighed .weight in
-    tree (g .table .now) (m .result) (m .ensures) (fine .if1 .left) (bytes known) (g .out .now) (g .steps .now) (g .work .now)
-    (roomy .if2 .left) (spacious .if3 .left) (c .if4 .left)
-
-lent-at : (c : Able)
+-- where the call is accepted: what was found so far
+accepted : (c : Able)
     → let weighed = weighed-of (fine-of (roomy-of (spacious-of c))) in
-    let entry = entry-of (known-of weighed) in
-    let g = entry .args in
-    let w = weighed .weight .result .result in
-    Lending (g .table .now) (take (16 * w - 0) (drop 0 (g .out .now))) (take (w - 0) (drop 0 (g .steps .now)))
-    (take (65536 - 0) (drop 0 (g .work .now))) w (tree-at c)
-lent-at c =
+    let g = entry-of (known-of weighed) .args in
+    Accepted (g .table .now) (weighed .weight .result) (g .out .now) (g .steps .now) (g .work .now)
+accepted c =
     let spacious = spacious-of c in
     let roomy = roomy-of spacious in
     let fine = fine-of roomy in
     let weighed = weighed-of fine in
-    let known = known-of weighed in
-    let entry = entry-of known in
-    let g = entry .args in
-    let m = weighed .weight in
-    lending (g .table .now) (m .result) (m .ensures) (fine .if1 .left) (bytes known) (g .out .now) (g .steps .now) (g .work .now)
-    (roomy .if2 .left) (spacious .if3 .left) (c .if4 .left)
+    record {
+      says-so = weighed .weight .ensures;
+      none-refused = fine .if1 .left;
+      bytes = bytes (known-of weighed);
+      out-room = roomy .if2 .left;
+      steps-room = spacious .if3 .left;
+      work-room = c .if4 .left;
+    }
 
 weight-requires : tie.Need-weight-requires
 weight-requires c κs = search needs
@@ -191,8 +174,8 @@ part-run-end-3 c = search needs
 
 run-requires : tie.Need-run-requires
 run-requires c κs =
-    let able = c .before .before .before in
-    (tree-at able, lent-at able)
+    let call = accepted (c .before .before .before) in
+    (tree call, lending call)
 
 same-length : tie.Need-same-length
 same-length c = search needs
@@ -205,20 +188,9 @@ same-length-3 c = search needs
 
 returns-5 : tie.Need-returns-5
 returns-5 c =
-    let able = c .before .before .before .before .before .before .before .before .before .before in
-    let spacious = spacious-of able in
-    let roomy = roomy-of spacious in
-    let fine = fine-of roomy in
-    let weighed = weighed-of fine in
-    let known = known-of weighed in
-    let entry = entry-of known in
-    let g = entry .args in
-    let m = weighed .weight in
+    let call = accepted (c .before .before .before .before .before .before .before .before .before .before) in
     let r = c .before .before .before .before .before .before .run in
-    ran (g .table .now) (m .result) (m .ensures) (fine .if1 .left) (bytes known) (g .out .now) (g .steps .now) (g .work .now)
-    (roomy .if2 .left) (spacious .if3 .left) (able .if4 .left)
-    (r .result) (r .last .1 .0) (r .last .1 .1 .0) (r .last .1 .1 .1 .0)
-    (r .ensures (tree-at able) (lent-at able))
+    ran call (r .result) (r .last .1 .0) (r .last .1 .1 .0) (r .last .1 .1 .1 .0) (r .ensures (tree call) (lending call))
 
 pub simplify-spec : {M : Type 1} → statement M
 simplify-spec =

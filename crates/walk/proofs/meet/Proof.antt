@@ -1,12 +1,27 @@
--- `walk::meet` meets its contract: the entry tells where the member stands. Assumes nothing.
-use Prim.Native.Nat.{_+_, _-_}
-use mathlib.Core.Path.{sym, subst}
+-- `walk::meet` meets its contract: the member stands where its entry's start says (`entry-there`), and merging with it there is what was
+-- asked for. Assumes nothing.
 use native.Mathlib.Omega.{arith}
-use Rattle.split.proofs.StandingLaws.{record-within}
-use Rattle.split.specs.Standing.{TreeIn}
 use borrow.Author.Needs.{needs}
+use Rattle.split.proofs.StandingLaws.{record-within}
+use Rattle.walk.proofs.EntryLaws.{entry-there}
 use Rattle.walk.proofs.meet.Statement.{statement}
 use Rattle.walk.proofs.meet.Tie as tie
+
+-- places on the way through the code, and from each the one before it: the entry, after the start was read, and after the merge
+abbrev Entry : Type 0
+Entry = tie.Start
+
+abbrev Read : Type 0
+Read = tie.After-read2
+
+abbrev Merged : Type 0
+Merged = tie.After-merge
+
+abbrev entry-of : Read → Entry
+entry-of c = c .before .before .before
+
+abbrev read-of : Merged → Read
+read-of c = c .before .before
 
 mul-read2 : tie.Need-mul-read2
 mul-read2 c = search needs
@@ -15,20 +30,18 @@ read2-requires : tie.Need-read2-requires
 read2-requires c κs = search needs
 
 add-start : tie.Need-add-start
-add-start c =
-    let q = c .before .before .before .pre in
-    record { fits = omega (arith, record-within (q .entry .there), c .read2 .ensures .0) }
+add-start c = record { fits = omega (arith, record-within (entry-of c .pre .entry .there), c .read2 .ensures .0) }
 
 merge-requires : tie.Need-merge-requires
 merge-requires c κs =
-    let g = c .before .before .before .before .args in
-    let q = c .before .before .before .before .pre in
+    let read = c .before in
+    let q = entry-of read .pre in
     record {
       flag = q .flag;
       current = q .current;
       later = q .later;
       shown = q .shown;
-      there = subst (λ n. TreeIn (g .s .now) (g .p + n) (q .later)) (sym (c .before .read2 .ensures .0)) (q .entry .there);
+      there = entry-there (q .entry) _ (read .read2 .ensures .0);
       enough = q .enough;
     }
 
@@ -37,13 +50,10 @@ same-length c = search needs
 
 returns : tie.Need-returns
 returns c =
-    let the-merge = c .before .before .merge in
-    let the-read2 = c .before .before .before .before .read2 in
-    let g = c .before .before .before .before .before .before .before .args in (
-      λ b x t h w.
-          the-merge .ensures .0 b x t h (subst (λ n. TreeIn (g .s .now) (g .p + n) t) (sym (the-read2 .ensures .0)) (w .there)),
-      the-merge .ensures .1 (g .p),
-    )
+    let merged = c .before .before in
+    let start = read-of merged .read2 in
+    let says = merged .merge .ensures in
+    (λ b x t h entry. says .0 b x t h (entry-there entry _ (start .ensures .0)), says .1 _)
 
 pub meet-spec : {M : Type 1} → statement M
 meet-spec =

@@ -1,5 +1,5 @@
--- `walk::write_entry` meets its contract: the array is the entry's four bytes. Assumes nothing.
-use Prim.Native.Nat.{_-_}
+-- `walk::write_entry` meets its contract: the array holds the entry's four bytes, the two of its start and the two of its size, and is
+-- copied to the entry's place. Assumes nothing.
 use Rattle.paper.specs.Bytes.{bytes}
 use Rattle.stretch.specs.Put.{part}
 use Rattle.walk.specs.Listed.{entryOf}
@@ -33,9 +33,7 @@ same-length c = search needs
 
 returns : tie.Need-returns
 unfolding entryOf bytes part
-returns c =
-    let the-copy-bytes = c .before .before .copy-bytes in
-    the-copy-bytes .ensures
+returns c = c .before .before .copy-bytes .ensures
 
 pub write-entry-spec : {M : Type 1} → statement M
 write-entry-spec =

@@ -9,7 +9,7 @@ use mathlib.Core.List.{List}
 use native.Mathlib.Omega.{arith}
 use borrow.Author.Needs.{needs}
 use borrow.Rule.Slice.PartMut.{putMid, same-len-mid}
-use lib.ListN.{length, set, length-set, length-take, length-drop}
+use lib.ListN.{length, getD, set, length-set, length-take, length-drop}
 use Rattle.paper.specs.Tree.{Tree, Forest, records}
 use Rattle.paper.specs.Equal.{equal}
 use Rattle.paper.proofs.EncodeLaws.{count-records}
@@ -18,16 +18,18 @@ use Rattle.equal.specs.Matching.{matchOf}
 use Rattle.equal.specs.declared.Match.{Match}
 use Rattle.equal.specs.declared.Match.the-variants.{Different, Ends}
 use Rattle.equal.proofs.SameLaws.{match-ends, match-differs}
+use Rattle.equal.proofs.HeadLaws.{candidate-free, passed-by}
 use Rattle.equal.proofs.MarkLaws.{MarkedAt, lent-marked, marked-back}
 use Rattle.equal.proofs.MarkLaws.{Looked, looked-start, looked-none, looked-tree, looked-pair, looked-next, looked-found}
 use Rattle.equal.proofs.take_equal.Reads as reads
 use Rattle.equal.proofs.same_tree.Reads as tree
+use Rattle.equal.proofs.is_candidate.Reads as candidate-reads
 use Rattle.split.proofs.skip_tree.Reads as skip-tree-reads
 use Rattle.equal.proofs.+same_members+same_tree+take_equal.Lts-take_equal as lts
 use Rattle.equal.proofs.+same_members+same_tree+take_equal.Proof.Cycle.{take-at, tree-below}
 
 abbrev pub claims : ℕ → lts.Claims
-claims t = (tree-below t, tree.Post, skip-tree-reads.Asked, skip-tree-reads.Learnt)
+claims t = (candidate-reads.Asked, candidate-reads.Learnt, tree-below t, tree.Post, skip-tree-reads.Asked, skip-tree-reads.Learnt)
 
 abbrev pub Inv : lts.InvT-loop
 Inv a i b j m marks₀ at₀ k₀ marks at k =
@@ -62,7 +64,7 @@ module _ (t : ℕ) where
   head-of c = c .before
 
   abbrev turn-of : Free → Turn
-  turn-of c = c .before .before
+  turn-of c = c .before .before .before
 
   abbrev free-of : Compared → Free
   free-of c = c .before .before
@@ -81,6 +83,13 @@ module _ (t : ℕ) where
   look c =
       let some = entry-of c .pre .1 in
       c .loop .inv .2 (some .one) (some .others) (some .one-there) (some .others-there)
+
+  -- a candidate has no mark
+  no-mark : (c : Free) → let l = head-of (turn-of c) .loop in getD (l .marks) (l .k) 0 ≡ 0
+  no-mark c =
+      let l = head-of (turn-of c) .loop in
+      let a = entry-of (head-of (turn-of c)) .args in
+      candidate-free (a .a .now) (a .i) (a .b .now) (l .at) (l .marks) (l .k) (sym (c .before .is-candidate .ensures) ∙ c .if1 .taken)
 
   -- ---- the next tree, compared: its mark is set before that, and the marks past those of the m trees are lent
   abbrev head-at : Compared → Head
@@ -126,8 +135,12 @@ module _ (t : ℕ) where
   pub loop-holds : lts.Need-loop-holds (claims t) (take-at t) reads.Post Inv μ
   loop-holds c = (omega arith, refl, λ x g h q. looked-start _ _ q)
 
-  pub slice-read-if1 : lts.Need-slice-read-if1 (claims t) (take-at t) reads.Post Inv μ
-  slice-read-if1 c = omega (arith, room (head-of (c .before)))
+  pub is-candidate-requires : lts.Need-is-candidate-requires (claims t) (take-at t) reads.Post Inv μ
+  is-candidate-requires c κs =
+      let turn = c .before in
+      let some = entry-of (head-of turn) .pre .1 in
+      let more = turn .loop-test .taken in
+      (record { tree = some .one; there = some .one-there }, looked-tree (look (head-of turn)) more, omega (arith, room (head-of turn)))
 
   pub slice-write-marks : lts.Need-slice-write-marks (claims t) (take-at t) reads.Post Inv μ
   slice-write-marks c = omega (arith, room (head-of (turn-of c)))
@@ -169,7 +182,7 @@ module _ (t : ℕ) where
       let look = head-of turn .loop .inv .2 x g h q in
       let o = looked-tree look more in (
         match-ends (equal x (o .tree)) _ e (says x (o .tree) h (o .there)) .1,
-        looked-found look more (after-it compared) (marked compared) (omega (arith, free .if1 .taken))
+        looked-found look more (after-it compared) (marked compared) (no-mark free)
             (λ u v. match-ends (equal x u) _ e (says x u h v) .0),
       )
 
@@ -181,7 +194,7 @@ module _ (t : ℕ) where
 
   pub skip-tree-requires : lts.Need-skip-tree-requires (claims t) (take-at t) reads.Post Inv μ
   skip-tree-requires c κs =
-      let turn = c .before .before in
+      let turn = c .before .before .before in
       looked-tree (look (head-of turn)) (turn .loop-test .taken)
 
   pub add-k : lts.Need-add-k (claims t) (take-at t) reads.Post Inv μ
@@ -195,20 +208,21 @@ module _ (t : ℕ) where
   pub loop-again : lts.Need-loop-again (claims t) (take-at t) reads.Post Inv μ
   loop-again c =
       let joined = c .before in
-      let turn = joined .before .before in
+      let tested = joined .before in
+      let turn = tested .before .before in
       let l = head-of turn .loop in
       let more = turn .loop-test .taken in
       let past = c .skip-tree in
       ⊎-elim
       (λ w.
-      let free : Free = record { before = joined .before; if1 = w .0 } in
+      let free : Free = record { before = tested; if1 = w .0 } in
       let compared : Compared = record { before = record { before = free; same-tree-arg = w .1 }; same-tree = w .2 } in
       let says = told compared Different (w .6 .given .1) in
       let back = marked-back (marked compared) in (
         omega arith,
         ap length (w .7) ∙ length-set (after-it compared) (l .k) _ ∙ length-kept compared,
         λ x g h q. rw (w .7)
-            (looked-next (l .inv .2 x g h q) more _ (past .result) (back _ (omega (arith, w .0 .taken))) (past .ensures)
+            (looked-next (l .inv .2 x g h q) more _ (past .result) (back _ (sym (no-mark free))) (past .ensures)
             (λ z u v. match-differs (equal x u) _ (says x u h v))),
       ))
       (λ w. (
@@ -216,7 +230,7 @@ module _ (t : ℕ) where
         ap length (w .1) ∙ l .inv .1,
         λ x g h q. rw (w .1)
             (looked-next (l .inv .2 x g h q) more (l .marks) (past .result) (λ n v. refl) (past .ensures)
-            (λ z. absurd (omega (arith, w .0 .left)))),
+            (λ z u v. passed-by h v (l .marks) (l .k) (sym (tested .is-candidate .ensures) ∙ w .0 .left) z)),
       ))
       (joined .if1 .came)
 

@@ -1,5 +1,6 @@
 -- `rules::members::any_member` meets its contract. The loop's invariant: some members are left, they stand where the loop is, and one of
--- all is the integer exactly when one of those left is. The measure is how many are left. Assumes nothing.
+-- all is the integer exactly when one of those left is. A turn asks the first of those left: where it is the integer one of all is, and
+-- else the others are left. The measure is how many are left. Assumes nothing.
 use Prim.Native.Nat.{ℕ, _+_, _-_, _<_, _≤_}
 use mathlib.Core.Path.{_≡_, refl, sym, ap, _∙_}
 use mathlib.Core.Bool.{true, false, _||_}
@@ -11,7 +12,7 @@ use Rattle.paper.specs.Tree.{Forest, toList, records}
 use Rattle.paper.specs.Rules.{isThe, anyOf}
 use Rattle.split.specs.Standing.{TreesIn, SomeTree}
 use Rattle.rules.specs.Tried.{MembersIn}
-use Rattle.split.proofs.StandingLaws.{first-of, none-of}
+use Rattle.split.proofs.StandingLaws.{FirstOf, first-of, none-of}
 use Rattle.rules.proofs.Nodes.{after-first, members-in, node-within}
 use Rattle.rules.proofs.members.any_member.Statement.{statement}
 use Rattle.rules.proofs.members.any_member.Tie as tie
@@ -21,37 +22,69 @@ record Left (s : List ℕ) (z : ℕ) (f : Forest) (at left : ℕ) : Type 0 where
   stand : TreesIn s at left others
   same : anyOf (isThe (pos z)) (toList f) ≡ anyOf (isThe (pos z)) (toList others)
 
-some-left : (s : List ℕ) (z : ℕ) (f : Forest) (at left : ℕ) → Left s z f at left → 0 < left → SomeTree s at
-some-left s z f at left h l = let q = first-of (h .others) (h .stand) l in record { tree = q .tree; there = q .there }
+module _ {s : List ℕ} {z : ℕ} {f : Forest} {at left : ℕ} (h : Left s z f at left) where
+  none-left : left ≤ 0 → anyOf (isThe (pos z)) (toList f) ≡ false
+  unfolding anyOf toList
+  none-left l = h .same ∙ ap (λ g. anyOf (isThe (pos z)) (toList g)) (none-of (h .others) (h .stand) (omega arith))
 
-found : (s : List ℕ) (z : ℕ) (f : Forest) (at left : ℕ) (h : Left s z f at left) (l : 0 < left)
-    → isThe (pos z) (first-of (h .others) (h .stand) l .tree) ≡ true → anyOf (isThe (pos z)) (toList f) ≡ true
-unfolding anyOf toList
-found s z f at left h l e =
-    let q = first-of (h .others) (h .stand) l in
-    h .same ∙ ap (λ g. anyOf (isThe (pos z)) (toList g)) (q .whole) ∙ ap (λ b. b || anyOf (isThe (pos z)) (toList (q .others))) e
+  module _ (l : 0 < left) where
+    -- the first of those that are left
+    abbrev head : FirstOf s at left (h .others)
+    head = first-of (h .others) (h .stand) l
 
-passed : (s : List ℕ) (z : ℕ) (f : Forest) (at left next : ℕ) (h : Left s z f at left) (l : 0 < left)
-    → isThe (pos z) (first-of (h .others) (h .stand) l .tree) ≡ false
-    → next ≡ at + records (first-of (h .others) (h .stand) l .tree) → Left s z f next (left - 1)
-unfolding anyOf toList
-passed s z f at left next h l e n =
-    let q = first-of (h .others) (h .stand) l in
-    record {
-      others = q .others;
-      stand = after-first q next n;
-      same = h .same ∙ ap (λ g. anyOf (isThe (pos z)) (toList g)) (q .whole) ∙ ap (λ b. b || anyOf (isThe (pos z)) (toList (q .others))) e;
-    }
+    some-left : SomeTree s at
+    some-left = record { tree = head .tree; there = head .there }
 
-none-left : (s : List ℕ) (z : ℕ) (f : Forest) (at left : ℕ) → Left s z f at left → left ≤ 0 → anyOf (isThe (pos z)) (toList f) ≡ false
-unfolding anyOf toList
-none-left s z f at left h l = h .same ∙ ap (λ g. anyOf (isThe (pos z)) (toList g)) (none-of (h .others) (h .stand) (omega arith))
+    it-or-others : anyOf (isThe (pos z)) (toList f) ≡ (isThe (pos z) (head .tree) || anyOf (isThe (pos z)) (toList (head .others)))
+    unfolding anyOf toList
+    it-or-others = h .same ∙ ap (λ g. anyOf (isThe (pos z)) (toList g)) (head .whole)
+
+    found : isThe (pos z) (head .tree) ≡ true → anyOf (isThe (pos z)) (toList f) ≡ true
+    found e = it-or-others ∙ ap (λ b. b || anyOf (isThe (pos z)) (toList (head .others))) e
+
+    passed : (next : ℕ) → isThe (pos z) (head .tree) ≡ false → next ≡ at + records (head .tree) → Left s z f next (left - 1)
+    passed next e n =
+        record {
+          others = head .others;
+          stand = after-first head next n;
+          same = it-or-others ∙ ap (λ b. b || anyOf (isThe (pos z)) (toList (head .others))) e;
+        }
 
 abbrev Inv-loop : tie.InvT-loop
 Inv-loop s p z at₀ left₀ at left = (f : Forest) → MembersIn s p f → Left s z f at left
 
 abbrev μ-loop : tie.MeasureT-loop
 μ-loop s p z at₀ left₀ at left = left
+
+-- places on the way through the code, and from each the one before it: the entry, the loop's head, where a member is left, and where it is
+-- known whether it is the integer
+abbrev Entry : Type 0
+Entry = tie.Start Inv-loop μ-loop
+
+abbrev Head : Type 0
+Head = tie.At-loop Inv-loop μ-loop
+
+abbrev Some : Type 0
+Some = tie.In-loop Inv-loop μ-loop
+
+abbrev Tested : Type 0
+Tested = tie.After-is-the Inv-loop μ-loop
+
+abbrev entry-of : Head → Entry
+entry-of c = c .before .before .before
+
+abbrev some-of : Tested → Some
+some-of c = c .before
+
+-- a member is left, so one stands there
+stands : (c : Some) → SomeTree (entry-of (c .before) .args .s .now) (c .before .loop .at)
+stands c = let q = entry-of (c .before) .pre .0 in some-left (c .before .loop .inv (q .0) (q .1)) (c .loop-test .taken)
+
+-- whether it is the integer
+tested : (c : Tested) {f : Forest} (h : MembersIn (entry-of (some-of c .before) .args .s .now) (entry-of (some-of c .before) .args .p) f)
+    → c .is-the .result
+    ≡ isThe (pos (entry-of (some-of c .before) .args .z)) (head (some-of c .before .loop .inv f h) (some-of c .loop-test .taken) .tree)
+tested c {f} h = let t = head (some-of c .before .loop .inv f h) (some-of c .loop-test .taken) in c .is-the .ensures (t .tree) (t .there)
 
 add-at : tie.Need-add-at Inv-loop μ-loop
 add-at c = let f = c .before .pre .0 in omega (arith, node-within _ _ (f .0) (f .1))
@@ -65,27 +98,15 @@ loop-holds c =
     record { others = f; stand = rw (sym (c .count .ensures .0)) at (members-in _ _ f h); same = refl }
 
 is-the-requires : tie.Need-is-the-requires Inv-loop μ-loop
-is-the-requires c κs =
-    let q = c .before .before .before .before .pre in
-    let f = q .0 in
-    (some-left _ _ _ _ _ (c .before .loop .inv (f .0) (f .1)) (c .loop-test .taken), q .1)
+is-the-requires c κs = (stands c, entry-of (c .before) .pre .1)
 
 returns : tie.Need-returns Inv-loop μ-loop
 returns c =
-    let the-loop-test = c .before .before .loop-test in
-    let u = c .before .before .before .loop in
-    λ f h.
-    let l = u .inv f h in
-    let t = first-of (l .others) (l .stand) (the-loop-test .taken) in
-    sym (found _ _ _ _ _ l (the-loop-test .taken) (sym (c .before .is-the .ensures (t .tree) (t .there)) ∙ c .if1 .taken))
+    let some = some-of (c .before) in
+    λ f h. sym (found (some .before .loop .inv f h) (some .loop-test .taken) (sym (tested (c .before) h) ∙ c .if1 .taken))
 
 skip-tree-requires : tie.Need-skip-tree-requires Inv-loop μ-loop
-skip-tree-requires c κs =
-    let the-loop-test = c .before .before .loop-test in
-    let u = c .before .before .before .loop in
-    let q = c .before .before .before .before .before .before .pre in
-    let f = q .0 in
-    some-left _ _ _ _ _ (u .inv (f .0) (f .1)) (the-loop-test .taken)
+skip-tree-requires c κs = stands (some-of (c .before))
 
 sub-left : tie.Need-sub-left Inv-loop μ-loop
 sub-left c = search needs
@@ -95,18 +116,15 @@ loop-less c = search needs
 
 loop-again : tie.Need-loop-again Inv-loop μ-loop
 loop-again c =
-    let the-is-the = c .before .before .is-the in
-    let the-loop-test = c .before .before .before .loop-test in
-    let u = c .before .before .before .before .loop in
+    let at = c .before .before in
+    let l = some-of at .loop-test .taken in
     λ f h.
-    let l = u .inv f h in
-    let t = first-of (l .others) (l .stand) (the-loop-test .taken) in
-    passed _ _ _ _ _ _ l (the-loop-test .taken)
-    (sym (the-is-the .ensures (t .tree) (t .there)) ∙ c .before .if1 .left)
-    (c .skip-tree .ensures (t .tree) (t .there))
+    let v = some-of at .before .loop .inv f h in
+    let t = head v l in
+    passed v l _ (sym (tested at h) ∙ c .before .if1 .left) (c .skip-tree .ensures (t .tree) (t .there))
 
 returns-2 : tie.Need-returns-2 Inv-loop μ-loop
-returns-2 c = λ f h. sym (none-left _ _ _ _ _ (c .before .loop .inv f h) (c .loop-test .left))
+returns-2 c = λ f h. sym (none-left (c .before .loop .inv f h) (c .loop-test .left))
 
 pub any-member-spec : {M : Type 1} → statement M
 any-member-spec =

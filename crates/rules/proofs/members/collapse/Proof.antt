@@ -18,20 +18,18 @@ same-length c = search needs
 
 returns : tie.Need-returns
 returns c =
-    let the-write-record = c .before .before .write-record in
-    let the-neutral = c .before .before .before .neutral in
-    λ e l b n.
-    let g = c .before .before .before .before .before .before .before .args in
-    collapse-none (g .sum) l (g .out .now) (g .d) e b _ _ (omega arith) (the-neutral .ensures .0) (the-write-record .ensures)
+    let wrote = c .before .before in
+    let empty = wrote .before .before .before in
+    let g = empty .before .before .args in
+    λ e l b n. collapse-none (g .sum) l (g .out .now) (g .d) e b _ _ (omega arith) (wrote .before .neutral .ensures .0) (wrote .write-record .ensures)
 
 add-result : tie.Need-add-result
 add-result c = search needs
 
 returns-2 : tie.Need-returns-2
 returns-2 c =
-    λ e l b n.
     let g = c .before .before .before .args in
-    collapse-one (g .sum) l (g .out .now) (g .d) e b (omega arith) (omega arith)
+    λ e l b n. collapse-one (g .sum) l (g .out .now) (g .d) e b (omega arith) (omega arith)
 
 node-kind-requires : tie.Need-node-kind-requires
 node-kind-requires c κs = search needs
@@ -44,11 +42,11 @@ same-length-2 c = search needs
 
 returns-3 : tie.Need-returns-3
 returns-3 c =
-    let the-write-record2 = c .before .before .write-record2 in
-    let the-node-kind = c .before .before .before .node-kind in
+    let wrote = c .before .before in
+    let many = wrote .before .before .before in
+    let g = many .before .before .before .args in
     λ e l b n.
-    let g = c .before .before .before .before .before .before .before .before .args in
-    collapse-more (g .sum) l (g .out .now) (g .d) e b _ _ (omega arith) (the-node-kind .ensures) (rw (sym n) at (the-write-record2 .ensures))
+    collapse-more (g .sum) l (g .out .now) (g .d) e b _ _ (omega arith) (wrote .before .node-kind .ensures) (rw (sym n) at (wrote .write-record2 .ensures))
 
 pub collapse-spec : {M : Type 1} → statement M
 collapse-spec =

@@ -1,22 +1,20 @@
 -- `rules::members::drop_members` meets its contract. The loop's invariant: what is kept of the members passed, and what is kept of those
--- left, is what is kept of all; the first stands in `out`. The measure is how many are left. Assumes nothing.
-use Prim.Native.Nat.{ℕ, _+_, _-_}
+-- left, is what is kept of all; the first stands in `out` (`Dropping`). A turn takes the first of those left, copies it where it is to be
+-- kept, and passes on (`keeps`, `passes`); when none is left all that is kept stands in `out` (`ends`), and is put back. The measure is how
+-- many are left. Assumes nothing.
+use Prim.Native.Nat.{ℕ}
 use mathlib.Core.Path.{_≡_, refl, sym, ap, _∙_}
 use mathlib.Core.Bool.{Bool, true, false, not}
 use mathlib.Core.Logic.{⊎-elim}
-use mathlib.Core.List.{List, _++_}
+use mathlib.Core.List.{List}
 use native.Mathlib.Omega.{arith}
 use borrow.Author.Needs.{needs}
 use lib.ListN.{length}
-use lib.IntN.{pos}
 use Rattle.paper.specs.Tree.{Forest, toList}
-use Rattle.paper.specs.Table.{encode}
-use Rattle.paper.specs.Rules.{isThe, dropAll}
-use Rattle.part.specs.Like.{nodeOf}
-use Rattle.paper.proofs.EncodeLaws.{recordses-weights}
+use Rattle.split.specs.Standing.{SomeTree}
 use Rattle.rules.specs.Tried.{Held}
-use Rattle.rules.proofs.Dropping.{held-length, Dropping, begins, some-member, sized, fits-in, few-kept, passes, keeps, ends, done-stays}
-use Rattle.split.proofs.StandingLaws.{first-of}
+use Rattle.rules.proofs.Dropping.{held-length, kept, Dropping, Ended, Room, begins, head, some-member, room, passes, keeps, ends}
+use Rattle.rules.proofs.Puts.{put-follows}
 use Rattle.rules.proofs.members.drop_members.Statement.{statement}
 use Rattle.rules.proofs.members.drop_members.Tie as tie
 
@@ -36,221 +34,107 @@ Inv-loop out₀ work d p sum z at₀ left₀ e₀ kept₀ out at left e kept =
 abbrev μ-loop : tie.MeasureT-loop
 μ-loop out₀ work d p sum z at₀ left₀ e₀ kept₀ out at left e kept = left
 
-neutral-requires : tie.Need-neutral-requires Inv-loop μ-loop
-neutral-requires c κs = search needs
+-- places on the way through the code, and from each the one before it: the entry, the loop's head, where a member is left, where
+-- `skip_tree` has told its end, where it is to be copied, and where none is left
+abbrev Entry : Type 0
+Entry = tie.Start Inv-loop μ-loop
+
+abbrev Head : Type 0
+Head = tie.At-loop Inv-loop μ-loop
+
+abbrev Left : Type 0
+Left = tie.In-loop Inv-loop μ-loop
+
+abbrev Skipped : Type 0
+Skipped = tie.After-skip-tree Inv-loop μ-loop
+
+abbrev Copying : Type 0
+Copying = tie.After-copy-bytes-arg2 Inv-loop μ-loop
+
+abbrev Done : Type 0
+Done = tie.After-loop Inv-loop μ-loop
+
+abbrev entry-of : Head → Entry
+entry-of c = c .before .before .before .before .before
+
+abbrev left-of : Skipped → Left
+left-of c = c .before .before
+
+abbrev skipped-of : Copying → Skipped
+skipped-of c = c .before .before .before .before .before
+
+-- a member is left, so one stands there
+stands : (c : Left) → SomeTree (entry-of (c .before) .args .work .now) (c .before .loop .at)
+stands c =
+    let h = entry-of (c .before) .pre .0 .2 in
+    some-member h (c .before .loop .inv .1 _ _ h) (c .loop-test .taken)
+
+-- and there is room for it
+fits : (c : Skipped)
+    → let u = left-of c .before .loop in
+    let g = entry-of (left-of c .before) .args in
+    Room (g .out .now) (g .work .now) (u .out) (u .at) (c .skip-tree .result) (u .e) (u .kept)
+fits c =
+    let left = left-of c in
+    let u = left .before .loop in
+    let h = entry-of (left .before) .pre .0 .2 in
+    let v = u .inv .1 _ _ h in
+    let t = head h v (left .loop-test .taken) in
+    room h v (left .loop-test .taken) _ (c .skip-tree .ensures (t .tree) (t .there)) (u .inv .0)
+
+-- none is left: all that is kept stands in `out`
+ended : (c : Done) {f : Forest} {rest : List ℕ}
+    → let u = c .before .loop in
+    let g = entry-of (c .before) .args in
+    Held (g .out .now) (g .work .now) (g .d) (g .p) f rest
+    → Ended (g .z) (g .out .now) (g .work .now) (g .d) (g .p) f rest (u .out) (u .at) (u .e) (u .kept)
+ended c h =
+    let u = c .before .loop in
+    ends h (u .inv .0) (u .inv .1 _ _ h) (c .loop-test .left)
 
 add-at : tie.Need-add-at Inv-loop μ-loop
-add-at c =
-    let g = c .before .before .before .args in
-    let q = c .before .before .before .pre in
-    let far = held-length (g .out .now) (g .work .now) (g .d) (g .p) (q .0) (q .1) (q .2) in
-    let light = q .2 .light in
-    let room = q .2 .out-room in
-    record { fits = omega arith }
+add-at c = let h = c .before .before .pre .0 .2 in record { fits = omega (arith, held-length h) }
 
 count-requires : tie.Need-count-requires Inv-loop μ-loop
-count-requires c κs =
-    let g = c .before .before .before .before .args in
-    let q = c .before .before .before .before .pre in
-    let far = held-length (g .out .now) (g .work .now) (g .d) (g .p) (q .0) (q .1) (q .2) in
-    let light = q .2 .light in
-    let room = q .2 .out-room in
-    omega arith
+count-requires c κs = let h = c .before .before .before .pre .0 .2 in omega (arith, held-length h)
 
 add-e : tie.Need-add-e Inv-loop μ-loop
-add-e c =
-    let g = c .before .before .before .before .before .args in
-    let q = c .before .before .before .before .before .pre in
-    let far = held-length (g .out .now) (g .work .now) (g .d) (g .p) (q .0) (q .1) (q .2) in
-    let light = q .2 .light in
-    let room = q .2 .out-room in
-    record { fits = omega arith }
+add-e c = let h = c .before .before .before .before .pre .0 .2 in record { fits = omega (arith, h .out-room) }
 
 loop-holds : tie.Need-loop-holds Inv-loop μ-loop
-loop-holds c =
-    let the-neutral = c .before .before .neutral in
-    let g = c .before .before .before .before .before .args in
-    (refl, λ f rest h. begins (the-neutral .result) (g .out .now) (g .work .now) (g .d) (g .p) f rest h _ (c .count .ensures .0))
+loop-holds c = (refl, λ f rest h. begins h (c .count .ensures .0))
 
 skip-tree-requires : tie.Need-skip-tree-requires Inv-loop μ-loop
-skip-tree-requires c κs =
-    let the-neutral = c .before .before .before .before .before .neutral in
-    let g = c .before .before .before .before .before .before .before .before .args in
-    let q = c .before .before .before .before .before .before .before .before .pre in
-    let u = c .before .before .loop in
-    let z = the-neutral .result in
-    let v = u .inv .1 (q .0) (q .1) (q .2) in
-    let l = c .before .loop-test .taken in
-    some-member z (g .out .now) (g .work .now) (g .d) (g .p) (q .0) (q .1) (q .2) (u .out) (u .at) (u .left) (u .e) (u .kept) v l
+skip-tree-requires c κs = stands (c .before)
 
 is-the-requires : tie.Need-is-the-requires Inv-loop μ-loop
-is-the-requires c κs =
-    let the-loop-test = c .before .before .before .loop-test in
-    let the-neutral = c .before .before .before .before .before .before .before .neutral in
-    let g = c .before .before .before .before .before .before .before .before .before .before .args in
-    let q = c .before .before .before .before .before .before .before .before .before .before .pre in
-    let u = c .before .before .before .before .loop in
-    let z = the-neutral .result in
-    let v = u .inv .1 (q .0) (q .1) (q .2) in
-    let l = the-loop-test .taken in (
-      some-member z (g .out .now) (g .work .now) (g .d) (g .p) (q .0) (q .1) (q .2) (u .out) (u .at) (u .left) (u .e) (u .kept) v l,
-      the-neutral .ensures .1,
-    )
+is-the-requires c κs = let left = left-of (c .before) in (stands left, entry-of (left .before) .pre .1)
 
 mul-copy-bytes : tie.Need-mul-copy-bytes Inv-loop μ-loop
-mul-copy-bytes c =
-    let the-skip-tree = c .before .before .before .before .skip-tree in
-    let the-loop-test = c .before .before .before .before .before .before .loop-test in
-    let the-neutral = c .before .before .before .before .before .before .before .before .before .before .neutral in
-    let g = c .before .before .before .before .before .before .before .before .before .before .before .before .before .args in
-    let q = c .before .before .before .before .before .before .before .before .before .before .before .before .before .pre in
-    let u = c .before .before .before .before .before .before .before .loop in
-    let z = the-neutral .result in
-    let v = u .inv .1 (q .0) (q .1) (q .2) in
-    let l = the-loop-test .taken in
-    let t = first-of (v .others) (v .stand) l in
-    let n = the-skip-tree .ensures (t .tree) (t .there) in
-    let r = fits-in z (g .out .now) (g .work .now) (g .d) (g .p) (q .0) (q .1) (q .2) (u .out) (u .at) (u .left) (u .e) (u .kept) v l in
-    let long = u .inv .0 in
-    let far = held-length (g .out .now) (g .work .now) (g .d) (g .p) (q .0) (q .1) (q .2) in
-    let place = sized z (g .out .now) (g .work .now) (g .d) (g .p) (q .0) (q .1) (q .2) (u .out) (u .at) (u .left) (u .e) (u .kept) v l in
-    record { fits = omega arith }
+mul-copy-bytes c = let r = fits (c .before .before .before .before) in record { fits = omega (arith, r .written) }
 
 mul-copy-bytes-2 : tie.Need-mul-copy-bytes-2 Inv-loop μ-loop
-mul-copy-bytes-2 c =
-    let the-skip-tree = c .before .before .before .before .before .skip-tree in
-    let the-loop-test = c .before .before .before .before .before .before .before .loop-test in
-    let the-neutral = c .before .before .before .before .before .before .before .before .before .before .before .neutral in
-    let g = c .before .before .before .before .before .before .before .before .before .before .before .before .before .before .args in
-    let q = c .before .before .before .before .before .before .before .before .before .before .before .before .before .before .pre in
-    let u = c .before .before .before .before .before .before .before .before .loop in
-    let z = the-neutral .result in
-    let v = u .inv .1 (q .0) (q .1) (q .2) in
-    let l = the-loop-test .taken in
-    let t = first-of (v .others) (v .stand) l in
-    let n = the-skip-tree .ensures (t .tree) (t .there) in
-    let r = fits-in z (g .out .now) (g .work .now) (g .d) (g .p) (q .0) (q .1) (q .2) (u .out) (u .at) (u .left) (u .e) (u .kept) v l in
-    let long = u .inv .0 in
-    let far = held-length (g .out .now) (g .work .now) (g .d) (g .p) (q .0) (q .1) (q .2) in
-    let place = sized z (g .out .now) (g .work .now) (g .d) (g .p) (q .0) (q .1) (q .2) (u .out) (u .at) (u .left) (u .e) (u .kept) v l in
-    record { fits = omega arith }
+mul-copy-bytes-2 c = let r = fits (skipped-of c) in record { fits = omega (arith, r .forward, r .read) }
 
 sub-copy-bytes : tie.Need-sub-copy-bytes Inv-loop μ-loop
-sub-copy-bytes c =
-    let the-skip-tree = c .before .before .before .before .before .skip-tree in
-    let the-loop-test = c .before .before .before .before .before .before .before .loop-test in
-    let the-neutral = c .before .before .before .before .before .before .before .before .before .before .before .neutral in
-    let g = c .before .before .before .before .before .before .before .before .before .before .before .before .before .before .args in
-    let q = c .before .before .before .before .before .before .before .before .before .before .before .before .before .before .pre in
-    let u = c .before .before .before .before .before .before .before .before .loop in
-    let z = the-neutral .result in
-    let v = u .inv .1 (q .0) (q .1) (q .2) in
-    let l = the-loop-test .taken in
-    let t = first-of (v .others) (v .stand) l in
-    let n = the-skip-tree .ensures (t .tree) (t .there) in
-    let r = fits-in z (g .out .now) (g .work .now) (g .d) (g .p) (q .0) (q .1) (q .2) (u .out) (u .at) (u .left) (u .e) (u .kept) v l in
-    let long = u .inv .0 in
-    let far = held-length (g .out .now) (g .work .now) (g .d) (g .p) (q .0) (q .1) (q .2) in
-    let place = sized z (g .out .now) (g .work .now) (g .d) (g .p) (q .0) (q .1) (q .2) (u .out) (u .at) (u .left) (u .e) (u .kept) v l in
-    omega arith
+sub-copy-bytes c = fits (skipped-of c) .forward
 
 mul-copy-bytes-3 : tie.Need-mul-copy-bytes-3 Inv-loop μ-loop
-mul-copy-bytes-3 c =
-    let the-skip-tree = c .before .before .before .before .before .skip-tree in
-    let the-loop-test = c .before .before .before .before .before .before .before .loop-test in
-    let the-neutral = c .before .before .before .before .before .before .before .before .before .before .before .neutral in
-    let g = c .before .before .before .before .before .before .before .before .before .before .before .before .before .before .args in
-    let q = c .before .before .before .before .before .before .before .before .before .before .before .before .before .before .pre in
-    let u = c .before .before .before .before .before .before .before .before .loop in
-    let z = the-neutral .result in
-    let v = u .inv .1 (q .0) (q .1) (q .2) in
-    let l = the-loop-test .taken in
-    let t = first-of (v .others) (v .stand) l in
-    let n = the-skip-tree .ensures (t .tree) (t .there) in
-    let r = fits-in z (g .out .now) (g .work .now) (g .d) (g .p) (q .0) (q .1) (q .2) (u .out) (u .at) (u .left) (u .e) (u .kept) v l in
-    let long = u .inv .0 in
-    let far = held-length (g .out .now) (g .work .now) (g .d) (g .p) (q .0) (q .1) (q .2) in
-    let place = sized z (g .out .now) (g .work .now) (g .d) (g .p) (q .0) (q .1) (q .2) (u .out) (u .at) (u .left) (u .e) (u .kept) v l in
-    record { fits = omega arith }
+mul-copy-bytes-3 c = let r = fits (skipped-of c) in record { fits = omega (arith, r .read) }
 
 copy-bytes-requires : tie.Need-copy-bytes-requires Inv-loop μ-loop
 copy-bytes-requires c κs =
-    let the-skip-tree = c .before .before .before .before .before .skip-tree in
-    let the-loop-test = c .before .before .before .before .before .before .before .loop-test in
-    let the-neutral = c .before .before .before .before .before .before .before .before .before .before .before .neutral in
-    let g = c .before .before .before .before .before .before .before .before .before .before .before .before .before .before .args in
-    let q = c .before .before .before .before .before .before .before .before .before .before .before .before .before .before .pre in
-    let u = c .before .before .before .before .before .before .before .before .loop in
-    let z = the-neutral .result in
-    let v = u .inv .1 (q .0) (q .1) (q .2) in
-    let l = the-loop-test .taken in
-    let t = first-of (v .others) (v .stand) l in
-    let n = the-skip-tree .ensures (t .tree) (t .there) in
-    let r = fits-in z (g .out .now) (g .work .now) (g .d) (g .p) (q .0) (q .1) (q .2) (u .out) (u .at) (u .left) (u .e) (u .kept) v l in
-    let long = u .inv .0 in
-    let far = held-length (g .out .now) (g .work .now) (g .d) (g .p) (q .0) (q .1) (q .2) in
-    let place = sized z (g .out .now) (g .work .now) (g .d) (g .p) (q .0) (q .1) (q .2) (u .out) (u .at) (u .left) (u .e) (u .kept) v l in
-    (omega arith, omega arith)
+    let r = fits (skipped-of c) in
+    (omega (arith, r .long, r .written), omega (arith, r .forward, r .read))
 
 sub-e : tie.Need-sub-e Inv-loop μ-loop
-sub-e c =
-    let past = c .before .before .before .before .before .before .before .before .before .before in
-    let the-skip-tree = c .before .before .before .before .before .before .before .before .skip-tree in
-    let the-loop-test = c .before .before .before .before .before .before .before .before .before .before .loop-test in
-    let the-neutral = past .before .before .before .before .neutral in
-    let g = past .before .before .before .before .before .before .before .args in
-    let q = past .before .before .before .before .before .before .before .pre in
-    let u = past .before .loop in
-    let z = the-neutral .result in
-    let v = u .inv .1 (q .0) (q .1) (q .2) in
-    let l = the-loop-test .taken in
-    let t = first-of (v .others) (v .stand) l in
-    let n = the-skip-tree .ensures (t .tree) (t .there) in
-    let r = fits-in z (g .out .now) (g .work .now) (g .d) (g .p) (q .0) (q .1) (q .2) (u .out) (u .at) (u .left) (u .e) (u .kept) v l in
-    let long = u .inv .0 in
-    let far = held-length (g .out .now) (g .work .now) (g .d) (g .p) (q .0) (q .1) (q .2) in
-    let place = sized z (g .out .now) (g .work .now) (g .d) (g .p) (q .0) (q .1) (q .2) (u .out) (u .at) (u .left) (u .e) (u .kept) v l in
-    omega arith
+sub-e c = fits (skipped-of (c .before .before .before)) .forward
 
 add-e-2 : tie.Need-add-e-2 Inv-loop μ-loop
-add-e-2 c =
-    let past = c .before .before .before .before .before .before .before .before .before .before in
-    let the-skip-tree = c .before .before .before .before .before .before .before .before .skip-tree in
-    let the-loop-test = c .before .before .before .before .before .before .before .before .before .before .loop-test in
-    let the-neutral = past .before .before .before .before .neutral in
-    let g = past .before .before .before .before .before .before .before .args in
-    let q = past .before .before .before .before .before .before .before .pre in
-    let u = past .before .loop in
-    let z = the-neutral .result in
-    let v = u .inv .1 (q .0) (q .1) (q .2) in
-    let l = the-loop-test .taken in
-    let t = first-of (v .others) (v .stand) l in
-    let n = the-skip-tree .ensures (t .tree) (t .there) in
-    let r = fits-in z (g .out .now) (g .work .now) (g .d) (g .p) (q .0) (q .1) (q .2) (u .out) (u .at) (u .left) (u .e) (u .kept) v l in
-    let long = u .inv .0 in
-    let far = held-length (g .out .now) (g .work .now) (g .d) (g .p) (q .0) (q .1) (q .2) in
-    let place = sized z (g .out .now) (g .work .now) (g .d) (g .p) (q .0) (q .1) (q .2) (u .out) (u .at) (u .left) (u .e) (u .kept) v l in
-    record { fits = omega arith }
+add-e-2 c = let r = fits (skipped-of (c .before .before .before)) in record { fits = omega (arith, r .written) }
 
 add-kept : tie.Need-add-kept Inv-loop μ-loop
-add-kept c =
-    let past = c .before .before .before .before .before .before .before .before .before .before in
-    let the-loop-test = c .before .before .before .before .before .before .before .before .before .before .loop-test in
-    let the-neutral = past .before .before .before .before .neutral in
-    let g = past .before .before .before .before .before .before .before .args in
-    let q = past .before .before .before .before .before .before .before .pre in
-    let u = past .before .loop in
-    let z = the-neutral .result in
-    let v = u .inv .1 (q .0) (q .1) (q .2) in
-    let l = the-loop-test .taken in
-    record {
-      fits = omega (
-        arith,
-        few-kept z (g .out .now) (g .work .now) (g .d) (g .p) (q .0) (q .1) (q .2) (u .out) (u .at) (u .left) (u .e)
-            (u .kept) v l,
-        fits-in z (g .out .now) (g .work .now) (g .d) (g .p) (q .0) (q .1) (q .2) (u .out) (u .at) (u .left) (u .e) (u .kept) v l,
-      );
-    }
+add-kept c = let r = fits (skipped-of (c .before .before .before)) in record { fits = omega (arith, r .few, r .written) }
 
 sub-left : tie.Need-sub-left Inv-loop μ-loop
 sub-left c = search needs
@@ -260,54 +144,38 @@ loop-less c = search needs
 
 loop-again : tie.Need-loop-again Inv-loop μ-loop
 loop-again c =
-    let the-skip-tree = c .before .before .before .skip-tree in
-    let the-loop-test = c .before .before .before .before .before .loop-test in
-    let the-neutral = c .before .before .before .before .before .before .before .before .before .neutral in
-    let g = c .before .before .before .before .before .before .before .before .before .before .before .before .args in
-    let u = c .before .before .before .before .before .before .loop in
-    let z = the-neutral .result in
-    let l = the-loop-test .taken in
-    let o = g .out .now in
-    let w = g .work .now in
+    let skipped = c .before .before .before in
+    let left = left-of skipped in
+    let u = left .before .loop in
+    let l = left .loop-test .taken in
+    let long = u .inv .0 in
+    let next = skipped .skip-tree in
+    let is = c .before .is-the in
     ⊎-elim
     (λ a. (
-      ap length (a .6) ∙ a .3 .kept .0 ∙ u .inv .0,
+      ap length (a .6) ∙ a .3 .kept .0 ∙ long,
       λ f rest h.
           let v = u .inv .1 f rest h in
-          let t = first-of (v .others) (v .stand) l in
-          let r = fits-in z o w (g .d) (g .p) f rest h (u .out) (u .at) (u .left) (u .e) (u .kept) v l in
+          let t = head h v l in
+          let not-it = sym (is .ensures (t .tree) (t .there)) ∙ was-false _ (a .0 .taken) in
           rw (a .6, a .7, a .8)
-          (keeps z o w (g .d) (g .p) f rest h (u .out) (u .at) (u .left) (u .e) (u .kept) v l (the-skip-tree .result)
-          (the-skip-tree .ensures (t .tree) (t .there))
-          (a .3 .last .0) (sym (c .before .is-the .ensures (t .tree) (t .there)) ∙ was-false _ (a .0 .taken)) (omega (arith, u .inv .0))
-          (a .3 .ensures)),
+          (keeps h v l (next .result) (next .ensures (t .tree) (t .there)) long (a .3 .last .0) not-it (a .3 .ensures)),
     ))
     (λ a. (
-      ap length (a .1) ∙ u .inv .0,
+      ap length (a .1) ∙ long,
       λ f rest h.
           let v = u .inv .1 f rest h in
-          let t = first-of (v .others) (v .stand) l in
-          rw (a .1, a .2, a .3)
-          (passes z o w (g .d) (g .p) f rest h (u .out) (u .at) (u .left) (u .e) (u .kept) v l (the-skip-tree .result)
-          (the-skip-tree .ensures (t .tree) (t .there))
-          (sym (c .before .is-the .ensures (t .tree) (t .there)) ∙ was-true _ (a .0 .left))),
+          let t = head h v l in
+          let it = sym (is .ensures (t .tree) (t .there)) ∙ was-true _ (a .0 .left) in
+          rw (a .1, a .2, a .3) (passes h v l (next .result) (next .ensures (t .tree) (t .there)) long it),
     ))
     (c .if1 .came)
 
 put-back-requires : tie.Need-put-back-requires Inv-loop μ-loop
 put-back-requires c κs =
-    let the-loop-test = c .before .before .loop-test in
-    let the-neutral = c .before .before .before .before .before .before .neutral in
-    let g = c .before .before .before .before .before .before .before .before .before .args in
-    let q = c .before .before .before .before .before .before .before .before .before .pre in
-    let u = c .before .before .before .loop in
-    let z = the-neutral .result in
-    let h = q .2 in
-    let v = u .inv .1 (q .0) (q .1) h in
-    let e = ends z (g .out .now) (g .work .now) (g .d) (g .p) (q .0) (q .1) h (u .out) (u .at) (u .left) (u .e) (u .kept) (u .inv .0) v
-    (the-loop-test .left) in
-    let far = held-length (g .out .now) (g .work .now) (g .d) (g .p) (q .0) (q .1) h in
-    ((_, e .built, e .many), omega (arith, e .place, v .room, h .light, h .work-room, recordses-weights (q .0)), omega (arith, e .place))
+    let done = c .before .before in
+    let e = ended done (entry-of (done .before) .pre .0 .2) in
+    ((_, e .built, e .many), e .short, e .within)
 
 same-length : tie.Need-same-length Inv-loop μ-loop
 same-length c = search needs
@@ -317,21 +185,12 @@ same-length-2 c = search needs
 
 returns : tie.Need-returns Inv-loop μ-loop
 returns c =
-    let the-put-back = c .before .before .before .before .put-back in
-    let the-loop-test = c .before .before .before .before .before .before .before .loop-test in
-    let the-neutral = c .before .before .before .before .before .before .before .before .before .before .before .neutral in
+    let put = c .before .before .before .before in
+    let done = put .before .before .before in
+    let g = entry-of (done .before) .args in
     λ f rest h.
-    let g = c .before .before .before .before .before .before .before .before .before .before .before .before .before .before .args in
-    let u = c .before .before .before .before .before .before .before .before .loop in
-    let z = the-neutral .result in
-    let v = u .inv .1 f rest h in
-    let e = ends z (g .out .now) (g .work .now) (g .d) (g .p) f rest h (u .out) (u .at) (u .left) (u .e) (u .kept) (u .inv .0) v
-    (the-loop-test .left) in
-    let r = the-put-back .ensures (dropAll (isThe (pos z)) (toList f)) (e .built) (e .many) in
-    rw (sym (the-neutral .ensures .0)) (record {
-      stands = r .stands ∙ ap (λ (x : List ℕ). encode (nodeOf (g .sum) (dropAll (isThe (pos z)) (toList f))) ++ x) (e .follow);
-      done = r .done ∙ done-stays z (g .out .now) (g .work .now) (g .d) (g .p) f rest h (u .out) (u .at) (u .left) (u .e) (u .kept) (u .inv .0) v;
-    })
+    let e = ended done h in
+    put-follows (put .put-back .ensures (kept (g .z) (toList f)) (e .built) (e .many)) (e .follow) (e .done)
 
 pub drop-members-spec : {M : Type 1} → statement M
 drop-members-spec =
@@ -339,7 +198,6 @@ drop-members-spec =
     (tie.spec
     Inv-loop
     μ-loop
-    neutral-requires
     add-at
     count-requires
     add-e

@@ -1,106 +1,116 @@
--- `rules::multiply::multiply_zero` meets its contract: a product with a member 0 is 0, which ends where the product ended. Assumes nothing.
-use Prim.Native.Nat.{_+_, _-_, _*_}
+-- `rules::multiply::multiply_zero` meets its contract: at a tree of another kind the step does not apply; a product with a member 0 is 0, which
+-- ends where the product ended. Assumes nothing.
+use Prim.Native.Nat.{ℕ, _+_, _-_, _*_, _<_}
 use mathlib.Core.Path.{_≡_, refl, sym, ap, _∙_}
+use mathlib.Core.Bool.{false}
+use mathlib.Core.List.{List}
 use native.Mathlib.Omega.{arith}
-use lib.IntN.{pos}
-use Rattle.paper.specs.Tree.{integer}
-use Rattle.split.proofs.StandingLaws.{record-within}
-use Rattle.rules.proofs.Dropping.{held-members}
-use Rattle.rules.proofs.RuleLaws.{ready-tree, ready-length, ready-after, is-product, multiply-zero-at, multiply-zero-other, if-true, if-false, zero-put}
-use Rattle.paper.proofs.EncodeLaws.{records-pos}
-use Rattle.paper.specs.Tree.{records}
-use lib.ListN.{drop}
 use borrow.Author.Needs.{needs}
+use lib.ListN.{length, drop}
+use lib.IntN.{pos}
+use Rattle.paper.specs.Tree.{Tree, integer, toList, records}
+use Rattle.paper.specs.Rules.{isThe, anyOf}
+use Rattle.paper.proofs.EncodeLaws.{records-pos}
+use Rattle.split.proofs.StandingLaws.{record-within}
+use Rattle.rules.specs.Asked.{Ready}
+use Rattle.rules.proofs.Dropping.{held-members}
+use Rattle.rules.proofs.RuleLaws.{ready-tree, ready-length, ready-after, IsNode, is-node, zeroes, looks-elsewhere, finds, finds-none, zero-put}
 use Rattle.rules.proofs.multiply.multiply_zero.Statement.{statement}
 use Rattle.rules.proofs.multiply.multiply_zero.Tie as tie
 
+-- places on the way through the code, and from each the one before it: the entry, where the tree is a product, where it is known whether a
+-- member is 0, and after its end was looked for
+abbrev Entry : Type 0
+Entry = tie.Start
+
+abbrev Product : Type 0
+Product = tie.Else1
+
+abbrev Searched : Type 0
+Searched = tie.After-any-member
+
+abbrev Skipped : Type 0
+Skipped = tie.After-skip-tree
+
+abbrev entry-of : Product → Entry
+entry-of c = c .before .before .before .before .before
+
+abbrev product-of : Searched → Product
+product-of c = c .before .before
+
+abbrev searched-of : Skipped → Searched
+searched-of c = c .before .before .before
+
+-- a tree t is pending at the entry, and `rest` after it
+abbrev Pending : Entry → Tree → List ℕ → Type 0
+Pending c t rest = let g = c .args in Ready (g .out .now) (g .work .now) (g .d) (g .p) t rest
+
+-- the tree is a product, of the members that are held
+node : (c : Product) {t : Tree} {rest : List ℕ} → Pending (entry-of c) t rest
+    → let g = entry-of c .args in IsNode false (g .out .now) (g .work .now) (g .d) (g .p) t rest
+node c h = is-node h false (sym (c .before .kind .ensures) ∙ c .if1 .left)
+
+-- whether a member is 0
+searched : (c : Searched) {t : Tree} {rest : List ℕ} (h : Pending (entry-of (product-of c)) t rest)
+    → c .any-member .result ≡ anyOf (isThe (pos 0)) (toList (node (product-of c) h .members))
+searched c h = let s = node (product-of c) h in c .any-member .ensures (s .members) (held-members (s .held))
+
+-- the tree ends in the table, and not at its start
+record End (w : List ℕ) (p : ℕ) (t : Tree) (rest : List ℕ) (e : ℕ) : Type 0 where
+  is : e ≡ p + records t
+  some : p < e
+  within : length w ≡ e * 16 + length rest
+
+end : (c : Skipped) {t : Tree} {rest : List ℕ} → Pending (entry-of (product-of (searched-of c))) t rest
+    → let g = entry-of (product-of (searched-of c)) .args in End (g .work .now) (g .p) t rest (c .skip-tree .result)
+end c {t} h =
+    let e = c .skip-tree .ensures t (ready-tree h) in
+    record { is = e; some = omega (arith, e, records-pos t); within = omega (arith, e, ready-length h) }
+
 kind-requires : tie.Need-kind-requires
-kind-requires c κs =
-    let g = c .before .before .before .args in
-    let q = c .before .before .before .pre in
-    let t = q .0 in
-    let rest = q .1 in
-    let h = q .2 in
-    record-within (ready-tree (g .out .now) (g .work .now) (g .d) (g .p) t rest h)
+kind-requires c κs = record-within (ready-tree (c .before .before .before .pre .2))
 
 same-length : tie.Need-same-length
 same-length c = search needs
 
 returns : tie.Need-returns
-returns c =
-    λ t rest h.
-    let g = c .before .before .before .before .before .args in
-    (multiply-zero-other (g .out .now) (g .work .now) (g .d) (g .p) t rest h (λ e. c .if1 .taken (c .before .kind .ensures ∙ e)), refl, refl)
+returns c = λ t rest h. (looks-elsewhere h zeroes (λ e. c .if1 .taken (c .before .kind .ensures ∙ e)), refl, refl)
 
 any-member-requires : tie.Need-any-member-requires
 any-member-requires c κs =
-    let the-kind = c .before .before .kind in
-    let g = c .before .before .before .before .before .before .args in
-    let q = c .before .before .before .before .before .before .pre in
-    let t = q .0 in
-    let rest = q .1 in
-    let h = q .2 in
-    let s = is-product (g .out .now) (g .work .now) (g .d) (g .p) t rest h (sym (the-kind .ensures) ∙ c .before .if1 .left) in
-    ((s .members, held-members (g .out .now) (g .work .now) (g .d) (g .p) (s .members) rest (s .held)), omega arith)
+    let s = node (c .before) (entry-of (c .before) .pre .2) in
+    ((s .members, held-members (s .held)), omega arith)
 
 skip-tree-requires : tie.Need-skip-tree-requires
 skip-tree-requires c κs =
-    let g = c .before .before .before .before .before .before .before .before .before .args in
-    let q = c .before .before .before .before .before .before .before .before .before .pre in
-    let t = q .0 in
-    let rest = q .1 in
-    let h = q .2 in
-    record { tree = t; there = ready-tree (g .out .now) (g .work .now) (g .d) (g .p) t rest h }
+    let q = entry-of (product-of (c .before .before)) .pre in
+    record { tree = q .0; there = ready-tree (q .2) }
 
 sub-q : tie.Need-sub-q
-sub-q c =
-    let g = c .before .before .before .before .before .before .before .before .before .before .args in
-    let q = c .before .before .before .before .before .before .before .before .before .before .pre in
-    let t = q .0 in
-    let rest = q .1 in
-    let h = q .2 in
-    let e = c .skip-tree .ensures t (ready-tree (g .out .now) (g .work .now) (g .d) (g .p) t rest h) in
-    let long = ready-length (g .out .now) (g .work .now) (g .d) (g .p) t rest h in
-    let some = records-pos t in
-    omega arith
+sub-q c = let e = end c (entry-of (product-of (searched-of c)) .pre .2) in omega (arith, e .some)
 
 write-record-requires : tie.Need-write-record-requires
 write-record-requires c κs =
-    let g = c .before .before .before .before .before .before .before .before .before .before .before .args in
-    let q = c .before .before .before .before .before .before .before .before .before .before .before .pre in
-    let t = q .0 in
-    let rest = q .1 in
-    let h = q .2 in
-    let e = c .before .skip-tree .ensures t (ready-tree (g .out .now) (g .work .now) (g .d) (g .p) t rest h) in
-    let long = ready-length (g .out .now) (g .work .now) (g .d) (g .p) t rest h in
-    let some = records-pos t in
-    omega arith
+    let e = end (c .before) (entry-of (product-of (searched-of (c .before))) .pre .2) in
+    omega (arith, e .some, e .within)
 
 same-length-2 : tie.Need-same-length-2
 same-length-2 c = search needs
 
 returns-2 : tie.Need-returns-2
 returns-2 c =
-    let the-write-record = c .before .before .write-record in
-    let the-skip-tree = c .before .before .before .before .skip-tree in
-    let the-if2 = c .before .before .before .before .before .before .if2 in
-    let the-any-member = c .before .before .before .before .before .before .before .any-member in
-    let the-if1 = c .before .before .before .before .before .before .before .before .before .if1 in
-    let the-kind = c .before .before .before .before .before .before .before .before .before .before .kind in
+    let wrote = c .before .before in
+    let skipped = wrote .before .before in
+    let at = searched-of skipped in
+    let w = entry-of (product-of at) .args .work .now in
+    let q = skipped .skip-tree .result - 1 in
     λ t rest h.
-    let g = c .before .before .before .before .before .before .before .before .before .before .before .before .before .before .args in
-    let s = is-product (g .out .now) (g .work .now) (g .d) (g .p) t rest h (sym (the-kind .ensures) ∙ the-if1 .left) in
-    let e = the-skip-tree .ensures t (ready-tree (g .out .now) (g .work .now) (g .d) (g .p) t rest h) in
-    let long = ready-length (g .out .now) (g .work .now) (g .d) (g .p) t rest h in
-    let some = records-pos t in
-    let any = sym (the-any-member .ensures (s .members) (held-members (g .out .now) (g .work .now) (g .d) (g .p) (s .members) rest (s .held)))
-    ∙ the-if2 .taken in
-    let q = the-skip-tree .result - 1 in
-    let place : (q + 1) * 16 ≡ (g .p + records t) * 16 = omega arith in (
+    let e = end skipped h in
+    let any = sym (searched at h) ∙ skipped .before .before .if2 .taken in
+    let place : (q + 1) * 16 ≡ (entry-of (product-of at) .args .p + records t) * 16 = omega (arith, e .is, e .some) in (
       integer (pos 0),
-      multiply-zero-at t (s .members) (s .is) ∙ if-true _ _ any,
-      zero-put (g .work .now) _ q rest (omega arith)
-          (ap (λ n. drop n (g .work .now)) place ∙ ready-after (g .out .now) (g .work .now) (g .d) (g .p) t rest h) (the-write-record .ensures),
+      finds (node (product-of at) h) zeroes any,
+      zero-put w _ q rest (omega (arith, e .some, e .within)) (ap (λ n. drop n w) place ∙ ready-after h) (wrote .write-record .ensures),
       refl,
     )
 
@@ -109,14 +119,7 @@ same-length-3 c = search needs
 
 returns-3 : tie.Need-returns-3
 returns-3 c =
-    let the-if1 = c .before .before .before .if1 in
-    let the-kind = c .before .before .before .before .kind in
-    λ t rest h.
-    let g = c .before .before .before .before .before .before .before .before .args in
-    let s = is-product (g .out .now) (g .work .now) (g .d) (g .p) t rest h (sym (the-kind .ensures) ∙ the-if1 .left) in
-    let any = sym (c .before .any-member .ensures (s .members) (held-members (g .out .now) (g .work .now) (g .d) (g .p) (s .members) rest (s .held)))
-    ∙ c .if2 .left in
-    (multiply-zero-at t (s .members) (s .is) ∙ if-false _ _ any, refl, refl)
+    λ t rest h. (finds-none (node (product-of (c .before)) h) zeroes (sym (searched (c .before) h) ∙ c .if2 .left), refl, refl)
 
 pub multiply-zero-spec : {M : Type 1} → statement M
 multiply-zero-spec =

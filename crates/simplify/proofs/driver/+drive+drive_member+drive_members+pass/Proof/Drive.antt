@@ -1,9 +1,10 @@
 -- `simplify::driver::drive` meets its contract: the invariant of its loop and a law for each way that a turn goes are those of Driving.
--- The loop's measure is the weight of what is pending. Assumes nothing.
-use Prim.Native.Nat.{ℕ, _+_, _*_}
+-- That places and numbers fit follows from `move-room` where a finished tree moves, and from `pass-bounds` after a pass. The loop's
+-- measure is the weight of what is pending. Assumes nothing.
+use Prim.Native.Nat.{ℕ, _+_, _*_, _^_, _<_, _≤_}
 use mathlib.Core.Path.{_≡_, subst}
 use native.Mathlib.Omega.{arith}
-use lib.ListN.{drop}
+use lib.ListN.{length, drop}
 use borrow.Author.Needs.{needs}
 use Rattle.paper.specs.Verdict.{tableWeight}
 use Rattle.paper.specs.Driver.{over, each, members}
@@ -14,7 +15,8 @@ use Rattle.simplify.specs.declared.driver.Driven.the-variants as driven
 use Rattle.rules.specs.Asked.{AskedIs}
 use Rattle.simplify.specs.Driven.{passed as after-pass, DrivenIs, Drove}
 use Rattle.simplify.proofs.Runs.{drives}
-use Rattle.simplify.proofs.Driving.{DInv, Idle, start, for-every, set-now, no-heavier, step-fits, burst, stepped, stepped-less, idle, idle-weighs}
+use Rattle.simplify.proofs.Forests.{for-every}
+use Rattle.simplify.proofs.Driving.{DInv, Idle, PassFits, start, set-now, no-heavier, step-fits, burst, stepped, stepped-less, idle, idle-weighs}
 use Rattle.simplify.proofs.Driving.{move-fits, moved, pass-burst, pass-fits, nothing-changed, again, again-less}
 use Rattle.simplify.proofs.driver.drive.Reads as reads
 use Rattle.simplify.proofs.driver.pass.Reads as pass
@@ -34,7 +36,7 @@ abbrev pub μ : lts.MeasureT-loop
 
 module _ (t : ℕ) where
   -- places on the way through the code, and from each the one before it: the entry, the head of the loop, after the rules were asked,
-  -- where none applies, after the pass, and where it is done
+  -- where none applies, there where the tree comes from a pass, after the pass, and where that is done
   abbrev Entry : Type 0
   Entry = lts.Start (claims t) (drive-at t) reads.Post Inv μ
 
@@ -49,6 +51,9 @@ module _ (t : ℕ) where
 
   abbrev Quiet : Type 0
   Quiet = lts.After-enum-told2 (claims t) (drive-at t) reads.Post Inv μ
+
+  abbrev Finished : Type 0
+  Finished = lts.Then1 (claims t) (drive-at t) reads.Post Inv μ
 
   abbrev Called : Type 0
   Called = lts.After-pass (claims t) (drive-at t) reads.Post Inv μ
@@ -143,6 +148,30 @@ module _ (t : ℕ) where
       (head .loop .steps) (r .last .1 .1 .0) (entry .args .d) (head .loop .n) (n .0) (n .1 .0) (n .1 .1 .0) (n .1 .1 .1 .0)
   drove c = result (passed-of c) _ (c .before .g2 .given .1)
 
+  -- the finished tree fits where it goes
+  move-room : (c : Finished)
+      → let asked = asked-of (answered-of (c .before)) in
+      let head = head-of asked in
+      let g = entry-of head .args in let l = head .loop in let a = asked .ask in
+      (g .d * 16 + l .size * 16 ≤ length (a .last .0)) × (l .at * 16 + l .size * 16 ≤ length (a .last .1 .0))
+  move-room c = move-fits (state (c .before)) (c .if1 .taken)
+
+  -- the pass's places are in order and within the areas, and so they are numbers of the machine
+  pass-bounds : (c : Gathered)
+      → let called = called-of (passed-of c) in
+      let head = head-of (asked-of (answered-of (quiet-of called))) in
+      let l = head .loop in let r = called .pass in let n = c .before .g2 .given .0 in
+      PassFits (r .last .0) (r .last .1 .0) (entry-of head .args .d) (l .n) (l .o) (n .0) (n .1 .0) (n .1 .1 .0) (n .1 .1 .1 .0)
+      × (n .0 * 16 < 2 ^ 64) × (n .1 .0 * 16 < 2 ^ 64)
+  pass-bounds c =
+      let called = called-of (passed-of c) in
+      let quiet = quiet-of called in
+      let v = state quiet .inv in
+      let good = entry-of (head-of (asked-of (answered-of quiet))) .good in
+      let k = called .pass .kept in
+      let fits = pass-fits (state quiet) (drove c) (k .0) (k .1 .0) (k .1 .1 .0) in
+      (fits, omega (arith, fits .in-out, k .0, v .out-long, good .0 .0), omega (arith, fits .in-work, k .1 .0, v .work-long, good .1 .0 .0))
+
   pub loop-holds : lts.Need-loop-holds (claims t) (drive-at t) reads.Post Inv μ
   loop-holds c =
       let entry = c .before .before .before in
@@ -172,7 +201,7 @@ module _ (t : ℕ) where
       let head = head-of (asked-of answered) in
       let entry = entry-of head in
       let l = head .loop in
-      for-every (l .inv) (λ u r. (b : ℕ) × (drives u ≡ over b) × (l .n ≡ entry .args .s + b))
+      for-every (l .inv .set-up) (λ u r. (b : ℕ) × (drives u ≡ over b) × (l .n ≡ entry .args .s + b))
       (burst (l .inv) (answer answered Over (c .enum-told .given .1)))
 
   pub enum-known-asked : lts.Need-enum-known-asked (claims t) (drive-at t) reads.Post Inv μ
@@ -213,52 +242,22 @@ module _ (t : ℕ) where
   enum-told-2 c = search needs
 
   pub mul-copy-bytes : lts.Need-mul-copy-bytes (claims t) (drive-at t) reads.Post Inv μ
-  mul-copy-bytes c =
-      let quiet = c .before .before in
-      let fits = move-fits (state quiet) (c .before .if1 .taken) in
-      let in-out = fits .0 in
-      let in-work = fits .1 in
-      omega arith
+  mul-copy-bytes c = omega (arith, move-room (c .before))
 
   pub mul-copy-bytes-2 : lts.Need-mul-copy-bytes-2 (claims t) (drive-at t) reads.Post Inv μ
-  mul-copy-bytes-2 c =
-      let quiet = c .before .before .before in
-      let fits = move-fits (state quiet) (c .before .before .if1 .taken) in
-      let in-out = fits .0 in
-      let in-work = fits .1 in
-      omega arith
+  mul-copy-bytes-2 c = omega (arith, move-room (c .before .before))
 
   pub mul-copy-bytes-3 : lts.Need-mul-copy-bytes-3 (claims t) (drive-at t) reads.Post Inv μ
-  mul-copy-bytes-3 c =
-      let quiet = c .before .before .before in
-      let fits = move-fits (state quiet) (c .before .before .if1 .taken) in
-      let in-out = fits .0 in
-      let in-work = fits .1 in
-      omega arith
+  mul-copy-bytes-3 c = omega (arith, move-room (c .before .before))
 
   pub copy-bytes-requires : lts.Need-copy-bytes-requires (claims t) (drive-at t) reads.Post Inv μ
-  copy-bytes-requires c κs =
-      let quiet = c .before .before .before in
-      let fits = move-fits (state quiet) (c .before .before .if1 .taken) in
-      let in-out = fits .0 in
-      let in-work = fits .1 in
-      (omega arith, omega arith)
+  copy-bytes-requires c κs = let fits = move-room (c .before .before) in (omega (arith, fits), omega (arith, fits))
 
   pub add-t29 : lts.Need-add-t29 (claims t) (drive-at t) reads.Post Inv μ
-  add-t29 c =
-      let quiet = c .before .before .before .before .before .before in
-      let fits = move-fits (state quiet) (c .before .before .before .before .before .if1 .taken) in
-      let in-out = fits .0 in
-      let in-work = fits .1 in
-      omega arith
+  add-t29 c = omega (arith, move-room (c .before .before .before .before .before))
 
   pub add-t33 : lts.Need-add-t33 (claims t) (drive-at t) reads.Post Inv μ
-  add-t33 c =
-      let quiet = c .before .before .before .before .before .before in
-      let fits = move-fits (state quiet) (c .before .before .before .before .before .if1 .taken) in
-      let in-out = fits .0 in
-      let in-work = fits .1 in
-      omega arith
+  add-t33 c = omega (arith, move-room (c .before .before .before .before .before))
 
   pub same-length-4 : lts.Need-same-length-4 (claims t) (drive-at t) reads.Post Inv μ
   same-length-4 c = search needs
@@ -278,7 +277,7 @@ module _ (t : ℕ) where
       let g = entry .args in
       let l = head .loop in
       let copied = c .before .before .copy-bytes in
-      for-every (state quiet .inv)
+      for-every (state quiet .inv .set-up)
       (λ u r. Drove (drives u) r (g .out .now) (copied .last .0) (asked .ask .last .1 .0) (g .steps .now) (l .steps) (g .d) (g .s)
       (g .d + l .size) (l .at + l .size) (l .n) (l .o))
       (moved (state quiet) (c .before .before .before .before .before .if1 .taken) (copied .last .0) (copied .ensures))
@@ -310,33 +309,17 @@ module _ (t : ℕ) where
       let quiet = quiet-of (called-of passed) in
       let entry = entry-of (head-of (asked-of (answered-of quiet))) in
       let given = c .before .g .given in
-      for-every (state quiet .inv) (λ u r. (b : ℕ) × (drives u ≡ over b) × (given .0 .0 ≡ entry .args .s + b))
+      for-every (state quiet .inv .set-up) (λ u r. (b : ℕ) × (drives u ≡ over b) × (given .0 .0 ≡ entry .args .s + b))
       (pass-burst (state quiet) (given .0 .0) (result passed (driven.Over (given .0 .0)) (given .1)))
 
   pub enum-known-g-2 : lts.Need-enum-known-g-2 (claims t) (drive-at t) reads.Post Inv μ
   enum-known-g-2 c = search needs
 
   pub sub-if2 : lts.Need-sub-if2 (claims t) (drive-at t) reads.Post Inv μ
-  sub-if2 c =
-      let gathered = c in
-      let called = called-of (passed-of gathered) in
-      let quiet = quiet-of called in
-      let entry = entry-of (head-of (asked-of (answered-of quiet))) in
-      let k = called .pass .kept in
-      let fits = pass-fits (state quiet) (drove gathered) (k .0) (k .1 .0) (k .1 .1 .0) in
-      let good = entry .good in
-      omega (arith, fits, good .0 .0, good .1 .0 .0)
+  sub-if2 c = omega (arith, pass-bounds c)
 
   pub add-if2 : lts.Need-add-if2 (claims t) (drive-at t) reads.Post Inv μ
-  add-if2 c =
-      let gathered = c in
-      let called = called-of (passed-of gathered) in
-      let quiet = quiet-of called in
-      let entry = entry-of (head-of (asked-of (answered-of quiet))) in
-      let k = called .pass .kept in
-      let fits = pass-fits (state quiet) (drove gathered) (k .0) (k .1 .0) (k .1 .1 .0) in
-      let good = entry .good in
-      omega (arith, fits, good .0 .0, good .1 .0 .0)
+  add-if2 c = omega (arith, pass-bounds c)
 
   pub same-length-10 : lts.Need-same-length-10 (claims t) (drive-at t) reads.Post Inv μ
   same-length-10 c = search needs
@@ -358,86 +341,30 @@ module _ (t : ℕ) where
       let l = head .loop in
       let r = called .pass in
       let n = c .before .before .g2 .given .0 in
-      for-every (state quiet .inv)
+      for-every (state quiet .inv .set-up)
       (λ u x. Drove (drives u) x (g .out .now) (r .last .0) (r .last .1 .0) (g .steps .now) (r .last .1 .1 .0) (g .d) (g .s) (n .0) (n .1 .0) (l .n) (l .o))
       (nothing-changed (state quiet) (drove gathered) (r .kept .0) (r .kept .1 .0) (r .kept .1 .1 .0) (c .if2 .taken))
 
   pub add-o : lts.Need-add-o (claims t) (drive-at t) reads.Post Inv μ
-  add-o c =
-      let gathered = c .before in
-      let called = called-of (passed-of gathered) in
-      let quiet = quiet-of called in
-      let entry = entry-of (head-of (asked-of (answered-of quiet))) in
-      let k = called .pass .kept in
-      let fits = pass-fits (state quiet) (drove gathered) (k .0) (k .1 .0) (k .1 .1 .0) in
-      let good = entry .good in
-      omega (arith, fits, good .0 .0, good .1 .0 .0)
+  add-o c = omega (arith, pass-bounds (c .before))
 
   pub sub-size : lts.Need-sub-size (claims t) (drive-at t) reads.Post Inv μ
-  sub-size c =
-      let gathered = c .before in
-      let called = called-of (passed-of gathered) in
-      let quiet = quiet-of called in
-      let entry = entry-of (head-of (asked-of (answered-of quiet))) in
-      let k = called .pass .kept in
-      let fits = pass-fits (state quiet) (drove gathered) (k .0) (k .1 .0) (k .1 .1 .0) in
-      let good = entry .good in
-      omega (arith, fits, good .0 .0, good .1 .0 .0)
+  sub-size c = omega (arith, pass-bounds (c .before))
 
   pub sub-at : lts.Need-sub-at (claims t) (drive-at t) reads.Post Inv μ
-  sub-at c =
-      let gathered = c .before in
-      let called = called-of (passed-of gathered) in
-      let quiet = quiet-of called in
-      let entry = entry-of (head-of (asked-of (answered-of quiet))) in
-      let k = called .pass .kept in
-      let fits = pass-fits (state quiet) (drove gathered) (k .0) (k .1 .0) (k .1 .1 .0) in
-      let good = entry .good in
-      omega (arith, fits, good .0 .0, good .1 .0 .0)
+  sub-at c = omega (arith, pass-bounds (c .before))
 
   pub mul-copy-bytes-4 : lts.Need-mul-copy-bytes-4 (claims t) (drive-at t) reads.Post Inv μ
-  mul-copy-bytes-4 c =
-      let gathered = c .before .before in
-      let called = called-of (passed-of gathered) in
-      let quiet = quiet-of called in
-      let entry = entry-of (head-of (asked-of (answered-of quiet))) in
-      let k = called .pass .kept in
-      let fits = pass-fits (state quiet) (drove gathered) (k .0) (k .1 .0) (k .1 .1 .0) in
-      let good = entry .good in
-      omega (arith, fits, good .0 .0, good .1 .0 .0)
+  mul-copy-bytes-4 c = omega (arith, pass-bounds (c .before .before))
 
   pub mul-copy-bytes-5 : lts.Need-mul-copy-bytes-5 (claims t) (drive-at t) reads.Post Inv μ
-  mul-copy-bytes-5 c =
-      let gathered = c .before .before .before in
-      let called = called-of (passed-of gathered) in
-      let quiet = quiet-of called in
-      let entry = entry-of (head-of (asked-of (answered-of quiet))) in
-      let k = called .pass .kept in
-      let fits = pass-fits (state quiet) (drove gathered) (k .0) (k .1 .0) (k .1 .1 .0) in
-      let good = entry .good in
-      omega (arith, fits, good .0 .0, good .1 .0 .0)
+  mul-copy-bytes-5 c = omega (arith, pass-bounds (c .before .before .before))
 
   pub mul-copy-bytes-6 : lts.Need-mul-copy-bytes-6 (claims t) (drive-at t) reads.Post Inv μ
-  mul-copy-bytes-6 c =
-      let gathered = c .before .before .before in
-      let called = called-of (passed-of gathered) in
-      let quiet = quiet-of called in
-      let entry = entry-of (head-of (asked-of (answered-of quiet))) in
-      let k = called .pass .kept in
-      let fits = pass-fits (state quiet) (drove gathered) (k .0) (k .1 .0) (k .1 .1 .0) in
-      let good = entry .good in
-      omega (arith, fits, good .0 .0, good .1 .0 .0)
+  mul-copy-bytes-6 c = omega (arith, pass-bounds (c .before .before .before))
 
   pub copy-bytes-requires-2 : lts.Need-copy-bytes-requires-2 (claims t) (drive-at t) reads.Post Inv μ
-  copy-bytes-requires-2 c κs =
-      let gathered = c .before .before .before in
-      let called = called-of (passed-of gathered) in
-      let quiet = quiet-of called in
-      let entry = entry-of (head-of (asked-of (answered-of quiet))) in
-      let k = called .pass .kept in
-      let fits = pass-fits (state quiet) (drove gathered) (k .0) (k .1 .0) (k .1 .1 .0) in
-      let good = entry .good in
-      (omega (arith, fits, good .0 .0, good .1 .0 .0), omega (arith, fits, good .0 .0, good .1 .0 .0))
+  copy-bytes-requires-2 c κs = let fits = pass-bounds (c .before .before .before) in (omega (arith, fits), omega (arith, fits))
 
   pub loop-less-2 : lts.Need-loop-less-2 (claims t) (drive-at t) reads.Post Inv μ
   loop-less-2 c =

@@ -1,6 +1,6 @@
--- `simplify::driver::drive_members` meets its contract: the invariant of its loop and a law for each need are those of Membering. The
--- loop's measure is the number of members left. Assumes nothing.
-use Prim.Native.Nat.{ℕ, _+_, _-_}
+-- `simplify::driver::drive_members` meets its contract: the invariant of its loop and a law for each need are those of Membering. That
+-- the sums fit follows from `sums`. The loop's measure is the number of members left. Assumes nothing.
+use Prim.Native.Nat.{ℕ, _+_, _-_, _<_}
 use mathlib.Core.Path.{_≡_, subst}
 use mathlib.Core.List.{[], _∷_}
 use native.Mathlib.Omega.{arith}
@@ -93,6 +93,16 @@ module _ (t : ℕ) where
       (l .steps) (m .last .1 .1 .0) (l .e) (l .n) (n .0) (n .1 .0) (n .1 .1 .0) (n .1 .1 .1 .0) (n .1 .1 .1 .1 .0)
   gave c = result (driven-of c) _ (c .before .g2 .given .1)
 
+  -- the openings and the members so far, and the member's, are few
+  sums : (c : Gathered)
+      → let l = head-of (turn-of (called-of (driven-of c))) .loop in let n = c .before .g2 .given .0 in
+      (l .o + n .1 .1 .1 .0 < 3073) × (l .m + n .1 .1 .1 .1 .0 < 6146)
+  sums c =
+      let called = called-of (driven-of c) in
+      let turn = turn-of called in
+      let k = called .drive-member .kept in
+      sums-fit (head-of turn .loop .inv) (turn .loop-test .taken) (gave c) (k .0) (k .1 .0) (k .1 .1 .0)
+
   pub loop-holds : lts.Need-loop-holds (claims t) (drive-members-at t) reads.Post Inv μ
   loop-holds c =
       let entry = c .before .before .before in
@@ -135,24 +145,10 @@ module _ (t : ℕ) where
   enum-known-g-2 c = search needs
 
   pub add-o : lts.Need-add-o (claims t) (drive-members-at t) reads.Post Inv μ
-  add-o c =
-      let gathered = c in
-      let called = called-of (driven-of gathered) in
-      let turn = turn-of called in
-      let head = head-of turn in
-      let k = called .drive-member .kept in
-      let fits = sums-fit (head .loop .inv) (turn .loop-test .taken) (gave gathered) (k .0) (k .1 .0) (k .1 .1 .0) .0 in
-      omega arith
+  add-o c = omega (arith, sums c)
 
   pub add-m : lts.Need-add-m (claims t) (drive-members-at t) reads.Post Inv μ
-  add-m c =
-      let gathered = c in
-      let called = called-of (driven-of gathered) in
-      let turn = turn-of called in
-      let head = head-of turn in
-      let k = called .drive-member .kept in
-      let fits = sums-fit (head .loop .inv) (turn .loop-test .taken) (gave gathered) (k .0) (k .1 .0) (k .1 .1 .0) .1 in
-      omega arith
+  add-m c = omega (arith, sums c)
 
   pub add-i : lts.Need-add-i (claims t) (drive-members-at t) reads.Post Inv μ
   add-i c =

@@ -10,7 +10,8 @@ use Rattle.simplify.specs.declared.driver.Given.{Given}
 use Rattle.simplify.specs.declared.driver.Given.the-variants as given
 use Rattle.simplify.specs.Driven.{inside, openedRuns, passed, kindNumber, GivenIs, SetAll, Gave, Drove}
 use Rattle.simplify.proofs.Runs.{drives}
-use Rattle.simplify.proofs.Passing.{for-every, record-fits, kind-is, arity-is, members-lighter, members-set, burst, close-fits, gathers, closed-up}
+use Rattle.simplify.proofs.Forests.{for-every}
+use Rattle.simplify.proofs.Passing.{record-fits, kind-is, arity-is, members-lighter, members-set, burst, close-fits, gathers, closed-up}
 use Rattle.simplify.proofs.driver.pass.Reads as reads
 use Rattle.simplify.proofs.driver.drive_members.Reads as drive-members
 use Rattle.simplify.proofs.driver.close_up.Reads as close-up-reads
@@ -154,44 +155,19 @@ module _ (t : ℕ) where
       record-fits (entry .pre .1 .2) .0
 
   pub mul-copy-bytes : lts.Need-mul-copy-bytes (claims t) (pass-at t) reads.Post
-  mul-copy-bytes c =
-      let entry = entry-of (kinded-of (c .before)) in
-      let fits = record-fits (entry .pre .1 .2) in
-      let in-work = fits .0 in
-      let in-out = fits .1 in
-      omega arith
+  mul-copy-bytes c = omega (arith, record-fits (entry-of (kinded-of (c .before)) .pre .1 .2))
 
   pub mul-copy-bytes-2 : lts.Need-mul-copy-bytes-2 (claims t) (pass-at t) reads.Post
-  mul-copy-bytes-2 c =
-      let entry = entry-of (kinded-of (c .before .before)) in
-      let fits = record-fits (entry .pre .1 .2) in
-      let in-work = fits .0 in
-      let in-out = fits .1 in
-      omega arith
+  mul-copy-bytes-2 c = omega (arith, record-fits (entry-of (kinded-of (c .before .before)) .pre .1 .2))
 
   pub copy-bytes-requires : lts.Need-copy-bytes-requires (claims t) (pass-at t) reads.Post
-  copy-bytes-requires c κs =
-      let entry = entry-of (kinded-of (c .before .before)) in
-      let fits = record-fits (entry .pre .1 .2) in
-      let in-work = fits .0 in
-      let in-out = fits .1 in
-      (omega arith, omega arith)
+  copy-bytes-requires c κs = let fits = record-fits (entry-of (kinded-of (c .before .before)) .pre .1 .2) in (omega (arith, fits), omega (arith, fits))
 
   pub add-drive-members : lts.Need-add-drive-members (claims t) (pass-at t) reads.Post
-  add-drive-members c =
-      let entry = entry-of (kinded-of (counted-of (moved-of c))) in
-      let fits = record-fits (entry .pre .1 .2) in
-      let in-work = fits .0 in
-      let in-out = fits .1 in
-      omega arith
+  add-drive-members c = omega (arith, record-fits (entry-of (kinded-of (counted-of (moved-of c))) .pre .1 .2))
 
   pub add-drive-members-2 : lts.Need-add-drive-members-2 (claims t) (pass-at t) reads.Post
-  add-drive-members-2 c =
-      let entry = entry-of (kinded-of (counted-of (moved-of c))) in
-      let fits = record-fits (entry .pre .1 .2) in
-      let in-work = fits .0 in
-      let in-out = fits .1 in
-      omega arith
+  add-drive-members-2 c = omega (arith, record-fits (entry-of (kinded-of (counted-of (moved-of c))) .pre .1 .2))
 
   pub drive-members-requires : lts.Need-drive-members-requires (claims t) (pass-at t) reads.Post
   drive-members-requires c κs =
