@@ -91,7 +91,8 @@ fn tree_end(s: &[u8], n: usize) -> usize
     n + 1
 }
 
-// Walks the tree at record i, which ends within the records: a power's base, and then the exponent after it; a node's members.
+// Walks the tree at record i, which ends within the records: a power's base, and then the exponent after it; a node's members, a leaf
+// among them being passed at once.
 fn walk(s: &[u8], i: usize) -> Walked
     requires { ⌜ treeEnd (now s) (recordsIn (now s)) i ≤ recordsIn (now s) ⌝ }
     ensures { λ r. ⌜ r ≡ walked (now (s .entry)) (recordsIn (now (s .entry))) 1 i ⌝ }
@@ -116,12 +117,12 @@ fn walk(s: &[u8], i: usize) -> Walked
     let mut left = record::count(s, i);
     let mut at = i + 1;
     while 0 < left {
-        match walk(s, at) {
-            Walked::Bad(b) => {
-                return Walked::Bad(b);
-            }
-            Walked::Ends(e) => {
-                at = e;
+        if record::kind(s, at) < 2 {
+            at += 1;
+        } else {
+            match walk(s, at) {
+                Walked::Bad(b) => return Walked::Bad(b),
+                Walked::Ends(e) => at = e,
             }
         }
         left -= 1;

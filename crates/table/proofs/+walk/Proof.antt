@@ -1,13 +1,14 @@
 -- `table::walk` meets its contract. It ends because the records left fall: a power's base and a node's members begin behind it.
 -- Each return is one law of the walk. The loop's invariant: walking the members that are left gives what the whole walk gives.
 -- Assumes nothing.
-use Prim.Native.Nat.{ℕ, suc, _-_, _<_, _≤_}
+use Prim.Native.Nat.{ℕ, suc, _+_, _-_, _<_, _≤_}
 use mathlib.Core.Path.{_≡_, sym, _∙_}
+use mathlib.Core.Logic.{⊎-elim}
 use mathlib.Core.List.{List}
 use native.Mathlib.Omega.{arith}
 use borrow.Author.Needs.{needs}
 use Rattle.paper.specs.Record.{kind, arity}
-use Rattle.paper.specs.Verdict.{recordsIn}
+use Rattle.paper.specs.Verdict.{recordsIn, treeEnd}
 use Rattle.table.specs.Walked.{endOf, walked}
 use Rattle.table.specs.declared.Walked.the-variants.{Bad, Ends}
 use Rattle.table.proofs.BadLaws.{arity-node, end-after}
@@ -189,16 +190,49 @@ walk-loop-holds t c =
       rest = rw m at (walk-members s n i l other h);
     }
 
+-- what the walk over the first of the members that are left tells of the others
+next : (s : List ℕ) (i left at e : ℕ) → Members s i left at → 0 < left → walked s (recordsIn s) 1 at ≡ Ends e → Members s i (left - 1) e
+next s i left at e m more told =
+    let n = recordsIn s in
+    let q : left ≡ suc (left - 1) = omega arith in
+    let w : endOf s n (suc (left - 1)) at ≤ n = rw q at (m .within) in
+    let there = ends-there s n at e told in
+    let after = end-after s n at (m .few) in
+    let inside = first-inside s n (left - 1) at (m .few) w in
+    record {
+      ahead = omega (arith, m .ahead);
+      few = omega arith;
+      within = others-inside s n (left - 1) at e w told;
+      rest = rw q at (m .rest) ∙ more-ends s n (left - 1) at e (m .few) w told;
+    }
+
+-- the first of them ends within the records
+first : (s : List ℕ) (i left at : ℕ) → Members s i left at → 0 < left → treeEnd s (recordsIn s) at ≤ recordsIn s
+first s i left at m more =
+    let q : left ≡ suc (left - 1) = omega arith in
+    first-inside s (recordsIn s) (left - 1) at (m .few) (rw q at (m .within))
+
+walk-kind-requires-2 : (t : ℕ) → walk-lts.Need-kind-requires-2 (walk-rs t) (walk-at t) walk.Post walk-Inv-loop walk-μ-loop
+walk-kind-requires-2 t c κs =
+    let a = c .before .before .before .before .before .before .before in
+    let l = c .before .loop in
+    tree-inside (a .args .s .now) (l .at) (first (a .args .s .now) (a .args .i) (l .left) (l .at) (l .inv) (c .loop-test .taken))
+
+walk-add-at-2 : (t : ℕ) → walk-lts.Need-add-at-2 (walk-rs t) (walk-at t) walk.Post walk-Inv-loop walk-μ-loop
+walk-add-at-2 t c =
+    let turn = c .before .before in
+    let a = turn .before .before .before .before .before .before .before in
+    let l = turn .before .loop in
+    omega (arith, tree-inside (a .args .s .now) (l .at) (first (a .args .s .now) (a .args .i) (l .left) (l .at) (l .inv) (turn .loop-test .taken)))
+
 walk-walk-requires-2 : (t : ℕ) → walk-lts.Need-walk-requires-2 (walk-rs t) (walk-at t) walk.Post walk-Inv-loop walk-μ-loop
 walk-walk-requires-2 t c κs =
-    let a = c .before .before .before .before .before .before .before in
+    let turn = c .before .before in
+    let a = turn .before .before .before .before .before .before .before in
     let s = a .args .s .now in
-    let n = recordsIn s in
-    let i = a .args .i in
-    let h = a .pre .1 in
-    let l = c .before .loop in
-    let q : l .left ≡ suc (l .left - 1) = omega arith in
-    (omega (arith, end-inside s n i h), first-inside s n (l .left - 1) (l .at) (l .inv .few) (rw q at (l .inv .within)))
+    let l = turn .before .loop in
+    let ahead = l .inv .ahead in
+    (omega (arith, end-inside s (recordsIn s) (a .args .i) (a .pre .1)), first s (a .args .i) (l .left) (l .at) (l .inv) (turn .loop-test .taken))
 
 walk-enum-known-b-2 : (t : ℕ) → walk-lts.Need-enum-known-b-2 (walk-rs t) (walk-at t) walk.Post walk-Inv-loop walk-μ-loop
 walk-enum-known-b-2 t c = search needs
@@ -206,13 +240,12 @@ walk-enum-known-b-2 t c = search needs
 walk-returns-5 : (t : ℕ) → walk-lts.Need-returns-5 (walk-rs t) (walk-at t) walk.Post walk-Inv-loop walk-μ-loop
 walk-returns-5 t c =
     let member = c .before .before .before in
-    let a = member .before .before .before .before .before .before .before .before in
+    let turn = member .before .before .before in
+    let a = turn .before .before .before .before .before .before .before in
     let s = a .args .s .now in
     let n = recordsIn s in
-    let i = a .args .i in
-    let h = a .pre .1 in
-    let l = member .before .before .loop in
-    let q : l .left ≡ suc (l .left - 1) = omega arith in
+    let l = turn .before .loop in
+    let q : l .left ≡ suc (l .left - 1) = omega (arith, turn .loop-test .taken) in
     let w : endOf s n (suc (l .left - 1)) (l .at) ≤ n = rw q at (l .inv .within) in
     let b = c .before .b2 .given .0 .0 in
     let r : member .walk2 .result ≡ Bad b = cc in
@@ -228,29 +261,23 @@ walk-sub-left t c = omega arith
 walk-loop-less : (t : ℕ) → walk-lts.Need-loop-less (walk-rs t) (walk-at t) walk.Post walk-Inv-loop walk-μ-loop
 walk-loop-less t c = omega arith
 
+-- by the way that the turn went: the member is a leaf (its test w .0, the next record w .1); or it was walked (the walk w .1, its answer
+-- w .3, the next record w .5)
 walk-loop-again : (t : ℕ) → walk-lts.Need-loop-again (walk-rs t) (walk-at t) walk.Post walk-Inv-loop walk-μ-loop
 walk-loop-again t c =
-    let member = c .before .before .before in
-    let a = member .before .before .before .before .before .before .before .before in
+    let turn = c .before .before in
+    let a = turn .before .before .before .before .before .before .before in
     let s = a .args .s .now in
-    let n = recordsIn s in
-    let i = a .args .i in
-    let h = a .pre .1 in
-    let l = member .before .before .loop in
-    let q : l .left ≡ suc (l .left - 1) = omega arith in
-    let w : endOf s n (suc (l .left - 1)) (l .at) ≤ n = rw q at (l .inv .within) in
-    let e = c .before .e2 .given .0 .0 in
-    let r : member .walk2 .result ≡ Ends e = cc in
-    let told = sym (member .walk2 .ensures) ∙ r in
-    let there = ends-there s n (l .at) e told in
-    let after = end-after s n (l .at) (l .inv .few) in
-    let inside = first-inside s n (l .left - 1) (l .at) (l .inv .few) w in
-    record {
-      ahead = omega arith;
-      few = omega arith;
-      within = others-inside s n (l .left - 1) (l .at) e w told;
-      rest = rw q at (l .inv .rest) ∙ more-ends s n (l .left - 1) (l .at) e (l .inv .few) w told;
-    }
+    let l = turn .before .loop in
+    let more = turn .loop-test .taken in
+    let inside = end-inside s (recordsIn s) (l .at) (first s (a .args .i) (l .left) (l .at) (l .inv) more) in
+    ⊎-elim
+    (λ w.
+    let leaf : kind s (l .at) < 2 = omega (arith, c .before .kind2 .ensures, w .0 .taken) in
+    rw (w .1) (next s (a .args .i) (l .left) (l .at) (l .at + 1) (l .inv) more (walk-leaf s (recordsIn s) (l .at) inside leaf)))
+    (λ w.
+    rw (w .5) (next s (a .args .i) (l .left) (l .at) (w .3 .given .0 .0) (l .inv) more (sym (w .1 .ensures) ∙ w .3 .given .1)))
+    (c .if4 .came)
 
 walk-returns-6 : (t : ℕ) → walk-lts.Need-returns-6 (walk-rs t) (walk-at t) walk.Post walk-Inv-loop walk-μ-loop
 walk-returns-6 t c =
@@ -284,6 +311,8 @@ pub +walk-spec : {M : Type 1} → statement M
     (walk-count-requires t)
     (walk-add-at t)
     (walk-loop-holds t)
+    (walk-kind-requires-2 t)
+    (walk-add-at-2 t)
     (walk-walk-requires-2 t)
     (walk-enum-known-b-2 t)
     (walk-returns-5 t)
