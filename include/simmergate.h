@@ -33,10 +33,10 @@
 #include <stddef.h>
 #include <stdint.h>
 
-/* Bytes of stack that a call needs at the most. The deepest tables that are accepted, 1,535 nodes one inside the other, were measured on
-   x86-64 to need 145,752 bytes in simmergate_check, 145,768 in simmergate_weight, 196,824 in simmergate_value, 369,896 in
-   simmergate_equal and 465,296 in simmergate_simplify. */
-#define SIMMERGATE_STACK 475136
+/* Bytes of stack that a call needs at the most. The deepest tables that are accepted, 1,535 nodes one inside the other, were measured, this
+   x86-64 code being run by an emulator, to need 170,328 bytes in simmergate_check, 170,344 in simmergate_weight, 196,824 in simmergate_value,
+   541,768 in simmergate_equal and 489,880 in simmergate_simplify. */
+#define SIMMERGATE_STACK 557056
 
 /* Judges a table. The answer, 16 bytes: refusal number, place. */
 uint32_t simmergate_check(const uint8_t *table, size_t table_bytes, uint8_t *answer, size_t answer_bytes);
