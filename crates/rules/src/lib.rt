@@ -1,8 +1,9 @@
 // The rules, each tried on one node of the pending records, and all of them asked in the paper's order.
+ghost use mathlib.Core.Path.{_≡_};
 ghost use mathlib.Core.List.{List};
 ghost use Prim.Native.Nat.{ℕ};
 ghost use Rattle.paper.specs.Tree.{Tree};
-ghost use Rattle.rules.specs.Alike.{ruleOf};
+ghost use Rattle.rules.specs.Alike.{ruleOf, firstFor, endFor};
 ghost use Rattle.rules.specs.Asked.{Ready, AskedIs};
 ghost use Rattle.rules.specs.Tried.{Answers};
 
@@ -25,7 +26,7 @@ pub enum Tried {
     Over,
 }
 
-// The steps, in the paper's order.
+// The steps, in the paper's order: those for a sum, and after them those for a product.
 const STEPS: [u8; 5] = [1, 2, 3, 4, 6];
 
 // Tries the rule of one step on the node at record p of work. A number that no rule has never applies.
@@ -44,14 +45,37 @@ fn try_step(out: &mut [u8], work: &mut [u8], d: usize, p: usize, step: u8) -> Tr
     }
 }
 
-// Tries the rules, in the paper's order, on the node at record p of work. A rule builds its result in out, from record d on.
+// Where in STEPS those for a tree of this kind begin.
+fn first_for(kind: u8) -> usize
+    ensures { λ r. ⌜ r ≡ firstFor kind ⌝ }
+{
+    if kind == 3 { 2 } else { 0 }
+}
+
+// Where in STEPS they end. For a tree that is neither a sum nor a product there are none.
+fn end_for(kind: u8) -> usize
+    ensures { λ r. ⌜ r ≡ endFor kind ⌝ }
+{
+    if kind == 2 {
+        return 2;
+    }
+    if kind == 3 {
+        return 5;
+    }
+    0
+}
+
+// Tries the rules, in the paper's order, on the node at record p of work; those for another kind of node are passed over, for none of
+// them applies. A rule builds its result in out, from record d on.
 pub fn ask(out: &mut [u8], work: &mut [u8], d: usize, p: usize) -> Asked
     requires { ⌜ ((t : Tree) × (rest : List ℕ) × Ready (now out) (now work) d p t rest) ⌝ }
     ensures { λ r. ⌜ ((t : Tree) (rest : List ℕ) → Ready (now (out .entry)) (now (work .entry)) d p t rest
         → AskedIs t rest (now (out .entry)) (now (out .exit)) (now (work .exit)) d p r) ⌝ }
 {
-    let mut i: usize = 0;
-    while i < 5 {
+    let kind = record::kind(work, p);
+    let mut i = first_for(kind);
+    let end = end_for(kind);
+    while i < end {
         let step = STEPS[i];
         let tried = try_step(out, work, d, p, step);
         match tried {
