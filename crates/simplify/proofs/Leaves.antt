@@ -80,7 +80,8 @@ module _ {t : Tree} {rest out work steps : List ℕ} {d p s : ℕ} (h : Set out 
   unopened k false e = refl
   unopened k true e = leaf-no-node k (omega (arith, l, eqb-true (kind work p) k e))
 
-  pub leaf-kept : (out' : List ℕ) → out' ≡ put out (d * 16) (recordOf (kind work p) 0 (bits work p)) → length out' ≡ length out → (k : ℕ)
+  pub leaf-kept : (out' : List ℕ) → out' ≡ put out (d * 16) (recordOf (kind work p) 0 (bits work p)) → length out' ≡ length out
+      → (k : ℕ)
       → Gave (openedRuns (inside k) (each drives (t ∷ []))) rest out out' work steps steps d s (d + 1) (p + 1) s 0 1
   unfolding leaf-driven kind
   leaf-kept out' e m k =

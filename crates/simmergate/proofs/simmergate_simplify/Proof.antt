@@ -40,11 +40,13 @@ same-length-4 c = search needs
 returns-2 : tie.Need-returns-2
 unfolding answerNumbers
 returns-2 c =
-    let g = c .before .before .before .before .before .before .before .before .before .before .before .before .before .before .before .before .before .before .before .before .before .before .args in
-    let run = c .before .before .before .before .before .before .before .before .before .before .before .before .simplify in
+    let called = c .before .before .before .before .before .before .before .before .before .before .before .before in
+    let g = called .before .before .before .before .before .before .before .before .before .before .args in
+    let run = called .simplify in
     let written = c .before .before .write-numbers in
     simplify-room (g .table .now) (g .answer .now) (lent (g .out .now) (g .steps .now) (g .work .now))
-    (gives (run .result) (run .last .1 .0) (run .last .1 .1 .0) (run .last .1 .1 .1 .0)) (run .ensures) (omega arith) (written .last .0) (written .ensures)
+    (gives (run .result) (run .last .1 .0) (run .last .1 .1 .0) (run .last .1 .1 .1 .0)) (run .ensures) (omega arith)
+    (written .last .0) (written .ensures)
 
 pub simmergate-simplify-spec : {M : Type 1} → statement M
 simmergate-simplify-spec =
