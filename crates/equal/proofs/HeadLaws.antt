@@ -19,7 +19,7 @@ use Rattle.paper.proofs.EncodeLaws.{bits-there}
 use Rattle.paper.proofs.Seen.{Seen, an-integer, a-symbol, seen-power}
 use Rattle.paper.proofs.Stands.{sum-record, product-record, power-record}
 use Rattle.split.specs.Standing.{TreeIn}
-use Rattle.split.proofs.StandingLaws.{seen, record-within, power-tree}
+use Rattle.paper.proofs.StandingLaws.{seen, record-within, power-tree}
 use Rattle.split.proofs.SplitLaws.{term-other}
 use Rattle.equal.specs.Head.{sameHead, beginAlike, isCandidate, isWhole, restsDiffer}
 use Rattle.equal.proofs.SameLaws.{kinds-differ, leaf-records, leaves-equal, leaves-differ, powers-differ, is-different}

@@ -15,7 +15,7 @@ use Rattle.paper.proofs.Bags.{First, removeFirst-first}
 use Rattle.paper.proofs.EncodeLaws.{count-records}
 use Rattle.paper.proofs.WFLaws.{count-list}
 use Rattle.split.specs.Standing.{TreeIn, TreesIn, SomeTree}
-use Rattle.split.proofs.StandingLaws.{FirstOf, first-of, none-of}
+use Rattle.paper.proofs.StandingLaws.{FirstOf, first-of, none-of}
 use Rattle.equal.specs.Matching.{matchOf, without, unmarked, Takeable, Matchable}
 use Rattle.equal.proofs.SameLaws.{taken-length, Nodes}
 use Rattle.equal.proofs.MarkLaws.{unmarked-all}

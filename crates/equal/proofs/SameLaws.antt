@@ -24,7 +24,7 @@ use Rattle.paper.proofs.Equality.{matched-bag}
 use Rattle.paper.proofs.WFLaws.{count-list}
 use Rattle.paper.proofs.Seen.{Seen, an-integer, a-symbol, a-sum, a-product, a-power, seen-sum, seen-product, seen-power}
 use Rattle.split.specs.Standing.{TreeIn, TreesIn}
-use Rattle.split.proofs.StandingLaws.{seen, tree-within, sum-trees, product-trees, power-tree}
+use Rattle.paper.proofs.StandingLaws.{seen, tree-within, sum-trees, product-trees, power-tree}
 use Rattle.equal.specs.Matching.{matchOf, Comparable}
 use Rattle.equal.specs.declared.Match.{Match}
 use Rattle.equal.specs.declared.Match.the-variants.{Different, Ends}

@@ -6,12 +6,13 @@ use mathlib.Core.Bool.{Bool, true, false, cond}
 use native.Mathlib.Nat.{le-div-iff-mul-le, lt-of-not-le, not-le-of-lt}
 use native.Mathlib.Decide.{decLe, decLt}
 use native.Mathlib.Omega.{arith}
-use borrow.Author.Tests.{lt-ltb, le-ltb, le-leb, lt-leb, ltb-true}
+use borrow.Author.Tests.{lt-ltb, le-ltb, le-leb, lt-leb}
 use lib.Dec.{ltb}
 use lib.IntN.{ℤ, pos, negsuc, _+ℤ_, _*ℤ_, subℕ, negℤ, natAbs, +ℤ-comm}
 use lib.Signed.{mag}
 use mir.Syntax.{w64}
 use mir.Facts.{toZ-pos}
+use Rattle.paper.proofs.LikeTermsWF.{fits-true}
 use Rattle.paper.specs.Bytes.{signed, word}
 use Rattle.paper.specs.Rules.{fits}
 use Rattle.paper.specs.WellFormed.{InRange}
@@ -28,16 +29,12 @@ pub numOf-out : (z : ℤ) → 2 ^ 63 ≤ mag z → numOf z ≡ Out
 unfolding numOf fits
 numOf-out z h = rw (le-ltb (mag z) (2 ^ 63) h)
 
-pub fits-range : (z : ℤ) → fits z ≡ true → InRange z
-unfolding fits
-fits-range z e = ltb-true (mag z) (2 ^ 63) e
-
 pub numOf-is : (z : ℤ) (b : ℕ) → numOf z ≡ Is b → (fits z ≡ true) × (b ≡ word z) × (signed b ≡ z)
 unfolding numOf
 numOf-is z b = by (fits z) refl
   where
     by : (t : Bool) → fits z ≡ t → cond t (Is (word z)) Out ≡ Is b → (fits z ≡ true) × (b ≡ word z) × (signed b ≡ z)
-    by true e q = let w : b ≡ word z = cc in (e, w, ap signed w ∙ signed-word z (fits-range z e))
+    by true e q = let w : b ≡ word z = cc in (e, w, ap signed w ∙ signed-word z (fits-true z e))
     by false e q = absurd (let o : _≡_ {A = ℕ} 0 1 = cc in omega arith)
 
 pub numOf-is-out : (z : ℤ) → numOf z ≡ Out → fits z ≡ false

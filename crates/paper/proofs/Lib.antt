@@ -37,6 +37,7 @@ pub mod VerdictLaws
 pub mod TableLaws
 pub mod AcceptedLaws
 pub mod Seen
+pub mod StandingLaws
 pub mod Refusals
 pub mod MayLaws
 pub mod CallLaws

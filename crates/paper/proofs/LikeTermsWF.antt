@@ -28,7 +28,7 @@ pub record TermWF (c : Term) : Type 0 where
   pub rest-wf : WF (c .rest)
   pub coefficient-in-range : c .inRange ≡ true → InRange (c .coefficient)
 
-fits-true : (z : ℤ) → fits z ≡ true → InRange z
+pub fits-true : (z : ℤ) → fits z ≡ true → InRange z
 unfolding fits
 fits-true z h = ltb-true (mag z) (2 ^ 63) h
 

@@ -25,7 +25,7 @@ use Rattle.number.specs.declared.Num.the-variants.{Is, Out}
 use Rattle.number.specs.Num.{numOf}
 use Rattle.number.proofs.NumLaws.{numOf-is, numOf-is-out, add-exponents}
 use Rattle.split.specs.Standing.{TreeIn, SomeTree}
-use Rattle.split.proofs.StandingLaws.{seen}
+use Rattle.paper.proofs.StandingLaws.{seen}
 use Rattle.split.proofs.SplitLaws.{base-power, base-itself}
 use Rattle.part.specs.Like.{Like, split}
 use Rattle.part.specs.Part.{Sized, ShowsTerm, ShowsPower, ShowsNumber, Shows, MergedIs}

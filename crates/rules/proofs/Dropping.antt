@@ -19,7 +19,7 @@ use Rattle.split.specs.Standing.{TreesIn, SomeTree}
 use Rattle.stretch.specs.Put.{put, part}
 use Rattle.write.proofs.Encoded.{recordses-snoc, stands-part, built-more}
 use Rattle.rules.specs.Tried.{Held, MembersIn, Built}
-use Rattle.split.proofs.StandingLaws.{FirstOf, first-of, none-of}
+use Rattle.paper.proofs.StandingLaws.{FirstOf, first-of, none-of}
 use Rattle.rules.proofs.Nodes.{after-first, members-in}
 
 -- what a function that only reads asks for

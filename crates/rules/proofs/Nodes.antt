@@ -22,7 +22,7 @@ use Rattle.paper.specs.Rules.{isThe}
 use Rattle.paper.proofs.WFLaws.{list-count}
 use Rattle.paper.proofs.Seen.{Seen, an-integer, a-symbol, a-sum, a-product, a-power}
 use Rattle.split.specs.Standing.{TreeIn, TreesIn}
-use Rattle.split.proofs.StandingLaws.{FirstOf, first-of, seen, record-within}
+use Rattle.paper.proofs.StandingLaws.{FirstOf, first-of, seen, record-within}
 use Rattle.part.specs.Like.{nodeKind, neutral, nodeOf}
 use Rattle.rules.specs.Tried.{MembersIn}
 

@@ -1,4 +1,3 @@
-pub mod StandingLaws
 pub mod OwedLaws
 pub mod SplitLaws
 pub mod Unique

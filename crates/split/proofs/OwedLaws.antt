@@ -13,7 +13,7 @@ use Rattle.paper.proofs.SkipLaws.{skip-none, skip-one, skip-out, skip-step}
 use Rattle.paper.proofs.TableLaws.{encode-end}
 use lib.ListN.{length}
 use Rattle.split.specs.Standing.{TreeIn}
-use Rattle.split.proofs.StandingLaws.{tree-within}
+use Rattle.paper.proofs.StandingLaws.{tree-within}
 
 -- the trees owed from record `at` on end where the tree t at record i does
 pub record Owed (s : List ℕ) (i : ℕ) (t : Tree) (at owed : ℕ) : Type 0 where

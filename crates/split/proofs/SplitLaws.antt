@@ -20,7 +20,7 @@ use Rattle.split.specs.Standing.{TreeIn, TreesIn, SomeTree, SomeProduct}
 use Rattle.split.specs.Place.{baseAt, hereOr, integerAt, productRest, restAt}
 use Rattle.split.specs.Rest.{Lessened}
 use Rattle.split.specs.declared.Rest.the-variants.{One, At, Without}
-use Rattle.split.proofs.StandingLaws.{seen, tree-within, power-tree, product-trees, FirstOf, first-tree, other-trees, first-of, none-of}
+use Rattle.paper.proofs.StandingLaws.{seen, tree-within, power-tree, product-trees, FirstOf, first-tree, other-trees, first-of, none-of}
 
 -- ---- base and exponent
 module _ {s : List ℕ} {i : ℕ} where

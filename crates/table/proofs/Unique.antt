@@ -47,7 +47,7 @@ stands-once r r′ e = sym (answer-stands r) ∙ ap (λ (v : Verdict). answer (v
 fault-once : (r r′ : Fault) → verdictOf r ≡ verdictOf r′ → r ≡ r′
 fault-once r r′ e = ap (λ (v : Verdict). record { number = v .number; place = v .place }) e
 
-says-once : (r r′ : Measured) → says r ≡ says r′ → r ≡ r′
+pub says-once : (r r′ : Measured) → says r ≡ says r′ → r ≡ r′
 says-once r r′ e = ap (λ (m : paper.Measured). record { number = m .number; place = m .place; result = m .result }) e
 
 pub check-once : (κs : Lfts 1) (a : Dens κs check-kinds.ps) (r r′ : Judged) (x x′ : AtExit (endedOf 1 check-kinds.ps check-kinds.r) κs)

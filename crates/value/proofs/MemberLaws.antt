@@ -1,43 +1,19 @@
 -- Adding up, or multiplying, the values of members one after the other, as a loop does: what is gathered so far, joined with what the
 -- members left would give, stays what all of them give, since the operation modulo 2^64 may be grouped as one likes. Once, for an
 -- operation and what it gives for the members. Assumes nothing.
-use Prim.Native.Nat.{ℕ, suc, _+_, _-_, _*_, _%_, _<_, _≤_}
+use Prim.Native.Nat.{ℕ, _+_, _-_, _*_, _%_, _<_, _≤_}
 use mathlib.Core.Path.{_≡_, refl, sym, ap, _∙_}
 use mathlib.Core.List.{List}
 use native.Mathlib.Nat.{mod-eq-of-lt, mul-assoc}
 use native.Mathlib.Omega.{arith}
 use Rattle.paper.specs.Limits.{modulus}
-use Rattle.paper.specs.Tree.{Tree, Forest, nil, cons, count, records, recordses, value, sumValue, productValue}
-use Rattle.paper.proofs.Stands.{first-member, other-members}
+use Rattle.paper.specs.Tree.{Tree, Forest, nil, cons, records, recordses, value, sumValue, productValue}
+use Rattle.paper.proofs.StandingLaws.{first-of, none-of}
 use Rattle.paper.proofs.Congruence.{agree-refl, agree-sym, agree-trans, agree-mod, agree-mul, agree-of}
 use Rattle.paper.proofs.Value.{sumValue-exact, productValue-exact}
 use Rattle.value.specs.declared.Valued.{Valued}
 use Rattle.paper.specs.Standing.{TreeIn, TreesIn, SomeTree, SomeTrees}
 use Rattle.value.specs.Evaluated.{Evaluated}
-
--- the first of members that are left, and the others
-pub record First (s : List ℕ) (at n : ℕ) (f : Forest) : Type 0 where
-  pub tree : Tree
-  pub others : Forest
-  pub all : f ≡ cons tree others
-  pub standing : TreeIn s at tree
-  pub there : TreesIn s (at + records tree) n others
-
-pub first : {s : List ℕ} {at n : ℕ} (f : Forest) → TreesIn s at (suc n) f → First s at n f
-unfolding count records
-first nil m = absurd (omega (arith, m .counted))
-first (cons t f) m = record {
-  tree = t;
-  others = f;
-  all = refl;
-  standing = record { wf = m .wf .0; few = omega (arith, m .few); stands = first-member t f (m .stand) };
-  there = record { wf = m .wf .1; counted = omega (arith, m .counted); few = omega (arith, m .few); stand = other-members t f (m .stand) };
-}
-
-no-members : {s : List ℕ} {at : ℕ} (f : Forest) → TreesIn s at 0 f → f ≡ nil
-unfolding count
-no-members nil m = refl
-no-members (cons t f) m = absurd (omega (arith, m .counted))
 
 -- `op` gathers, from `unit` on, what `whole` gives for the members
 pub record Gathers (op : ℕ → ℕ → ℕ) (unit : ℕ) (ρ : ℕ → ℕ) (whole : Forest → ℕ) : Type 0 where
@@ -70,29 +46,29 @@ module _ {op : ℕ → ℕ → ℕ} {unit : ℕ} {ρ : ℕ → ℕ} {whole : For
     sized = refl;
   }
 
-  one-fewer : (f : Forest) (total next at n : ℕ) (r : Valued) → Left op whole s i total at (suc n) f
+  one-fewer : (f : Forest) (total next at left : ℕ) (r : Valued) → 0 < left → Left op whole s i total at left f
       → ((t : Tree) → TreeIn s at t → Evaluated at (records t) (value t ρ) r)
-      → next ≡ op total (r .value) % modulus → Left op whole s i next (r .end) n f
+      → next ≡ op total (r .value) % modulus → Left op whole s i next (r .end) (left - 1) f
   unfolding records
-  one-fewer f total next at n r l g e =
-      let m = first (l .rest) (l .there) in
-      let v = g (m .tree) (m .standing) in
+  one-fewer f total next at left r h l g e =
+      let m = first-of (l .rest) (l .there) h in
+      let v = g (m .tree) (m .there) in
       record {
         rest = m .others;
-        there = rw (v .end) (m .there);
+        there = rw (v .end) (m .after);
         gathered =
             ap (λ (n : ℕ). op n (whole (m .others)) % modulus) (e ∙ ap (λ (x : ℕ). op total x % modulus) (v .value))
             ∙ o .grouped total (value (m .tree) ρ) (whole (m .others))
-            ∙ ap (λ (x : ℕ). op total x % modulus) (sym (o .one-more (m .tree) (m .others)) ∙ ap whole (sym (m .all)))
+            ∙ ap (λ (x : ℕ). op total x % modulus) (sym (o .one-more (m .tree) (m .others)) ∙ ap whole (sym (m .whole)))
             ∙ l .gathered;
-        sized = omega (arith, l .sized, v .end, ap recordses (m .all));
+        sized = omega (arith, l .sized, v .end, ap recordses (m .whole));
       }
 
   none-left : (f : Forest) (total at : ℕ) → total < modulus → Left op whole s i total at 0 f
       → Evaluated i (recordses f) (whole f) (record { value = total; end = at })
   unfolding records
   none-left f total at h l =
-      let e = no-members (l .rest) (l .there) in
+      let e = none-of (l .rest) (l .there) refl in
       record {
         value =
             sym (mod-eq-of-lt h)
@@ -108,21 +84,19 @@ module _ {op : ℕ → ℕ → ℕ} {unit : ℕ} {ρ : ℕ → ℕ} {whole : For
   module _ {n total at left : ℕ} (l : Gathering op whole s i n total at left) where
     pub member-there : SomeTrees s i n → 0 < left → SomeTree s at
     member-there m h =
-        let e : left ≡ suc (left - 1) = omega arith in
         let k = l .each (m .trees) (m .there) in
-        let q = first (k .rest) (rw e at (k .there)) in
-        record { tree = q .tree; there = q .standing }
+        let q = first-of (k .rest) (k .there) h in
+        record { tree = q .tree; there = q .there }
 
     pub goes-on : SomeTrees s i n → 0 < left → (r : Valued)
         → ((t : Tree) → TreeIn s at t → Evaluated at (records t) (value t ρ) r) → (next : ℕ) → next ≡ op total (r .value) % modulus
         → Gathering op whole s i n next (r .end) (left - 1)
     goes-on m h r g next e =
-        let d : left ≡ suc (left - 1) = omega arith in
         let q = member-there m h in
         record {
           ahead = omega (arith, l .ahead, g (q .tree) (q .there) .end);
           fits = rw e (omega arith);
-          each = λ f k. one-fewer f total next at (left - 1) r (rw d at (l .each f k)) g e;
+          each = λ f k. one-fewer f total next at left r h (l .each f k) g e;
         }
 
     pub ends : left ≤ 0 → (f : Forest) → TreesIn s i n f → Evaluated i (recordses f) (whole f) (record { value = total; end = at })

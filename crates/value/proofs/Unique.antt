@@ -1,17 +1,13 @@
 -- Two answers that meet the contract of `value`, as the check reads it from the source, are the same: the contract tells each field.
 -- Assumes nothing.
-use mathlib.Core.Path.{_≡_, sym, ap, _∙_}
+use mathlib.Core.Path.{_≡_, sym, _∙_}
 use borrow.Fn.Kinds.{Dens, endedOf}
 use contract.Lifetimes.{Lfts}
 use denote.Triple.Clauses.{AtExit}
-use Rattle.paper.specs.Answers as paper
-use Rattle.table.specs.Measured.{says}
+use Rattle.table.proofs.Unique.{says-once}
 use Rattle.table.specs.declared.Measured.{Measured}
 use Rattle.value.proofs.value.Reads as reads
 use Rattle.value.proofs.value.Kinds as kinds
-
-says-once : (r r′ : Measured) → says r ≡ says r′ → r ≡ r′
-says-once r r′ e = ap (λ (m : paper.Measured). record { number = m .number; place = m .place; result = m .result }) e
 
 pub value-once : (κs : Lfts 2) (a : Dens κs kinds.ps) (r r′ : Measured) (x x′ : AtExit (endedOf 2 kinds.ps kinds.r) κs)
     → reads.Post κs a r x → reads.Post κs a r′ x′ → r ≡ r′

@@ -20,7 +20,7 @@ use Rattle.paper.proofs.Stands.{Stands}
 use Rattle.stretch.specs.Put.{put, part}
 use Rattle.stretch.proofs.Laws.{length-part, drop-put, drop-put-at, put-put, put-none, getD-put-before, getD-put-after}
 use Rattle.split.specs.Standing.{TreeIn, TreesIn}
-use Rattle.split.proofs.StandingLaws.{FirstOf, first-of, none-of}
+use Rattle.paper.proofs.StandingLaws.{FirstOf, first-of, none-of}
 use Rattle.write.proofs.Encoded.{recordses-snoc}
 use Rattle.walk.specs.Listed.{entryOf, entriesOf, Entry, Entries, Listable, ListedIs}
 

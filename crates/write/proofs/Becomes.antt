@@ -26,7 +26,7 @@ use Rattle.number.proofs.NumLaws.{numOf-is, numOf-is-out}
 use Rattle.paper.proofs.Congruence.{word-lt}
 use Rattle.stretch.specs.Put.{put}
 use Rattle.split.specs.Standing.{TreeIn}
-use Rattle.split.proofs.StandingLaws.{seen}
+use Rattle.paper.proofs.StandingLaws.{seen}
 use Rattle.part.specs.Part.{ShowsTerm, ShowsPower, ShowsNumber}
 use Rattle.part.proofs.PartLaws.{same-bits}
 use Rattle.write.specs.Written.{timed, WrittenIs, Fitting}

@@ -17,7 +17,7 @@ use Rattle.paper.proofs.Stands.{Stands, stands-first, stands-next}
 use Rattle.stretch.specs.Put.{put}
 use Rattle.split.specs.Standing.{TreeIn}
 use Rattle.split.specs.Rest.{Lessened}
-use Rattle.split.proofs.StandingLaws.{tree-within}
+use Rattle.paper.proofs.StandingLaws.{tree-within}
 use Rattle.write.specs.Written.{Gap}
 use Rattle.write.proofs.Encoded.{encodes-append, recordses-append, two-puts}
 use Rattle.write.proofs.WriteLaws.{ProductAt, product-at, longer-written}

@@ -17,7 +17,7 @@ use Rattle.paper.proofs.Stands.{Stands}
 use Rattle.paper.proofs.Seen.{seen-product}
 use Rattle.stretch.specs.Put.{put}
 use Rattle.split.specs.Standing.{TreeIn}
-use Rattle.split.proofs.StandingLaws.{seen, product-trees, tree-within}
+use Rattle.paper.proofs.StandingLaws.{seen, product-trees, tree-within}
 use Rattle.part.specs.Like.{Like, join}
 use Rattle.part.specs.Part.{Sized, Shows, ShowsTerm, ShowsPower, ShowsNumber}
 use Rattle.part.specs.declared.Part.{Part}

@@ -8,7 +8,7 @@ use borrow.Author.Needs.{needs}
 use Rattle.paper.specs.Tree.{Tree}
 use Rattle.paper.specs.Rules.{factorOf}
 use Rattle.split.specs.Standing.{TreeIn}
-use Rattle.split.proofs.StandingLaws.{record-within}
+use Rattle.paper.proofs.StandingLaws.{record-within}
 use Rattle.part.specs.Part.{ShowsNumber}
 use Rattle.part.proofs.PartLaws.{no-integer-there, number-part, number-apart, number-times, number-times-over}
 use Rattle.part.proofs.PartLaws.{number-other, number-raised, number-raised-over}

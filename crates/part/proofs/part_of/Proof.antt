@@ -7,7 +7,7 @@ use native.Mathlib.Omega.{arith}
 use Rattle.paper.specs.Tree.{Tree}
 use Rattle.paper.specs.Rules.{asInteger, factorOf}
 use Rattle.split.specs.Standing.{TreeIn}
-use Rattle.split.proofs.StandingLaws.{record-within}
+use Rattle.paper.proofs.StandingLaws.{record-within}
 use Rattle.part.proofs.PartLaws.{term-part, number-part, no-integer-there, power-part, base-part, power-two}
 use Rattle.part.proofs.part_of.Statement.{statement}
 use Rattle.part.proofs.part_of.Tie as tie

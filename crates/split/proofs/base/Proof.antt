@@ -2,7 +2,7 @@
 -- Assumes nothing.
 use mathlib.Core.Path.{sym, _∙_}
 use native.Mathlib.Omega.{arith}
-use Rattle.split.proofs.StandingLaws.{record-within}
+use Rattle.paper.proofs.StandingLaws.{record-within}
 use Rattle.split.proofs.SplitLaws.{base-power, base-itself, base-behind, base-here}
 use Rattle.split.proofs.base.Statement.{statement}
 use Rattle.split.proofs.base.Tie as tie

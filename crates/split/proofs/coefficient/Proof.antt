@@ -4,7 +4,7 @@ use mathlib.Core.Path.{sym, ap, _∙_}
 use native.Mathlib.Omega.{arith}
 use Rattle.paper.specs.Bytes.{signed}
 use Rattle.paper.specs.Rules.{Term, term}
-use Rattle.split.proofs.StandingLaws.{record-within}
+use Rattle.paper.proofs.StandingLaws.{record-within}
 use Rattle.split.proofs.SplitLaws.{term-integer, term-other, some-product, split-product, split-none, split-within, split-number}
 use Rattle.split.proofs.coefficient.Statement.{statement}
 use Rattle.split.proofs.coefficient.Tie as tie

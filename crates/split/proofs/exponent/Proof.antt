@@ -3,7 +3,7 @@ use mathlib.Core.Path.{_≡_, sym, _∙_}
 use native.Mathlib.Omega.{arith}
 use lib.Dec.{lit<}
 use Rattle.paper.specs.Record.{kind}
-use Rattle.split.proofs.StandingLaws.{record-within}
+use Rattle.paper.proofs.StandingLaws.{record-within}
 use Rattle.split.proofs.SplitLaws.{some-base, ExponentAt, exponent-power, exponent-itself}
 use Rattle.split.proofs.exponent.Statement.{statement}
 use Rattle.split.proofs.exponent.Tie as tie

@@ -3,7 +3,7 @@
 use native.Mathlib.Omega.{arith}
 use Rattle.paper.specs.Tree.{Forest, product}
 use Rattle.split.specs.Standing.{TreeIn}
-use Rattle.split.proofs.StandingLaws.{record-within}
+use Rattle.paper.proofs.StandingLaws.{record-within}
 use Rattle.split.proofs.SplitLaws.{Searched, searched-start, searched-tree, searched-here, searched-later, searched-none}
 use Rattle.split.proofs.first_integer.Statement.{statement}
 use Rattle.split.proofs.first_integer.Tie as tie

@@ -4,7 +4,7 @@ use mathlib.Core.Path.{refl, sym, ap, _∙_, subst}
 use native.Mathlib.Omega.{arith}
 use Rattle.paper.specs.Rules.{Term, term}
 use Rattle.split.specs.Standing.{TreeIn}
-use Rattle.split.proofs.StandingLaws.{record-within}
+use Rattle.paper.proofs.StandingLaws.{record-within}
 use Rattle.split.proofs.SplitLaws.{term-integer, term-other, some-product, split-product, split-none}
 use Rattle.split.proofs.SplitLaws.{rest-without, rest-second, rest-first}
 use Rattle.split.proofs.SplitLaws.{place-integer, place-other, place-whole, place-without, place-second, place-first}

@@ -6,7 +6,7 @@ use lib.ListN.{length}
 use Rattle.paper.specs.Record.{kind}
 use Rattle.paper.specs.Tree.{Tree}
 use Rattle.split.specs.Standing.{TreeIn}
-use Rattle.split.proofs.StandingLaws.{record-within}
+use Rattle.paper.proofs.StandingLaws.{record-within}
 use Rattle.split.proofs.OwedLaws.{Owed, owed-one, owed-within, owed-step, owed-none, leaf-owes-none}
 use Rattle.split.proofs.skip_tree.Statement.{statement}
 use Rattle.split.proofs.skip_tree.Tie as tie

@@ -5,7 +5,7 @@ use mathlib.Core.Path.{_∙_}
 use native.Mathlib.Omega.{arith}
 use borrow.Author.Needs.{needs}
 use Rattle.paper.specs.Tree.{Tree}
-use Rattle.split.proofs.StandingLaws.{record-within}
+use Rattle.paper.proofs.StandingLaws.{record-within}
 use Rattle.part.specs.Part.{Sized}
 use Rattle.walk.specs.Listed.{Entry as Listed}
 use Rattle.walk.proofs.EntryLaws.{entry-there}

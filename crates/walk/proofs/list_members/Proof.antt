@@ -8,7 +8,7 @@ use native.Mathlib.Omega.{arith}
 use borrow.Author.Needs.{needs}
 use lib.ListN.{length}
 use Rattle.paper.specs.Tree.{Forest}
-use Rattle.split.proofs.StandingLaws.{FirstOf}
+use Rattle.paper.proofs.StandingLaws.{FirstOf}
 use Rattle.walk.specs.Listed.{Listable}
 use Rattle.walk.proofs.EntryLaws.{Listing, listing-begins, head, listing-more, listing-ends}
 use Rattle.walk.proofs.list_members.Statement.{statement}

@@ -2,7 +2,7 @@
 -- asked for. Assumes nothing.
 use native.Mathlib.Omega.{arith}
 use borrow.Author.Needs.{needs}
-use Rattle.split.proofs.StandingLaws.{record-within}
+use Rattle.paper.proofs.StandingLaws.{record-within}
 use Rattle.walk.proofs.EntryLaws.{entry-there}
 use Rattle.walk.proofs.meet.Statement.{statement}
 use Rattle.walk.proofs.meet.Tie as tie

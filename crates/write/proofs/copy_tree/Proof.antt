@@ -5,7 +5,7 @@ use native.Mathlib.Omega.{arith}
 use lib.ListN.{length}
 use Rattle.paper.specs.Table.{encode}
 use Rattle.paper.proofs.EncodeLaws.{encode-length}
-use Rattle.split.proofs.StandingLaws.{tree-within}
+use Rattle.paper.proofs.StandingLaws.{tree-within}
 use Rattle.write.proofs.Encoded.{copied}
 use borrow.Author.Needs.{needs}
 use Rattle.write.proofs.copy_tree.Statement.{statement}

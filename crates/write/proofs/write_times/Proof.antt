@@ -12,7 +12,7 @@ use Rattle.paper.specs.Bytes.{signed}
 use Rattle.paper.specs.Tree.{Tree, integer, product, toList, ofList, records}
 use Rattle.paper.proofs.EncodeLaws.{records-pos}
 use Rattle.split.specs.Standing.{TreeIn}
-use Rattle.split.proofs.StandingLaws.{record-within}
+use Rattle.paper.proofs.StandingLaws.{record-within}
 use Rattle.part.specs.Part.{Sized}
 use Rattle.part.proofs.PartLaws.{sized, integer-there}
 use Rattle.write.specs.Written.{timed}

@@ -9,7 +9,7 @@ use native.Mathlib.Omega.{arith}
 use lib.ListN.{length}
 use Rattle.paper.specs.Bytes.{signed}
 use Rattle.paper.specs.Tree.{Tree, integer, product, toList, ofList}
-use Rattle.split.proofs.StandingLaws.{record-within}
+use Rattle.paper.proofs.StandingLaws.{record-within}
 use Rattle.split.specs.Rest.{Lessened}
 use Rattle.write.specs.Written.{timed}
 use Rattle.write.proofs.Becomes.{Becomes, room, written, one-becomes, longer-becomes}

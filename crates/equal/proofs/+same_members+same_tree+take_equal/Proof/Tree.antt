@@ -10,7 +10,7 @@ use lib.ListN.{length, getD}
 use Rattle.paper.specs.Record.{kind, countIn}
 use Rattle.paper.specs.Tree.{Tree, records}
 use Rattle.split.specs.Standing.{TreeIn}
-use Rattle.split.proofs.StandingLaws.{record-within}
+use Rattle.paper.proofs.StandingLaws.{record-within}
 use Rattle.equal.proofs.SameLaws.{is-equal, is-different, kinds-differ, leaf-records, leaves-equal, leaves-differ}
 use Rattle.equal.proofs.SameLaws.{PowersEnd, powers-pair, powers-differ, powers-end, Nodes, nodes, counts-differ}
 use Rattle.equal.proofs.MarkLaws.{cleared}

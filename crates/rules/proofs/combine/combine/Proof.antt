@@ -7,7 +7,7 @@ use native.Mathlib.Omega.{arith}
 use borrow.Author.Needs.{needs}
 use Rattle.paper.specs.Tree.{Tree, toList}
 use Rattle.part.specs.Like.{nodeOf}
-use Rattle.split.proofs.StandingLaws.{record-within}
+use Rattle.paper.proofs.StandingLaws.{record-within}
 use Rattle.walk.specs.Listed.{ListedIs}
 use Rattle.walk.specs.Walked.{cameOut, CameOut, Says, WalkedIs}
 use Rattle.walk.specs.declared.Walked.{Walked as Answer}

@@ -12,7 +12,7 @@ use Rattle.paper.specs.Tree.{Forest, toList, records}
 use Rattle.paper.specs.Rules.{isThe, anyOf}
 use Rattle.split.specs.Standing.{TreesIn, SomeTree}
 use Rattle.rules.specs.Tried.{MembersIn}
-use Rattle.split.proofs.StandingLaws.{FirstOf, first-of, none-of}
+use Rattle.paper.proofs.StandingLaws.{FirstOf, first-of, none-of}
 use Rattle.rules.proofs.Nodes.{after-first, members-in, node-within}
 use Rattle.rules.proofs.members.any_member.Statement.{statement}
 use Rattle.rules.proofs.members.any_member.Tie as tie

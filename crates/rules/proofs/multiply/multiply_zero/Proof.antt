@@ -11,7 +11,7 @@ use lib.IntN.{pos}
 use Rattle.paper.specs.Tree.{Tree, integer, toList, records}
 use Rattle.paper.specs.Rules.{isThe, anyOf}
 use Rattle.paper.proofs.EncodeLaws.{records-pos}
-use Rattle.split.proofs.StandingLaws.{record-within}
+use Rattle.paper.proofs.StandingLaws.{record-within}
 use Rattle.rules.specs.Asked.{Ready}
 use Rattle.rules.proofs.Dropping.{held-members}
 use Rattle.rules.proofs.RuleLaws.{ready-tree, ready-length, ready-after, IsNode, is-node, zeroes, looks-elsewhere, finds, finds-none, zero-put}

@@ -5,12 +5,12 @@ use mathlib.Core.Path.{_≡_, refl, sym}
 use mathlib.Core.List.{List}
 use native.Mathlib.Omega.{arith}
 use lib.ListN.{length}
 use Rattle.paper.specs.Record.{countIn}
 use Rattle.paper.specs.Tree.{Tree, Forest, sum, product, power, nil, cons, count, records, recordses}
 use Rattle.paper.proofs.EncodeLaws.{records-pos}
 use Rattle.paper.proofs.Stands.{first-member, other-members}
 use Rattle.paper.proofs.Seen.{Seen, see, a-sum, a-product, a-power, SeenPower, stands-within}
-use Rattle.split.specs.Standing.{TreeIn, TreesIn}
+use Rattle.paper.specs.Standing.{TreeIn, TreesIn}
 
 module _ {s : List ℕ} {i : ℕ} {t : Tree} (h : TreeIn s i t) where
   -- its records lie in the table, and it has one or more
