@@ -12,7 +12,7 @@
 #include <stdlib.h>
 #include <string.h>
 
-#define MOST_BYTES 49152 /* of a table; its weight is then at most 3,072 */
+#define MOST_BYTES 49152 /* of a table; one that is accepted weighs at most 3,072 */
 
 static uint8_t table[MOST_BYTES + 1];                  /* one byte more, to see that a file is too long */
 static uint8_t out[MOST_BYTES], steps[3072], work[65536]; /* enough for every table that is accepted */
