@@ -45,6 +45,10 @@ pub mod JudgementLaws
 pub mod Simplified
 pub mod DemandLaws
 pub mod Takeover
+pub mod ValueKept
 pub mod Computes
 pub mod Starred
 pub mod WorthlessLaws
+pub mod Said
+pub mod WalkFuel
+pub mod RangeLaws

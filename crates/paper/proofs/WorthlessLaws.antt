@@ -11,17 +11,17 @@ use lib.ListN.{replicate, length-replicate}
 use lib.IntN.{pos, negsuc}
 use lib.Dec.{lit<, lit≤}
 use Rattle.paper.specs.Limits.{maxWeight, workBytes}
-use Rattle.paper.specs.Tree.{Tree, integer, symbol, sum, product, nil, cons, weight, value}
+use Rattle.paper.specs.Tree.{Tree, integer, symbol, sum, product, power, nil, cons, weight, value}
 use Rattle.paper.specs.WellFormed.{WF}
 use Rattle.paper.specs.Table.{encode, treeOf}
 use Rattle.paper.specs.Verdict.{accepted}
 use Rattle.paper.specs.Rules.{editionOne}
-use Rattle.paper.specs.Driver.{Ran, done, over, no-rule, step, ask, simplify}
-use Rattle.paper.specs.Admits.{AdmitsNone, admits-none}
+use Rattle.paper.specs.Driver.{Ran, done, over, no-rule, step, ask, members, simplify}
+use Rattle.paper.specs.Admits.{AdmitsNone, admits-none, AllAdmitNone, and-more}
 use Rattle.paper.specs.Answers.{Lent, ran, judgement, cramped, refusal, ranAnswer, written, outAfter, lentAfter, simplifiedBy}
 use Rattle.paper.specs.Demands.{Simplifier, result, Refuses, RunsOver, Follows, Finishes, KeepsValue}
 use Rattle.paper.specs.Takeover.{Room}
-use Rattle.paper.specs.Worthless.{RefusesEverything, refusesAll, returnsZero, returnsInput, firstPass, passesOnce, oneStepMore}
+use Rattle.paper.specs.Worthless.{RefusesEverything, refusesAll, returnsZero, returnsInput, firstPass, passesOnce, rootOnly, staysAtRoot, oneStepMore}
 use Rattle.paper.specs.Worthless.{oneOpeningMore, inventsSteps, inventsOpenings}
 use Rattle.paper.proofs.EncodeLaws.{encode-bytes}
 use Rattle.paper.proofs.TableLaws.{encode-weight, written-accepted}
@@ -197,6 +197,47 @@ pass-is-refused f =
 
     once-light : weight once ≤ maxWeight
     once-light = unfold once weight in (lit≤ tt)
+
+-- one that never enters a member, by the same clause at a member: (a + a)^2 stays as it is, and its base admits step 2
+twice : Tree
+twice = sum (cons (symbol 0) (cons (symbol 0) nil))
+
+inside : Tree
+inside = power twice 2
+
+pub root-is-refused : ¬ Finishes staysAtRoot
+unfolding staysAtRoot ranAnswer
+root-is-refused f =
+    let g = gives inside inside-wf inside-light (λ t. rootOnly editionOne (weight t) t) inside [] 0 stays in
+    let r = tree-of-written inside inside-wf inside-light in
+    let x = f (encode inside) (encode-bytes inside) (areas (weight inside)) (ap (λ y. y .number) (g .answer)) inside r in
+    let u : x .0 ≡ inside = same-tree (x .1) (ap treeOf (g .bytes) ∙ r) in
+    base-admits (subst (AdmitsNone editionOne) u (x .2))
+  where
+    inside-wf : WF inside
+    inside-wf = unfold inside twice trees-compute in ((lit≤ tt, (lit< tt, (lit< tt, tt))), lit≤ tt, lit< tt)
+
+    inside-light : weight inside ≤ maxWeight
+    inside-light = unfold inside twice weight in (lit≤ tt)
+
+    stays : rootOnly editionOne (weight inside) inside ≡ done inside [] 0
+    stays = unfold inside twice rootOnly driver-computes trees-compute in refl
+
+    double : Tree
+    double = product (cons (integer (pos 2)) (cons (symbol 0) nil))
+
+    step-inside : ask editionOne twice ≡ step 2 double
+    step-inside = unfold twice driver-computes in refl
+
+    its-members : members inside ≡ twice ∷ integer (pos 2) ∷ []
+    its-members = unfold inside members in refl
+
+    first-of : {t : Tree} {l : List Tree} → AllAdmitNone editionOne (t ∷ l) → AdmitsNone editionOne t
+    first-of (and-more h hs) = h
+
+    base-admits : ¬ AdmitsNone editionOne inside
+    base-admits (admits-none a o ms) =
+        admits-a-rule twice double 2 step-inside (first-of (subst (AllAdmitNone editionOne) its-members ms))
 
 -- ---- "Invented steps or openings fall to demand 2, since both are those of the driver."
 module _ where

@@ -20,3 +20,4 @@ pub mod Takeover
 pub mod Worthless
 pub mod Examples
 pub mod Once
+pub mod Sayings
