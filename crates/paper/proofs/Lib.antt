@@ -52,3 +52,7 @@ pub mod WorthlessLaws
 pub mod Said
 pub mod WalkFuel
 pub mod RangeLaws
+pub mod Stored
+pub mod Bounds
+pub mod Slices
+pub mod JudgedRange

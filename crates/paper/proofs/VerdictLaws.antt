@@ -35,7 +35,7 @@ pub record Passes (s : List ℕ) : Type 0 where
   pub light : tableWeight s ≤ maxWeight
   pub ends : treeEnd s (recordsIn s) 0 ≡ recordsIn s
 
-good-length : (m : ℕ) → GoodLength m → badLength m ≡ false
+pub good-length : (m : ℕ) → GoodLength m → badLength m ≡ false
 unfolding badLength
 good-length m h = rw (ne-eqb m 0 (ne-of-gt (h .positive)), h .sixteens, le-ltb maxBytes m (h .short))
 

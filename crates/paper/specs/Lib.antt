@@ -21,3 +21,6 @@ pub mod Worthless
 pub mod Examples
 pub mod Once
 pub mod Sayings
+pub mod Stored
+pub mod Bounds
+pub mod Slices
