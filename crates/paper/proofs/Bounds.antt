@@ -1,4 +1,4 @@
--- The limits in figures hold: of weight and areas by the laws of the verdict and of the judgement, the others by computation.
+-- The limits in figures hold: of weight and areas by the laws of the verdict and of the judgement, of the registers by computation.
 -- Assumes nothing.
 use Prim.Native.Nat.{ℕ, _+_, _*_, _≤_, _<_}
 use mathlib.Core.Path.{_≡_, refl, _∙_}
@@ -13,13 +13,11 @@ use Rattle.paper.specs.WellFormed.{WF}
 use Rattle.paper.specs.Record.{weightFrom}
 use Rattle.paper.specs.Table.{encode}
 use Rattle.paper.specs.Verdict.{accepted, refused, isAccepted, recordsIn, firstFlawed, tableWeight, judgeRecords, verdict}
-use Rattle.paper.specs.Equal.{one}
-use Rattle.paper.specs.Answers.{Lent, turnedDown, equalTrees, compared, judgement}
-use Rattle.paper.specs.Calls.{measuredNumbers, comparedNumbers, eights, tooShort, answered, valueAnswers, equalAnswers}
+use Rattle.paper.specs.Answers.{Lent, judgement}
 use Rattle.paper.specs.Refusals.{Under, out-under, steps-under, work-under}
 use Rattle.paper.specs.Takeover.{Room}
-use Rattle.paper.specs.Bounds.{Weights, Rooms, Registers, Compares, Flaws}
-use Rattle.paper.proofs.Computes.{record-computes, answers-compute}
+use Rattle.paper.specs.Bounds.{Weights, Rooms, RegisterBytes}
+use Rattle.paper.proofs.Computes.{answers-compute}
 use Rattle.paper.proofs.EncodeLaws.{encode-length, records-pos}
 use Rattle.paper.proofs.Stands.{stands-whole}
 use Rattle.paper.proofs.FirstLaws.{All, no-flaw}
@@ -70,14 +68,6 @@ rooms = record {
   table-first = table-first;
 }
 
-pub registers : Registers
-unfolding answers-compute measuredNumbers eights tooShort answered valueAnswers
-registers = record { one-fewer = refl; one-more = refl; first-last = refl; second = refl; as-bytes = refl }
-
-pub compares : Compares
-unfolding answers-compute turnedDown equalTrees compared one comparedNumbers eights tooShort answered equalAnswers
-compares = record { any-order = refl; another = refl; as-bytes = refl; refused-as-bytes = refl }
-
-pub flaws : Flaws
-unfolding record-computes
-flaws = record { kind-first = refl; lowest-byte = refl; byte-first = refl; count-last = refl }
+pub register-bytes : RegisterBytes
+unfolding answers-compute
+register-bytes = record { one-fewer = refl; exactly = refl; one-more = refl }

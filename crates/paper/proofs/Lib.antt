@@ -56,3 +56,4 @@ pub mod Stored
 pub mod Bounds
 pub mod Slices
 pub mod JudgedRange
+pub mod SmallTables

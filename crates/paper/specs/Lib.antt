@@ -24,3 +24,5 @@ pub mod Sayings
 pub mod Stored
 pub mod Bounds
 pub mod Slices
+pub mod SmallTables
+pub mod WorthlessKinds
