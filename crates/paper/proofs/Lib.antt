@@ -57,3 +57,6 @@ pub mod Bounds
 pub mod Slices
 pub mod JudgedRange
 pub mod SmallTables
+pub mod PlaceOfSeven
+pub mod Told
+pub mod AlikeLaws

@@ -26,3 +26,4 @@ pub mod Bounds
 pub mod Slices
 pub mod SmallTables
 pub mod WorthlessKinds
+pub mod Told
