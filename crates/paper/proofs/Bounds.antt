@@ -13,10 +13,10 @@ use Rattle.paper.specs.WellFormed.{WF}
 use Rattle.paper.specs.Record.{weightFrom}
 use Rattle.paper.specs.Table.{encode}
 use Rattle.paper.specs.Verdict.{accepted, refused, isAccepted, recordsIn, firstFlawed, tableWeight, judgeRecords, verdict}
-use Rattle.paper.specs.Answers.{Lent, judgement}
+use Rattle.paper.specs.Answers.{Lent, cramped, judgement}
 use Rattle.paper.specs.Refusals.{Under, out-under, steps-under, work-under}
 use Rattle.paper.specs.Takeover.{Room}
-use Rattle.paper.specs.Bounds.{Weights, Rooms, RegisterBytes}
+use Rattle.paper.specs.Bounds.{Weights, Rooms, Cramped, RegisterBytes}
 use Rattle.paper.proofs.Computes.{answers-compute}
 use Rattle.paper.proofs.EncodeLaws.{encode-length, records-pos}
 use Rattle.paper.proofs.Stands.{stands-whole}
@@ -66,6 +66,15 @@ rooms = record {
   steps-under = λ s l v h. under s l v (steps-under h);
   work-under = λ s l v h. under s l v (work-under h);
   table-first = table-first;
+}
+
+pub crampeds : Cramped
+unfolding cramped
+crampeds = record {
+  out-31 = λ steps work. refl;
+  steps-1 = λ work. refl;
+  work-65535 = λ work e. rw e refl;
+  work-65536 = λ work e. rw e refl;
 }
 
 pub register-bytes : RegisterBytes

@@ -23,7 +23,7 @@ module _ {A : Type 0} where
   lastFirst-length (a ∷ l) = ap suc (init-length a l)
 
 module _ {P : Type 0} (merge : P → P → Option P) where
-  turn-later : (n : ℕ) (c : P) (passed l : List P) → length (turn merge n c passed l .later) ≤ length passed + length l
+  pub turn-later : (n : ℕ) (c : P) (passed l : List P) → length (turn merge n c passed l .later) ≤ length passed + length l
   unfolding turn oneRemoved
   turn-later zero c passed l = omega (arith, length-append passed l)
   turn-later (suc n) c passed [] = omega arith
@@ -86,7 +86,7 @@ module _ {P : Type 0} (merge : P → P → Option P) where
   unfolding walk
   walk-turns n m c l h = ap (λ (t : Turn P). onto t (walk merge m (t .later))) (turn-fuel (length l) n c [] l (omega arith) h)
 
-map-length : {A B : Type 0} (f : A → B) (l : List A) → length (map f l) ≡ length l
+pub map-length : {A B : Type 0} (f : A → B) (l : List A) → length (map f l) ≡ length l
 map-length f [] = refl
 map-length f (a ∷ l) = ap suc (map-length f l)
 

@@ -2,16 +2,20 @@
 -- would let pass, whatever these were. (The length of a table: Sayings, `lengths`; the answer slices: Slices.)
 use Prim.Native.Nat.{ℕ, _*_, _≤_, _<_}
 use mathlib.Core.Path.{_≡_}
+use mathlib.Core.Bool.{true, false}
 use mathlib.Core.List.{List}
 use lib.ListN.{length, replicate}
 use Rattle.paper.specs.Tree.{Tree, symbol, records, weight}
 use Rattle.paper.specs.WellFormed.{WF}
 use Rattle.paper.specs.Table.{encode}
 use Rattle.paper.specs.Verdict.{accepted, refused, tableWeight, verdict}
-use Rattle.paper.specs.Answers.{Lent, valued, judgement}
+use Rattle.paper.specs.Answers.{Lent, valued, cramped, judgement}
 
 abbrev a : Tree
 a = symbol 0
+
+abbrev areas : List ℕ → List ℕ → List ℕ → Lent
+areas out steps work = record { out = out; steps = steps; work = work }
 
 -- 3: "W is over 3,072", for the records of any tree that is no longer than a table may be
 pub record Weights : Type 0 where
@@ -26,6 +30,13 @@ pub record Rooms : Type 0 where
   pub steps-under : (s : List ℕ) (l : Lent) → verdict s ≡ accepted → length (l .steps) < tableWeight s → judgement s l ≡ refused 6 0
   pub work-under : (s : List ℕ) (l : Lent) → verdict s ≡ accepted → length (l .work) < 65536 → judgement s l ≡ refused 6 0
   pub table-first : (s : List ℕ) (l : Lent) → 0 < verdict s .number → judgement s l ≡ verdict s
+
+-- the same of areas for a weight of 2: 32 bytes of `out` and 2 of `steps`, or one fewer
+pub record Cramped : Type 0 where
+  pub out-31 : (steps work : List ℕ) → cramped 2 (areas (replicate 31 0) steps work) ≡ true
+  pub steps-1 : (work : List ℕ) → cramped 2 (areas (replicate 32 0) (replicate 1 0) work) ≡ true
+  pub work-65535 : (work : List ℕ) → length work ≡ 65535 → cramped 2 (areas (replicate 32 0) (replicate 2 0) work) ≡ true
+  pub work-65536 : (work : List ℕ) → length work ≡ 65536 → cramped 2 (areas (replicate 32 0) (replicate 2 0) work) ≡ false
 
 -- 6 of the evaluator: "the registers come as 2,048 bytes ..; any other length is 6"
 pub record RegisterBytes : Type 0 where

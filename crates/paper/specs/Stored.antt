@@ -62,6 +62,8 @@ stored =
     ∷ gives (plus (times (i 1 ∷ i 1 ∷ []) ∷ i 1 ∷ [])) 5 (i 2) (2 ∷ []) 0 1
     ∷ gives (plus (times (i 1 ∷ a ∷ b ∷ []) ∷ a ∷ a ∷ [])) 15 (plus (times (a ∷ b ∷ []) ∷ times (i 2 ∷ a ∷ []) ∷ [])) (2 ∷ []) 0 13
     ∷ gives (plus (times (i 2 ∷ times (a ∷ b ∷ []) ∷ []) ∷ times (b ∷ a ∷ []) ∷ [])) 17 (times (a ∷ b ∷ i 3 ∷ [])) (2 ∷ []) 0 8
+    -- "the product of the others in order": a*2*b + b*a gives a*b*3 (by the paper's words; no stored row has it)
+    ∷ gives (plus (times (a ∷ i 2 ∷ b ∷ []) ∷ times (b ∷ a ∷ []) ∷ [])) 16 (times (a ∷ b ∷ i 3 ∷ [])) (2 ∷ []) 0 8
     -- "not equal multiset", "sum in sum is not opened for equality"
     ∷ gives (plus (times (plus (a ∷ a ∷ b ∷ []) ∷ c ∷ []) ∷ times (plus (a ∷ b ∷ b ∷ []) ∷ c ∷ []) ∷ [])) 29
     (plus (times (plus (times (i 2 ∷ a ∷ []) ∷ b ∷ []) ∷ c ∷ []) ∷ times (plus (a ∷ times (i 2 ∷ b ∷ []) ∷ []) ∷ c ∷ []) ∷ [])) (2 ∷ 2 ∷ []) 0 27
