@@ -1,9 +1,10 @@
 -- The worthless simplifiers are turned away, each at the field that the paper names for it: one small table apiece that breaks
 -- the field. The tables are the records of a tree (TableLaws), the lent areas have just the room that 6 asks for, and what the
 -- simplifier makes of them is read off the cases of a call (CallLaws). Assumes nothing.
-use Prim.Native.Nat.{ℕ, zero, suc, _*_, _≤_, _<_}
+use Prim.Native.Nat.{ℕ, zero, suc, _+_, _*_, _≤_, _<_}
 use mathlib.Core.Path.{_≡_, refl, sym, ap, _∙_, subst}
 use mathlib.Core.List.{List, [], _∷_}
+use mathlib.Core.Option.{some}
 use mathlib.Core.Logic.{_⊎_, inl, inr}
 use native.Mathlib.Nat.{eq-or-lt-of-le}
 use native.Mathlib.Omega.{arith}
@@ -11,6 +12,7 @@ use lib.ListN.{replicate, length-replicate}
 use lib.IntN.{pos, negsuc}
 use lib.Dec.{lit<, lit≤}
 use Rattle.paper.specs.Limits.{maxWeight, workBytes}
+use Rattle.paper.specs.Bytes.{Bytes}
 use Rattle.paper.specs.Tree.{Tree, integer, symbol, sum, product, power, nil, cons, weight, value}
 use Rattle.paper.specs.WellFormed.{WF}
 use Rattle.paper.specs.Table.{encode, treeOf}
@@ -19,7 +21,7 @@ use Rattle.paper.specs.Rules.{editionOne}
 use Rattle.paper.specs.Driver.{Ran, done, over, no-rule, step, ask, members, simplify}
 use Rattle.paper.specs.Admits.{AdmitsNone, admits-none, AllAdmitNone, and-more}
 use Rattle.paper.specs.Answers.{Lent, ran, judgement, cramped, refusal, ranAnswer, written, outAfter, lentAfter, simplifiedBy}
-use Rattle.paper.specs.Demands.{Simplifier, result, Refuses, RunsOver, Follows, Finishes, KeepsValue, Accepted}
+use Rattle.paper.specs.Demands.{Simplifier, result, Refuses, RunsOver, Follows, Lightens, Finishes, KeepsValue, Accepted}
 use Rattle.paper.specs.Takeover.{Room}
 use Rattle.paper.specs.Worthless.{RefusesEverything, refusesAll, returnsZero, returnsInput, firstPass, passesOnce, rootOnly, staysAtRoot, oneStepMore}
 use Rattle.paper.specs.Worthless.{oneOpeningMore, inventsSteps, inventsOpenings}
@@ -377,3 +379,8 @@ root-never-enters = run-makes _ _ (λ t u e. ([], 0, stays t (weight t) (e .0) �
     stays : (t : Tree) (n : ℕ) → ask editionOne t ≡ no-rule → rootOnly editionOne n t ≡ done t [] 0
     stays t zero e = unfold rootOnly in refl
     stays t (suc n) e = unfold rootOnly in rw (e, rootOnly) refl
+
+-- told more steps and openings than the weight that is lost, on some accepted call: it fails `lightens`
+pub overcounting-is-refused : (f : Simplifier) (s : List ℕ) → Bytes s → (l : Lent) → f s l .answer .number ≡ 0 → (t : Tree) → treeOf s ≡ some t
+    → ((u : Tree) → treeOf (result (f s l)) ≡ some u → weight t < f s l .answer .steps-taken + f s l .answer .openings + weight u) → ¬ Lightens f
+overcounting-is-refused f s b l n t r more k = let x = k s b l n t r in omega (arith, x .2, more (x .0) (x .1))
