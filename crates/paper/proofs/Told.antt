@@ -19,7 +19,7 @@ use Rattle.paper.specs.Rules.{editionOne}
 use Rattle.paper.specs.Driver.{Ran, done, over, simplify}
 use Rattle.paper.specs.Answers.{Lent, Answer, cramped, judgement, refusal, ranAnswer, simplified}
 use Rattle.paper.specs.Calls.{answerNumbers, eights}
-use Rattle.paper.specs.Told.{told, FitEight}
+use Rattle.paper.specs.Told.{answerIn, FitEight}
 use Rattle.paper.proofs.BytesLaws.{le-bytes, length-bytes, le8-append, le8-append-add}
 use Rattle.paper.proofs.EncodeLaws.{records-weight}
 use Rattle.paper.proofs.VerdictLaws.{length-good}
@@ -105,8 +105,8 @@ number-at (n ∷ ns) rest (suc i) h f =
     ∙ le8-append-add (bytes 8 n) (eights ns ++ rest) (8 * i) ∙ number-at ns rest i (omega arith) (f .1)
 
 -- a slice that begins with the numbers of an answer tells that answer
-pub told-answer : (a : Answer) (rest : List ℕ) → FitEight (answerNumbers a) → told (eights (answerNumbers a) ++ rest) ≡ a
-unfolding told answerNumbers
+pub told-answer : (a : Answer) (rest : List ℕ) → FitEight (answerNumbers a) → answerIn (eights (answerNumbers a) ++ rest) ≡ a
+unfolding answerIn answerNumbers
 told-answer a rest f =
     let n = number-at (answerNumbers a) rest in
     let seven : (i : ℕ) → i < 7 → le8 (eights (answerNumbers a) ++ rest) (8 * i) ≡ getD (answerNumbers a) i 0 = λ i h. n i h f in

@@ -4,8 +4,8 @@ use mathlib.Core.List.{List, [], _∷_}
 use Rattle.paper.specs.Bytes.{le8}
 use Rattle.paper.specs.Answers.{Answer}
 
-unfoldable pub told : List ℕ → Answer
-told slice =
+unfoldable pub answerIn : List ℕ → Answer
+answerIn slice =
     record {
       number = le8 slice 0;
       place = le8 slice 8;

@@ -13,7 +13,7 @@ use denote.Triple.Clauses.{AtExit}
 use Rattle.paper.specs.Bytes.{Bytes}
 use Rattle.paper.specs.Answers.{Lent, Given, simplified}
 use Rattle.paper.specs.Calls.{simplifyReturns, simplifyAnswers, simplifyLeaves}
-use Rattle.paper.specs.Told.{told}
+use Rattle.paper.specs.Told.{answerIn}
 use Rattle.paper.specs.Demands.{Simplifier, Demands, result}
 use Rattle.paper.specs.Takeover.{Room, Repeats, TakesOver, TakesOverInPlace}
 use Rattle.paper.proofs.Slices.{slices}
@@ -46,15 +46,15 @@ slice c = c .handed .1 .1 .1 .1 .0 .now
 abbrev pub given : CCall → Given
 given c =
     record {
-      answer = told (c .left .1 .1 .1 .1 .0 .now);
+      answer = answerIn (c .left .1 .1 .1 .1 .0 .now);
       lent = lent (c .left .1 .0 .now) (c .left .1 .1 .0 .now) (c .left .1 .1 .1 .0 .now);
     }
 
 -- it is the simplifier's, where the table is bytes and the slice has room; and the return is its number
 tells : (s : List ℕ) → Bytes s → (l : Lent) (before after : List ℕ) → 56 ≤ length before → after ≡ simplifyAnswers s l before
-    → told after ≡ simplified s l .answer
+    → answerIn after ≡ simplified s l .answer
 tells s b l before after room e =
-    ap told (e ∙ slices .simplify s l before .1 room .1) ∙ told-answer (simplified s l .answer) (drop 56 before) (numbers-fit s b l)
+    ap answerIn (e ∙ slices .simplify s l before .1 room .1) ∙ told-answer (simplified s l .answer) (drop 56 before) (numbers-fit s b l)
 
 given-by : (g h : Given) → g .answer ≡ h .answer → g .lent ≡ h .lent → g ≡ h
 given-by g h x y = ap (λ a. record { answer = a; lent = g .lent }) x ∙ ap (λ a. record { answer = h .answer; lent = a }) y
