@@ -2,9 +2,6 @@
 -- paper's answer, and its fields are those of the code's. So are two of the comparisons inside: trees stand at the records, and the answer
 -- is the paper's of those trees. Of the marks nothing is said. Assumes nothing.
 use mathlib.Core.Path.{_≡_, sym, ap, _∙_}
-use borrow.Fn.Kinds.{Dens, endedOf}
-use contract.Lifetimes.{Lfts}
-use denote.Triple.Clauses.{AtExit}
 use Rattle.paper.specs.Answers as paper
 use Rattle.paper.specs.Once.{Once}
 use Rattle.equal.specs.Compared.{says}
@@ -24,9 +21,8 @@ says-once : (r r′ : Compared) → says r ≡ says r′ → r ≡ r′
 says-once r r′ e =
     ap (λ (m : paper.Compared). record { number = m .number; place = m .place; which = m .which; yes = m .yes }) e
 
-pub equal-once : (κs : Lfts 2) (a : Dens κs kinds.ps) (r r′ : Compared) (x x′ : AtExit (endedOf 2 kinds.ps kinds.r) κs)
-    → reads.Post κs a r x → reads.Post κs a r′ x′ → r ≡ r′
-equal-once κs a r r′ x x′ p p′ = says-once r r′ (p ∙ sym p′)
+pub equal-once : Once 2 kinds.ps kinds.r reads.Pre reads.Post
+equal-once κs a v v' x x' q p p' = says-once v v' (p ∙ sym p')
 
 pub same-tree-once : Once 3 same-tree-kinds.ps same-tree-kinds.r same-tree.Pre same-tree.Post
 same-tree-once κs a v v' x x' q p p' =

@@ -1,10 +1,9 @@
 -- Each contract, as the check reads it off the source, leaves one answer open and no other: two ends of a call that both meet it
 -- give the same, since both equal one definition of what was given. Assumes nothing.
-use mathlib.Core.Path.{_≡_, sym, _∙_}
-use borrow.Fn.Kinds.{Dens, endedOf}
-use contract.Lifetimes.{Lfts}
-use denote.Triple.Clauses.{AtExit}
-use Rattle.paper.specs.Once.{Once}
+use Prim.Native.Nat.{ℕ}
+use mathlib.Core.Path.{refl, sym, _∙_}
+use mathlib.Core.List.{List}
+use Rattle.paper.specs.Once.{Once, OnceLeft}
 use Rattle.number.proofs.read2.Reads as read2
 use Rattle.number.proofs.read2.Kinds as read2-kinds
 use Rattle.number.proofs.read8.Reads as read8
@@ -31,9 +30,8 @@ read8-once κs a v v' x x' h p q = p ∙ sym q
 pub bytes8-once : Once 0 bytes8-kinds.ps bytes8-kinds.r bytes8.Pre bytes8.Post
 bytes8-once κs a v v' x x' h p q = p ∙ sym q
 
-pub write8-once : (κs : Lfts 1) (a : Dens κs write8-kinds.ps) (r r' : Unit {0}) (x x' : AtExit (endedOf 1 write8-kinds.ps write8-kinds.r) κs)
-    → write8.Post κs a r x → write8.Post κs a r' x' → x .0 .now ≡ x' .0 .now
-write8-once κs a r r' x x' p q = p ∙ sym q
+pub write8-once : OnceLeft 1 write8-kinds.ps write8-kinds.r write8.Pre write8.Post (List ℕ) (λ κs x. x .0 .now)
+write8-once κs a v v' x x' h p q = (refl, p ∙ sym q)
 
 pub add-once : Once 0 add-kinds.ps add-kinds.r add.Pre add.Post
 add-once κs a v v' x x' h p q = p ∙ sym q

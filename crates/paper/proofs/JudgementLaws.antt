@@ -44,7 +44,7 @@ module _ (w : ℕ) (l : Lent) where
       go (inl e) = first-two (or-either out steps e)
       go (inr e) = work-under (ltb-true (length (l .work)) workBytes e)
 
-  words-cramped : Under w l → cramped w l ≡ true
+  pub words-cramped : Under w l → cramped w l ≡ true
   unfolding cramped out steps work
   words-cramped (out-under h) = or-left (out || steps) work (or-left out steps (lt-ltb (length (l .out)) (16 * w) h))
   words-cramped (steps-under h) = or-left (out || steps) work (or-right out steps (lt-ltb (length (l .steps)) w h))

@@ -1,7 +1,7 @@
 -- The starred examples: one table, one statement, by computation; and the bytes of example 1's result. Assumes nothing.
 use mathlib.Core.Path.{_≡_, refl}
 use mathlib.Core.List.{map}
-use Rattle.paper.specs.Examples.{exampleOne, exampleOneBytes, examples, lookalikes, outWeight, computed}
+use Rattle.paper.specs.Examples.{exampleOne, exampleOneBytes, examples, lookalikes, edges, outWeight, computed}
 use Rattle.paper.specs.Answers.{written}
 use Rattle.paper.proofs.Computes.{table-computes, driver-computes}
 
@@ -19,3 +19,8 @@ no-lookalike = refl
 pub example-one-bytes : written (computed (exampleOne .given) .answer) ≡ exampleOneBytes
 unfolding exampleOne exampleOneBytes computed written driver-computes table-computes
 example-one-bytes = refl
+
+-- and what neither table tells
+pub at-the-edges : map (λ e. computed (e .given)) edges ≡ edges
+unfolding edges outWeight computed driver-computes
+at-the-edges = refl

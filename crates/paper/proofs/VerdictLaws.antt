@@ -35,11 +35,11 @@ pub record Passes (s : List ℕ) : Type 0 where
   pub light : tableWeight s ≤ maxWeight
   pub ends : treeEnd s (recordsIn s) 0 ≡ recordsIn s
 
-good-length : (m : ℕ) → GoodLength m → badLength m ≡ false
+pub good-length : (m : ℕ) → GoodLength m → badLength m ≡ false
 unfolding badLength
 good-length m h = rw (ne-eqb m 0 (ne-of-gt (h .positive)), h .sixteens, le-ltb maxBytes m (h .short))
 
-length-good : (m : ℕ) → badLength m ≡ false → GoodLength m
+pub length-good : (m : ℕ) → badLength m ≡ false → GoodLength m
 unfolding badLength
 length-good m h =
     let x = or-neither (eqb m 0 || not (eqb (m % 16) 0)) (ltb maxBytes m) h in

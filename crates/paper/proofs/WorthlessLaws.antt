@@ -1,9 +1,10 @@
 -- The worthless simplifiers are turned away, each at the field that the paper names for it: one small table apiece that breaks
 -- the field. The tables are the records of a tree (TableLaws), the lent areas have just the room that 6 asks for, and what the
 -- simplifier makes of them is read off the cases of a call (CallLaws). Assumes nothing.
-use Prim.Native.Nat.{ℕ, _*_, _≤_, _<_}
+use Prim.Native.Nat.{ℕ, zero, suc, _+_, _*_, _≤_, _<_}
 use mathlib.Core.Path.{_≡_, refl, sym, ap, _∙_, subst}
 use mathlib.Core.List.{List, [], _∷_}
+use mathlib.Core.Option.{some}
 use mathlib.Core.Logic.{_⊎_, inl, inr}
 use native.Mathlib.Nat.{eq-or-lt-of-le}
 use native.Mathlib.Omega.{arith}
@@ -11,18 +12,20 @@ use lib.ListN.{replicate, length-replicate}
 use lib.IntN.{pos, negsuc}
 use lib.Dec.{lit<, lit≤}
 use Rattle.paper.specs.Limits.{maxWeight, workBytes}
-use Rattle.paper.specs.Tree.{Tree, integer, symbol, sum, product, nil, cons, weight, value}
+use Rattle.paper.specs.Bytes.{Bytes}
+use Rattle.paper.specs.Tree.{Tree, integer, symbol, sum, product, power, nil, cons, weight, value}
 use Rattle.paper.specs.WellFormed.{WF}
 use Rattle.paper.specs.Table.{encode, treeOf}
 use Rattle.paper.specs.Verdict.{accepted}
 use Rattle.paper.specs.Rules.{editionOne}
-use Rattle.paper.specs.Driver.{Ran, done, over, no-rule, step, ask, simplify}
-use Rattle.paper.specs.Admits.{AdmitsNone, admits-none}
+use Rattle.paper.specs.Driver.{Ran, done, over, no-rule, step, ask, members, simplify}
+use Rattle.paper.specs.Admits.{AdmitsNone, admits-none, AllAdmitNone, and-more}
 use Rattle.paper.specs.Answers.{Lent, ran, judgement, cramped, refusal, ranAnswer, written, outAfter, lentAfter, simplifiedBy}
-use Rattle.paper.specs.Demands.{Simplifier, result, Refuses, RunsOver, Follows, Finishes, KeepsValue}
+use Rattle.paper.specs.Demands.{Simplifier, result, Refuses, RunsOver, Follows, Lightens, Finishes, KeepsValue, Accepted}
 use Rattle.paper.specs.Takeover.{Room}
-use Rattle.paper.specs.Worthless.{RefusesEverything, refusesAll, returnsZero, returnsInput, firstPass, passesOnce, oneStepMore}
+use Rattle.paper.specs.Worthless.{RefusesEverything, refusesAll, returnsZero, returnsInput, firstPass, passesOnce, rootOnly, staysAtRoot, oneStepMore}
 use Rattle.paper.specs.Worthless.{oneOpeningMore, inventsSteps, inventsOpenings}
+use Rattle.paper.specs.WorthlessKinds.{Makes, ReturnsZero, ReturnsInput, StopsAfterPass, NeverEnters, Invents}
 use Rattle.paper.proofs.EncodeLaws.{encode-bytes}
 use Rattle.paper.proofs.TableLaws.{encode-weight, written-accepted}
 use Rattle.paper.proofs.ReadLaws.{tree-of-written}
@@ -198,6 +201,47 @@ pass-is-refused f =
     once-light : weight once ≤ maxWeight
     once-light = unfold once weight in (lit≤ tt)
 
+-- one that never enters a member, by the same clause at a member: (a + a)^2 stays as it is, and its base admits step 2
+twice : Tree
+twice = sum (cons (symbol 0) (cons (symbol 0) nil))
+
+inside : Tree
+inside = power twice 2
+
+pub root-is-refused : ¬ Finishes staysAtRoot
+unfolding staysAtRoot ranAnswer
+root-is-refused f =
+    let g = gives inside inside-wf inside-light (λ t. rootOnly editionOne (weight t) t) inside [] 0 stays in
+    let r = tree-of-written inside inside-wf inside-light in
+    let x = f (encode inside) (encode-bytes inside) (areas (weight inside)) (ap (λ y. y .number) (g .answer)) inside r in
+    let u : x .0 ≡ inside = same-tree (x .1) (ap treeOf (g .bytes) ∙ r) in
+    base-admits (subst (AdmitsNone editionOne) u (x .2))
+  where
+    inside-wf : WF inside
+    inside-wf = unfold inside twice trees-compute in ((lit≤ tt, (lit< tt, (lit< tt, tt))), lit≤ tt, lit< tt)
+
+    inside-light : weight inside ≤ maxWeight
+    inside-light = unfold inside twice weight in (lit≤ tt)
+
+    stays : rootOnly editionOne (weight inside) inside ≡ done inside [] 0
+    stays = unfold inside twice rootOnly driver-computes trees-compute in refl
+
+    double : Tree
+    double = product (cons (integer (pos 2)) (cons (symbol 0) nil))
+
+    step-inside : ask editionOne twice ≡ step 2 double
+    step-inside = unfold twice driver-computes in refl
+
+    its-members : members inside ≡ twice ∷ integer (pos 2) ∷ []
+    its-members = unfold inside members in refl
+
+    first-of : {t : Tree} {l : List Tree} → AllAdmitNone editionOne (t ∷ l) → AdmitsNone editionOne t
+    first-of (and-more h hs) = h
+
+    base-admits : ¬ AdmitsNone editionOne inside
+    base-admits (admits-none a o ms) =
+        admits-a-rule twice double 2 step-inside (first-of (subst (AllAdmitNone editionOne) its-members ms))
+
 -- ---- "Invented steps or openings fall to demand 2, since both are those of the driver."
 module _ where
   ran-one : simplify editionOne one ≡ done one [] 0
@@ -219,3 +263,124 @@ module _ where
       let x = f (encode one) (encode-bytes one) (areas (weight one)) (tree-accepted one one-wf one-light) one one [] 0
       (tree-of-written one one-wf one-light) ran-one .0 in
       let z : _≡_ {A = ℕ} 0 1 = ap (λ y. y .openings) (sym x ∙ g .answer) in omega arith
+
+-- ---- the same of any simplifier that does as they do. What such a one gives for the table of t is the table of u; so what demand 3 says
+-- of its result is said of u.
+module _ {P : Tree → Tree → Type 0} (f : Simplifier) (g : Makes P f) (t u : Tree) (p : P t u) where
+  said-of : WF t → weight t ≤ maxWeight → WF u → weight u ≤ maxWeight → (Q : Tree → Tree → Type 0) → Accepted f (λ s l. Q) → Q t u
+  said-of w h v k Q demand =
+      let r = tree-of-written t w h in
+      let x = g (encode t) (encode-bytes t) (areas (weight t)) (tree-accepted t w h) t u r p in
+      let y = demand (encode t) (encode-bytes t) (areas (weight t)) (x .0) t r in
+      let e : y .0 ≡ u = same-tree (y .1) (ap treeOf (x .1) ∙ tree-of-written u v k) in
+      subst (Q t) e (y .2)
+
+pub returning-zero-is-refused : (f : Simplifier) → ReturnsZero f → ¬ KeepsValue f
+unfolding one trees-compute
+returning-zero-is-refused f g k =
+    let x = said-of f g one (integer (pos 0)) refl one-wf one-light (lit< tt) (lit≤ tt) (λ t u. (ρ : ℕ → ℕ) → value u ρ ≡ value t ρ) k in
+    let z : _≡_ {A = ℕ} 0 1 = x (λ n. 0) in omega arith
+
+module _ where
+  first-step : ask editionOne difference ≡ step 2 once
+  first-step = unfold difference once driver-computes in refl
+
+  pub returning-input-is-refused : (f : Simplifier) → ReturnsInput f → ¬ Finishes f
+  returning-input-is-refused f g k =
+      admits-a-rule difference once 2 first-step
+      (said-of f g difference difference refl difference-wf difference-light difference-wf difference-light (λ t u. AdmitsNone editionOne u) k)
+
+  second-step : ask editionOne once ≡ step 3 (integer (pos 0))
+  second-step = unfold once driver-computes in refl
+
+  passed-once : firstPass editionOne (weight difference) difference ≡ done once (2 ∷ []) 0
+  passed-once = unfold difference once firstPass driver-computes trees-compute in refl
+
+  once-wf : WF once
+  once-wf = unfold once trees-compute in (lit≤ tt, (lit< tt, (lit< tt, tt)))
+
+  once-light : weight once ≤ maxWeight
+  once-light = unfold once weight in (lit≤ tt)
+
+  pub stopping-is-refused : (f : Simplifier) → StopsAfterPass f → ¬ Finishes f
+  stopping-is-refused f g k =
+      admits-a-rule once (integer (pos 0)) 3 second-step
+      (said-of f g difference once (2 ∷ [], 0, passed-once) difference-wf difference-light once-wf once-light (λ t u. AdmitsNone editionOne u) k)
+
+  inside-is-wf : WF inside
+  inside-is-wf = unfold inside twice trees-compute in ((lit≤ tt, (lit< tt, (lit< tt, tt))), lit≤ tt, lit< tt)
+
+  inside-is-light : weight inside ≤ maxWeight
+  inside-is-light = unfold inside twice weight in (lit≤ tt)
+
+  no-rule-outside : ask editionOne inside ≡ no-rule
+  no-rule-outside = unfold inside twice driver-computes in refl
+
+  double : Tree
+  double = product (cons (integer (pos 2)) (cons (symbol 0) nil))
+
+  step-inside : ask editionOne twice ≡ step 2 double
+  step-inside = unfold twice double driver-computes in refl
+
+  its-members : members inside ≡ twice ∷ integer (pos 2) ∷ []
+  its-members = unfold inside members in refl
+
+  first-of : {t : Tree} {l : List Tree} → AllAdmitNone editionOne (t ∷ l) → AdmitsNone editionOne t
+  first-of (and-more h hs) = h
+
+  inside-admits : ¬ AdmitsNone editionOne inside
+  inside-admits (admits-none a o ms) =
+      admits-a-rule twice double 2 step-inside (first-of (subst (AllAdmitNone editionOne) its-members ms))
+
+  pub never-entering-is-refused : (f : Simplifier) → NeverEnters f → ¬ Finishes f
+  never-entering-is-refused f g k =
+      inside-admits
+      (said-of f g inside inside (no-rule-outside, refl) inside-is-wf inside-is-light inside-is-wf inside-is-light (λ t u. AdmitsNone editionOne u) k)
+
+-- told another number of steps or of openings than the driver has
+pub inventing-is-refused : (f : Simplifier) (told : ℕ → ℕ → ℕ) → Invents f told → ¬ Follows f
+inventing-is-refused f told i k =
+    let x = k (i .table) (i .bytes) (i .areas) (i .accepts) (i .tree) (i .end) (i .steps) (i .openings) (i .read) (i .ran) .0 in
+    i .other (ap (λ a. told (a .steps-taken) (a .openings)) x)
+
+-- ---- there are such simplifiers: each of the programs above is one of its kind
+module _ (run : Tree → Ran) (P : Tree → Tree → Type 0) (ends : (t u : Tree) → P t u → (ks : List ℕ) × (o : ℕ) × (run t ≡ done u ks o)) where
+  run-makes : Makes P (simplifiedBy run)
+  unfolding ranAnswer lentAfter outAfter written
+  run-makes s b l j t u r p = go (call run s l b)
+    where
+      go : Call run s l → (simplifiedBy run s l .answer .number ≡ 0) × (result (simplifiedBy run s l) ≡ encode u)
+      go (is-turned-down d) = absurd (let z : judgement s l .number ≡ 0 = ap (λ v. v .number) j in omega (arith, d .number))
+      go (is-run c) =
+          let v = c .holds .tree in
+          let e : run v ≡ done u (ends t u p .0) (ends t u p .1) = ap run (same-tree (c .holds .read) r) ∙ ends t u p .2 in
+          let x = c .answer ∙ ap (ranAnswer (weight v)) e in
+          let y = c .lent ∙ ap (λ z. lentAfter (ran (weight v) z) l) e in (
+            ap (λ z. z .number) x,
+            result-written (simplifiedBy run s l) (weight v) u (l .out) (ap (λ z. z .records-written) x) (ap (λ z. z .out) y),
+          )
+
+pub zero-returns-zero : ReturnsZero returnsZero
+unfolding returnsZero
+zero-returns-zero = run-makes _ _ (λ t u e. ([], 0, ap (λ y. done y [] 0) (sym e)))
+
+pub input-returns-input : ReturnsInput returnsInput
+unfolding returnsInput
+input-returns-input = run-makes _ _ (λ t u e. ([], 0, ap (λ y. done y [] 0) (sym e)))
+
+pub pass-stops : StopsAfterPass passesOnce
+unfolding passesOnce
+pass-stops = run-makes _ _ (λ t u e. e)
+
+pub root-never-enters : NeverEnters staysAtRoot
+unfolding staysAtRoot
+root-never-enters = run-makes _ _ (λ t u e. ([], 0, stays t (weight t) (e .0) ∙ ap (λ y. done y [] 0) (sym (e .1))))
+  where
+    stays : (t : Tree) (n : ℕ) → ask editionOne t ≡ no-rule → rootOnly editionOne n t ≡ done t [] 0
+    stays t zero e = unfold rootOnly in refl
+    stays t (suc n) e = unfold rootOnly in rw (e, rootOnly) refl
+
+-- told more steps and openings than the weight that is lost, on some accepted call: it fails `lightens`
+pub overcounting-is-refused : (f : Simplifier) (s : List ℕ) → Bytes s → (l : Lent) → f s l .answer .number ≡ 0 → (t : Tree) → treeOf s ≡ some t
+    → ((u : Tree) → treeOf (result (f s l)) ≡ some u → weight t < f s l .answer .steps-taken + f s l .answer .openings + weight u) → ¬ Lightens f
+overcounting-is-refused f s b l n t r more k = let x = k s b l n t r in omega (arith, x .2, more (x .0) (x .1))

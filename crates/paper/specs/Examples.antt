@@ -93,6 +93,44 @@ lookalikes =
     ∷ gives (times (i 2 ∷ power (i 6) 2 ∷ i 3 ∷ [])) 6 (power (i 6) 3) (6 ∷ 6 ∷ []) 0 3
     ∷ []
 
+-- What the starred examples leave open: one table more, each line for a word of the paper that no line above depends on.
+unfoldable pub edges : List Example
+edges =
+    -- "drop all such": 0+0+a is one step, a*1*1 too
+    gives (plus (i 0 ∷ i 0 ∷ a ∷ [])) 6 a (1 ∷ []) 0 3
+    ∷ gives (times (a ∷ i 1 ∷ i 1 ∷ [])) 6 a (4 ∷ []) 0 3
+    -- "in the order above": 0*1 is step 3, not 4
+    ∷ gives (times (i 0 ∷ i 1 ∷ [])) 3 (i 0) (3 ∷ []) 0 1
+    -- "its first integer member": 2*3*a + 5*3*a is steps 2 and 6; by the last one it would be 6, 6, 2
+    ∷ gives (plus (times (i 2 ∷ i 3 ∷ a ∷ []) ∷ times (i 5 ∷ i 3 ∷ a ∷ []) ∷ [])) 13 (times (i 21 ∷ a ∷ [])) (2 ∷ 6 ∷ []) 0 5
+    -- "two integers multiply": 2*3 + 4*3; "its rest if the coefficient is 1": 2*a + (-1)*a
+    ∷ gives (plus (times (i 2 ∷ i 3 ∷ []) ∷ times (i 4 ∷ i 3 ∷ []) ∷ [])) 7 (i 18) (2 ∷ []) 0 1
+    ∷ gives (plus (times (i 2 ∷ a ∷ []) ∷ times (integer (negsuc 0) ∷ a ∷ []) ∷ [])) 11 a (2 ∷ []) 0 3
+    -- "any other rest R becomes the product (coefficient, R)": R a power, R a sum
+    ∷ gives (plus (power a 2 ∷ power a 2 ∷ [])) 11 (times (i 2 ∷ power a 2 ∷ [])) (2 ∷ []) 0 7
+    ∷ gives (plus (plus (a ∷ b ∷ []) ∷ times (i 2 ∷ plus (a ∷ b ∷ []) ∷ []) ∷ [])) 17 (times (i 3 ∷ plus (a ∷ b ∷ []) ∷ [])) (2 ∷ []) 0 9
+    -- "multiply the bases; else ..": 2*2 is 4, not 2^2
+    ∷ gives (times (i 2 ∷ i 2 ∷ [])) 3 (i 4) (6 ∷ []) 0 1
+    -- "each later one": seven members, the first and the last alike
+    ∷ gives (plus (a ∷ b ∷ c ∷ symbol 3 ∷ symbol 4 ∷ symbol 5 ∷ a ∷ [])) 22 (plus (times (i 2 ∷ a ∷ []) ∷ b ∷ c ∷ symbol 3 ∷ symbol 4 ∷ symbol 5 ∷ [])) (2 ∷ []) 0 21
+    -- "with each member": inside a power; "from first to last": the steps 1 and then 2; "each is one opening": two at once
+    ∷ gives (power (plus (a ∷ a ∷ [])) 2) 9 (power (times (i 2 ∷ a ∷ [])) 2) (2 ∷ []) 0 7
+    ∷ gives (times (plus (i 0 ∷ a ∷ []) ∷ plus (b ∷ b ∷ []) ∷ [])) 13 (times (a ∷ i 2 ∷ b ∷ [])) (1 ∷ 2 ∷ []) 1 8
+    ∷ gives (times (times (a ∷ b ∷ []) ∷ times (c ∷ a ∷ []) ∷ [])) 15 (times (power a 2 ∷ b ∷ c ∷ [])) (6 ∷ []) 2 12
+    -- "every partial sum and product, in the order named": (2^63 - 1) + 1 + (-1) is 7, (2^63 - 1) + (-1) + 1 is not; 2^62*2*(-1) is 7, 2^62*(-1)*2 is not
+    ∷ record { given = plus (i 9223372036854775807 ∷ i 1 ∷ integer (negsuc 0) ∷ []); answer = over 0; weight-in = 4; weight-out = 0 }
+    ∷ gives (plus (i 9223372036854775807 ∷ integer (negsuc 0) ∷ i 1 ∷ [])) 4 (i 9223372036854775807) (2 ∷ []) 0 1
+    ∷ record { given = times (i 4611686018427387904 ∷ i 2 ∷ integer (negsuc 0) ∷ []); answer = over 0; weight-in = 4; weight-out = 0 }
+    ∷ gives (times (i 4611686018427387904 ∷ integer (negsuc 0) ∷ i 2 ∷ [])) 4 (integer (negsuc 9223372036854775807)) (6 ∷ []) 0 1
+    -- the greatest exponent, and one more
+    ∷ gives (times (power a 9223372036854775806 ∷ a ∷ [])) 9 (power a 9223372036854775807) (6 ∷ []) 0 5
+    ∷ record { given = times (power a 9223372036854775807 ∷ a ∷ []); answer = over 0; weight-in = 9; weight-out = 0 }
+    -- "steps completed before it", at the node itself: 0 + (2^63 - 1) + 1 is 7 at 1
+    ∷ record { given = plus (i 0 ∷ i 9223372036854775807 ∷ i 1 ∷ []); answer = over 1; weight-in = 4; weight-out = 0 }
+    -- 11. a^1 alone stays
+    ∷ gives (power a 1) 5 (power a 1) ([]) 0 5
+    ∷ []
+
 unfoldable pub outWeight : Ran → ℕ
 outWeight (done t s o) = weight t
 outWeight (over k) = 0

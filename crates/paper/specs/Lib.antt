@@ -1,3 +1,10 @@
+-- What must be believed, in reading order: Limits, Bytes, Tree, WellFormed, Record, Table, Verdict, Equal, Walk, Rules, Driver, Answers,
+-- Calls, Told; then what is asked of a simplifier: Admits, Demands, Takeover.
+-- The same again, in other words or in figures, each held to it by a theorem: Refusals (1 to 6 in the paper's words), Examples and Stored
+-- (trees and what the driver makes of them), Sayings, SmallTables, Bounds, Slices (small calls, limits), Worthless and WorthlessKinds
+-- (simplifiers that are turned away).
+-- Only tools, for laws and for the code's contracts: Good (what is asked of a rule), Standing (trees that stand in a table), Once (the form
+-- of the uniqueness lemmas).
 pub mod Limits
 pub mod Bytes
 pub mod Tree
@@ -20,3 +27,10 @@ pub mod Takeover
 pub mod Worthless
 pub mod Examples
 pub mod Once
+pub mod Sayings
+pub mod Stored
+pub mod Bounds
+pub mod Slices
+pub mod SmallTables
+pub mod WorthlessKinds
+pub mod Told

@@ -12,3 +12,10 @@ abbrev pub Once : (n : ℕ) (ps : List (PK n)) (r : RK n) → In n ps → Out n 
 Once n ps r asked said =
     (κs : Lfts n) (a : Dens κs ps) (v v' : resT r κs .Denot) (x x' : AtExit (endedOf n ps r) κs)
     → asked κs a → said κs a v x → said κs a v' x' → v ≡ v'
+
+-- of a function that writes: the same answer, and the same of what its areas hold at exit, told by `left`
+abbrev pub OnceLeft : (n : ℕ) (ps : List (PK n)) (r : RK n) → In n ps → Out n ps r → (S : Type 0)
+    → ((κs : Lfts n) → AtExit (endedOf n ps r) κs → S) → Type 0
+OnceLeft n ps r asked said S left =
+    (κs : Lfts n) (a : Dens κs ps) (v v' : resT r κs .Denot) (x x' : AtExit (endedOf n ps r) κs)
+    → asked κs a → said κs a v x → said κs a v' x' → (v ≡ v') × (left κs x ≡ left κs x')

@@ -1,5 +1,5 @@
--- "Four worthless simplifiers must be turned away", and invented steps and openings too. Each is refuted at the field that the
--- paper names for it (proofs/WorthlessLaws).
+-- "Four worthless simplifiers must be turned away", and invented steps and openings too, and one that never enters a member. Each is
+-- refuted at the field that the paper names for it (proofs/WorthlessLaws).
 use Prim.Native.Nat.{ℕ, zero, suc, _+_, _≤_}
 use mathlib.Core.Path.{_≡_}
 use mathlib.Core.List.{List, [], _∷_}
@@ -7,7 +7,7 @@ use lib.IntN.{pos}
 use Rattle.paper.specs.Bytes.{Bytes}
 use Rattle.paper.specs.Tree.{Tree, integer, weight}
 use Rattle.paper.specs.Rules.{Rule, editionOne}
-use Rattle.paper.specs.Driver.{Ran, done, over, Rans, dones, overs, ask, step, out-of-range, no-rule, each, members, gather}
+use Rattle.paper.specs.Driver.{Ran, done, over, Rans, dones, overs, ask, step, out-of-range, no-rule, after, each, members, gather}
 use Rattle.paper.specs.Driver.{simplify}
 use Rattle.paper.specs.Answers.{Lent, refusal, simplifiedBy}
 use Rattle.paper.specs.Demands.{Simplifier}
@@ -45,6 +45,19 @@ firstPass rs (suc n) t =
 
 unfoldable pub passesOnce : Simplifier
 passesOnce = simplifiedBy (λ t. firstPass editionOne (weight t) t)
+
+-- one that never enters a member: it tries the rules at the root alone, as often as one applies
+unfoldable pub rootOnly : List Rule → ℕ → Tree → Ran
+rootOnly rs zero t = done t [] 0
+rootOnly rs (suc n) t =
+    elim (ask rs t) [
+      | step k u ↦ after (k ∷ []) 0 (rootOnly rs n u)
+      | out-of-range ↦ over 0
+      | no-rule ↦ done t [] 0
+    ]
+
+unfoldable pub staysAtRoot : Simplifier
+staysAtRoot = simplifiedBy (λ t. rootOnly editionOne (weight t) t)
 
 -- invented steps, invented openings
 unfoldable pub oneStepMore : Ran → Ran

@@ -1,12 +1,11 @@
 -- Each contract, as the check reads it off the source, leaves one answer open and no other: each answer equals one definition of what was
 -- given. What is wrong with a record is told from every other flaw by the paper's value; of `write_record` it is the bytes at exit that are
 -- one. Assumes nothing.
+use Prim.Native.Nat.{ℕ}
 use mathlib.Core.Path.{_≡_, refl, sym, ap, _∙_}
-use borrow.Fn.Kinds.{Dens, endedOf}
-use contract.Lifetimes.{Lfts}
-use denote.Triple.Clauses.{AtExit}
+use mathlib.Core.List.{List}
 use Rattle.paper.specs.Record as paper
-use Rattle.paper.specs.Once.{Once}
+use Rattle.paper.specs.Once.{Once, OnceLeft}
 use Rattle.record.specs.Flaw.{flawOf}
 use Rattle.record.specs.declared.Flaw.{Flaw}
 use Rattle.record.specs.declared.Flaw.the-variants.{Sound, Kind, Byte, Count}
@@ -67,7 +66,5 @@ code-of Count = refl
 pub judge-record-once : Once 1 judge-record-kinds.ps judge-record-kinds.r judge-record.Pre judge-record.Post
 judge-record-once κs a v v' x x' q p p' = sym (code-of v) ∙ ap codeOf (p ∙ sym p') ∙ code-of v'
 
-pub write-record-once : (κs : Lfts 1) (a : Dens κs write-record-kinds.ps) (v v' : Unit {0})
-    (x x' : AtExit (endedOf 1 write-record-kinds.ps write-record-kinds.r) κs)
-    → write-record.Post κs a v x → write-record.Post κs a v' x' → x .0 .now ≡ x' .0 .now
-write-record-once κs a v v' x x' p p' = p ∙ sym p'
+pub write-record-once : OnceLeft 1 write-record-kinds.ps write-record-kinds.r write-record.Pre write-record.Post (List ℕ) (λ κs x. x .0 .now)
+write-record-once κs a v v' x x' q p p' = (refl, p ∙ sym p')

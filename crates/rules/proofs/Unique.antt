@@ -59,9 +59,12 @@ module _ (t : Tree) (rest s o o' w w' : List ℕ) (d p : ℕ) (long : length w �
   answered-once Over Over h h' = (refl, tt)
 
 pub ask-once : (κs : Lfts 2) (a : Dens κs kinds.ps) (t : Tree) (rest : List ℕ) (r r' : Asked) (x x' : AtExit (endedOf 2 kinds.ps kinds.r) κs)
-    → Ready (a .0 .now) (a .1 .0 .now) (a .1 .1 .0) (a .1 .1 .1 .0) t rest → length (x .1 .0 .now) ≡ length (x' .1 .0 .now)
-    → reads.Post κs a r x → reads.Post κs a r' x'
-    → (r ≡ r') × Left (a .1 .1 .0) (a .1 .1 .1 .0) (x .0 .now) (x' .0 .now) (x .1 .0 .now) (x' .1 .0 .now) r
+    → let d = a .1 .1 .0 in
+    let p = a .1 .1 .1 .0 in
+    let work = x .1 .0 .now in
+    let work' = x' .1 .0 .now in
+    Ready (a .0 .now) (a .1 .0 .now) d p t rest → length work ≡ length work' → reads.Post κs a r x → reads.Post κs a r' x'
+    → (r ≡ r') × Left d p (x .0 .now) (x' .0 .now) work work' r
 ask-once κs a t rest r r' x x' h l p p' =
     answered-once t rest (a .0 .now) (x .0 .now) (x' .0 .now) (x .1 .0 .now) (x' .1 .0 .now) (a .1 .1 .0) (a .1 .1 .1 .0) l r r'
     (p t rest h) (p' t rest h)

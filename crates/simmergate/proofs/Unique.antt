@@ -2,9 +2,13 @@
 -- contract gives the return and every byte of the slice. Assumes nothing.
 use Prim.Native.Nat.{ℕ}
 use mathlib.Core.Path.{_≡_, sym, ap, _∙_}
-use borrow.Fn.Kinds.{Dens, endedOf}
+use mathlib.Core.List.{List}
+use borrow.Fn.Kinds.{endedOf}
 use contract.Lifetimes.{Lfts}
 use denote.Triple.Clauses.{AtExit}
+use Rattle.paper.specs.Answers.{Lent}
+use Rattle.paper.specs.Once.{OnceLeft}
+use Rattle.simplify.specs.Answer.{lent}
 use Rattle.simmergate.proofs.simmergate_check.Reads as check-reads
 use Rattle.simmergate.proofs.simmergate_check.Kinds as check-kinds
 use Rattle.simmergate.proofs.simmergate_weight.Reads as weight-reads
@@ -16,27 +20,34 @@ use Rattle.simmergate.proofs.simmergate_equal.Kinds as equal-kinds
 use Rattle.simmergate.proofs.simmergate_simplify.Reads as simplify-reads
 use Rattle.simmergate.proofs.simmergate_simplify.Kinds as simplify-kinds
 
-pub check-once : (κs : Lfts 2) (a : Dens κs check-kinds.ps) (r r′ : ℕ) (x x′ : AtExit (endedOf 2 check-kinds.ps check-kinds.r) κs)
-    → check-reads.Post κs a r x → check-reads.Post κs a r′ x′ → (r ≡ r′) × (x .1 .0 .now ≡ x′ .1 .0 .now)
-check-once κs a r r′ x x′ p p′ = (p .0 ∙ sym (p′ .0), p .1 ∙ sym (p′ .1))
+pub check-once : OnceLeft 2 check-kinds.ps check-kinds.r check-reads.Pre check-reads.Post (List ℕ) (λ κs x. x .1 .0 .now)
+check-once κs a v v' x x' q p p' = (p .0 ∙ sym (p' .0), p .1 ∙ sym (p' .1))
 
-pub weight-once : (κs : Lfts 2) (a : Dens κs weight-kinds.ps) (r r′ : ℕ) (x x′ : AtExit (endedOf 2 weight-kinds.ps weight-kinds.r) κs)
-    → weight-reads.Post κs a r x → weight-reads.Post κs a r′ x′ → (r ≡ r′) × (x .1 .0 .now ≡ x′ .1 .0 .now)
-weight-once κs a r r′ x x′ p p′ = (p .0 ∙ sym (p′ .0), p .1 ∙ sym (p′ .1))
+pub weight-once : OnceLeft 2 weight-kinds.ps weight-kinds.r weight-reads.Pre weight-reads.Post (List ℕ) (λ κs x. x .1 .0 .now)
+weight-once κs a v v' x x' q p p' = (p .0 ∙ sym (p' .0), p .1 ∙ sym (p' .1))
 
-pub value-once : (κs : Lfts 3) (a : Dens κs value-kinds.ps) (r r′ : ℕ) (x x′ : AtExit (endedOf 3 value-kinds.ps value-kinds.r) κs)
-    → value-reads.Post κs a r x → value-reads.Post κs a r′ x′ → (r ≡ r′) × (x .1 .1 .0 .now ≡ x′ .1 .1 .0 .now)
-value-once κs a r r′ x x′ p p′ = (p .0 ∙ sym (p′ .0), p .1 ∙ sym (p′ .1))
+pub value-once : OnceLeft 3 value-kinds.ps value-kinds.r value-reads.Pre value-reads.Post (List ℕ) (λ κs x. x .1 .1 .0 .now)
+value-once κs a v v' x x' q p p' = (p .0 ∙ sym (p' .0), p .1 ∙ sym (p' .1))
 
-pub equal-once : (κs : Lfts 3) (a : Dens κs equal-kinds.ps) (r r′ : ℕ) (x x′ : AtExit (endedOf 3 equal-kinds.ps equal-kinds.r) κs)
-    → equal-reads.Post κs a r x → equal-reads.Post κs a r′ x′ → (r ≡ r′) × (x .1 .1 .0 .now ≡ x′ .1 .1 .0 .now)
-equal-once κs a r r′ x x′ p p′ = (p .0 ∙ sym (p′ .0), p .1 ∙ sym (p′ .1))
+pub equal-once : OnceLeft 3 equal-kinds.ps equal-kinds.r equal-reads.Pre equal-reads.Post (List ℕ) (λ κs x. x .1 .1 .0 .now)
+equal-once κs a v v' x x' q p p' = (p .0 ∙ sym (p' .0), p .1 ∙ sym (p' .1))
 
--- the simplifier's call: return, answer slice, and the three areas
-pub simplify-once : (κs : Lfts 5) (a : Dens κs simplify-kinds.ps) (r r′ : ℕ) (x x′ : AtExit (endedOf 5 simplify-kinds.ps simplify-kinds.r) κs)
-    → simplify-reads.Post κs a r x → simplify-reads.Post κs a r′ x′
-    → (r ≡ r′) × (x .1 .1 .1 .1 .0 .now ≡ x′ .1 .1 .1 .1 .0 .now) × (x .1 .0 .now ≡ x′ .1 .0 .now)
-    × (x .1 .1 .0 .now ≡ x′ .1 .1 .0 .now) × (x .1 .1 .1 .0 .now ≡ x′ .1 .1 .1 .0 .now)
-simplify-once κs a r r′ x x′ p p′ =
-    let same = p .1 .1 ∙ sym (p′ .1 .1) in
-    (p .0 ∙ sym (p′ .0), p .1 .0 ∙ sym (p′ .1 .0), ap (λ l. l .out) same, ap (λ l. l .steps) same, ap (λ l. l .work) same)
+-- the simplifier's call: the answer slice and the three areas at exit
+pub record Left : Type 0 where
+  pub slice : List ℕ
+  pub areas : Lent
+
+abbrev pub left : (κs : Lfts 5) → AtExit (endedOf 5 simplify-kinds.ps simplify-kinds.r) κs → Left
+left κs x =
+    let out = x .1 .0 .now in
+    let steps = x .1 .1 .0 .now in
+    let work = x .1 .1 .1 .0 .now in
+    let answer = x .1 .1 .1 .1 .0 .now in
+    record { slice = answer; areas = lent out steps work }
+
+pub simplify-once : OnceLeft 5 simplify-kinds.ps simplify-kinds.r simplify-reads.Pre simplify-reads.Post Left left
+simplify-once κs a v v' x x' q p p' =
+    (p .0 ∙ sym (p' .0), cong-left (p .1 .0 ∙ sym (p' .1 .0)) (p .1 .1 ∙ sym (p' .1 .1)))
+  where
+    cong-left : {s s' : List ℕ} {l l' : Lent} → s ≡ s' → l ≡ l' → _≡_ {A = Left} (record { slice = s; areas = l }) (record { slice = s'; areas = l' })
+    cong-left e h = cc

@@ -24,10 +24,10 @@ use Rattle.simplify.proofs.simplify.Kinds as kinds
 module _
     (s : List ℕ) (l : Lent) (g : Given) (first : g ≡ simplified s l) (s′ : List ℕ) (l′ : Lent) (g′ : Given) (second : g′ ≡ simplified s′ l′)
     (b : Bytes s) (accepts : g .answer .number ≡ 0) (handed : s′ ≡ result g) where
-  of-calls : Room (g .answer .weight-out) l′ → Repeats g g′
+  pub of-calls : Room (g .answer .weight-out) l′ → Repeats g g′
   of-calls room = rw (first, second, handed, first) (takeover s b l (rw first at accepts) l′ (rw first at room))
 
-  in-place : l′ ≡ g .lent → Repeats g g′
+  pub in-place : l′ ≡ g .lent → Repeats g g′
   in-place e = rw (first, second, handed, e, first) (takeover-in-place s b l (rw first at accepts))
 
 -- a call of the code: what is handed in, the answer, and what the references lead to afterwards, as the contract lets it be

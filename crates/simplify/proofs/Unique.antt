@@ -1,12 +1,13 @@
 -- Two answers that meet the contract of `simplify`, as the check reads it from the source, are the same, and so are the areas
 -- afterwards: the contract is an equation with a function of what is handed in. Assumes nothing.
 use mathlib.Core.Path.{_≡_, sym, ap, _∙_}
-use borrow.Fn.Kinds.{Dens, endedOf}
+use borrow.Fn.Kinds.{endedOf}
 use contract.Lifetimes.{Lfts}
 use denote.Triple.Clauses.{AtExit}
 use Rattle.paper.specs.Answers as paper
+use Rattle.paper.specs.Once.{OnceLeft}
 use Rattle.simplify.specs.declared.Answer.{Answer}
-use Rattle.simplify.specs.Answer.{says}
+use Rattle.simplify.specs.Answer.{says, lent}
 use Rattle.simplify.proofs.simplify.Reads as reads
 use Rattle.simplify.proofs.simplify.Kinds as kinds
 
@@ -26,9 +27,13 @@ answerOf a =
 says-once : (r r′ : Answer) → says r ≡ says r′ → r ≡ r′
 says-once r r′ e = ap answerOf e
 
-pub simplify-once : (κs : Lfts 4) (a : Dens κs kinds.ps) (r r′ : Answer) (x x′ : AtExit (endedOf 4 kinds.ps kinds.r) κs)
-    → reads.Post κs a r x → reads.Post κs a r′ x′
-    → (r ≡ r′) × (x .1 .0 .now ≡ x′ .1 .0 .now) × (x .1 .1 .0 .now ≡ x′ .1 .1 .0 .now) × (x .1 .1 .1 .0 .now ≡ x′ .1 .1 .1 .0 .now)
-simplify-once κs a r r′ x x′ p p′ =
-    let e = p ∙ sym p′ in
-    (says-once r r′ (ap (λ g. g .answer) e), ap (λ g. g .lent .out) e, ap (λ g. g .lent .steps) e, ap (λ g. g .lent .work) e)
+-- the three areas at exit
+abbrev pub areasLeft : (κs : Lfts 4) → AtExit (endedOf 4 kinds.ps kinds.r) κs → paper.Lent
+areasLeft κs x =
+    let out = x .1 .0 .now in
+    let steps = x .1 .1 .0 .now in
+    let work = x .1 .1 .1 .0 .now in
+    lent out steps work
+
+pub simplify-once : OnceLeft 4 kinds.ps kinds.r reads.Pre reads.Post paper.Lent areasLeft
+simplify-once κs a v v' x x' q p p' = let e = p ∙ sym p' in (says-once v v' (ap (λ g. g .answer) e), ap (λ g. g .lent) e)

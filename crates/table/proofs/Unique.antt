@@ -2,9 +2,6 @@
 -- the same: the paper's numbers tell every answer of the code from every other, and the weight is one number. Assumes nothing.
 use Prim.Native.Nat.{ℕ, zero, suc}
 use mathlib.Core.Path.{_≡_, refl, sym, ap, _∙_}
-use borrow.Fn.Kinds.{Dens, endedOf}
-use contract.Lifetimes.{Lfts}
-use denote.Triple.Clauses.{AtExit}
 use Rattle.paper.specs.Verdict.{Verdict}
 use Rattle.paper.specs.Answers as paper
 use Rattle.paper.specs.Once.{Once}
@@ -50,13 +47,11 @@ fault-once r r′ e = ap (λ (v : Verdict). record { number = v .number; place =
 pub says-once : (r r′ : Measured) → says r ≡ says r′ → r ≡ r′
 says-once r r′ e = ap (λ (m : paper.Measured). record { number = m .number; place = m .place; result = m .result }) e
 
-pub check-once : (κs : Lfts 1) (a : Dens κs check-kinds.ps) (r r′ : Judged) (x x′ : AtExit (endedOf 1 check-kinds.ps check-kinds.r) κs)
-    → check-reads.Post κs a r x → check-reads.Post κs a r′ x′ → r ≡ r′
-check-once κs a r r′ x x′ p p′ = stands-once r r′ (p ∙ sym p′)
+pub check-once : Once 1 check-kinds.ps check-kinds.r check-reads.Pre check-reads.Post
+check-once κs a v v' x x' q p p' = stands-once v v' (p ∙ sym p')
 
-pub weight-once : (κs : Lfts 1) (a : Dens κs weight-kinds.ps) (r r′ : Measured) (x x′ : AtExit (endedOf 1 weight-kinds.ps weight-kinds.r) κs)
-    → weight-reads.Post κs a r x → weight-reads.Post κs a r′ x′ → r ≡ r′
-weight-once κs a r r′ x x′ p p′ = says-once r r′ (p ∙ sym p′)
+pub weight-once : Once 1 weight-kinds.ps weight-kinds.r weight-reads.Pre weight-reads.Post
+weight-once κs a v v' x x' q p p' = says-once v v' (p ∙ sym p')
 
 pub fault-of-once : Once 0 fault-of-kinds.ps fault-of-kinds.r fault-of-reads.Pre fault-of-reads.Post
 fault-of-once κs a v v' x x' q p p' = fault-once v v' (p ∙ sym p')

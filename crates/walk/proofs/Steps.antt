@@ -22,7 +22,8 @@ use Rattle.part.specs.Part.{Shows, From, inRange}
 use Rattle.part.specs.declared.Part.{Part}
 use Rattle.walk.specs.Listed.{Entry, Entries}
 use Rattle.walk.specs.Walked.{Walkable, combined, cameOut, CameOut}
-use Rattle.walk.proofs.TurnLaws.{lastFirst-length, map-lastFirst, map-append, map-length, resumed, resumed-none, after, turn-begins}
+use Rattle.paper.proofs.WalkFuel.{lastFirst-length, map-length}
+use Rattle.walk.proofs.TurnLaws.{map-lastFirst, map-append, resumed, resumed-none, after, turn-begins}
 use Rattle.walk.proofs.TurnLaws.{passes-by, takes-up, turn-ends, walk-ends, turn-keeps}
 use Rattle.walk.proofs.RoomLaws.{stays-bad, joins-bad, join-first, join-grows}
 use Rattle.walk.proofs.EntryLaws.{entries-snoc, swap-pending, swap-before, swap-after}

@@ -1,24 +1,14 @@
 -- The paper's walk, step by step, as a program goes through it: the parts that came out so far, how many were removed, and the rest of
 -- the walk from here make up the whole walk. One law for each way that a step goes; the bounds on the number of steps do not matter,
 -- since the members that are left are never more than that. Assumes nothing.
-use Prim.Native.Nat.{ℕ, zero, suc, _+_, _≤_}
+use Prim.Native.Nat.{ℕ, zero, suc, _+_}
 use mathlib.Core.Path.{_≡_, refl, sym, ap, _∙_}
 use mathlib.Core.List.{List, [], _∷_, _++_, map, append-assoc, append-nil}
 use mathlib.Core.Option.{Option, none, some}
 use native.Mathlib.Omega.{arith}
-use lib.ListN.{length, length-append}
+use lib.ListN.{length}
 use Rattle.paper.specs.Walk.{lastOf, initOf, lastFirst, Turn, Walked, oneRemoved, onto, turn, walk}
-
-module _ {A : Type 0} where
-  init-length : (a : A) (l : List A) → length (initOf a l) ≡ length l
-  unfolding initOf
-  init-length a [] = refl
-  init-length a (b ∷ l) = ap suc (init-length b l)
-
-  pub lastFirst-length : (l : List A) → length (lastFirst l) ≡ length l
-  unfolding lastFirst
-  lastFirst-length [] = refl
-  lastFirst-length (a ∷ l) = ap suc (init-length a l)
+use Rattle.paper.proofs.WalkFuel.{turn-later, walk-fuel}
 
 module _ {A B : Type 0} (f : A → B) where
   map-last : (a : A) (l : List A) → map f (initOf a l) ≡ initOf (f a) (map f l)
@@ -40,10 +30,6 @@ module _ {A B : Type 0} (f : A → B) where
   map-append [] m = refl
   map-append (a ∷ l) m = ap (λ x. f a ∷ x) (map-append l m)
 
-  pub map-length : (l : List A) → length (map f l) ≡ length l
-  map-length [] = refl
-  map-length (a ∷ l) = ap suc (map-length l)
-
 -- ---- a walk with parts that came out before it
 module _ {P : Type 0} where
   unfoldable pub resumed : List P → ℕ → Walked P → Walked P
@@ -53,9 +39,6 @@ module _ {P : Type 0} where
   unfolding resumed
   resumed-none w = ap (λ r. record { parts = w .parts; removed = r }) (omega arith)
 
-  abbrev manyLater : Turn P → ℕ
-  manyLater t = length (t .later)
-
   abbrev currentOf : Turn P → P
   currentOf t = t .current
 
@@ -64,38 +47,6 @@ module _ {P : Type 0} (merge : P → P → Option P) where
   unfoldable pub after : Turn P → Walked P
   after t = onto t (walk merge (length (t .later)) (t .later))
 
-  turn-length : (n : ℕ) (c : P) (passed l : List P) → length (turn merge n c passed l .later) ≤ length passed + length l
-  unfolding turn oneRemoved
-  turn-length zero c passed l = omega (arith, length-append passed l)
-  turn-length (suc n) c passed [] = omega arith
-  turn-length (suc n) c passed (x ∷ l) =
-      go (merge c x) (turn-length n c (passed ++ (x ∷ [])) l) (λ d. turn-length n d passed (lastFirst l))
-    where
-      go : (r : Option P) → length (turn merge n c (passed ++ (x ∷ [])) l .later) ≤ length (passed ++ (x ∷ [])) + length l
-          → ((d : P) → length (turn merge n d passed (lastFirst l) .later) ≤ length passed + length (lastFirst l))
-          → manyLater {P = P}
-          (elim r [
-            | none ↦ turn merge n c (passed ++ (x ∷ [])) l
-            | some d ↦ oneRemoved (turn merge n d passed (lastFirst l))
-          ])
-          ≤ length passed + suc (length l)
-      go none same more = omega (arith, length-append passed (x ∷ []))
-      go (some d) same more = omega (arith, more d, lastFirst-length l)
-
-  -- more steps than members change nothing
-  walk-fuel : (n m : ℕ) (l : List P) → length l ≤ n → length l ≤ m → walk merge n l ≡ walk merge m l
-  unfolding walk onto
-  walk-fuel zero zero l h k = refl
-  walk-fuel zero (suc m) [] h k = refl
-  walk-fuel zero (suc m) (c ∷ l) h k = absurd (omega arith)
-  walk-fuel (suc n) zero [] h k = refl
-  walk-fuel (suc n) zero (c ∷ l) h k = absurd (omega arith)
-  walk-fuel (suc n) (suc m) [] h k = refl
-  walk-fuel (suc n) (suc m) (c ∷ l) h k =
-      let t = turn merge (length l) c [] l in
-      let few = turn-length (length l) c [] l in
-      ap (onto t) (walk-fuel n m (t .later) (omega arith) (omega arith))
-
   -- ---- one law for each step
   module _ (done : List P) (r : ℕ) where
     pub turn-begins : (c : P) (l : List P)
@@ -103,8 +54,8 @@ module _ {P : Type 0} (merge : P → P → Option P) where
     unfolding after walk
     turn-begins c l =
         let t = turn merge (length l) c [] l in
-        let few = turn-length (length l) c [] l in
-        ap (λ w. resumed done r (onto t w)) (walk-fuel (length l) (length (t .later)) (t .later) (omega arith) (omega arith))
+        let few = turn-later merge (length l) c [] l in
+        ap (λ w. resumed done r (onto t w)) (walk-fuel merge (length l) (length (t .later)) (t .later) (omega arith) (omega arith))
 
     pub passes-by : (n : ℕ) (c x : P) (passed l : List P) → merge c x ≡ none
         → resumed done r (after (turn merge (suc n) c passed (x ∷ l))) ≡ resumed done r (after (turn merge n c (passed ++ (x ∷ [])) l))

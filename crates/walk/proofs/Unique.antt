@@ -10,8 +10,8 @@ use borrow.Fn.Kinds.{Dens, endedOf}
 use contract.Lifetimes.{Lfts}
 use denote.Triple.Clauses.{AtExit}
 use lib.ListN.{take, drop}
-use Rattle.paper.specs.Tree.{Tree, Forest}
-use Rattle.walk.specs.Listed.{Listable}
+use Rattle.paper.specs.Tree.{Tree}
+use Rattle.paper.specs.Once.{OnceLeft}
 use Rattle.walk.specs.Walked.{Walkable, Says}
 use Rattle.walk.specs.declared.Walked.{Walked}
 use Rattle.walk.specs.declared.Walked.the-variants.{Idle, Over, Done}
@@ -20,14 +20,11 @@ use Rattle.walk.proofs.list_members.Kinds as list-kinds
 use Rattle.walk.proofs.walk.Reads as reads
 use Rattle.walk.proofs.walk.Kinds as kinds
 
-pub list-members-once : (κs : Lfts 1) (a : Dens κs list-kinds.ps) (f : Forest) (r r' : ℕ) (x x' : AtExit (endedOf 1 list-kinds.ps list-kinds.r) κs)
-    → let work = a .0 .now in
-    let p = a .1 .0 in
-    Listable work p f → list-reads.Post κs a r x → list-reads.Post κs a r' x' → (r ≡ r') × (x .0 .now ≡ x' .0 .now)
-list-members-once κs a f r r' x x' h p p' =
-    let u = p f h in
-    let v = p' f h in
-    (u .end ∙ sym (v .end), u .exact ∙ sym (v .exact))
+pub list-members-once : OnceLeft 1 list-kinds.ps list-kinds.r list-reads.Pre list-reads.Post (List ℕ) (λ κs x. x .0 .now)
+list-members-once κs a v v' x x' q p p' =
+    let one = p (q .0) (q .1) in
+    let other = p' (q .0) (q .1) in
+    (one .end ∙ sym (other .end), one .exact ∙ sym (other .exact))
 
 -- what is built, where members came out
 abbrev BuiltAlike : (o o' : List ℕ) → Walked → Type 0

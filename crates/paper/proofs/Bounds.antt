@@ -1,0 +1,82 @@
+-- The limits in figures hold: of weight and areas by the laws of the verdict and of the judgement, of the registers by computation.
+-- Assumes nothing.
+use Prim.Native.Nat.{ℕ, _+_, _*_, _≤_, _<_}
+use mathlib.Core.Path.{_≡_, refl, _∙_}
+use mathlib.Core.List.{List}
+use native.Mathlib.Omega.{arith}
+use native.Mathlib.Nat.{ne-of-gt}
+use lib.ListN.{length, replicate}
+use borrow.Author.Tests.{le-ltb, lt-ltb, ne-eqb}
+use Rattle.paper.specs.Limits.{maxWeight}
+use Rattle.paper.specs.Tree.{Tree, records, weight}
+use Rattle.paper.specs.WellFormed.{WF}
+use Rattle.paper.specs.Record.{weightFrom}
+use Rattle.paper.specs.Table.{encode}
+use Rattle.paper.specs.Verdict.{accepted, refused, isAccepted, recordsIn, firstFlawed, tableWeight, judgeRecords, verdict}
+use Rattle.paper.specs.Answers.{Lent, cramped, judgement}
+use Rattle.paper.specs.Refusals.{Under, out-under, steps-under, work-under}
+use Rattle.paper.specs.Takeover.{Room}
+use Rattle.paper.specs.Bounds.{Weights, Rooms, Cramped, RegisterBytes}
+use Rattle.paper.proofs.Computes.{answers-compute}
+use Rattle.paper.proofs.EncodeLaws.{encode-length, records-pos}
+use Rattle.paper.proofs.Stands.{stands-whole}
+use Rattle.paper.proofs.FirstLaws.{All, no-flaw}
+use Rattle.paper.proofs.VerdictLaws.{Fine, good-length}
+use Rattle.paper.proofs.TableLaws.{records-written, encode-weight, fine-there, written-accepted}
+use Rattle.paper.proofs.CallLaws.{accepted-judgement}
+use Rattle.paper.proofs.JudgementLaws.{words-cramped, of-room}
+
+weight-over : (t : Tree) → WF t → 3072 < weight t → records t ≤ 3072 → verdict (encode t) ≡ refused 3 0
+unfolding verdict judgeRecords tableWeight
+weight-over t w h r =
+    let p = records-pos t in
+    let n = recordsIn (encode t) in
+    let e : n ≡ records t = records-written t in
+    let f : All (Fine (encode t) n) 0 (0 + records t) = fine-there t (encode t) n 0 (stands-whole (encode t)) w (omega arith) (omega arith) in
+    let flawless : firstFlawed (encode t) 0 n ≡ n = no-flaw (encode t) n (λ j a b. f j a (omega arith) .0) in
+    let heavy : weightFrom (encode t) 0 n ≡ weight t = encode-weight t in
+    rw (
+      good-length (length (encode t)) (rw (encode-length t) (record { positive = omega arith; sixteens = omega arith; short = omega arith })),
+      flawless,
+      le-ltb n n (omega arith),
+      heavy,
+      lt-ltb maxWeight (weight t) h,
+    )
+
+pub weights : Weights
+weights = record { at-most = written-accepted; over = weight-over }
+
+module _ (s : List ℕ) (l : Lent) (v : verdict s ≡ accepted) where
+  -- any of the words of 6 is given as 6
+  under : Under (tableWeight s) l → judgement s l ≡ refused 6 0
+  unfolding judgement isAccepted
+  under u = rw (v, words-cramped (tableWeight s) l u) refl
+
+  enough : Room (tableWeight s) l → judgement s l ≡ accepted
+  enough r = accepted-judgement s l v (of-room (tableWeight s) l r)
+
+table-first : (s : List ℕ) (l : Lent) → 0 < verdict s .number → judgement s l ≡ verdict s
+unfolding judgement isAccepted
+table-first s l h = rw (ne-eqb (verdict s .number) 0 (ne-of-gt h)) refl
+
+pub rooms : Rooms
+rooms = record {
+  room = λ s l v o t w. enough s l v (record { out-room = o; steps-room = t; work-room = w });
+  out-under = λ s l v h. under s l v (out-under h);
+  steps-under = λ s l v h. under s l v (steps-under h);
+  work-under = λ s l v h. under s l v (work-under h);
+  table-first = table-first;
+}
+
+pub crampeds : Cramped
+unfolding cramped
+crampeds = record {
+  out-31 = λ steps work. refl;
+  steps-1 = λ work. refl;
+  work-65535 = λ work e. rw e refl;
+  work-65536 = λ work e. rw e refl;
+}
+
+pub register-bytes : RegisterBytes
+unfolding answers-compute
+register-bytes = record { one-fewer = refl; exactly = refl; one-more = refl }

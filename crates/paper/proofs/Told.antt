@@ -1,0 +1,121 @@
+-- The numbers of every answer of the simplifier fit in 8 bytes, and so its slice tells them: a place is at most the number of records, or
+-- of steps; steps, openings and weights are at most the weight of the table. Assumes nothing.
+use Prim.Native.Nat.{ℕ, zero, suc, _+_, _*_, _^_, _≤_, _<_, min}
+use mathlib.Core.Path.{_≡_, refl, sym, ap, _∙_, subst}
+use mathlib.Core.Bool.{Bool, true, false, cond, not}
+use mathlib.Core.List.{List, [], _∷_, _++_, append-assoc}
+use native.Mathlib.Omega.{arith}
+use lib.ListN.{length, getD}
+use lib.Dec.{eqb, ltb, lit<}
+use borrow.Author.Tests.{ltb-true}
+use Rattle.paper.specs.Limits.{maxWeight}
+use Rattle.paper.specs.Bytes.{Bytes, bytes, le, le8}
+use Rattle.paper.specs.Tree.{Tree, weight}
+use Rattle.paper.specs.WellFormed.{WF}
+use Rattle.paper.specs.Record.{weightFrom}
+use Rattle.paper.specs.Verdict.{Verdict, accepted, refused, isAccepted, recordsIn, badLength, firstFlawed, tableWeight, treeEnd}
+use Rattle.paper.specs.Verdict.{firstBadExponent, judgeRecords, verdict}
+use Rattle.paper.specs.Rules.{editionOne}
+use Rattle.paper.specs.Driver.{Ran, done, over, simplify}
+use Rattle.paper.specs.Answers.{Lent, Answer, cramped, judgement, refusal, ranAnswer, simplified}
+use Rattle.paper.specs.Calls.{answerNumbers, eights}
+use Rattle.paper.specs.Told.{answerIn, FitEight}
+use Rattle.paper.proofs.BytesLaws.{le-bytes, length-bytes, le8-append, le8-append-add}
+use Rattle.paper.proofs.EncodeLaws.{records-weight}
+use Rattle.paper.proofs.VerdictLaws.{length-good}
+use Rattle.paper.proofs.EditionOne.{edition-one-good}
+use Rattle.paper.proofs.PlaceOfSeven.{Within, run-within}
+use Rattle.paper.proofs.Simplified.{simplify-finished}
+use Rattle.paper.proofs.CallLaws.{RunOn, Call, is-turned-down, is-run, call}
+
+-- ---- places
+record PlaceIn (n : ℕ) (v : Verdict) : Type 0 where
+  most : v .place ≤ n
+
+either : (n : ℕ) (b : Bool) (w v : Verdict) → (b ≡ true → w .place ≤ n) → PlaceIn n v → PlaceIn n (cond b w v)
+either n true w v h k = record { most = h refl }
+either n false w v h k = k
+
+under : (m n : ℕ) → ltb m n ≡ true → m ≤ n
+under m n e = let l = ltb-true m n e in omega arith
+
+records-place : (s : List ℕ) (n : ℕ) → PlaceIn n (judgeRecords s n)
+unfolding judgeRecords
+records-place s n =
+    let z : 0 ≤ n = omega arith in
+    let m : min (treeEnd s n 0) n ≤ n = omega arith in
+    either n (ltb (firstFlawed s 0 n) n) (refused 2 (firstFlawed s 0 n)) _ (under (firstFlawed s 0 n) n)
+    (either n (ltb maxWeight (weightFrom s 0 n)) (refused 3 0) _ (λ e. z)
+    (either n (not (eqb (treeEnd s n 0) n)) (refused 4 (min (treeEnd s n 0) n)) _ (λ e. m)
+    (either n (ltb (firstBadExponent s n 0 n) n) (refused 5 (firstBadExponent s n 0 n)) accepted (under (firstBadExponent s n 0 n) n)
+    (record { most = z }))))
+
+verdict-place : (s : List ℕ) → PlaceIn maxWeight (verdict s)
+unfolding verdict recordsIn
+verdict-place s = go (badLength (length s)) refl
+  where
+    go : (b : Bool) → badLength (length s) ≡ b → PlaceIn maxWeight (cond b (refused 1 0) (judgeRecords s (recordsIn s)))
+    go true e = record { most = omega arith }
+    go false e = record { most = omega (arith, records-place s (recordsIn s) .most, length-good (length s) e .short) }
+
+judgement-place : (s : List ℕ) (l : Lent) → PlaceIn maxWeight (judgement s l)
+unfolding judgement
+judgement-place s l = go (isAccepted (verdict s))
+  where
+    go : (b : Bool) → PlaceIn maxWeight (cond b (cond (cramped (tableWeight s) l) (refused 6 0) accepted) (verdict s))
+    go true = let z : 0 ≤ maxWeight = omega arith in either maxWeight (cramped (tableWeight s) l) (refused 6 0) accepted (λ e. z) (record { most = z })
+    go false = verdict-place s
+
+-- ---- all numbers of an answer
+run-fit : (t : Tree) → WF t → weight t ≤ maxWeight → (x : Ran) → simplify editionOne t ≡ x → FitEight (answerNumbers (ranAnswer (weight t) x))
+unfolding answerNumbers ranAnswer refusal simplify
+run-fit t w h (done u ks o) e =
+    let f = simplify-finished t u ks o w e .lightens in
+    let r = records-weight u in
+    (omega arith, (omega arith, (omega arith, (omega arith, (omega arith, (omega arith, (omega arith, tt)))))))
+run-fit t w h (over k) e =
+    let x : Within t (over k) = subst (Within t) e (run-within edition-one-good (weight t) t w) in
+    (omega arith, (omega arith, (omega arith, (omega arith, (omega arith, (omega arith, (omega arith, tt)))))))
+
+pub numbers-fit : (s : List ℕ) → Bytes s → (l : Lent) → FitEight (answerNumbers (simplified s l .answer))
+unfolding simplified answerNumbers refusal
+numbers-fit s b l = go (call (simplify editionOne) s l b)
+  where
+    small : (k p : ℕ) → k ≤ 6 → p ≤ maxWeight → FitEight (answerNumbers (refusal k p))
+    small k p h m = (omega arith, (omega arith, (omega arith, (omega arith, (omega arith, (omega arith, (omega arith, tt)))))))
+
+    go : Call (simplify editionOne) s l → FitEight (answerNumbers (simplified s l .answer))
+    go (is-turned-down d) = subst (λ a. FitEight (answerNumbers a)) (sym (d .answer)) (small _ _ (d .within) (judgement-place s l .most))
+    go (is-run r) =
+        subst (λ a. FitEight (answerNumbers a)) (sym (r .answer)) (run-fit (r .holds .tree) (r .holds .wf) (r .holds .light) _ refl)
+
+-- ---- reading them back
+first-eight : (n : ℕ) (rest : List ℕ) → n < 2 ^ 64 → le8 (bytes 8 n ++ rest) 0 ≡ n
+first-eight n rest h =
+    le8-append (bytes 8 n) rest 0 (rw length-bytes (omega arith)) ∙ unfold le8 bytes in (le-bytes 8 n h)
+
+-- the number at place i of a slice that begins with numbers
+number-at : (ns rest : List ℕ) (i : ℕ) → i < length ns → FitEight ns → le8 (eights ns ++ rest) (8 * i) ≡ getD ns i 0
+unfolding eights
+number-at [] rest i h f = absurd (omega arith)
+number-at (n ∷ ns) rest zero h f = ap (λ x. le8 x 0) (append-assoc (bytes 8 n) (eights ns) rest) ∙ first-eight n (eights ns ++ rest) (f .0)
+number-at (n ∷ ns) rest (suc i) h f =
+    let e : 8 * suc i ≡ length (bytes 8 n) + 8 * i = rw length-bytes (omega arith) in
+    ap (λ x. le8 x (8 * suc i)) (append-assoc (bytes 8 n) (eights ns) rest) ∙ ap (le8 (bytes 8 n ++ (eights ns ++ rest))) e
+    ∙ le8-append-add (bytes 8 n) (eights ns ++ rest) (8 * i) ∙ number-at ns rest i (omega arith) (f .1)
+
+-- a slice that begins with the numbers of an answer tells that answer
+pub told-answer : (a : Answer) (rest : List ℕ) → FitEight (answerNumbers a) → answerIn (eights (answerNumbers a) ++ rest) ≡ a
+unfolding answerIn answerNumbers
+told-answer a rest f =
+    let n = number-at (answerNumbers a) rest in
+    let seven : (i : ℕ) → i < 7 → le8 (eights (answerNumbers a) ++ rest) (8 * i) ≡ getD (answerNumbers a) i 0 = λ i h. n i h f in
+    rw (
+      seven 0 (lit< tt),
+      seven 1 (lit< tt),
+      seven 2 (lit< tt),
+      seven 3 (lit< tt),
+      seven 4 (lit< tt),
+      seven 5 (lit< tt),
+      seven 6 (lit< tt),
+    ) refl

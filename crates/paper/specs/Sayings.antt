@@ -1,0 +1,53 @@
+-- Small calls with the paper's answers: one line for each sentence about answers, lent bytes and calls from C that no law fixes.
+use Prim.Native.Nat.{ℕ, _*_}
+use mathlib.Core.Bool.{Bool, true, false}
+use mathlib.Core.List.{List, [], _∷_, _++_}
+use mathlib.Core.Path.{_≡_}
+use lib.ListN.{replicate}
+use lib.IntN.{pos}
+use Rattle.paper.specs.Limits.{maxWeight, maxBytes, registerBytes, workBytes}
+use Rattle.paper.specs.Bytes.{stretch}
+use Rattle.paper.specs.Tree.{Tree, integer, symbol, sum, power, nil, cons}
+use Rattle.paper.specs.Table.{encode}
+use Rattle.paper.specs.Verdict.{Verdict, accepted, refused, badLength, verdict}
+use Rattle.paper.specs.Driver.{done, over}
+use Rattle.paper.specs.Answers.{Measured, Compared, weighed, valued, compared, refusal, ranAnswer}
+use Rattle.paper.specs.Calls.{answerNumbers, weightReturns, weightAnswers}
+
+abbrev measures : ℕ → ℕ → ℕ → Measured
+measures n p r = record { number = n; place = p; result = r }
+
+abbrev compares : ℕ → ℕ → ℕ → Bool → Compared
+compares n p w y = record { number = n; place = p; which = w; yes = y }
+
+-- a + b; two trees, 1 and 1, where one is due; b^0
+abbrev a+b : List ℕ
+a+b = encode (sum (cons (symbol 0) (cons (symbol 1) nil)))
+
+abbrev cut : List ℕ
+cut = encode (integer (pos 1)) ++ encode (integer (pos 1))
+
+abbrev b^0 : List ℕ
+b^0 = encode (power (symbol 1) 0)
+
+-- symbol 0 holds 5, symbol 1 holds 256, the others 0
+abbrev regs : List ℕ
+regs = 5 ∷ replicate 7 0 ++ (0 ∷ 1 ∷ replicate 2038 0)
+
+pub record Sayings : Type 0 where
+  pub lengths : (badLength 49152 ≡ false) × (badLength 49168 ≡ true) × (maxBytes ≡ 16 * maxWeight) × (registerBytes ≡ 256 * 8)
+  pub zero-exponent : verdict b^0 ≡ refused 5 2
+  pub weighs : weighed a+b ≡ measures 0 0 7
+  pub weight-refused : weighed cut ≡ measures 4 1 0
+  pub value-is : valued a+b regs ≡ measures 0 0 261
+  pub value-length : valued a+b (0 ∷ []) ≡ measures 6 0 0
+  pub value-table-first : valued b^0 (0 ∷ []) ≡ measures 5 2 0
+  pub equal-first : compared cut b^0 ≡ compares 4 1 1 false
+  pub equal-second : compared a+b b^0 ≡ compares 5 2 2 false
+  pub equal-yes : compared a+b a+b ≡ compares 0 0 0 true
+  pub zeros-and-past : stretch 4 (1 ∷ 2 ∷ []) (9 ∷ 9 ∷ 9 ∷ 9 ∷ 9 ∷ []) ≡ 1 ∷ 2 ∷ 0 ∷ 0 ∷ 9 ∷ []
+  pub numbers : answerNumbers (ranAnswer 15 (done (symbol 0) (2 ∷ 6 ∷ []) 4)) ≡ 0 ∷ 0 ∷ 1 ∷ 2 ∷ 4 ∷ 15 ∷ 3 ∷ []
+  pub numbers-refused : answerNumbers (ranAnswer 15 (over 3)) ≡ 7 ∷ 3 ∷ 0 ∷ 0 ∷ 0 ∷ 0 ∷ 0 ∷ []
+  pub slice-short : (weightReturns a+b (replicate 23 9) ≡ 6) × (weightAnswers a+b (replicate 23 9) ≡ replicate 23 9)
+  pub slice : (weightReturns cut (replicate 25 9) ≡ 4)
+      × (weightAnswers a+b (replicate 25 9) ≡ replicate 16 0 ++ (7 ∷ replicate 7 0 ++ (9 ∷ [])))

@@ -1,0 +1,22 @@
+-- What the answer slice of `simmergate_simplify` tells its caller: the numbers "8 bytes each, little-endian, in the order named above".
+use Prim.Native.Nat.{ℕ, _^_, _<_}
+use mathlib.Core.List.{List, [], _∷_}
+use Rattle.paper.specs.Bytes.{le8}
+use Rattle.paper.specs.Answers.{Answer}
+
+unfoldable pub answerIn : List ℕ → Answer
+answerIn slice =
+    record {
+      number = le8 slice 0;
+      place = le8 slice 8;
+      records-written = le8 slice 16;
+      steps-taken = le8 slice 24;
+      openings = le8 slice 32;
+      weight-in = le8 slice 40;
+      weight-out = le8 slice 48;
+    }
+
+-- numbers that 8 bytes hold
+abbrev pub FitEight : List ℕ → Type 0
+FitEight [] = Unit {0}
+FitEight (n ∷ ns) = (n < 2 ^ 64) × FitEight ns

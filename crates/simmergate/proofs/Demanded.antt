@@ -1,0 +1,131 @@
+-- The demands and the takeover hold of `simmergate_simplify`, the call that the controllers make: of what its answer slice and its areas
+-- tell after a call with room for the answer, as the contract that the check reads from the source lets it be. Its numbers fit in their 8
+-- bytes, so the slice tells the simplifier's answer. Assumes nothing.
+use Prim.Native.Nat.{ℕ, _≤_}
+use mathlib.Core.Path.{_≡_, refl, sym, ap, _∙_}
+use mathlib.Core.List.{List, []}
+use lib.ListN.{length, drop, replicate}
+use lib.Dec.{lit≤}
+use denote.Ref.{RefT}
+use borrow.Fn.Kinds.{Dens, endedOf}
+use contract.Lifetimes.{Lfts}
+use denote.Triple.Clauses.{AtExit}
+use Rattle.paper.specs.Bytes.{Bytes}
+use Rattle.paper.specs.Answers.{Lent, Given, simplified}
+use Rattle.paper.specs.Calls.{simplifyReturns, simplifyAnswers, simplifyLeaves}
+use Rattle.paper.specs.Told.{answerIn}
+use Rattle.paper.specs.Demands.{Simplifier, Demands, result}
+use Rattle.paper.specs.Takeover.{Room, Repeats, TakesOver, TakesOverInPlace}
+use Rattle.paper.proofs.Slices.{slices}
+use Rattle.paper.proofs.Told.{numbers-fit, told-answer}
+use Rattle.paper.proofs.AlikeLaws.{alike-meets, alike-takes-over, alike-takes-over-in-place}
+use Rattle.simplify.specs.Answer.{lent}
+use Rattle.simplify.proofs.Demanded.{of-calls, in-place}
+use Rattle.simmergate.proofs.simmergate_simplify.Reads as reads
+use Rattle.simmergate.proofs.simmergate_simplify.Kinds as kinds
+
+-- a call from C: what is handed in, the return, and what the references lead to afterwards, as the contract lets it be
+pub record CCall : Type 0 where
+  pub ends : Lfts 5
+  pub handed : Dens ends kinds.ps
+  pub returned : ℕ
+  pub left : AtExit (endedOf 5 kinds.ps kinds.r) ends
+  pub promised : reads.Post ends handed returned left
+
+-- the table, the areas and the answer slice that are handed in
+abbrev pub table : CCall → List ℕ
+table c = c .handed .0 .now
+
+abbrev pub areas : CCall → Lent
+areas c = lent (c .handed .1 .0 .now) (c .handed .1 .1 .0 .now) (c .handed .1 .1 .1 .0 .now)
+
+abbrev pub slice : CCall → List ℕ
+slice c = c .handed .1 .1 .1 .1 .0 .now
+
+-- what the call gives: the answer that the slice tells, and the areas
+abbrev pub given : CCall → Given
+given c =
+    record {
+      answer = answerIn (c .left .1 .1 .1 .1 .0 .now);
+      lent = lent (c .left .1 .0 .now) (c .left .1 .1 .0 .now) (c .left .1 .1 .1 .0 .now);
+    }
+
+-- it is the simplifier's, where the table is bytes and the slice has room; and the return is its number
+tells : (s : List ℕ) → Bytes s → (l : Lent) (before after : List ℕ) → 56 ≤ length before → after ≡ simplifyAnswers s l before
+    → answerIn after ≡ simplified s l .answer
+tells s b l before after room e =
+    ap answerIn (e ∙ slices .simplify s l before .1 room .1) ∙ told-answer (simplified s l .answer) (drop 56 before) (numbers-fit s b l)
+
+given-by : (g h : Given) → g .answer ≡ h .answer → g .lent ≡ h .lent → g ≡ h
+given-by g h x y = ap (λ a. record { answer = a; lent = g .lent }) x ∙ ap (λ a. record { answer = h .answer; lent = a }) y
+
+pub call-gives : (c : CCall) → Bytes (table c) → 56 ≤ length (slice c) → given c ≡ simplified (table c) (areas c)
+call-gives c b room =
+    given-by (given c) (simplified (table c) (areas c)) (tells (table c) b (areas c) (slice c) _ room (c .promised .1 .0))
+    (c .promised .1 .1 ∙ slices .areas (table c) (areas c) (slice c) .1 room)
+
+pub call-returns : (c : CCall) → Bytes (table c) → 56 ≤ length (slice c) → c .returned ≡ given c .answer .number
+call-returns c b room =
+    c .promised .0 ∙ slices .simplify (table c) (areas c) (slice c) .1 room .0 ∙ sym (ap (λ g. g .answer .number) (call-gives c b room))
+
+-- f says of every such call what the contract lets it give
+abbrev pub Describes : Simplifier → Type 0
+Describes f = (c : CCall) → Bytes (table c) → 56 ≤ length (slice c) → f (table c) (areas c) ≡ given c
+
+pub simplified-describes : Describes simplified
+simplified-describes c b room = sym (call-gives c b room)
+
+-- references, at any place, to what is handed in and to what is left
+at : List ℕ → RefT (List ℕ)
+at s = record { ptr = (0, 0); name = 0; now = s }
+
+κ : Lfts 5
+κ = ([], ([], ([], ([], ([], tt)))))
+
+-- any table and any areas may be handed in, with a slice that has room
+blank : List ℕ
+blank = replicate 56 0
+
+blank-room : 56 ≤ length blank
+unfolding blank
+blank-room = lit≤ tt
+
+called : List ℕ → Lent → CCall
+unfolding at κ
+called s l =
+    let after = simplifyLeaves s l blank in
+    record {
+      ends = κ;
+      handed = (at s, (at (l .out), (at (l .steps), (at (l .work), (at blank, tt)))));
+      returned = simplifyReturns s l blank;
+      left = (at s, (at (after .out), (at (after .steps), (at (after .work), (at (simplifyAnswers s l blank), tt)))));
+      promised = (refl, (refl, refl));
+    }
+
+-- so a simplifier that describes the call is the paper's on every table of bytes
+pub described : (f : Simplifier) → Describes f → (s : List ℕ) → Bytes s → (l : Lent) → f s l ≡ simplified s l
+unfolding at κ called
+described f h s b l = h (called s l) b blank-room ∙ call-gives (called s l) b blank-room
+
+-- the demands, of the call
+pub c-meets : (f : Simplifier) → Describes f → Demands f
+c-meets f h = alike-meets f (described f h)
+
+-- the takeover, of the call
+pub c-takes-over : (f : Simplifier) → Describes f → TakesOver f
+c-takes-over f h = alike-takes-over f (described f h)
+
+pub c-takes-over-in-place : (f : Simplifier) → Describes f → TakesOverInPlace f
+c-takes-over-in-place f h = alike-takes-over-in-place f (described f h)
+
+-- the same of any two calls, the second of which is handed the result of the first: lent any areas with room for it
+pub c-takeover : (c d : CCall) → Bytes (table c) → Bytes (table d) → 56 ≤ length (slice c) → 56 ≤ length (slice d)
+    → given c .answer .number ≡ 0 → table d ≡ result (given c) → Room (given c .answer .weight-out) (areas d) → Repeats (given c) (given d)
+c-takeover c d b b′ r r′ =
+    of-calls (table c) (areas c) (given c) (call-gives c b r) (table d) (areas d) (given d) (call-gives d b′ r′) b
+
+-- or lent the areas as the first one left them
+pub c-takeover-in-place : (c d : CCall) → Bytes (table c) → Bytes (table d) → 56 ≤ length (slice c) → 56 ≤ length (slice d)
+    → given c .answer .number ≡ 0 → table d ≡ result (given c) → areas d ≡ given c .lent → Repeats (given c) (given d)
+c-takeover-in-place c d b b′ r r′ =
+    in-place (table c) (areas c) (given c) (call-gives c b r) (table d) (areas d) (given d) (call-gives d b′ r′) b
