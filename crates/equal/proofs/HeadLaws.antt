@@ -30,15 +30,15 @@ node-bits : {s : List ℕ} {i : ℕ} {t : Tree} → TreeIn s i t → 2 ≤ kind 
 node-bits {s} {i} {t} h l = by t h (seen h)
   where
     by : (t : Tree) → TreeIn s i t → Seen s i t → bits s i ≡ 0
-    by (integer z) h (an-integer c d v) = absurd (omega arith)
-    by (symbol z) h (a-symbol c d v) = absurd (omega arith)
-    by (sum f) h q = let r = sum-record f (h .stands) in bits-there s i 2 (count f) 0 (r .after) (r .there) (omega arith)
-    by (product f) h q = let r = product-record f (h .stands) in bits-there s i 3 (count f) 0 (r .after) (r .there) (omega arith)
-    by (power b e) h q = let r = power-record b e (h .stands) in bits-there s i 4 0 0 (r .after) (r .there) (omega arith)
+    by (integer μ z) h (an-integer c d v) = absurd (omega arith)
+    by (symbol μ z) h (a-symbol c d v) = absurd (omega arith)
+    by (sum μ f) h q = let r = sum-record μ f (h .stands) in bits-there s i 2 (count f) 0 (r .after) (r .there) (omega arith)
+    by (product μ f) h q = let r = product-record μ f (h .stands) in bits-there s i 3 (count f) 0 (r .after) (r .there) (omega arith)
+    by (power μ b ξ e) h q = let r = power-record μ b ξ e (h .stands) in bits-there s i 4 0 0 (r .after) (r .there) (omega arith)
 
 -- the base of a power stands in the table
 pub base-within : {s : List ℕ} {i : ℕ} {t : Tree} → TreeIn s i t → kind s i ≡ 4 → (i + 1) * 16 + 16 ≤ length s
-base-within {s} {i} h e = record-within (power-tree (subst (TreeIn s i) (seen-power (seen h) e .2) h))
+base-within {s} {i} h e = record-within (power-tree (subst (TreeIn s i) (seen-power (seen h) e .4) h))
 
 module _ {a : List ℕ} {i : ℕ} {b : List ℕ} {j : ℕ} {t u : Tree} (h : TreeIn a i t) (g : TreeIn b j u) where
   pub heads-differ : sameHead a i b j ≡ false → equal t u ≡ false

@@ -31,11 +31,11 @@ use Rattle.equal.specs.declared.Match.the-variants.{Different, Ends}
 
 -- the paper's number of a tree's kind
 unfoldable pub number : Tree → ℕ
-number (integer z) = 0
-number (symbol v) = 1
-number (sum f) = 2
-number (product f) = 3
-number (power b e) = 4
+number (integer μ z) = 0
+number (symbol μ v) = 1
+number (sum μ f) = 2
+number (product μ f) = 3
+number (power μ b ξ e) = 4
 
 pub kind-number : {s : List ℕ} {i : ℕ} {t : Tree} → Seen s i t → kind s i ≡ number t
 unfolding number
@@ -63,18 +63,22 @@ sames-count s-nil = refl
 sames-count (s-cons r k s) = omega (arith, sames-count s, taken-length k)
 
 -- the number of a symbol, read as that of an integer
-symbol-bits : {s : List ℕ} {i v : ℕ} → TreeIn s i (symbol v) → v < 256 → bits s i ≡ v
+symbol-bits : {s : List ℕ} {i μ v : ℕ} → TreeIn s i (symbol μ v) → v < 256 → bits s i ≡ v
 unfolding encode
-symbol-bits {s} {i} {v} h l = bits-there s i 1 0 v (h .stands .after) (h .stands .there) (omega arith)
+symbol-bits {s} {i} {v = v} h l = bits-there s i 1 0 v (h .stands .after) (h .stands .there) (omega arith)
 
 -- two powers, and what stands for their bases and exponents
 record Powers (a : List ℕ) (i : ℕ) (b : List ℕ) (j : ℕ) (t u : Tree) : Type 0 where
+  pub mark : ℕ
   pub base : Tree
+  pub exponent-mark : ℕ
   pub exponent : ℕ
+  pub other-mark : ℕ
   pub other-base : Tree
+  pub other-exponent-mark : ℕ
   pub other-exponent : ℕ
-  pub whole : t ≡ power base exponent
-  pub other-whole : u ≡ power other-base other-exponent
+  pub whole : t ≡ power mark base exponent-mark exponent
+  pub other-whole : u ≡ power other-mark other-base other-exponent-mark other-exponent
   pub there : TreeIn a (i + 1) base
   pub other-there : TreeIn b (j + 1) other-base
   pub exponent-bits : bits a (i + 1 + records base) ≡ exponent
@@ -133,11 +137,11 @@ module _ {a : List ℕ} {i : ℕ} {b : List ℕ} {j : ℕ} {t u : Tree} (h : Tre
     leaf-records = by t (seen h)
       where
         by : (t : Tree) → Seen a i t → records t ≡ 1
-        by (integer z) q = refl
-        by (symbol v) q = refl
-        by (sum f) (a-sum e n c w m) = absurd (omega arith)
-        by (product f) (a-product e n c w m) = absurd (omega arith)
-        by (power b x) (a-power e w m p q o y z) = absurd (omega arith)
+        by (integer μ z) q = refl
+        by (symbol μ v) q = refl
+        by (sum μ f) (a-sum e n c w m) = absurd (omega arith)
+        by (product μ f) (a-product e n c w m) = absurd (omega arith)
+        by (power μ b ξ x) (a-power e w m p q o y z) = absurd (omega arith)
 
     pub leaves-equal : bits a i ≡ bits b j → equal t u ≡ true
     unfolding equal onInteger onSymbol
@@ -147,20 +151,20 @@ module _ {a : List ℕ} {i : ℕ} {b : List ℕ} {j : ℕ} {t u : Tree} (h : Tre
         integers z y v w q = subst (λ x. eqZ z x ≡ true) (sym (signed-word z v) ∙ ap signed q ∙ signed-word y w) (eqZ-self z)
 
         by : (t u : Tree) → TreeIn a i t → TreeIn b j u → Seen a i t → Seen b j u → equal t u ≡ true
-        by (integer z) (integer y) h g (an-integer c d v) (an-integer p q w) = integers z y v w (sym d ∙ e ∙ q)
-        by (integer z) (symbol y) h g (an-integer c d v) (a-symbol p q w) = absurd (omega arith)
-        by (integer z) (sum y) h g (an-integer c d v) (a-sum p n o w m) = absurd (omega arith)
-        by (integer z) (product y) h g (an-integer c d v) (a-product p n o w m) = absurd (omega arith)
-        by (integer z) (power y f) h g (an-integer c d v) (a-power p w m o q n r x) = absurd (omega arith)
-        by (symbol z) (integer y) h g (a-symbol c d v) (an-integer p q w) = absurd (omega arith)
-        by (symbol z) (symbol y) h g (a-symbol c d v) (a-symbol p q w) =
+        by (integer μ z) (integer ν y) h g (an-integer c d v) (an-integer p q w) = integers z y v w (sym d ∙ e ∙ q)
+        by (integer μ z) (symbol ν y) h g (an-integer c d v) (a-symbol p q w) = absurd (omega arith)
+        by (integer μ z) (sum ν y) h g (an-integer c d v) (a-sum p n o w m) = absurd (omega arith)
+        by (integer μ z) (product ν y) h g (an-integer c d v) (a-product p n o w m) = absurd (omega arith)
+        by (integer μ z) (power ν y ζ f) h g (an-integer c d v) (a-power p w m o q n r x) = absurd (omega arith)
+        by (symbol μ z) (integer ν y) h g (a-symbol c d v) (an-integer p q w) = absurd (omega arith)
+        by (symbol μ z) (symbol ν y) h g (a-symbol c d v) (a-symbol p q w) =
             eq-eqb z y (sym (symbol-bits h v) ∙ e ∙ symbol-bits g w)
-        by (symbol z) (sum y) h g (a-symbol c d v) (a-sum p n o w m) = absurd (omega arith)
-        by (symbol z) (product y) h g (a-symbol c d v) (a-product p n o w m) = absurd (omega arith)
-        by (symbol z) (power y f) h g (a-symbol c d v) (a-power p w m o q n r x) = absurd (omega arith)
-        by (sum f) u h g (a-sum c n o w m) q = absurd (omega arith)
-        by (product f) u h g (a-product c n o w m) q = absurd (omega arith)
-        by (power d x) u h g (a-power c w m o q n r y) s = absurd (omega arith)
+        by (symbol μ z) (sum ν y) h g (a-symbol c d v) (a-sum p n o w m) = absurd (omega arith)
+        by (symbol μ z) (product ν y) h g (a-symbol c d v) (a-product p n o w m) = absurd (omega arith)
+        by (symbol μ z) (power ν y ζ f) h g (a-symbol c d v) (a-power p w m o q n r x) = absurd (omega arith)
+        by (sum μ f) u h g (a-sum c n o w m) q = absurd (omega arith)
+        by (product μ f) u h g (a-product c n o w m) q = absurd (omega arith)
+        by (power μ d ξ x) u h g (a-power c w m o q n r y) s = absurd (omega arith)
 
     pub leaves-differ : (bits a i ≡ bits b j → ⊥) → equal t u ≡ false
     leaves-differ n = not-so (equal t u) (λ e. by (same-view t u e) h g (seen h) (seen g))
@@ -179,18 +183,22 @@ module _ {a : List ℕ} {i : ℕ} {b : List ℕ} {j : ℕ} {t u : Tree} (h : Tre
       let p = seen-power (seen h) l in
       let q = seen-power (seen g) (sym k ∙ l) in
       record {
-        base = p .0;
-        exponent = p .1;
-        other-base = q .0;
-        other-exponent = q .1;
-        whole = p .2;
-        other-whole = q .2;
-        there = power-tree (subst (TreeIn a i) (p .2) h);
-        other-there = power-tree (subst (TreeIn b j) (q .2) g);
-        exponent-bits = p .3 .exponent-bits;
-        other-exponent-bits = q .3 .exponent-bits;
-        size = ap records (p .2);
-        other-size = ap records (q .2);
+        mark = p .0;
+        base = p .1;
+        exponent-mark = p .2;
+        exponent = p .3;
+        other-mark = q .0;
+        other-base = q .1;
+        other-exponent-mark = q .2;
+        other-exponent = q .3;
+        whole = p .4;
+        other-whole = q .4;
+        there = power-tree (subst (TreeIn a i) (p .4) h);
+        other-there = power-tree (subst (TreeIn b j) (q .4) g);
+        exponent-bits = p .5 .exponent-bits;
+        other-exponent-bits = q .5 .exponent-bits;
+        size = ap records (p .4);
+        other-size = ap records (q .4);
       }
 
   module _ (p : Powers a i b j t u) where
@@ -250,31 +258,31 @@ module _ {a : List ℕ} {i : ℕ} {b : List ℕ} {j : ℕ} {t u : Tree} (h : Tre
   nodes k l n = by t h (seen h)
     where
       by : (t : Tree) → TreeIn a i t → Seen a i t → Nodes a i b j t u
-      by (integer z) h (an-integer c d v) = absurd (omega arith)
-      by (symbol z) h (a-symbol c d v) = absurd (omega arith)
-      by (sum f) h (a-sum c d o w m) =
+      by (integer μ z) h (an-integer c d v) = absurd (omega arith)
+      by (symbol μ z) h (a-symbol c d v) = absurd (omega arith)
+      by (sum μ f) h (a-sum c d o w m) =
           let q = seen-sum (seen g) (sym k ∙ c) in
           record {
             ones = f;
-            others = q .0;
+            others = q .1;
             ones-there = sum-trees h;
-            others-there = sum-trees (subst (TreeIn b j) (q .1) g);
-            same = ap (equal (sum f)) (q .1) ∙ matched-bag f (toList (q .0));
+            others-there = sum-trees (subst (TreeIn b j) (q .2) g);
+            same = ap (equal (sum μ f)) (q .2) ∙ matched-bag f (toList (q .1));
             size = refl;
-            other-size = ap records (q .1);
+            other-size = ap records (q .2);
           }
-      by (product f) h (a-product c d o w m) =
+      by (product μ f) h (a-product c d o w m) =
           let q = seen-product (seen g) (sym k ∙ c) in
           record {
             ones = f;
-            others = q .0;
+            others = q .1;
             ones-there = product-trees h;
-            others-there = product-trees (subst (TreeIn b j) (q .1) g);
-            same = ap (equal (product f)) (q .1) ∙ matched-bag f (toList (q .0));
+            others-there = product-trees (subst (TreeIn b j) (q .2) g);
+            same = ap (equal (product μ f)) (q .2) ∙ matched-bag f (toList (q .1));
             size = refl;
-            other-size = ap records (q .1);
+            other-size = ap records (q .2);
           }
-      by (power z x) h (a-power c w m o q d y v) = absurd (n c)
+      by (power μ z ξ x) h (a-power c w m o q d y v) = absurd (n c)
 
   pub counts-differ : Nodes a i b j t u → (countIn a i ≡ countIn b j → ⊥) → equal t u ≡ false
   counts-differ q n =

@@ -65,21 +65,21 @@ good-exponent s n i e h k q l = go (isPositive s e) refl
 integer-at : (s : List ℕ) (i e v : ℕ) → v < 2 ^ 64 → i + 1 ≡ e → Stands s i (recordOf 0 0 v) → TreeAt s i e
 unfolding encode records
 integer-at s i e v l q h = record {
-  tree = integer (signed v);
-  wf = signed-in-range v l;
+  tree = integer 0 (signed v);
+  wf = (signed-in-range v l, refl);
   size = q;
   stands = rw (word-signed v l) h;
 }
 
 symbol-at : (s : List ℕ) (i e v : ℕ) → v < 256 → i + 1 ≡ e → Stands s i (recordOf 1 0 v) → TreeAt s i e
 unfolding encode records
-symbol-at s i e v l q h = record { tree = symbol v; wf = l; size = q; stands = h }
+symbol-at s i e v l q h = record { tree = symbol 0 v; wf = (l, refl); size = q; stands = h }
 
 sum-at : (s : List ℕ) (i c e : ℕ) → 2 ≤ c → Stands s i (recordOf 2 c 0) → TreesAt s (i + 1) c e → TreeAt s i e
 unfolding encode records
 sum-at s i c e l h m = record {
-  tree = sum (m .trees);
-  wf = (rw (m .counted) l, m .wf);
+  tree = sum 0 (m .trees);
+  wf = (rw (m .counted) l, m .wf, refl);
   size = omega (arith, m .size);
   stands = rw (m .counted) (stands-both (recordOf 2 c 0) (encodes (m .trees)) 1 (record-length 2 c 0) h (m .stands));
 }
@@ -87,8 +87,8 @@ sum-at s i c e l h m = record {
 product-at : (s : List ℕ) (i c e : ℕ) → 2 ≤ c → Stands s i (recordOf 3 c 0) → TreesAt s (i + 1) c e → TreeAt s i e
 unfolding encode records
 product-at s i c e l h m = record {
-  tree = product (m .trees);
-  wf = (rw (m .counted) l, m .wf);
+  tree = product 0 (m .trees);
+  wf = (rw (m .counted) l, m .wf, refl);
   size = omega (arith, m .size);
   stands = rw (m .counted) (stands-both (recordOf 3 c 0) (encodes (m .trees)) 1 (record-length 3 c 0) h (m .stands));
 }
@@ -101,22 +101,22 @@ only-integers s e k c v h l p = omega (arith, kind-there s e k c v (h .after) (h
 raise : (s : List ℕ) (i e : ℕ) (b x : Tree) → Stands s i (recordOf 4 0 0) → WF b → Stands s (i + 1) (encode b)
     → Stands s (i + 1 + records b) (encode x) → isPositive s (i + 1 + records b) ≡ true → i + 1 + (records b + records x) ≡ e → TreeAt s i e
 unfolding encode records
-raise s i e b (integer z) h w base x p q =
+raise s i e b (integer μ z) h w base x p q =
     let j = i + 1 + records b in
     let k = positive-kind s j p in
     let v : bits s j ≡ word z = bits-there s j 0 0 (word z) (x .after) (x .there) (word-lt z) in
     record {
-      tree = power b (word z);
-      wf = (w, omega (arith, v, k .1), omega (arith, v, k .2));
+      tree = power 0 b 0 (word z);
+      wf = (w, omega (arith, v, k .1), omega (arith, v, k .2), refl, refl);
       size = omega arith;
       stands =
           stands-both (recordOf 4 0 0) (encode b ++ recordOf 0 0 (word z)) 1 (record-length 4 0 0) h
           (stands-both (encode b) (recordOf 0 0 (word z)) (records b) (encode-length b) base x);
     }
-raise s i e b (symbol v) h w base x p q = absurd (only-integers s (i + 1 + records b) 1 0 v x (lit< tt) p)
-raise s i e b (sum f) h w base x p q = absurd (only-integers s (i + 1 + records b) 2 (count f) 0 (sum-record f x) (lit< tt) p)
-raise s i e b (product f) h w base x p q = absurd (only-integers s (i + 1 + records b) 3 (count f) 0 (product-record f x) (lit< tt) p)
-raise s i e b (power c v) h w base x p q = absurd (only-integers s (i + 1 + records b) 4 0 0 (power-record c v x) (lit< tt) p)
+raise s i e b (symbol μ v) h w base x p q = absurd (only-integers s (i + 1 + records b) 1 0 v x (lit< tt) p)
+raise s i e b (sum μ f) h w base x p q = absurd (only-integers s (i + 1 + records b) 2 (count f) 0 (sum-record μ f x) (lit< tt) p)
+raise s i e b (product μ f) h w base x p q = absurd (only-integers s (i + 1 + records b) 3 (count f) 0 (product-record μ f x) (lit< tt) p)
+raise s i e b (power μ c ξ v) h w base x p q = absurd (only-integers s (i + 1 + records b) 4 0 0 (power-record μ c ξ v x) (lit< tt) p)
 
 -- a tree and the trees after it
 join-trees : (s : List ℕ) (i k e g : ℕ) → TreeAt s i e → TreesAt s e k g → TreesAt s i (suc k) g

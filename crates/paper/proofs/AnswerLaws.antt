@@ -12,22 +12,22 @@ use Rattle.paper.proofs.Value.{exact}
 use Rattle.paper.proofs.KeptLaws.{value-of-exact}
 
 module _ (k : List Tree → Tried) where
-  pub on-sum-good : ((f : Forest) → WF (sum f) → GoodAnswer (sum f) (k (toList f))) → (t : Tree) → WF t → GoodAnswer t (onSumMembers k t)
+  pub on-sum-good : ((μ : ℕ) (f : Forest) → WF (sum μ f) → GoodAnswer (sum μ f) (k (toList f))) → (t : Tree) → WF t → GoodAnswer t (onSumMembers k t)
   unfolding onSumMembers
-  on-sum-good h (integer z) w = tt
-  on-sum-good h (symbol s) w = tt
-  on-sum-good h (sum f) w = h f w
-  on-sum-good h (product f) w = tt
-  on-sum-good h (power b e) w = tt
+  on-sum-good h (integer μ z) w = tt
+  on-sum-good h (symbol μ s) w = tt
+  on-sum-good h (sum μ f) w = h μ f w
+  on-sum-good h (product μ f) w = tt
+  on-sum-good h (power μ b ξ e) w = tt
 
-  pub on-product-good : ((f : Forest) → WF (product f) → GoodAnswer (product f) (k (toList f))) → (t : Tree) → WF t
+  pub on-product-good : ((μ : ℕ) (f : Forest) → WF (product μ f) → GoodAnswer (product μ f) (k (toList f))) → (t : Tree) → WF t
       → GoodAnswer t (onProductMembers k t)
   unfolding onProductMembers
-  on-product-good h (integer z) w = tt
-  on-product-good h (symbol s) w = tt
-  on-product-good h (sum f) w = tt
-  on-product-good h (product f) w = h f w
-  on-product-good h (power b e) w = tt
+  on-product-good h (integer μ z) w = tt
+  on-product-good h (symbol μ s) w = tt
+  on-product-good h (sum μ f) w = tt
+  on-product-good h (product μ f) w = h μ f w
+  on-product-good h (power μ b ξ e) w = tt
 
 -- u has the value of t where the unreduced values agree
 pub kept-agree : {n : ℕ} (t u : Tree) → ((ρ : ℕ → ℕ) → Agree modulus (exact u ρ) (exact t ρ)) → weight u + n ≤ weight t → Kept n t u

@@ -38,11 +38,11 @@ two-members (cons t (cons u f)) h = omega (arith, weight-pos t, weight-pos u)
 
 pub bulk-wf : (t : Tree) → WF t → bulk t ≡ weight t
 unfolding bulk atLeast asInteger weight
-bulk-wf (integer z) w = refl
-bulk-wf (symbol s) w = refl
-bulk-wf (sum f) w = omega (arith, two-members f (w .0))
-bulk-wf (product f) w = omega (arith, two-members f (w .0))
-bulk-wf (power b e) w = omega (arith, weight-pos b)
+bulk-wf (integer μ z) w = refl
+bulk-wf (symbol μ s) w = refl
+bulk-wf (sum μ f) w = omega (arith, two-members f (w .0))
+bulk-wf (product μ f) w = omega (arith, two-members f (w .0))
+bulk-wf (power μ b ξ e) w = omega (arith, weight-pos b)
 
 -- equal trees are the same integer, if any, and have the same bulk
 pub same-integer : {t u : Tree} → Same t u → asInteger t ≡ asInteger u

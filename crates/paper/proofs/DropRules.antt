@@ -73,17 +73,17 @@ module _ (p : Tree → Bool) where
       go false q e ih = ap (λ n. g t * n) (ih e) ∙ omega arith
 
 -- ---- members that are a certain integer
-isThe-true : (z : ℤ) (t : Tree) → isThe z t ≡ true → t ≡ integer z
+isThe-true : (z : ℤ) (t : Tree) → isThe z t ≡ true → (μ : ℕ) × (t ≡ integer μ z)
 unfolding isThe asInteger
-isThe-true z (integer y) e = ap integer (eqZ-true y z e)
-isThe-true z (symbol s) e = never e
-isThe-true z (sum f) e = never e
-isThe-true z (product f) e = never e
-isThe-true z (power b x) e = never e
+isThe-true z (integer μ y) e = (μ, ap (integer μ) (eqZ-true y z e))
+isThe-true z (symbol μ s) e = never e
+isThe-true z (sum μ f) e = never e
+isThe-true z (product μ f) e = never e
+isThe-true z (power μ b ξ x) e = never e
 
 isThe-exact : (z : ℤ) (ρ : ℕ → ℕ) (t : Tree) → isThe z t ≡ true → exact t ρ ≡ word z
 unfolding exact
-isThe-exact z ρ t e = ap (λ u. exact u ρ) (isThe-true z t e)
+isThe-exact z ρ t e = ap (λ u. exact u ρ) (isThe-true z t e .1)
 
 -- ---- the rules
 appliesIf-good : (t u : Tree) (b : Bool) → (b ≡ true → WF u × Kept 1 t u) → GoodAnswer t (appliesIf b u)
@@ -109,28 +109,28 @@ add-zero-good = record { good = on-sum-good _ members }
     zero? : Tree → Bool
     zero? = isThe (pos 0)
 
-    same : (f : Forest) (ρ : ℕ → ℕ) → exact (sumOf (dropAll zero? (toList f))) ρ ≡ exact (sum f) ρ
-    same f ρ =
+    same : (μ : ℕ) (f : Forest) (ρ : ℕ → ℕ) → exact (sumOf (dropAll zero? (toList f))) ρ ≡ exact (sum μ f) ρ
+    same μ f ρ =
         sumOf-exact (dropAll zero? (toList f)) ρ
         ∙ dropAll-keeps zero? (total (λ t. exact t ρ)) (λ t l e. omega (arith, isThe-exact (pos 0) ρ t e)) (λ t k l h. omega (arith, h)) (toList f)
         ∙ sum-list f ρ
 
-    members : (f : Forest) → WF (sum f) → GoodAnswer (sum f) (appliesIf (anyOf zero? (toList f)) (sumOf (dropAll zero? (toList f))))
-    members f w = drop-good zero? sumOf sumOf-wf sumOf-weight (sum f) (toList f) (wf-list f (w .1)) (omega (arith, weights-list f)) (same f)
+    members : (μ : ℕ) (f : Forest) → WF (sum μ f) → GoodAnswer (sum μ f) (appliesIf (anyOf zero? (toList f)) (sumOf (dropAll zero? (toList f))))
+    members μ f w = drop-good zero? sumOf sumOf-wf sumOf-weight (sum μ f) (toList f) (wf-list f (w .1)) (omega (arith, weights-list f)) (same μ f)
 
 -- step 3 is a good rule
 pub multiply-zero-good : Good (record { number = 3; try = multiplyZero })
 unfolding multiplyZero exact weight word
-multiply-zero-good = record { good = on-product-good _ (λ f w. appliesIf-good (product f) _ _ (λ e. (lit< tt, kept f e))) }
+multiply-zero-good = record { good = on-product-good _ (λ μ f w. appliesIf-good (product μ f) _ _ (λ e. ((lit< tt, refl), kept μ f e))) }
   where
     zero? : Tree → Bool
     zero? = isThe (pos 0)
 
-    same : (f : Forest) → anyOf zero? (toList f) ≡ true → (ρ : ℕ → ℕ) → 0 ≡ exact (product f) ρ
-    same f e ρ = sym (anyOf-multiplied zero? (λ t. exact t ρ) (isThe-exact (pos 0) ρ) (toList f) e) ∙ product-list f ρ
+    same : (μ : ℕ) (f : Forest) → anyOf zero? (toList f) ≡ true → (ρ : ℕ → ℕ) → 0 ≡ exact (product μ f) ρ
+    same μ f e ρ = sym (anyOf-multiplied zero? (λ t. exact t ρ) (isThe-exact (pos 0) ρ) (toList f) e) ∙ product-list f ρ
 
-    kept : (f : Forest) → anyOf zero? (toList f) ≡ true → Kept 1 (product f) (integer (pos 0))
-    kept f e = kept-agree (product f) _ (λ ρ. agree-of (same f e ρ)) (omega (arith, dropAll-lighter zero? (toList f) e, weights-list f))
+    kept : (μ : ℕ) (f : Forest) → anyOf zero? (toList f) ≡ true → Kept 1 (product μ f) (integer 0 (pos 0))
+    kept μ f e = kept-agree (product μ f) _ (λ ρ. agree-of (same μ f e ρ)) (omega (arith, dropAll-lighter zero? (toList f) e, weights-list f))
 
 -- step 4 is a good rule
 pub multiply-one-good : Good (record { number = 4; try = multiplyOne })
@@ -143,12 +143,12 @@ multiply-one-good = record { good = on-product-good _ members }
     nothing : (ρ : ℕ → ℕ) (t : Tree) (l : List Tree) → one? t ≡ true → multiplied (λ t. exact t ρ) (t ∷ l) ≡ multiplied (λ t. exact t ρ) l
     nothing ρ t l e = ap (λ n. n * multiplied (λ t. exact t ρ) l) (isThe-exact (pos 1) ρ t e) ∙ omega arith
 
-    same : (f : Forest) (ρ : ℕ → ℕ) → exact (productOf (dropAll one? (toList f))) ρ ≡ exact (product f) ρ
-    same f ρ =
+    same : (μ : ℕ) (f : Forest) (ρ : ℕ → ℕ) → exact (productOf (dropAll one? (toList f))) ρ ≡ exact (product μ f) ρ
+    same μ f ρ =
         productOf-exact (dropAll one? (toList f)) ρ
         ∙ dropAll-keeps one? (multiplied (λ t. exact t ρ)) (nothing ρ) (λ t k l h. ap (λ n. exact t ρ * n) h) (toList f)
         ∙ product-list f ρ
 
-    members : (f : Forest) → WF (product f) → GoodAnswer (product f) (appliesIf (anyOf one? (toList f)) (productOf (dropAll one? (toList f))))
-    members f w =
-        drop-good one? productOf productOf-wf productOf-weight (product f) (toList f) (wf-list f (w .1)) (omega (arith, weights-list f)) (same f)
+    members : (μ : ℕ) (f : Forest) → WF (product μ f) → GoodAnswer (product μ f) (appliesIf (anyOf one? (toList f)) (productOf (dropAll one? (toList f))))
+    members μ f w =
+        drop-good one? productOf productOf-wf productOf-weight (product μ f) (toList f) (wf-list f (w .1)) (omega (arith, weights-list f)) (same μ f)

@@ -32,11 +32,11 @@ mutual
   unfolding encode records
 
   pub encode-length : (t : Tree) → length (encode t) ≡ 16 * records t
-  encode-length (integer z) = record-length 0 0 (word z)
-  encode-length (symbol s) = record-length 1 0 s
-  encode-length (sum f) = simp (length-append, record-length) (omega (arith, encodes-length f))
-  encode-length (product f) = simp (length-append, record-length) (omega (arith, encodes-length f))
-  encode-length (power b e) = simp (length-append, record-length) (omega (arith, encode-length b))
+  encode-length (integer μ z) = record-length 0 0 (word z)
+  encode-length (symbol μ s) = record-length 1 0 s
+  encode-length (sum μ f) = simp (length-append, record-length) (omega (arith, encodes-length f))
+  encode-length (product μ f) = simp (length-append, record-length) (omega (arith, encodes-length f))
+  encode-length (power μ b ξ e) = simp (length-append, record-length) (omega (arith, encode-length b))
 
   pub encodes-length : (f : Forest) → length (encodes f) ≡ 16 * recordses f
   encodes-length nil = refl
@@ -44,22 +44,22 @@ mutual
 
 pub records-pos : (t : Tree) → 0 < records t
 unfolding records
-records-pos (integer z) = omega arith
-records-pos (symbol s) = omega arith
-records-pos (sum f) = omega arith
-records-pos (product f) = omega arith
-records-pos (power b e) = omega arith
+records-pos (integer μ z) = omega arith
+records-pos (symbol μ s) = omega arith
+records-pos (sum μ f) = omega arith
+records-pos (product μ f) = omega arith
+records-pos (power μ b ξ e) = omega arith
 
 -- each record weighs 1 or more
 mutual
   unfolding records weight
 
   pub records-weight : (t : Tree) → records t ≤ weight t
-  records-weight (integer z) = omega arith
-  records-weight (symbol s) = omega arith
-  records-weight (sum f) = omega (arith, recordses-weights f)
-  records-weight (product f) = omega (arith, recordses-weights f)
-  records-weight (power b e) = omega (arith, records-weight b)
+  records-weight (integer μ z) = omega arith
+  records-weight (symbol μ s) = omega arith
+  records-weight (sum μ f) = omega (arith, recordses-weights f)
+  records-weight (product μ f) = omega (arith, recordses-weights f)
+  records-weight (power μ b ξ e) = omega (arith, records-weight b)
 
   pub recordses-weights : (f : Forest) → recordses f ≤ weights f
   recordses-weights nil = omega arith
@@ -82,12 +82,12 @@ mutual
   unfolding encode
 
   pub encode-bytes : (t : Tree) → Bytes (encode t)
-  encode-bytes (integer z) = record-bytes 0 0 (word z) (lit< tt)
-  encode-bytes (symbol s) = record-bytes 1 0 s (lit< tt)
-  encode-bytes (sum f) = append-bytes (recordOf 2 (count f) 0) (encodes f) (record-bytes 2 (count f) 0 (lit< tt)) (encodes-bytes f)
-  encode-bytes (product f) =
+  encode-bytes (integer μ z) = record-bytes 0 0 (word z) (lit< tt)
+  encode-bytes (symbol μ s) = record-bytes 1 0 s (lit< tt)
+  encode-bytes (sum μ f) = append-bytes (recordOf 2 (count f) 0) (encodes f) (record-bytes 2 (count f) 0 (lit< tt)) (encodes-bytes f)
+  encode-bytes (product μ f) =
       append-bytes (recordOf 3 (count f) 0) (encodes f) (record-bytes 3 (count f) 0 (lit< tt)) (encodes-bytes f)
-  encode-bytes (power b e) =
+  encode-bytes (power μ b ξ e) =
       append-bytes (recordOf 4 0 0) (encode b ++ recordOf 0 0 e) (record-bytes 4 0 0 (lit< tt))
       (append-bytes (encode b) (recordOf 0 0 e) (encode-bytes b) (record-bytes 0 0 e (lit< tt)))
 

@@ -21,11 +21,11 @@ use Rattle.paper.proofs.Value.{exact, exactSum, exactProduct, value-exa
 mutual
   -- two trees are equal
   pub data Same : Tree → Tree → Type 0 where
-    s-integer : {z : ℤ} → Same (integer z) (integer z)
-    s-symbol : {s : ℕ} → Same (symbol s) (symbol s)
-    s-sum : {f g : Forest} → Sames f (toList g) → Same (sum f) (sum g)
-    s-product : {f g : Forest} → Sames f (toList g) → Same (product f) (product g)
-    s-power : {a b : Tree} {e : ℕ} → Same a b → Same (power a e) (power b e)
+    s-integer : {μ ν : ℕ} {z : ℤ} → Same (integer μ z) (integer ν z)
+    s-symbol : {μ ν s : ℕ} → Same (symbol μ s) (symbol ν s)
+    s-sum : {μ ν : ℕ} {f g : Forest} → Sames f (toList g) → Same (sum μ f) (sum ν g)
+    s-product : {μ ν : ℕ} {f g : Forest} → Sames f (toList g) → Same (product μ f) (product ν g)
+    s-power : {μ ξ ν ζ : ℕ} {a b : Tree} {e : ℕ} → Same a b → Same (power μ a ξ e) (power ν b ζ e)
 
   -- members and a list are the same multiset of equal trees
   pub data Sames : Forest → List Tree → Type 0 where
@@ -35,56 +35,56 @@ mutual
 -- one level of the test, over any test of the trees and of the members below; and the evidence that it is true
 module _ (same : Tree → Tree → Bool) (bag : Forest → List Tree → Bool) where
   unfoldable pub level : Tree → Tree → Bool
-  level (integer z) u = onInteger (eqZ z) u
-  level (symbol s) u = onSymbol (eqb s) u
-  level (sum f) u = onSum (λ l. bag f l) u
-  level (product f) u = onProduct (λ l. bag f l) u
-  level (power b e) u = onPower (λ c d. same b c && eqb e d) u
+  level (integer μ z) u = onInteger (eqZ z) u
+  level (symbol μ s) u = onSymbol (eqb s) u
+  level (sum μ f) u = onSum (λ l. bag f l) u
+  level (product μ f) u = onProduct (λ l. bag f l) u
+  level (power μ b ξ e) u = onPower (λ c d. same b c && eqb e d) u
 
   pub data Level : Tree → Tree → Type 0 where
-    at-integer : {z : ℤ} → Level (integer z) (integer z)
-    at-symbol : {s : ℕ} → Level (symbol s) (symbol s)
-    at-sum : {f g : Forest} → bag f (toList g) ≡ true → Level (sum f) (sum g)
-    at-product : {f g : Forest} → bag f (toList g) ≡ true → Level (product f) (product g)
-    at-power : {a b : Tree} {e : ℕ} → same a b ≡ true → Level (power a e) (power b e)
+    at-integer : {μ ν : ℕ} {z : ℤ} → Level (integer μ z) (integer ν z)
+    at-symbol : {μ ν s : ℕ} → Level (symbol μ s) (symbol ν s)
+    at-sum : {μ ν : ℕ} {f g : Forest} → bag f (toList g) ≡ true → Level (sum μ f) (sum ν g)
+    at-product : {μ ν : ℕ} {f g : Forest} → bag f (toList g) ≡ true → Level (product μ f) (product ν g)
+    at-power : {μ ξ ν ζ : ℕ} {a b : Tree} {e : ℕ} → same a b ≡ true → Level (power μ a ξ e) (power ν b ζ e)
 
   pub level-view : (t u : Tree) → level t u ≡ true → Level t u
   unfolding level onInteger onSymbol onSum onProduct onPower
-  level-view (integer z) (integer y) e = subst (λ w. Level (integer z) (integer w)) (eqZ-true z y e) at-integer
-  level-view (integer z) (symbol r) e = never e
-  level-view (integer z) (sum g) e = never e
-  level-view (integer z) (product g) e = never e
-  level-view (integer z) (power b d) e = never e
-  level-view (symbol s) (integer y) e = never e
-  level-view (symbol s) (symbol r) e = subst (λ w. Level (symbol s) (symbol w)) (eqb-true s r e) at-symbol
-  level-view (symbol s) (sum g) e = never e
-  level-view (symbol s) (product g) e = never e
-  level-view (symbol s) (power b d) e = never e
-  level-view (sum f) (integer y) e = never e
-  level-view (sum f) (symbol r) e = never e
-  level-view (sum f) (sum g) e = at-sum e
-  level-view (sum f) (product g) e = never e
-  level-view (sum f) (power b d) e = never e
-  level-view (product f) (integer y) e = never e
-  level-view (product f) (symbol r) e = never e
-  level-view (product f) (sum g) e = never e
-  level-view (product f) (product g) e = at-product e
-  level-view (product f) (power b d) e = never e
-  level-view (power a c) (integer y) e = never e
-  level-view (power a c) (symbol r) e = never e
-  level-view (power a c) (sum g) e = never e
-  level-view (power a c) (product g) e = never e
-  level-view (power a c) (power b d) e =
-      subst (λ w. Level (power a c) (power b w)) (eqb-true c d (and-right (same a b) (eqb c d) e)) (at-power (and-left (same a b) (eqb c d) e))
+  level-view (integer μ z) (integer ν y) e = subst (λ w. Level (integer μ z) (integer ν w)) (eqZ-true z y e) at-integer
+  level-view (integer μ z) (symbol ν r) e = never e
+  level-view (integer μ z) (sum ν g) e = never e
+  level-view (integer μ z) (product ν g) e = never e
+  level-view (integer μ z) (power ν b ζ d) e = never e
+  level-view (symbol μ s) (integer ν y) e = never e
+  level-view (symbol μ s) (symbol ν r) e = subst (λ w. Level (symbol μ s) (symbol ν w)) (eqb-true s r e) at-symbol
+  level-view (symbol μ s) (sum ν g) e = never e
+  level-view (symbol μ s) (product ν g) e = never e
+  level-view (symbol μ s) (power ν b ζ d) e = never e
+  level-view (sum μ f) (integer ν y) e = never e
+  level-view (sum μ f) (symbol ν r) e = never e
+  level-view (sum μ f) (sum ν g) e = at-sum e
+  level-view (sum μ f) (product ν g) e = never e
+  level-view (sum μ f) (power ν b ζ d) e = never e
+  level-view (product μ f) (integer ν y) e = never e
+  level-view (product μ f) (symbol ν r) e = never e
+  level-view (product μ f) (sum ν g) e = never e
+  level-view (product μ f) (product ν g) e = at-product e
+  level-view (product μ f) (power ν b ζ d) e = never e
+  level-view (power μ a ξ c) (integer ν y) e = never e
+  level-view (power μ a ξ c) (symbol ν r) e = never e
+  level-view (power μ a ξ c) (sum ν g) e = never e
+  level-view (power μ a ξ c) (product ν g) e = never e
+  level-view (power μ a ξ c) (power ν b ζ d) e =
+      subst (λ w. Level (power μ a ξ c) (power ν b ζ w)) (eqb-true c d (and-right (same a b) (eqb c d) e)) (at-power (and-left (same a b) (eqb c d) e))
 
 -- equality is such a test, of the trees and members one level below
 equal-level : (t u : Tree) → equal t u ≡ level equal matched t u
 unfolding equal level
-equal-level (integer z) u = refl
-equal-level (symbol s) u = refl
-equal-level (sum f) u = refl
-equal-level (product f) u = refl
-equal-level (power b e) u = refl
+equal-level (integer μ z) u = refl
+equal-level (symbol μ s) u = refl
+equal-level (sum μ f) u = refl
+equal-level (product μ f) u = refl
+equal-level (power μ b ξ e) u = refl
 
 level-of : (t u : Tree) → equal t u ≡ true → Level equal matched t u
 level-of t u e = level-view equal matched t u (sym (equal-level t u) ∙ e)
@@ -93,11 +93,11 @@ mutual
   unfolding matched goOn isEmpty
 
   same-level : (t u : Tree) → Level equal matched t u → Same t u
-  same-level (integer z) u at-integer = s-integer
-  same-level (symbol s) u at-symbol = s-symbol
-  same-level (sum f) u (at-sum {g} e) = s-sum (matched-view f (toList g) e)
-  same-level (product f) u (at-product {g} e) = s-product (matched-view f (toList g) e)
-  same-level (power a n) u (at-power {b} e) = s-power (same-level a b (level-of a b e))
+  same-level (integer μ z) u at-integer = s-integer
+  same-level (symbol μ s) u at-symbol = s-symbol
+  same-level (sum μ f) u (at-sum {g = g} e) = s-sum (matched-view f (toList g) e)
+  same-level (product μ f) u (at-product {g = g} e) = s-product (matched-view f (toList g) e)
+  same-level (power μ a ξ n) u (at-power {b = b} e) = s-power (same-level a b (level-of a b e))
 
   -- the members taken away one after the other
   pub matched-view : (f : Forest) (l : List Tree) → matched f l ≡ true → Sames f l
@@ -128,18 +128,19 @@ taken-multiplied g here = refl
 taken-multiplied g (there {x} {y} {l} {m} r) = ap (λ n. g x * n) (taken-multiplied g r) ∙ mul-left-comm (g x) (g y) (multiplied g m)
 
 -- a measure that adds up the members' measures is the same for equal trees
-module _ (size : Tree → ℕ) (sums : (f : Forest) → size (sum f) ≡ 1 + total size (toList f))
-    (products : (f : Forest) → size (product f) ≡ 1 + total size (toList f))
-    (powers : (b : Tree) (e : ℕ) → size (power b e) ≡ 2 + size b) where
+module _ (size : Tree → ℕ) (integers : (μ ν : ℕ) (z : ℤ) → size (integer μ z) ≡ size (integer ν z))
+    (symbols : (μ ν s : ℕ) → size (symbol μ s) ≡ size (symbol ν s)) (sums : (μ : ℕ) (f : Forest) → size (sum μ f) ≡ 1 + total size (toList f))
+    (products : (μ : ℕ) (f : Forest) → size (product μ f) ≡ 1 + total size (toList f))
+    (powers : (μ : ℕ) (b : Tree) (ξ e : ℕ) → size (power μ b ξ e) ≡ 2 + size b) where
   mutual
     unfolding total toList
 
     same-size : {t u : Tree} → Same t u → size t ≡ size u
-    same-size s-integer = refl
-    same-size s-symbol = refl
-    same-size (s-sum {f} {g} r) = sums f ∙ ap (λ n. 1 + n) (sames-size r) ∙ sym (sums g)
-    same-size (s-product {f} {g} r) = products f ∙ ap (λ n. 1 + n) (sames-size r) ∙ sym (products g)
-    same-size (s-power {a} {b} {e} r) = powers a e ∙ ap (λ n. 2 + n) (same-size r) ∙ sym (powers b e)
+    same-size (s-integer {μ} {ν} {z}) = integers μ ν z
+    same-size (s-symbol {μ} {ν} {s}) = symbols μ ν s
+    same-size (s-sum {μ} {ν} {f} {g} r) = sums μ f ∙ ap (λ n. 1 + n) (sames-size r) ∙ sym (sums ν g)
+    same-size (s-product {μ} {ν} {f} {g} r) = products μ f ∙ ap (λ n. 1 + n) (sames-size r) ∙ sym (products ν g)
+    same-size (s-power {μ} {ξ} {ν} {ζ} {a} {b} {e} r) = powers μ a ξ e ∙ ap (λ n. 2 + n) (same-size r) ∙ sym (powers ν b ζ e)
 
     sames-size : {f : Forest} {l : List Tree} → Sames f l → total size (toList f) ≡ total size l
     sames-size s-nil = refl
@@ -148,7 +149,7 @@ module _ (size : Tree → ℕ) (sums : (f : Forest) → size (sum f) ≡ 1 + tot
 -- equal trees weigh the same
 pub same-weight : {t u : Tree} → Same t u → weight t ≡ weight u
 unfolding weight
-same-weight = same-size weight (λ f. omega (arith, weights-list f)) (λ f. omega (arith, weights-list f)) (λ b e. refl)
+same-weight = same-size weight (λ μ ν z. refl) (λ μ ν s. refl) (λ μ f. omega (arith, weights-list f)) (λ μ f. omega (arith, weights-list f)) (λ μ b ξ e. refl)
 
 pub equal-weight : (t u : Tree) → equal t u ≡ true → weight t ≡ weight u
 equal-weight t u e = same-weight (same-view t u e)
@@ -161,7 +162,7 @@ recordses-list (cons t f) = ap (λ n. records t + n) (recordses-list f)
 
 pub same-records : {t u : Tree} → Same t u → records t ≡ records u
 unfolding records
-same-records = same-size records (λ f. omega (arith, recordses-list f)) (λ f. omega (arith, recordses-list f)) (λ b e. refl)
+same-records = same-size records (λ μ ν z. refl) (λ μ ν s. refl) (λ μ f. omega (arith, recordses-list f)) (λ μ f. omega (arith, recordses-list f)) (λ μ b ξ e. refl)
 
 -- equal trees have the same value, whether or not it is reduced
 module _ (ρ : ℕ → ℕ) where

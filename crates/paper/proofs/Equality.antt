@@ -36,33 +36,33 @@ module _ (same : Tree → Tree → Bool) (q : Equivalence same) where
 
   level-true : (t u : Tree) → Above t u → above same t u ≡ true
   unfolding level onInteger onSymbol onSum onProduct onPower
-  level-true (integer z) u at-integer = eqZ-self z
-  level-true (symbol s) u at-symbol = eq-eqb s s refl
-  level-true (sum f) u (at-sum e) = e
-  level-true (product f) u (at-product e) = e
-  level-true (power a n) u (at-power e) = rw (e, eq-eqb n n refl)
+  level-true (integer μ z) u at-integer = eqZ-self z
+  level-true (symbol μ s) u at-symbol = eq-eqb s s refl
+  level-true (sum μ f) u (at-sum e) = e
+  level-true (product μ f) u (at-product e) = e
+  level-true (power μ a ξ n) u (at-power e) = rw (e, eq-eqb n n refl)
 
   level-self : (t : Tree) → Above t t
-  level-self (integer z) = at-integer
-  level-self (symbol s) = at-symbol
-  level-self (sum f) = at-sum (bag-equivalence same q .self (toList f))
-  level-self (product f) = at-product (bag-equivalence same q .self (toList f))
-  level-self (power b e) = at-power (q .self b)
+  level-self (integer μ z) = at-integer
+  level-self (symbol μ s) = at-symbol
+  level-self (sum μ f) = at-sum (bag-equivalence same q .self (toList f))
+  level-self (product μ f) = at-product (bag-equivalence same q .self (toList f))
+  level-self (power μ b ξ e) = at-power (q .self b)
 
   level-sym : {t u : Tree} → Above t u → Above u t
   level-sym at-integer = at-integer
   level-sym at-symbol = at-symbol
-  level-sym (at-sum {f} {g} e) = at-sum (equivalence-sym (bag-equivalence same q) (toList f) (toList g) e)
-  level-sym (at-product {f} {g} e) = at-product (equivalence-sym (bag-equivalence same q) (toList f) (toList g) e)
-  level-sym (at-power {a} {b} e) = at-power (equivalence-sym q a b e)
+  level-sym (at-sum {f = f} {g = g} e) = at-sum (equivalence-sym (bag-equivalence same q) (toList f) (toList g) e)
+  level-sym (at-product {f = f} {g = g} e) = at-product (equivalence-sym (bag-equivalence same q) (toList f) (toList g) e)
+  level-sym (at-power {a = a} {b = b} e) = at-power (equivalence-sym q a b e)
 
   level-trans : {t u v : Tree} → Above t u → Above u v → Above t v
   level-trans at-integer at-integer = at-integer
   level-trans at-symbol at-symbol = at-symbol
-  level-trans (at-sum {f} {g} d) (at-sum {g = h} e) = at-sum (equivalence-trans (bag-equivalence same q) (toList f) (toList g) (toList h) d e)
-  level-trans (at-product {f} {g} d) (at-product {g = h} e) =
+  level-trans (at-sum {f = f} {g = g} d) (at-sum {g = h} e) = at-sum (equivalence-trans (bag-equivalence same q) (toList f) (toList g) (toList h) d e)
+  level-trans (at-product {f = f} {g = g} d) (at-product {g = h} e) =
       at-product (equivalence-trans (bag-equivalence same q) (toList f) (toList g) (toList h) d e)
-  level-trans (at-power {a} {b} d) (at-power {b = c} e) = at-power (equivalence-trans q a b c d e)
+  level-trans (at-power {a = a} {b = b} d) (at-power {b = c} e) = at-power (equivalence-trans q a b c d e)
 
   level-equivalence : Equivalence (above same)
   level-equivalence =
@@ -89,16 +89,16 @@ mutual
   unfolding equal equalTo level weight sameBag toList
 
   cut : (t : Tree) (n : ℕ) → weight t ≤ n → (u : Tree) → equal t u ≡ equalTo n t u
-  cut (integer z) zero le u = absurd (omega arith)
-  cut (integer z) (suc n) le u = refl
-  cut (symbol s) zero le u = absurd (omega arith)
-  cut (symbol s) (suc n) le u = refl
-  cut (sum f) zero le u = absurd (omega arith)
-  cut (sum f) (suc n) le u = ap (λ k. onSum k u) (fun-ext (λ l. cuts f n (omega arith) l))
-  cut (product f) zero le u = absurd (omega arith)
-  cut (product f) (suc n) le u = ap (λ k. onProduct k u) (fun-ext (λ l. cuts f n (omega arith) l))
-  cut (power b e) zero le u = absurd (omega arith)
-  cut (power b e) (suc n) le u = ap (λ k. onPower (λ c d. k c && eqb e d) u) (fun-ext (λ c. cut b n (omega arith) c))
+  cut (integer μ z) zero le u = absurd (omega arith)
+  cut (integer μ z) (suc n) le u = refl
+  cut (symbol μ s) zero le u = absurd (omega arith)
+  cut (symbol μ s) (suc n) le u = refl
+  cut (sum μ f) zero le u = absurd (omega arith)
+  cut (sum μ f) (suc n) le u = ap (λ k. onSum k u) (fun-ext (λ l. cuts f n (omega arith) l))
+  cut (product μ f) zero le u = absurd (omega arith)
+  cut (product μ f) (suc n) le u = ap (λ k. onProduct k u) (fun-ext (λ l. cuts f n (omega arith) l))
+  cut (power μ b ξ e) zero le u = absurd (omega arith)
+  cut (power μ b ξ e) (suc n) le u = ap (λ k. onPower (λ c d. k c && eqb e d) u) (fun-ext (λ c. cut b n (omega arith) c))
 
   cuts : (f : Forest) (n : ℕ) → weights f ≤ n → (l : List Tree) → matched f l ≡ sameBag (equalTo n) (toList f) l
   cuts nil n le l = refl
@@ -134,12 +134,12 @@ matched-counts f l = (
 )
 
 -- two sums are equal exactly when every tree occurs equally often among their members
-pub sums-equal : (f g : Forest) → (equal (sum f) (sum g) ≡ true) ↔ ((z : Tree) → occurs (equal z) (toList f) ≡ occurs (equal z) (toList g))
+pub sums-equal : (μ ν : ℕ) (f g : Forest) → (equal (sum μ f) (sum ν g) ≡ true) ↔ ((z : Tree) → occurs (equal z) (toList f) ≡ occurs (equal z) (toList g))
 unfolding equal onSum
-sums-equal f g = matched-counts f (toList g)
+sums-equal μ ν f g = matched-counts f (toList g)
 
 -- two products are equal exactly when every tree occurs equally often among their members
-pub products-equal : (f g : Forest)
-    → (equal (product f) (product g) ≡ true) ↔ ((z : Tree) → occurs (equal z) (toList f) ≡ occurs (equal z) (toList g))
+pub products-equal : (μ ν : ℕ) (f g : Forest)
+    → (equal (product μ f) (product ν g) ≡ true) ↔ ((z : Tree) → occurs (equal z) (toList f) ≡ occurs (equal z) (toList g))
 unfolding equal onProduct
-products-equal f g = matched-counts f (toList g)
+products-equal μ ν f g = matched-counts f (toList g)

@@ -21,11 +21,11 @@ use Rattle.paper.proofs.DriverLaws.{RunKept, RunsKept, AskedKept, ask-k
 
 pub members-lighter : (t : Tree) → total weight (members t) < weight t
 unfolding members weight total
-members-lighter (integer z) = omega arith
-members-lighter (symbol s) = omega arith
-members-lighter (sum f) = omega (arith, weights-list f)
-members-lighter (product f) = omega (arith, weights-list f)
-members-lighter (power b e) = omega arith
+members-lighter (integer μ z) = omega arith
+members-lighter (symbol μ s) = omega arith
+members-lighter (sum μ f) = omega (arith, weights-list f)
+members-lighter (product μ f) = omega (arith, weights-list f)
+members-lighter (power μ b ξ e) = omega arith
 
 -- a node that is begun again weighs less than before
 pub gathered-lighter : (t : Tree) (l : List Tree) (s : List ℕ) (o : ℕ) → WF t → RunsKept (members t) (dones l s o)

@@ -82,36 +82,36 @@ none-some e = absurd (let z : _≡_ {A = ℕ} 0 1 = cc in omega arith)
 
 -- ---- the two kinds
 -- what holds of the members of a sum holds wherever asSum gives members; the same of a product
-as-sum : (Q : Tree → List Tree → Type 0) → ((f : Forest) → Q (sum f) (toList f)) → (t : Tree) (l : List Tree) → asSum t ≡ some l → Q t l
+as-sum : (Q : Tree → List Tree → Type 0) → ((μ : ℕ) (f : Forest) → Q (sum μ f) (toList f)) → (t : Tree) (l : List Tree) → asSum t ≡ some l → Q t l
 unfolding asSum
-as-sum Q h (integer z) l e = none-some e
-as-sum Q h (symbol s) l e = none-some e
-as-sum Q h (sum f) l e = subst (Q (sum f)) (some-inj e) (h f)
-as-sum Q h (product f) l e = none-some e
-as-sum Q h (power b x) l e = none-some e
+as-sum Q h (integer μ z) l e = none-some e
+as-sum Q h (symbol μ s) l e = none-some e
+as-sum Q h (sum μ f) l e = subst (Q (sum μ f)) (some-inj e) (h μ f)
+as-sum Q h (product μ f) l e = none-some e
+as-sum Q h (power μ b ξ x) l e = none-some e
 
-as-product : (Q : Tree → List Tree → Type 0) → ((f : Forest) → Q (product f) (toList f)) → (t : Tree) (l : List Tree) → asProduct t ≡ some l → Q t l
+as-product : (Q : Tree → List Tree → Type 0) → ((μ : ℕ) (f : Forest) → Q (product μ f) (toList f)) → (t : Tree) (l : List Tree) → asProduct t ≡ some l → Q t l
 unfolding asProduct
-as-product Q h (integer z) l e = none-some e
-as-product Q h (symbol s) l e = none-some e
-as-product Q h (sum f) l e = none-some e
-as-product Q h (product f) l e = subst (Q (product f)) (some-inj e) (h f)
-as-product Q h (power b x) l e = none-some e
+as-product Q h (integer μ z) l e = none-some e
+as-product Q h (symbol μ s) l e = none-some e
+as-product Q h (sum μ f) l e = none-some e
+as-product Q h (product μ f) l e = subst (Q (product μ f)) (some-inj e) (h μ f)
+as-product Q h (power μ b ξ x) l e = none-some e
 
 pub sums-open : Opens asSum
 unfolding weight
 sums-open =
     record {
-      heavier = as-sum (λ t l. weight t ≡ 1 + total weight l) (λ f. ap (λ n. 1 + n) (sym (weights-list f)));
-      wf-members = as-sum (λ t l. WF t → WFl l × (2 ≤ length l)) (λ f w. (wf-list f (w .1), omega (arith, count-list f, w .0)));
+      heavier = as-sum (λ t l. weight t ≡ 1 + total weight l) (λ μ f. ap (λ n. 1 + n) (sym (weights-list f)));
+      wf-members = as-sum (λ t l. WF t → WFl l × (2 ≤ length l)) (λ μ f w. (wf-list f (w .1), omega (arith, count-list f, w .0)));
     }
 
 pub products-open : Opens asProduct
 unfolding weight
 products-open =
     record {
-      heavier = as-product (λ t l. weight t ≡ 1 + total weight l) (λ f. ap (λ n. 1 + n) (sym (weights-list f)));
-      wf-members = as-product (λ t l. WF t → WFl l × (2 ≤ length l)) (λ f w. (wf-list f (w .1), omega (arith, count-list f, w .0)));
+      heavier = as-product (λ t l. weight t ≡ 1 + total weight l) (λ μ f. ap (λ n. 1 + n) (sym (weights-list f)));
+      wf-members = as-product (λ t l. WF t → WFl l × (2 ≤ length l)) (λ μ f w. (wf-list f (w .1), omega (arith, count-list f, w .0)));
     }
 
 sums-fold : (ρ : ℕ → ℕ) → Folds asSum _+_ (total (λ t. exact t ρ)) (λ t. exact t ρ)
@@ -120,7 +120,7 @@ sums-fold ρ =
     record {
       first = λ t l. refl;
       append = total-append (λ t. exact t ρ);
-      node = as-sum (λ t l. total (λ t. exact t ρ) l ≡ exact t ρ) (λ f. sum-list f ρ);
+      node = as-sum (λ t l. total (λ t. exact t ρ) l ≡ exact t ρ) (λ μ f. sum-list f ρ);
     }
 
 products-fold : (ρ : ℕ → ℕ) → Folds asProduct _*_ (multiplied (λ t. exact t ρ)) (λ t. exact t ρ)
@@ -129,7 +129,7 @@ products-fold ρ =
     record {
       first = λ t l. refl;
       append = multiplied-append (λ t. exact t ρ);
-      node = as-product (λ t l. multiplied (λ t. exact t ρ) l ≡ exact t ρ) (λ f. product-list f ρ);
+      node = as-product (λ t l. multiplied (λ t. exact t ρ) l ≡ exact t ρ) (λ μ f. product-list f ρ);
     }
 
 -- ---- members and their results, one by one
@@ -163,42 +163,42 @@ leaf : {k : ℕ} {l : List Tree} → Kepts k [] l → k ≡ 0
 leaf nothing = refl
 
 -- a power's exponent weighs 1, so its result can't have lost any weight
-power-kept : (b x : Tree) (e k : ℕ) (l : List Tree) → weight x ≡ 1 → Kepts k (b ∷ x ∷ []) l → Kept (k + 0) (power b e) (power (baseFrom b l) e)
+power-kept : (μ : ℕ) (b x : Tree) (ξ e k : ℕ) (l : List Tree) → weight x ≡ 1 → Kepts k (b ∷ x ∷ []) l → Kept (k + 0) (power μ b ξ e) (power μ (baseFrom b l) ξ e)
 unfolding baseFrom exact weight
-power-kept b x e k l w (more {u = u} h (more {u = y} h′ r)) =
+power-kept μ b x ξ e k l w (more {u = u} h (more {u = y} h′ r)) =
     record {
-      value-kept = value-of-exact (power b e) (power u e) (λ ρ. agree-pow e (kept-exact h ρ));
+      value-kept = value-of-exact (power μ b ξ e) (power μ u ξ e) (λ ρ. agree-pow e (kept-exact h ρ));
       lighter = omega (arith, leaf r, h .lighter, h′ .lighter, weight-pos y);
     }
 
 -- the gathered node keeps the value, and weighs less by what its members lost and by one for each opening
 pub gather-kept : (t : Tree) (l : List Tree) (k : ℕ) → Kepts k (members t) l → Kept (k + gather t l .1) t (gather t l .0)
 unfolding gather members exact weight
-gather-kept (integer z) l k h = record { value-kept = λ ρ. refl; lighter = omega (arith, leaf h) }
-gather-kept (symbol s) l k h = record { value-kept = λ ρ. refl; lighter = omega (arith, leaf h) }
-gather-kept (sum f) l k h =
+gather-kept (integer μ z) l k h = record { value-kept = λ ρ. refl; lighter = omega (arith, leaf h) }
+gather-kept (symbol μ s) l k h = record { value-kept = λ ρ. refl; lighter = omega (arith, leaf h) }
+gather-kept (sum μ f) l k h =
     let m = opened asSum l .0 in
     record {
-      value-kept = value-of-exact (sum f) (sumOf m)
+      value-kept = value-of-exact (sum μ f) (sumOf m)
           (λ ρ. agree-trans (agree-of (sumOf-exact m ρ ∙ opened-folds (sums-fold ρ) l)) (agree-trans (kepts-total h ρ) (agree-of (sum-list f ρ))));
       lighter = omega (arith, sumOf-weight m, opened-weight sums-open l, kepts-weight h, weights-list f);
     }
-gather-kept (product f) l k h =
+gather-kept (product μ f) l k h =
     let m = opened asProduct l .0 in
     record {
-      value-kept = value-of-exact (product f) (productOf m)
+      value-kept = value-of-exact (product μ f) (productOf m)
           (λ ρ. agree-trans (agree-of (productOf-exact m ρ ∙ opened-folds (products-fold ρ) l)) (agree-trans (kepts-multiplied h ρ) (agree-of (product-list f ρ))));
       lighter = omega (arith, productOf-weight m, opened-weight products-open l, kepts-weight h, weights-list f);
     }
-gather-kept (power b e) l k h = power-kept b (integer (pos e)) e k l (unfold weight in refl) h
+gather-kept (power μ b ξ e) l k h = power-kept μ b (integer ξ (pos e)) ξ e k l (unfold weight in refl) h
 
 pub members-wf : (t : Tree) → WF t → WFl (members t)
 unfolding members
-members-wf (integer z) w = tt
-members-wf (symbol s) w = tt
-members-wf (sum f) w = wf-list f (w .1)
-members-wf (product f) w = wf-list f (w .1)
-members-wf (power b e) w = (w .0, (w .2, tt))
+members-wf (integer μ z) w = tt
+members-wf (symbol μ s) w = tt
+members-wf (sum μ f) w = wf-list f (w .1)
+members-wf (product μ f) w = wf-list f (w .1)
+members-wf (power μ b ξ e) w = (w .0, ((w .2, w .4), tt))
 
 baseFrom-wf : (b : Tree) (l : List Tree) → WF b → WFl l → WF (baseFrom b l)
 unfolding baseFrom
@@ -208,28 +208,28 @@ baseFrom-wf b (u ∷ l) w v = v .0
 -- the gathered node is well-formed
 pub gather-wf : (t : Tree) (l : List Tree) → WF t → WFl l → WF (gather t l .0)
 unfolding gather
-gather-wf (integer z) l w v = w
-gather-wf (symbol s) l w v = w
-gather-wf (sum f) l w v = sumOf-wf (opened asSum l .0) (opened-wf sums-open l v .0)
-gather-wf (product f) l w v = productOf-wf (opened asProduct l .0) (opened-wf products-open l v .0)
-gather-wf (power b e) l w v = (baseFrom-wf b l (w .0) v, w .1, w .2)
+gather-wf (integer μ z) l w v = w
+gather-wf (symbol μ s) l w v = w
+gather-wf (sum μ f) l w v = sumOf-wf (opened asSum l .0) (opened-wf sums-open l v .0)
+gather-wf (product μ f) l w v = productOf-wf (opened asProduct l .0) (opened-wf products-open l v .0)
+gather-wf (power μ b ξ e) l w v = (baseFrom-wf b l (w .0) v, w .1, w .2, w .3, w .4)
 
 -- the list that is gathered: what the members' results become, where a sum's or a product's are opened
 unfoldable pub gatheredList : Tree → List Tree → List Tree
-gatheredList (integer z) l = l
-gatheredList (symbol s) l = l
-gatheredList (sum f) l = opened asSum l .0
-gatheredList (product f) l = opened asProduct l .0
-gatheredList (power b e) l = l
+gatheredList (integer μ z) l = l
+gatheredList (symbol μ s) l = l
+gatheredList (sum μ f) l = opened asSum l .0
+gatheredList (product μ f) l = opened asProduct l .0
+gatheredList (power μ b ξ e) l = l
 
 -- a gathered sum or product has two members or more: the collapse of a gathered list never happens
 pub gathers-two : (t : Tree) (l : List Tree) (k : ℕ) → WF t → 0 < length (members t) → WFl l → Kepts k (members t) l → 2 ≤ length (gatheredList t l)
 unfolding gatheredList members
-gathers-two (integer z) l k w m v h = absurd (omega arith)
-gathers-two (symbol s) l k w m v h = absurd (omega arith)
-gathers-two (sum f) l k w m v h = omega (arith, opened-wf sums-open l v .1, kepts-length h, count-list f, w .0)
-gathers-two (product f) l k w m v h = omega (arith, opened-wf products-open l v .1, kepts-length h, count-list f, w .0)
-gathers-two (power b e) l k w m v h = omega (arith, kepts-length h)
+gathers-two (integer μ z) l k w m v h = absurd (omega arith)
+gathers-two (symbol μ s) l k w m v h = absurd (omega arith)
+gathers-two (sum μ f) l k w m v h = omega (arith, opened-wf sums-open l v .1, kepts-length h, count-list f, w .0)
+gathers-two (product μ f) l k w m v h = omega (arith, opened-wf products-open l v .1, kepts-length h, count-list f, w .0)
+gathers-two (power μ b ξ e) l k w m v h = omega (arith, kepts-length h)
 
 -- ---- where nothing is opened, gathering a node's own members gives the node back
 openOne-none : (t : Tree) (o : Option (List Tree)) (r : List Tree × ℕ) → openOne o t r .1 ≡ 0 → (r .1 ≡ 0) × (openOne o t r .0 ≡ t ∷ r .0)
@@ -252,12 +252,12 @@ collapse-none emptied node (t ∷ u ∷ l) h = refl
 
 pub gather-same : (t : Tree) → WF t → gather t (members t) .1 ≡ 0 → gather t (members t) .0 ≡ t
 unfolding gather members baseFrom sumOf productOf
-gather-same (integer z) w e = refl
-gather-same (symbol s) w e = refl
-gather-same (sum f) w e =
+gather-same (integer μ z) w e = refl
+gather-same (symbol μ s) w e = refl
+gather-same (sum μ f) w e =
     ap sumOf (opened-none asSum (toList f) e)
-    ∙ collapse-none (integer (pos 0)) sum (toList f) (omega (arith, count-list f, w .0)) ∙ ap sum (of-to-list f)
-gather-same (product f) w e =
+    ∙ collapse-none (integer 0 (pos 0)) (sum 0) (toList f) (omega (arith, count-list f, w .0)) ∙ ap (sum 0) (of-to-list f) ∙ ap (λ m. sum m f) (sym (w .2))
+gather-same (product μ f) w e =
     ap productOf (opened-none asProduct (toList f) e)
-    ∙ collapse-none (integer (pos 1)) product (toList f) (omega (arith, count-list f, w .0)) ∙ ap product (of-to-list f)
-gather-same (power b x) w e = refl
+    ∙ collapse-none (integer 0 (pos 1)) (product 0) (toList f) (omega (arith, count-list f, w .0)) ∙ ap (product 0) (of-to-list f) ∙ ap (λ m. product m f) (sym (w .2))
+gather-same (power μ b ξ x) w e = refl

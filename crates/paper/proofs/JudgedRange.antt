@@ -1,7 +1,7 @@
 -- What the walks of steps 2 and 6 judge: of two parts in range, the part that they become is judged in range exactly when its number is
 -- one that a well-formed tree may hold: a coefficient, a base, an exponent. Assumes nothing.
 use Prim.Native.Nat.{ℕ, _+_, _^_, _≤_, _<_}
-use mathlib.Core.Path.{_≡_, subst}
+use mathlib.Core.Path.{_≡_, refl, subst}
 use mathlib.Core.Bool.{true, false}
 use mathlib.Core.Option.{some, Option·some-injective}
 use mathlib.Core.Logic.{_↔_}
@@ -10,7 +10,7 @@ use native.Mathlib.Nat.{ne-of-gt}
 use lib.IntN.{ℤ}
 use lib.Dec.{eqb, ltb}
 use borrow.Author.Tests.{lt-ltb, ltb-true, ne-eqb}
-use Rattle.paper.specs.WellFormed.{InRange, WF}
+use Rattle.paper.specs.WellFormed.{InRange, Mark, WF}
 use Rattle.paper.specs.Rules.{fits, Term, added, Factor, raiseIf, multiplyIf, powerUnless, fromFactor}
 use Rattle.paper.proofs.RangeLaws.{fits-exactly}
 
@@ -34,6 +34,6 @@ unfolding raiseIf fromFactor powerUnless
 exponents-exactly c x d w m k p q e =
     let n = c .exponent + x .exponent in
     let two : eqb n 1 ≡ false = ne-eqb n 1 (ne-of-gt (omega arith)) in
-    let both : (ltb n (2 ^ 63) ≡ true) ↔ (WF (c .base) × (1 ≤ n) × (n < 2 ^ 63)) =
-    (λ h. (w, omega arith, ltb-true n (2 ^ 63) h), λ h. lt-ltb n (2 ^ 63) (h .2)) in
+    let both : (ltb n (2 ^ 63) ≡ true) ↔ (WF (c .base) × (1 ≤ n) × (n < 2 ^ 63) × Mark 0 × Mark 0) =
+    (λ h. (w, omega arith, ltb-true n (2 ^ 63) h, refl, refl), λ h. lt-ltb n (2 ^ 63) (h .2)) in
     subst (λ (f : Factor). (f .inRange ≡ true) ↔ WF (fromFactor f .0)) (Option·some-injective _ d e) (rw (two, p, q) both)

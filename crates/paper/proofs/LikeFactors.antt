@@ -46,15 +46,15 @@ module _ (ρ : ℕ → ℕ) where
 
   factorOf-worth : (t : Tree) → worth (factorOf t) ≡ unreduced t
   unfolding worth factorOf factor exact
-  factorOf-worth (integer z) = pow-one _
-  factorOf-worth (symbol s) = pow-one _
-  factorOf-worth (sum f) = pow-one _
-  factorOf-worth (product f) = pow-one _
-  factorOf-worth (power b e) = refl
+  factorOf-worth (integer μ z) = pow-one _
+  factorOf-worth (symbol μ s) = pow-one _
+  factorOf-worth (sum μ f) = pow-one _
+  factorOf-worth (product μ f) = pow-one _
+  factorOf-worth (power μ b ξ e) = refl
 
   -- two integers with equal exponents
-  bases-worth : {t u : Tree} {e f : ℕ} (y z : ℤ) → t ≡ integer y → u ≡ integer z → e ≡ f
-      → Agree modulus (unreduced (integer (y *ℤ z)) ^ e) (unreduced t ^ e * unreduced u ^ f)
+  bases-worth : {t u : Tree} {e f μ ν : ℕ} (y z : ℤ) → t ≡ integer μ y → u ≡ integer ν z → e ≡ f
+      → Agree modulus (unreduced (integer 0 (y *ℤ z)) ^ e) (unreduced t ^ e * unreduced u ^ f)
   unfolding exact
   bases-worth {t} {u} {e} {f} y z p q r =
       agree-trans (agree-pow e (word-mul y z)) (agree-of (mul-pow (word y) (word z) e ∙ sym (rw (p, q, r) refl)))
@@ -64,7 +64,7 @@ module _ (ρ : ℕ → ℕ) where
   mergeFactors-worth c x d m = go (mergeFactors-some c x d m)
     where
       go : {d : Factor} → Merged c x d → Agree modulus (worth d) (worth c * worth x)
-      go (by-bases {y} {z} p q r) = bases-worth y z p q r
+      go (by-bases {y = y} {z = z} p q r) = bases-worth y z p q r
       go (by-exponents e h) =
           agree-of
           (pow-add (unreduced (c .base)) (c .exponent) (x .exponent)
@@ -89,9 +89,9 @@ module _ (ρ : ℕ → ℕ) where
       (agree-of (sym (multiplied-fold unreduced l))))
 
 -- step 6 keeps the value
-pub like-factors-exact : (f : Forest) (ρ : ℕ → ℕ)
-    → Agree modulus (exact (productOf (comeOut factorOf mergeFactors fromFactor (toList f))) ρ) (exact (product f) ρ)
+pub like-factors-exact : (μ : ℕ) (f : Forest) (ρ : ℕ → ℕ)
+    → Agree modulus (exact (productOf (comeOut factorOf mergeFactors fromFactor (toList f))) ρ) (exact (product μ f) ρ)
 unfolding exact
-like-factors-exact f ρ =
+like-factors-exact μ f ρ =
     agree-trans (agree-of (productOf-exact (comeOut factorOf mergeFactors fromFactor (toList f)) ρ))
     (agree-trans (like-factors-multiplied ρ (toList f)) (agree-of (product-list f ρ)))

@@ -1,5 +1,6 @@
 -- Step 6, "combine like factors", is a good rule: the product that it gives is well-formed, has the value of the product it was given,
 -- and weighs less by one at least, since it applies only where something was removed. Assumes nothing.
+use Prim.Native.Nat.{ℕ}
 use native.Mathlib.Omega.{arith}
 use Rattle.paper.specs.Tree.{Forest, product, toList, weight}
 use Rattle.paper.specs.WellFormed.{WF}
@@ -13,13 +14,13 @@ use Rattle.paper.proofs.LikeFactors.{like-factors-exact}
 use Rattle.paper.proofs.LikeFactorsWF.{like-factors-wf}
 use Rattle.paper.proofs.LikeFactorsWeight.{like-factors-weight}
 
-members-good : (f : Forest) → WF (product f) → GoodAnswer (product f) (combine productOf factorOf mergeFactors fromFactor (toList f))
+members-good : (μ : ℕ) (f : Forest) → WF (product μ f) → GoodAnswer (product μ f) (combine productOf factorOf mergeFactors fromFactor (toList f))
 unfolding weight
-members-good f w =
-    combine-good factorOf mergeFactors fromFactor (product f) productOf (toList f)
+members-good μ f w =
+    combine-good factorOf mergeFactors fromFactor (product μ f) productOf (toList f)
     (λ inside removed. (
       like-factors-wf (toList f) (wf-list f (w .1)) inside,
-      kept-agree (product f) _ (like-factors-exact f)
+      kept-agree (product μ f) _ (like-factors-exact μ f)
           (omega (arith, removed, like-factors-weight (toList f) (wf-list f (w .1)), weights-list f)),
     ))
 

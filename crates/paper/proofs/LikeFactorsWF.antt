@@ -2,7 +2,7 @@
 -- factors of well-formed members, and a merge keeps it, since its flag counts what it computes; so where the flags of the members that
 -- come out say that all are in range, all are well-formed. Assumes nothing.
 use Prim.Native.Nat.{_+_, _^_}
-use mathlib.Core.Path.{_≡_}
+use mathlib.Core.Path.{_≡_, refl}
 use mathlib.Core.Bool.{Bool, true, false, _&&_}
 use mathlib.Core.List.{List}
 use mathlib.Core.Option.{some}
@@ -21,31 +21,33 @@ use Rattle.paper.proofs.MergeFactors.{timesBases, addExponents, Merged,
 
 -- where the flag says so, base and exponent make a well-formed power
 abbrev FactorWF : Factor → Type 0
-FactorWF c = c .inRange ≡ true → WF (power (c .base) (c .exponent))
+FactorWF c = c .inRange ≡ true → WF (power 0 (c .base) 0 (c .exponent))
 
 factorOf-wf : (t : Tree) → WF t → FactorWF (factorOf t)
 unfolding factorOf factor
-factorOf-wf (integer z) w h = (w, lit≤ tt, lit< tt)
-factorOf-wf (symbol s) w h = (w, lit≤ tt, lit< tt)
-factorOf-wf (sum f) w h = (w, lit≤ tt, lit< tt)
-factorOf-wf (product f) w h = (w, lit≤ tt, lit< tt)
-factorOf-wf (power b e) w h = w
+factorOf-wf (integer μ z) w h = (w, lit≤ tt, lit< tt, refl, refl)
+factorOf-wf (symbol μ s) w h = (w, lit≤ tt, lit< tt, refl, refl)
+factorOf-wf (sum μ f) w h = (w, lit≤ tt, lit< tt, refl, refl)
+factorOf-wf (product μ f) w h = (w, lit≤ tt, lit< tt, refl, refl)
+factorOf-wf (power μ b ξ e) w h = (w .0, w .1, w .2, refl, refl)
 
 mergeFactors-wf : (c x d : Factor) → FactorWF c → FactorWF x → mergeFactors c x ≡ some d → FactorWF d
 unfolding timesBases addExponents fits
 mergeFactors-wf c x d p q m = go (mergeFactors-some c x d m)
   where
     -- the flag of c is one of those that make up the new flag
-    own : (b : Bool) → c .inRange && x .inRange && b ≡ true → WF (power (c .base) (c .exponent))
+    own : (b : Bool) → c .inRange && x .inRange && b ≡ true → WF (power 0 (c .base) 0 (c .exponent))
     own b h = p (and-left (c .inRange) (x .inRange) (and-left (c .inRange && x .inRange) b h))
 
     go : {d : Factor} → Merged c x d → FactorWF d
-    go (by-bases {y} {z} a b e) h =
-        (ltb-true (mag (y *ℤ z)) (2 ^ 63) (and-right (c .inRange && x .inRange) _ h), own _ h .1, own _ h .2)
+    go (by-bases {y = y} {z = z} a b e) h =
+        ((ltb-true (mag (y *ℤ z)) (2 ^ 63) (and-right (c .inRange && x .inRange) _ h), refl), own _ h .1, own _ h .2, refl, refl)
     go (by-exponents e a) h = (
       own _ h .0,
       omega (arith, own _ h .1),
       ltb-true (c .exponent + x .exponent) (2 ^ 63) (and-right (c .inRange && x .inRange) _ h),
+      refl,
+      refl,
     )
 
 fromFactor-wf : (c : Factor) → FactorWF c → fromFactor c .1 ≡ true → WF (fromFactor c .0)

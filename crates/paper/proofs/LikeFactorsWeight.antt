@@ -33,7 +33,7 @@ extra-two true = omega arith
 extra-two false = omega arith
 
 -- ---- merging
-integer-bulk : (z : ℤ) → bulk (integer z) ≡ 1
+integer-bulk : (z : ℤ) → bulk (integer 0 z) ≡ 1
 unfolding bulk asInteger atLeast weight
 integer-bulk z = refl
 
@@ -61,7 +61,7 @@ unfolding cost timesBases addExponents
 mergeFactors-cost c x d m = go (mergeFactors-some c x d m)
   where
     go : {d : Factor} → Merged c x d → cost d + 1 ≤ cost c + cost x
-    go (by-bases {y} {z} p q e) = omega (arith, bulk-pos (c .base), bulk-pos (x .base), integer-bulk (y *ℤ z))
+    go (by-bases {y = y} {z = z} p q e) = omega (arith, bulk-pos (c .base), bulk-pos (x .base), integer-bulk (y *ℤ z))
     go (by-exponents e h) =
         let s = same-view (c .base) (x .base) e in
         omega (
@@ -73,11 +73,11 @@ mergeFactors-cost c x d m = go (mergeFactors-some c x d m)
 -- ---- splitting and joining
 factorOf-cost : (t : Tree) → WF t → cost (factorOf t) ≤ weight t
 unfolding factorOf factor cost extra weight
-factorOf-cost (integer z) w = omega (arith, bulk-wf (integer z) w)
-factorOf-cost (symbol s) w = omega (arith, bulk-wf (symbol s) w)
-factorOf-cost (sum f) w = omega (arith, bulk-wf (sum f) w)
-factorOf-cost (product f) w = omega (arith, bulk-wf (product f) w)
-factorOf-cost (power b e) w = omega (arith, bulk-wf b (w .0), extra-two (eqb e 1))
+factorOf-cost (integer μ z) w = omega (arith, bulk-wf (integer μ z) w)
+factorOf-cost (symbol μ s) w = omega (arith, bulk-wf (symbol μ s) w)
+factorOf-cost (sum μ f) w = omega (arith, bulk-wf (sum μ f) w)
+factorOf-cost (product μ f) w = omega (arith, bulk-wf (product μ f) w)
+factorOf-cost (power μ b ξ e) w = omega (arith, bulk-wf b (w .0), extra-two (eqb e 1))
 
 fromFactor-cost : (c : Factor) → weight (fromFactor c .0) ≤ cost c
 unfolding fromFactor powerUnless cost extra weight

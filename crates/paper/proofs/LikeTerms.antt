@@ -26,7 +26,7 @@ use Rattle.paper.proofs.OutcomeLaws.{sumOf-exact, productOf-exact, tota
 -- the first integer member and the others: it is taken out of the members
 abbrev pub TakenOut : List Tree → Option (ℤ × List Tree) → Type 0
 TakenOut l none = Unit {0}
-TakenOut l (some r) = Taken (integer (r .0)) l (r .1)
+TakenOut l (some r) = (μ : ℕ) × Taken (integer μ (r .0)) l (r .1)
 
 pub firstInteger-taken : (l : List Tree) → TakenOut l (firstInteger l)
 unfolding firstInteger orFirst asInteger behind
@@ -35,14 +35,14 @@ firstInteger-taken (t ∷ l) = go t (firstInteger l) (firstInteger-taken l)
   where
     later : (t : Tree) (r : Option (ℤ × List Tree)) → TakenOut l r → TakenOut (t ∷ l) (behind t r)
     later t none h = tt
-    later t (some r) h = there h
+    later t (some r) h = (h .0, there (h .1))
 
     go : (t : Tree) (r : Option (ℤ × List Tree)) → TakenOut l r → TakenOut (t ∷ l) (orFirst (asInteger t) t l r)
-    go (integer z) r h = here
-    go (symbol s) r h = later (symbol s) r h
-    go (sum f) r h = later (sum f) r h
-    go (product f) r h = later (product f) r h
-    go (power b e) r h = later (power b e) r h
+    go (integer μ z) r h = (μ, here)
+    go (symbol μ s) r h = later (symbol μ s) r h
+    go (sum μ f) r h = later (sum μ f) r h
+    go (product μ f) r h = later (product μ f) r h
+    go (power μ b ξ e) r h = later (power μ b ξ e) r h
 
 -- where two terms merge, their rests are equal and the coefficients are added
 pub mergeTerms-some : (c x d : Term) → mergeTerms c x ≡ some d → (equal (c .rest) (x .rest) ≡ true) × (added c x ≡ d)
@@ -64,19 +64,19 @@ module _ (ρ : ℕ → ℕ) where
   unfoldable worth : Term → ℕ
   worth c = word (c .coefficient) * unreduced (c .rest)
 
-  productTerm-worth : (f : Forest) (r : Option (ℤ × List Tree)) → TakenOut (toList f) r → worth (productTerm f r) ≡ exactProduct f ρ
+  productTerm-worth : (μ : ℕ) (f : Forest) (r : Option (ℤ × List Tree)) → TakenOut (toList f) r → worth (productTerm μ f r) ≡ exactProduct f ρ
   unfolding worth productTerm term word exact
-  productTerm-worth f none h = omega arith
-  productTerm-worth f (some r) h =
-      ap (λ n. word (r .0) * n) (productOf-exact (r .1) ρ) ∙ sym (taken-multiplied unreduced h) ∙ product-list f ρ
+  productTerm-worth μ f none h = omega arith
+  productTerm-worth μ f (some r) h =
+      ap (λ n. word (r .0) * n) (productOf-exact (r .1) ρ) ∙ sym (taken-multiplied unreduced (h .1)) ∙ product-list f ρ
 
   termOf-worth : (t : Tree) → worth (termOf t) ≡ unreduced t
   unfolding worth termOf term word exact
-  termOf-worth (integer z) = omega arith
-  termOf-worth (symbol s) = omega arith
-  termOf-worth (sum f) = omega arith
-  termOf-worth (product f) = productTerm-worth f (firstInteger (toList f)) (firstInteger-taken (toList f))
-  termOf-worth (power b e) = omega arith
+  termOf-worth (integer μ z) = omega arith
+  termOf-worth (symbol μ s) = omega arith
+  termOf-worth (sum μ f) = omega arith
+  termOf-worth (product μ f) = productTerm-worth μ f (firstInteger (toList f)) (firstInteger-taken (toList f))
+  termOf-worth (power μ b ξ e) = omega arith
 
   added-worth : (c x : Term) → equal (c .rest) (x .rest) ≡ true → Agree modulus (worth (added c x)) (worth c + worth x)
   unfolding worth added
@@ -91,19 +91,19 @@ module _ (ρ : ℕ → ℕ) where
 
   times-worth : (z : ℤ) (t : Tree) → Agree modulus (unreduced (times z t .0)) (word z * unreduced t)
   unfolding times exact ofList multiplied
-  times-worth z (integer y) = word-mul z y
-  times-worth z (symbol s) = agree-of (omega arith)
-  times-worth z (sum f) = agree-of (omega arith)
-  times-worth z (product f) =
+  times-worth z (integer μ y) = word-mul z y
+  times-worth z (symbol μ s) = agree-of (omega arith)
+  times-worth z (sum μ f) = agree-of (omega arith)
+  times-worth z (product μ f) =
       agree-of
-      (list-product (toList f ++ (integer z ∷ [])) ρ
-      ∙ multiplied-append unreduced (toList f) (integer z ∷ [])
+      (list-product (toList f ++ (integer 0 z ∷ [])) ρ
+      ∙ multiplied-append unreduced (toList f) (integer 0 z ∷ [])
       ∙ last (multiplied unreduced (toList f)) (word z)
       ∙ ap (λ n. word z * n) (product-list f ρ))
     where
       last : (a b : ℕ) → a * (b * 1) ≡ b * a
       last a b = omega arith
-  times-worth z (power b e) = agree-of (omega arith)
+  times-worth z (power μ b ξ e) = agree-of (omega arith)
 
   fromTerm-worth : (c : Term) → Agree modulus (unreduced (fromTerm c .0)) (worth c)
   unfolding fromTerm timesUnless worth word
@@ -122,10 +122,10 @@ module _ (ρ : ℕ → ℕ) where
       (agree-of (sym (total-fold unreduced l))))
 
 -- step 2 keeps the value
-pub like-terms-value : (f : Forest) (ρ : ℕ → ℕ) → value (sumOf (comeOut termOf mergeTerms fromTerm (toList f))) ρ ≡ value (sum f) ρ
+pub like-terms-value : (μ : ℕ) (f : Forest) (ρ : ℕ → ℕ) → value (sumOf (comeOut termOf mergeTerms fromTerm (toList f))) ρ ≡ value (sum μ f) ρ
 unfolding exact
-like-terms-value f ρ =
+like-terms-value μ f ρ =
     let out = comeOut termOf mergeTerms fromTerm (toList f) in
     value-exact (sumOf out) ρ
     ∙ agree-trans (agree-of (sumOf-exact out ρ)) (agree-trans (like-terms-total ρ (toList f)) (agree-of (sum-list f ρ))) .agree
-    ∙ sym (value-exact (sum f) ρ)
+    ∙ sym (value-exact (sum μ f) ρ)

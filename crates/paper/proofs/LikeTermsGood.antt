@@ -1,5 +1,6 @@
 -- Step 2, "combine like terms", is a good rule: the sum that it gives is well-formed, has the value of the sum it was given, and weighs
 -- less by one at least, since it applies only where something was removed. Assumes nothing.
+use Prim.Native.Nat.{ℕ}
 use native.Mathlib.Omega.{arith}
 use Rattle.paper.specs.Tree.{Forest, sum, toList, weight}
 use Rattle.paper.specs.WellFormed.{WF}
@@ -13,14 +14,14 @@ use Rattle.paper.proofs.LikeTerms.{like-terms-value}
 use Rattle.paper.proofs.LikeTermsWF.{like-terms-wf}
 use Rattle.paper.proofs.LikeTermsWeight.{like-terms-weight}
 
-members-good : (f : Forest) → WF (sum f) → GoodAnswer (sum f) (combine sumOf termOf mergeTerms fromTerm (toList f))
+members-good : (μ : ℕ) (f : Forest) → WF (sum μ f) → GoodAnswer (sum μ f) (combine sumOf termOf mergeTerms fromTerm (toList f))
 unfolding weight
-members-good f w =
-    combine-good termOf mergeTerms fromTerm (sum f) sumOf (toList f)
+members-good μ f w =
+    combine-good termOf mergeTerms fromTerm (sum μ f) sumOf (toList f)
     (λ inside removed. (
       like-terms-wf (toList f) (wf-list f (w .1)) inside,
       record {
-        value-kept = like-terms-value f;
+        value-kept = like-terms-value μ f;
         lighter = omega (arith, removed, like-terms-weight (toList f) (wf-list f (w .1)), weights-list f);
       },
     ))

@@ -1,8 +1,8 @@
 -- Step 2 keeps trees well-formed. The rest of a term is well-formed all along, and its coefficient is in range where its flag says
 -- so: this holds of the terms of well-formed members, and a merge keeps it; so where the flags of the members that come out say that
 -- all are in range, all are well-formed. Assumes nothing.
-use Prim.Native.Nat.{_^_}
-use mathlib.Core.Path.{_≡_, subst}
+use Prim.Native.Nat.{ℕ, _^_}
+use mathlib.Core.Path.{_≡_, subst, refl}
 use mathlib.Core.Bool.{Bool, true, false, _&&_}
 use mathlib.Core.List.{List, [], _∷_, _++_}
 use mathlib.Core.Option.{Option, none, some}
@@ -44,18 +44,18 @@ taken-wf : {u : Tree} {l m : List Tree} → Taken u l m → WFl l → WF u × WF
 taken-wf here w = w
 taken-wf (there r) w = let v = taken-wf r (w .1) in (v .0, (w .0, v .1))
 
-productTerm-wf : (f : Forest) (r : Option (ℤ × List Tree)) → WF (product f) → TakenOut (toList f) r → TermWF (productTerm f r)
+productTerm-wf : (μ : ℕ) (f : Forest) (r : Option (ℤ × List Tree)) → WF (product μ f) → TakenOut (toList f) r → TermWF (productTerm μ f r)
 unfolding productTerm
-productTerm-wf f none w h = term-wf (pos 1) (product f) one-in-range w
-productTerm-wf f (some r) w h = let v = taken-wf h (wf-list f (w .1)) in term-wf (r .0) _ (v .0) (productOf-wf (r .1) (v .1))
+productTerm-wf μ f none w h = term-wf (pos 1) (product μ f) one-in-range w
+productTerm-wf μ f (some r) w h = let v = taken-wf (h .1) (wf-list f (w .1)) in term-wf (r .0) _ (v .0 .0) (productOf-wf (r .1) (v .1))
 
 pub termOf-wf : (t : Tree) → WF t → TermWF (termOf t)
 unfolding termOf
-termOf-wf (integer z) w = term-wf z (integer (pos 1)) w one-in-range
-termOf-wf (symbol s) w = term-wf (pos 1) (symbol s) one-in-range w
-termOf-wf (sum f) w = term-wf (pos 1) (sum f) one-in-range w
-termOf-wf (product f) w = productTerm-wf f (firstInteger (toList f)) w (firstInteger-taken (toList f))
-termOf-wf (power b e) w = term-wf (pos 1) (power b e) one-in-range w
+termOf-wf (integer μ z) w = term-wf z (integer 0 (pos 1)) (w .0) (one-in-range, refl)
+termOf-wf (symbol μ s) w = term-wf (pos 1) (symbol μ s) one-in-range w
+termOf-wf (sum μ f) w = term-wf (pos 1) (sum μ f) one-in-range w
+termOf-wf (product μ f) w = productTerm-wf μ f (firstInteger (toList f)) w (firstInteger-taken (toList f))
+termOf-wf (power μ b ξ e) w = term-wf (pos 1) (power μ b ξ e) one-in-range w
 
 -- ---- merging
 added-wf : (c x : Term) → TermWF c → TermWF (added c x)
@@ -72,17 +72,18 @@ mergeTerms-wf c x d q p h = subst TermWF (mergeTerms-some c x d h .1) (added-wf 
 -- ---- putting together
 times-wf : (z : ℤ) (t : Tree) → InRange z → WF t → times z t .1 ≡ true → WF (times z t .0)
 unfolding times ofList count
-times-wf z (integer y) r w h = fits-true (z *ℤ y) h
-times-wf z (symbol s) r w h = (omega arith, (r, (w, tt)))
-times-wf z (sum f) r w h = (omega arith, (r, (w, tt)))
-times-wf z (product f) r w h = (
+times-wf z (integer μ y) r w h = (fits-true (z *ℤ y) h, refl)
+times-wf z (symbol μ s) r w h = (omega arith, ((r, refl), (w, tt)), refl)
+times-wf z (sum μ f) r w h = (omega arith, ((r, refl), (w, tt)), refl)
+times-wf z (product μ f) r w h = (
   omega (arith, list-count (toList f ++ last), length-append (toList f) last, count-list f, w .0),
-  list-wf (toList f ++ last) (wf-append (toList f) last (wf-list f (w .1)) (r, tt)),
+  list-wf (toList f ++ last) (wf-append (toList f) last (wf-list f (w .1)) ((r, refl), tt)),
+  refl,
 )
   where
     last : List Tree
-    last = integer z ∷ []
-times-wf z (power b e) r w h = (omega arith, (r, (w, tt)))
+    last = integer 0 z ∷ []
+times-wf z (power μ b ξ e) r w h = (omega arith, ((r, refl), (w, tt)), refl)
 
 fromTerm-wf : (c : Term) → TermWF c → fromTerm c .1 ≡ true → WF (fromTerm c .0)
 unfolding fromTerm timesUnless

@@ -25,11 +25,11 @@ use Rattle.paper.proofs.LikeTermsWF.{termOf-wf}
 -- what the coefficient adds, where the flag says whether it is 1
 unfoldable extra : Bool → Tree → ℕ
 extra true t = 0
-extra false (integer z) = 0
-extra false (symbol s) = 2
-extra false (sum f) = 2
-extra false (product f) = 1
-extra false (power b e) = 2
+extra false (integer μ z) = 0
+extra false (symbol μ s) = 2
+extra false (sum μ f) = 2
+extra false (product μ f) = 1
+extra false (power μ b ξ e) = 2
 
 unfoldable cost : Term → ℕ
 cost c = bulk (c .rest) + extra (eqZ (c .coefficient) (pos 1)) (c .rest)
@@ -37,25 +37,25 @@ cost c = bulk (c .rest) + extra (eqZ (c .coefficient) (pos 1)) (c .rest)
 extra-two : (b : Bool) (t : Tree) → extra b t ≤ 2
 unfolding extra
 extra-two true t = omega arith
-extra-two false (integer z) = omega arith
-extra-two false (symbol s) = omega arith
-extra-two false (sum f) = omega arith
-extra-two false (product f) = omega arith
-extra-two false (power b e) = omega arith
+extra-two false (integer μ z) = omega arith
+extra-two false (symbol μ s) = omega arith
+extra-two false (sum μ f) = omega arith
+extra-two false (product μ f) = omega arith
+extra-two false (power μ b ξ e) = omega arith
 
-extra-integer : (b : Bool) (z : ℤ) → extra b (integer z) ≡ 0
+extra-integer : (b : Bool) (μ : ℕ) (z : ℤ) → extra b (integer μ z) ≡ 0
 unfolding extra
-extra-integer true z = refl
-extra-integer false z = refl
+extra-integer true μ z = refl
+extra-integer false μ z = refl
 
 -- ---- merging: the rest that is saved costs more than the coefficient adds
 saved : (b : Bool) {t u : Tree} → Same t u → extra b t + 1 ≤ bulk u
 unfolding bulk atLeast asInteger weight
-saved b (s-integer {z}) = omega (arith, extra-integer b z)
-saved b (s-symbol {s}) = omega (arith, extra-two b (symbol s))
-saved b (s-sum {f} r) = omega (arith, extra-two b (sum f))
-saved b (s-product {f} r) = omega (arith, extra-two b (product f))
-saved b (s-power {a = a} {e = e} r) = omega (arith, extra-two b (power a e))
+saved b (s-integer {μ = μ} {z = z}) = omega (arith, extra-integer b μ z)
+saved b (s-symbol {μ = μ} {s = s}) = omega (arith, extra-two b (symbol μ s))
+saved b (s-sum {μ = μ} {f = f} r) = omega (arith, extra-two b (sum μ f))
+saved b (s-product {μ = μ} {f = f} r) = omega (arith, extra-two b (product μ f))
+saved b (s-power {μ = μ} {ξ = ξ} {a = a} {e = e} r) = omega (arith, extra-two b (power μ a ξ e))
 
 mergeTerms-cost : (c x d : Term) → mergeTerms c x ≡ some d → cost d + 1 ≤ cost c + cost x
 unfolding cost added
@@ -67,17 +67,17 @@ mergeTerms-cost c x d h =
 -- ---- putting together: a member weighs no more than its term costs
 times-cost : (z : ℤ) (t : Tree) → weight (times z t .0) ≤ weight t + extra false t
 unfolding times extra weight ofList total
-times-cost z (integer y) = omega arith
-times-cost z (symbol s) = omega arith
-times-cost z (sum f) = omega arith
-times-cost z (product f) = omega (arith, list-weights (toList f ++ last), total-append weight (toList f) last, weights-list f, alone)
+times-cost z (integer μ y) = omega arith
+times-cost z (symbol μ s) = omega arith
+times-cost z (sum μ f) = omega arith
+times-cost z (product μ f) = omega (arith, list-weights (toList f ++ last), total-append weight (toList f) last, weights-list f, alone)
   where
     last : List Tree
-    last = integer z ∷ []
+    last = integer 0 z ∷ []
 
-    alone : total weight (integer z ∷ []) ≡ 1
+    alone : total weight (integer 0 z ∷ []) ≡ 1
     alone = refl
-times-cost z (power b e) = omega arith
+times-cost z (power μ b ξ e) = omega arith
 
 fromTerm-cost : (c : Term) → weight (fromTerm c .0) ≤ cost c
 unfolding fromTerm cost timesUnless
@@ -89,32 +89,32 @@ fromTerm-cost c = go (eqZ (c .coefficient) (pos 1))
 
 productOf-extra : (b : Bool) (l : List Tree) → weight (productOf l) + extra b (productOf l) ≤ 2 + total weight l
 unfolding productOf collapse total weight ofList extra
-productOf-extra b [] = omega (arith, extra-integer b (pos 1))
+productOf-extra b [] = omega (arith, extra-integer b 0 (pos 1))
 productOf-extra b (t ∷ []) = omega (arith, extra-two b t)
 productOf-extra true (t ∷ u ∷ l) = omega (arith, list-weights l)
 productOf-extra false (t ∷ u ∷ l) = omega (arith, list-weights l)
 
-productTerm-cost : (f : Forest) (r : Option (ℤ × List Tree)) → TakenOut (toList f) r → WF (productTerm f r .rest)
-    → cost (productTerm f r) ≤ weight (product f)
+productTerm-cost : (μ : ℕ) (f : Forest) (r : Option (ℤ × List Tree)) → TakenOut (toList f) r → WF (productTerm μ f r .rest)
+    → cost (productTerm μ f r) ≤ weight (product μ f)
 unfolding productTerm cost term eqZ extra weight
-productTerm-cost f none h w = omega (arith, bulk-wf (product f) w)
-productTerm-cost f (some r) h w =
+productTerm-cost μ f none h w = omega (arith, bulk-wf (product μ f) w)
+productTerm-cost μ f (some r) h w =
     omega (
       arith,
       bulk-wf (productOf (r .1)) w,
       productOf-extra (eqZ (r .0) (pos 1)) (r .1),
-      taken-total weight h,
+      taken-total weight (h .1),
       weights-list f,
     )
 
 termOf-cost : (t : Tree) → WF t → cost (termOf t) ≤ weight t
 unfolding termOf cost term eqZ bulk atLeast asInteger extra weight
-termOf-cost (integer z) w = omega (arith, extra-integer (eqZ z (pos 1)) (pos 1))
-termOf-cost (symbol s) w = omega arith
-termOf-cost (sum f) w = omega (arith, bulk-wf (sum f) w)
-termOf-cost (product f) w =
-    productTerm-cost f (firstInteger (toList f)) (firstInteger-taken (toList f)) (termOf-wf (product f) w .rest-wf)
-termOf-cost (power b e) w = omega (arith, bulk-wf (power b e) w)
+termOf-cost (integer μ z) w = omega (arith, extra-integer (eqZ z (pos 1)) 0 (pos 1))
+termOf-cost (symbol μ s) w = omega arith
+termOf-cost (sum μ f) w = omega (arith, bulk-wf (sum μ f) w)
+termOf-cost (product μ f) w =
+    productTerm-cost μ f (firstInteger (toList f)) (firstInteger-taken (toList f)) (termOf-wf (product μ f) w .rest-wf)
+termOf-cost (power μ b ξ e) w = omega (arith, bulk-wf (power μ b ξ e) w)
 
 -- step 2 lowers the weight by at least as many as it removes
 pub like-terms-weight : (l : List Tree) → WFl l

@@ -1,6 +1,6 @@
 -- How step 6 merges two factors: by the product of two integer bases under equal exponents, or by the sum of the exponents of equal
 -- bases. The test is inverted here once, into evidence. Assumes nothing.
-use Prim.Native.Nat.{_+_, _^_}
+use Prim.Native.Nat.{ℕ, _+_, _^_}
 use mathlib.Core.Path.{_≡_, refl, ap, _∙_, subst}
 use mathlib.Core.Bool.{Bool, true, false, _&&_}
 use mathlib.Core.Option.{Option, none, some, Option·some-injective, Option·none-ne-some}
@@ -13,7 +13,7 @@ use Rattle.paper.specs.Rules.{asInteger, fits, Factor, raiseIf, bothInte
 
 -- what c becomes where it takes up x, by either way
 unfoldable pub timesBases : Factor → Factor → ℤ → Factor
-timesBases c x z = record { base = integer z; exponent = c .exponent; inRange = c .inRange && x .inRange && fits z }
+timesBases c x z = record { base = integer 0 z; exponent = c .exponent; inRange = c .inRange && x .inRange && fits z }
 
 unfoldable pub addExponents : Factor → Factor → Factor
 addExponents c x =
@@ -25,26 +25,26 @@ addExponents c x =
 
 -- c takes up x and becomes the third: exponents are added only where the first way was not open
 pub data Merged (c x : Factor) : Factor → Type 0 where
-  by-bases : {y z : ℤ} → c .base ≡ integer y → x .base ≡ integer z → c .exponent ≡ x .exponent → Merged c x (timesBases c x (y *ℤ z))
+  by-bases : {μ ν : ℕ} {y z : ℤ} → c .base ≡ integer μ y → x .base ≡ integer ν z → c .exponent ≡ x .exponent → Merged c x (timesBases c x (y *ℤ z))
   by-exponents : equal (c .base) (x .base) ≡ true
       → (c .exponent ≡ x .exponent → bothIntegers (asInteger (c .base)) (asInteger (x .base)) ≡ none) → Merged c x (addExponents c x)
 
 -- the product of the integers that t and u are, if both are
 abbrev Integers : Tree → Tree → Option ℤ → Type 0
 Integers t u none = Unit {0}
-Integers t u (some w) = (y : ℤ) × (z : ℤ) × (t ≡ integer y) × (u ≡ integer z) × (y *ℤ z ≡ w)
+Integers t u (some w) = (y : ℤ) × (z : ℤ) × (μ : ℕ) × (ν : ℕ) × (t ≡ integer μ y) × (u ≡ integer ν z) × (y *ℤ z ≡ w)
 
 both-view : (t u : Tree) → Integers t u (bothIntegers (asInteger t) (asInteger u))
 unfolding bothIntegers asInteger
-both-view (integer y) (integer z) = (y, z, refl, refl, refl)
-both-view (integer y) (symbol s) = tt
-both-view (integer y) (sum f) = tt
-both-view (integer y) (product f) = tt
-both-view (integer y) (power b e) = tt
-both-view (symbol s) u = tt
-both-view (sum f) u = tt
-both-view (product f) u = tt
-both-view (power b e) u = tt
+both-view (integer μ y) (integer ν z) = (y, z, μ, ν, refl, refl, refl)
+both-view (integer μ y) (symbol ν s) = tt
+both-view (integer μ y) (sum ν f) = tt
+both-view (integer μ y) (product ν f) = tt
+both-view (integer μ y) (power ν b ζ e) = tt
+both-view (symbol μ s) u = tt
+both-view (sum μ f) u = tt
+both-view (product μ f) u = tt
+both-view (power μ b ξ e) u = tt
 
 module _ (c x d : Factor) where
   abbrev both : Option ℤ
@@ -58,7 +58,7 @@ module _ (c x d : Factor) where
   multiplyIf-some : (b : Bool) (w : Option ℤ) → eqb (c .exponent) (x .exponent) ≡ b → both ≡ w → Integers (c .base) (x .base) w
       → multiplyIf b w c x ≡ some d → Merged c x d
   unfolding multiplyIf timesBases
-  multiplyIf-some true (some w) e q (y, z, p, r, k) m =
+  multiplyIf-some true (some w) e q (y, z, μ, ν, p, r, k) m =
       subst (Merged c x) (ap (timesBases c x) k ∙ Option·some-injective _ d m) (by-bases p r (eqb-true (c .exponent) (x .exponent) e))
   multiplyIf-some true none e q h m = raiseIf-some (equal (c .base) (x .base)) refl (λ k. q) m
   multiplyIf-some false w e q h m =

@@ -1,7 +1,7 @@
 -- Reading gives back what was written, by induction on the tree: the reader sees the fields that the record was written with, and
 -- reads the members from the bytes that follow it. Assumes nothing.
 use Prim.Native.Nat.{ℕ, zero, suc, _^_, _<_, _≤_}
-use mathlib.Core.Path.{_≡_, refl, ap, _∙_, subst}
+use mathlib.Core.Path.{_≡_, refl, ap, _∙_, subst, sym}
 use mathlib.Core.Bool.{false}
 use mathlib.Core.List.{List, [], _++_, append-assoc, append-nil}
 use mathlib.Core.Option.{some}
@@ -30,7 +30,7 @@ unfolding recordOf bytes
 record-drop k c v rest = refl
 
 -- one record of each kind, as it is read
-read-integer : (n v : ℕ) (rest : List ℕ) → v < 2 ^ 64 → readTree (suc n) (recordOf 0 0 v ++ rest) ≡ some (integer (signed v), rest)
+read-integer : (n v : ℕ) (rest : List ℕ) → v < 2 ^ 64 → readTree (suc n) (recordOf 0 0 v ++ rest) ≡ some (integer 0 (signed v), rest)
 unfolding readTree kindOf
 read-integer n v rest h =
     rw (
@@ -40,7 +40,7 @@ read-integer n v rest h =
       record-drop 0 0 v rest,
     )
 
-read-symbol : (n v : ℕ) (rest : List ℕ) → v < 256 → readTree (suc n) (recordOf 1 0 v ++ rest) ≡ some (symbol v, rest)
+read-symbol : (n v : ℕ) (rest : List ℕ) → v < 256 → readTree (suc n) (recordOf 1 0 v ++ rest) ≡ some (symbol 0 v, rest)
 unfolding readTree kindOf
 read-symbol n v rest h =
     rw (
@@ -51,7 +51,7 @@ read-symbol n v rest h =
     )
 
 read-sum : (n c : ℕ) (rest : List ℕ) → c < 65536
-    → readTree (suc n) (recordOf 2 c 0 ++ rest) ≡ then (readMembers (λ q. readTree n q) c rest) (λ f r. some (sum f, r))
+    → readTree (suc n) (recordOf 2 c 0 ++ rest) ≡ then (readMembers (λ q. readTree n q) c rest) (λ f r. some (sum 0 f, r))
 unfolding readTree kindOf
 read-sum n c rest h =
     rw (
@@ -62,7 +62,7 @@ read-sum n c rest h =
     )
 
 read-product : (n c : ℕ) (rest : List ℕ) → c < 65536
-    → readTree (suc n) (recordOf 3 c 0 ++ rest) ≡ then (readMembers (λ q. readTree n q) c rest) (λ f r. some (product f, r))
+    → readTree (suc n) (recordOf 3 c 0 ++ rest) ≡ then (readMembers (λ q. readTree n q) c rest) (λ f r. some (product 0 f, r))
 unfolding readTree kindOf
 read-product n c rest h =
     rw (
@@ -77,7 +77,7 @@ unfolding readTree kindOf
 read-power n rest =
     rw (record-long 4 0 0 rest, kind-there (recordOf 4 0 0 ++ rest) 0 4 0 0 rest refl, record-drop 4 0 0 rest)
 
-read-exponent : (b : Tree) (e : ℕ) (rest : List ℕ) → 1 ≤ e → e < 2 ^ 63 → readExponent b (recordOf 0 0 e ++ rest) ≡ some (power b e, rest)
+read-exponent : (b : Tree) (e : ℕ) (rest : List ℕ) → 1 ≤ e → e < 2 ^ 63 → readExponent b (recordOf 0 0 e ++ rest) ≡ some (power 0 b 0 e, rest)
 unfolding readExponent kindOf raised
 read-exponent b zero rest h g = absurd (omega arith)
 read-exponent b (suc e) rest h g =
@@ -95,32 +95,37 @@ mutual
 
   pub read-written : (t : Tree) (n : ℕ) (rest : List ℕ) → WF t → records t < 65536 → records t ≤ n
       → readTree n (encode t ++ rest) ≡ some (t, rest)
-  read-written (integer z) zero rest w s h = absurd (omega arith)
-  read-written (integer z) (suc n) rest w s h =
-      read-integer n (word z) rest (word-lt z) ∙ ap (λ (y : ℤ). some (integer y, rest)) (signed-word z w)
-  read-written (symbol v) zero rest w s h = absurd (omega arith)
-  read-written (symbol v) (suc n) rest w s h = read-symbol n v rest w
-  read-written (sum f) zero rest w s h = absurd (omega arith)
-  read-written (sum f) (suc n) rest w s h =
+  read-written (integer μ z) zero rest w s h = absurd (omega arith)
+  read-written (integer μ z) (suc n) rest w s h =
+      read-integer n (word z) rest (word-lt z) ∙ ap (λ (y : ℤ). some (integer 0 y, rest)) (signed-word z (w .0))
+      ∙ ap (λ m. some (integer m z, rest)) (sym (w .1))
+  read-written (symbol μ v) zero rest w s h = absurd (omega arith)
+  read-written (symbol μ v) (suc n) rest w s h = read-symbol n v rest (w .0) ∙ ap (λ m. some (symbol m v, rest)) (sym (w .1))
+  read-written (sum μ f) zero rest w s h = absurd (omega arith)
+  read-written (sum μ f) (suc n) rest w s h =
       rw (
         append-assoc (recordOf 2 (count f) 0) (encodes f) rest,
         read-sum n (count f) (encodes f ++ rest) (omega (arith, count-records f)),
         members-written f n rest (w .1) (omega arith) (omega arith),
+        w .2,
       )
-  read-written (product f) zero rest w s h = absurd (omega arith)
-  read-written (product f) (suc n) rest w s h =
+  read-written (product μ f) zero rest w s h = absurd (omega arith)
+  read-written (product μ f) (suc n) rest w s h =
       rw (
         append-assoc (recordOf 3 (count f) 0) (encodes f) rest,
         read-product n (count f) (encodes f ++ rest) (omega (arith, count-records f)),
         members-written f n rest (w .1) (omega arith) (omega arith),
+        w .2,
       )
-  read-written (power b e) zero rest w s h = absurd (omega arith)
-  read-written (power b e) (suc n) rest w s h =
+  read-written (power μ b ξ e) zero rest w s h = absurd (omega arith)
+  read-written (power μ b ξ e) (suc n) rest w s h =
       rw (
         append-assoc (recordOf 4 0 0) (encode b ++ recordOf 0 0 e) rest,
         append-assoc (encode b) (recordOf 0 0 e) rest,
         read-power n (encode b ++ (recordOf 0 0 e ++ rest)),
         read-written b n (recordOf 0 0 e ++ rest) (w .0) (omega arith) (omega arith),
+        w .3,
+        w .4,
       )
       (read-exponent b e rest (w .1) (w .2))
 

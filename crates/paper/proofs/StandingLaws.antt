@@ -26,28 +26,28 @@ module _ {s : List ℕ} {i : ℕ} {t : Tree} (h : TreeIn s i t) where
 
 -- the members of a sum and of a product, and the base of a power
 module _ {s : List ℕ} {i : ℕ} where
-  sum-seen : {f : Forest} → Seen s i (sum f) → recordses f < 65536 → TreesIn s (i + 1) (countIn s i) f
+  sum-seen : {μ : ℕ} {f : Forest} → Seen s i (sum μ f) → recordses f < 65536 → TreesIn s (i + 1) (countIn s i) f
   sum-seen (a-sum k n c w m) l = record { counted = sym n; wf = w; few = l; stand = m }
 
-  product-seen : {f : Forest} → Seen s i (product f) → recordses f < 65536 → TreesIn s (i + 1) (countIn s i) f
+  product-seen : {μ : ℕ} {f : Forest} → Seen s i (product μ f) → recordses f < 65536 → TreesIn s (i + 1) (countIn s i) f
   product-seen (a-product k n c w m) l = record { counted = sym n; wf = w; few = l; stand = m }
 
-  power-seen : {b : Tree} {e : ℕ} → Seen s i (power b e) → SeenPower s i b e
+  power-seen : {μ : ℕ} {b : Tree} {ξ e : ℕ} → Seen s i (power μ b ξ e) → SeenPower s i b ξ e
   power-seen (a-power k w b p q x y z) =
       record { base-wf = w; base = b; least = p; most = q; exponent = x; exponent-kind = y; exponent-bits = z }
 
-  pub sum-trees : {f : Forest} → TreeIn s i (sum f) → TreesIn s (i + 1) (countIn s i) f
+  pub sum-trees : {μ : ℕ} {f : Forest} → TreeIn s i (sum μ f) → TreesIn s (i + 1) (countIn s i) f
   unfolding records
   sum-trees h = sum-seen (seen h) (omega (arith, h .few))
 
-  pub product-trees : {f : Forest} → TreeIn s i (product f) → TreesIn s (i + 1) (countIn s i) f
+  pub product-trees : {μ : ℕ} {f : Forest} → TreeIn s i (product μ f) → TreesIn s (i + 1) (countIn s i) f
   unfolding records
   product-trees h = product-seen (seen h) (omega (arith, h .few))
 
-  pub power-parts : {b : Tree} {e : ℕ} → TreeIn s i (power b e) → SeenPower s i b e
+  pub power-parts : {μ : ℕ} {b : Tree} {ξ e : ℕ} → TreeIn s i (power μ b ξ e) → SeenPower s i b ξ e
   power-parts h = power-seen (seen h)
 
-  pub power-tree : {b : Tree} {e : ℕ} → TreeIn s i (power b e) → TreeIn s (i + 1) b
+  pub power-tree : {μ : ℕ} {b : Tree} {ξ e : ℕ} → TreeIn s i (power μ b ξ e) → TreeIn s (i + 1) b
   unfolding records
   power-tree h = record { wf = h .wf .0; few = omega (arith, h .few); stands = power-parts h .base }
 

@@ -41,24 +41,24 @@ stands-both {s} {i} p q m l h g =
     ∙ g .there in
     record { after = g .after; there = h .there ∙ ap (λ (x : List ℕ). p ++ x) rest ∙ sym (append-assoc p q (g .after)) }
 
-module _ {s : List ℕ} {i : ℕ} (f : Forest) where
-  pub sum-record : Stands s i (encode (sum f)) → Stands s i (recordOf 2 (count f) 0)
+module _ {s : List ℕ} {i : ℕ} (μ : ℕ) (f : Forest) where
+  pub sum-record : Stands s i (encode (sum μ f)) → Stands s i (recordOf 2 (count f) 0)
   unfolding encode
   sum-record h = stands-first (recordOf 2 (count f) 0) (encodes f) h
 
-  pub sum-members : Stands s i (encode (sum f)) → Stands s (i + 1) (encodes f)
+  pub sum-members : Stands s i (encode (sum μ f)) → Stands s (i + 1) (encodes f)
   unfolding encode
   sum-members h = stands-next (recordOf 2 (count f) 0) (encodes f) h 1 (record-length 2 (count f) 0)
 
-  pub product-record : Stands s i (encode (product f)) → Stands s i (recordOf 3 (count f) 0)
+  pub product-record : Stands s i (encode (product μ f)) → Stands s i (recordOf 3 (count f) 0)
   unfolding encode
   product-record h = stands-first (recordOf 3 (count f) 0) (encodes f) h
 
-  pub product-members : Stands s i (encode (product f)) → Stands s (i + 1) (encodes f)
+  pub product-members : Stands s i (encode (product μ f)) → Stands s (i + 1) (encodes f)
   unfolding encode
   product-members h = stands-next (recordOf 3 (count f) 0) (encodes f) h 1 (record-length 3 (count f) 0)
 
-module _ {s : List ℕ} {i : ℕ} (b : Tree) (e : ℕ) (h : Stands s i (encode (power b e))) where
+module _ {s : List ℕ} {i : ℕ} (μ : ℕ) (b : Tree) (ξ e : ℕ) (h : Stands s i (encode (power μ b ξ e))) where
   pub power-record : Stands s i (recordOf 4 0 0)
   unfolding encode
   power-record = stands-first (recordOf 4 0 0) (encode b ++ recordOf 0 0 e) h

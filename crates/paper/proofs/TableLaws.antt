@@ -51,26 +51,26 @@ mutual
   unfolding encode records weight
 
   pub weight-there : (t : Tree) (s : List ℕ) (i : ℕ) → Stands s i (encode t) → weightFrom s i (records t) ≡ weight t
-  weight-there (integer z) s i h = weight-one s i 0 0 (word z) h
-  weight-there (symbol v) s i h = weight-one s i 1 0 v h
-  weight-there (sum f) s i h =
-      omega (arith, weight-both s i 1 (recordses f), weight-one s i 2 (count f) 0 (sum-record f h), weights-there f s (i + 1) (sum-members f h))
-  weight-there (product f) s i h =
+  weight-there (integer μ z) s i h = weight-one s i 0 0 (word z) h
+  weight-there (symbol μ v) s i h = weight-one s i 1 0 v h
+  weight-there (sum μ f) s i h =
+      omega (arith, weight-both s i 1 (recordses f), weight-one s i 2 (count f) 0 (sum-record μ f h), weights-there f s (i + 1) (sum-members μ f h))
+  weight-there (product μ f) s i h =
       omega (
         arith,
         weight-both s i 1 (recordses f),
-        weight-one s i 3 (count f) 0 (product-record f h),
-        weights-there f s (i + 1) (product-members f h),
+        weight-one s i 3 (count f) 0 (product-record μ f h),
+        weights-there f s (i + 1) (product-members μ f h),
       )
-  weight-there (power b e) s i h =
+  weight-there (power μ b ξ e) s i h =
       let k : 2 + records b ≡ 1 + (records b + 1) = omega arith in
       rw k (omega (
         arith,
         weight-both s i 1 (records b + 1),
         weight-both s (i + 1) (records b) 1,
-        weight-one s i 4 0 0 (power-record b e h),
-        weight-there b s (i + 1) (power-base b e h),
-        weight-one s (i + 1 + records b) 0 0 e (power-exponent b e h),
+        weight-one s i 4 0 0 (power-record μ b ξ e h),
+        weight-there b s (i + 1) (power-base μ b ξ e h),
+        weight-one s (i + 1 + records b) 0 0 e (power-exponent μ b ξ e h),
       ))
 
   pub weights-there : (f : Forest) (s : List ℕ) (i : ℕ) → Stands s i (encodes f) → weightFrom s i (recordses f) ≡ weights f
@@ -119,21 +119,21 @@ mutual
 
   pub encode-end : (t : Tree) (s : List ℕ) (n i : ℕ) → Stands s i (encode t) → records t < 65536 → i + records t ≤ n
       → treeEnd s n i ≡ i + records t
-  encode-end (integer z) s n i h c l = end-leaf s n i 0 (word z) (lit< tt) (omega arith) h
-  encode-end (symbol v) s n i h c l = end-leaf s n i 1 v (lit< tt) (omega arith) h
-  encode-end (sum f) s n i h c l =
+  encode-end (integer μ z) s n i h c l = end-leaf s n i 0 (word z) (lit< tt) (omega arith) h
+  encode-end (symbol μ v) s n i h c l = end-leaf s n i 1 v (lit< tt) (omega arith) h
+  encode-end (sum μ f) s n i h c l =
       end-step s n i (omega arith)
-      ∙ rw (arity-sum s i (count f) (omega (arith, count-records f)) (sum-record f h))
-      (encodes-end f s n (i + 1) (sum-members f h) (omega arith) (omega arith) ∙ omega arith)
-  encode-end (product f) s n i h c l =
+      ∙ rw (arity-sum s i (count f) (omega (arith, count-records f)) (sum-record μ f h))
+      (encodes-end f s n (i + 1) (sum-members μ f h) (omega arith) (omega arith) ∙ omega arith)
+  encode-end (product μ f) s n i h c l =
       end-step s n i (omega arith)
-      ∙ rw (arity-product s i (count f) (omega (arith, count-records f)) (product-record f h))
-      (encodes-end f s n (i + 1) (product-members f h) (omega arith) (omega arith) ∙ omega arith)
-  encode-end (power b e) s n i h c l =
-      let j : treeEnd s n (i + 1) ≡ i + 1 + records b = encode-end b s n (i + 1) (power-base b e h) (omega arith) (omega arith) in
+      ∙ rw (arity-product s i (count f) (omega (arith, count-records f)) (product-record μ f h))
+      (encodes-end f s n (i + 1) (product-members μ f h) (omega arith) (omega arith) ∙ omega arith)
+  encode-end (power μ b ξ e) s n i h c l =
+      let j : treeEnd s n (i + 1) ≡ i + 1 + records b = encode-end b s n (i + 1) (power-base μ b ξ e h) (omega arith) (omega arith) in
       end-step s n i (omega arith)
-      ∙ rw (arity-power s i (power-record b e h), skip-more s n (i + 1) 1, j, skip-one s n (i + 1 + records b))
-      (end-leaf s n (i + 1 + records b) 0 e (lit< tt) (omega arith) (power-exponent b e h) ∙ omega arith)
+      ∙ rw (arity-power s i (power-record μ b ξ e h), skip-more s n (i + 1) 1, j, skip-one s n (i + 1 + records b))
+      (end-leaf s n (i + 1 + records b) 0 e (lit< tt) (omega arith) (power-exponent μ b ξ e h) ∙ omega arith)
 
   pub encodes-end : (f : Forest) (s : List ℕ) (n i : ℕ) → Stands s i (encodes f) → recordses f < 65536 → i + recordses f ≤ n
       → skip s n (n - i) (count f) i ≡ i + recordses f
@@ -239,21 +239,21 @@ mutual
 
   pub fine-there : (t : Tree) (s : List ℕ) (n i : ℕ) → Stands s i (encode t) → WF t → records t < 65536 → i + records t ≤ n
       → All (Fine s n) i (i + records t)
-  fine-there (integer z) s n i h w c l = fine-integer s n i (word z) h
-  fine-there (symbol v) s n i h w c l = fine-symbol s n i v h w
-  fine-there (sum f) s n i h w c l =
-      fine-both s n i 1 (recordses f) (fine-sum s n i (count f) (sum-record f h) (w .0) (omega (arith, count-records f)))
-      (fines-there f s n (i + 1) (sum-members f h) (w .1) (omega arith) (omega arith))
-  fine-there (product f) s n i h w c l =
-      fine-both s n i 1 (recordses f) (fine-product s n i (count f) (product-record f h) (w .0) (omega (arith, count-records f)))
-      (fines-there f s n (i + 1) (product-members f h) (w .1) (omega arith) (omega arith))
-  fine-there (power b e) s n i h w c l =
-      let j : treeEnd s n (i + 1) ≡ i + 1 + records b = encode-end b s n (i + 1) (power-base b e h) (omega arith) (omega arith) in
+  fine-there (integer μ z) s n i h w c l = fine-integer s n i (word z) h
+  fine-there (symbol μ v) s n i h w c l = fine-symbol s n i v h (w .0)
+  fine-there (sum μ f) s n i h w c l =
+      fine-both s n i 1 (recordses f) (fine-sum s n i (count f) (sum-record μ f h) (w .0) (omega (arith, count-records f)))
+      (fines-there f s n (i + 1) (sum-members μ f h) (w .1) (omega arith) (omega arith))
+  fine-there (product μ f) s n i h w c l =
+      fine-both s n i 1 (recordses f) (fine-product s n i (count f) (product-record μ f h) (w .0) (omega (arith, count-records f)))
+      (fines-there f s n (i + 1) (product-members μ f h) (w .1) (omega arith) (omega arith))
+  fine-there (power μ b ξ e) s n i h w c l =
+      let j : treeEnd s n (i + 1) ≡ i + 1 + records b = encode-end b s n (i + 1) (power-base μ b ξ e h) (omega arith) (omega arith) in
       let k : 2 + records b ≡ 1 + (records b + 1) = omega arith in
       rw k (fine-both s n i 1 (records b + 1)
-      (fine-power s n i (i + 1 + records b) e (power-record b e h) j (power-exponent b e h) (w .1) (w .2))
-      (fine-both s n (i + 1) (records b) 1 (fine-there b s n (i + 1) (power-base b e h) (w .0) (omega arith) (omega arith))
-      (fine-integer s n (i + 1 + records b) e (power-exponent b e h))))
+      (fine-power s n i (i + 1 + records b) e (power-record μ b ξ e h) j (power-exponent μ b ξ e h) (w .1) (w .2))
+      (fine-both s n (i + 1) (records b) 1 (fine-there b s n (i + 1) (power-base μ b ξ e h) (w .0) (omega arith) (omega arith))
+      (fine-integer s n (i + 1 + records b) e (power-exponent μ b ξ e h))))
 
   pub fines-there : (f : Forest) (s : List ℕ) (n i : ℕ) → Stands s i (encodes f) → WFs f → recordses f < 65536 → i + recordses f ≤ n
       → All (Fine s n) i (i + recordses f)

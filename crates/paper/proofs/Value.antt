@@ -14,11 +14,11 @@ use Rattle.paper.proofs.Congruence.{Agree, agree-of, agree-trans, agree
 -- the value before it is taken modulo 2^64
 unfoldable mutual
   pub exact : Tree → (ℕ → ℕ) → ℕ
-  exact (integer z) ρ = word z
-  exact (symbol s) ρ = ρ s
-  exact (sum f) ρ = exactSum f ρ
-  exact (product f) ρ = exactProduct f ρ
-  exact (power b e) ρ = exact b ρ ^ e
+  exact (integer μ z) ρ = word z
+  exact (symbol μ s) ρ = ρ s
+  exact (sum μ f) ρ = exactSum f ρ
+  exact (product μ f) ρ = exactProduct f ρ
+  exact (power μ b ξ e) ρ = exact b ρ ^ e
 
   pub exactSum : Forest → (ℕ → ℕ) → ℕ
   exactSum nil ρ = 0
@@ -36,11 +36,11 @@ mutual
   unfolding value exact
 
   pub value-exact : (t : Tree) (ρ : ℕ → ℕ) → value t ρ ≡ exact t ρ % modulus
-  value-exact (integer z) ρ = sym (mod-eq-of-lt (word-lt z))
-  value-exact (symbol s) ρ = refl
-  value-exact (sum f) ρ = sumValue-exact f ρ
-  value-exact (product f) ρ = productValue-exact f ρ
-  value-exact (power b e) ρ = agree-pow e (reduced (exact b ρ) (value-exact b ρ)) .agree
+  value-exact (integer μ z) ρ = sym (mod-eq-of-lt (word-lt z))
+  value-exact (symbol μ s) ρ = refl
+  value-exact (sum μ f) ρ = sumValue-exact f ρ
+  value-exact (product μ f) ρ = productValue-exact f ρ
+  value-exact (power μ b ξ e) ρ = agree-pow e (reduced (exact b ρ) (value-exact b ρ)) .agree
 
   pub sumValue-exact : (f : Forest) (ρ : ℕ → ℕ) → sumValue f ρ ≡ exactSum f ρ % modulus
   sumValue-exact nil ρ = refl
@@ -105,8 +105,8 @@ list-weights (t ∷ l) = ap (λ n. weight t + n) (list-weights l)
 -- every tree weighs something
 pub weight-pos : (t : Tree) → 0 < weight t
 unfolding weight
-weight-pos (integer z) = omega arith
-weight-pos (symbol s) = omega arith
-weight-pos (sum f) = omega arith
-weight-pos (product f) = omega arith
-weight-pos (power b e) = omega arith
+weight-pos (integer μ z) = omega arith
+weight-pos (symbol μ s) = omega arith
+weight-pos (sum μ f) = omega arith
+weight-pos (product μ f) = omega arith
+weight-pos (power μ b ξ e) = omega arith

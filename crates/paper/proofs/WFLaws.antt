@@ -55,8 +55,8 @@ module _ (emptied : Tree) (node : Forest → Tree) (empty-wf : WF emptied) (node
 
 pub sumOf-wf : (l : List Tree) → WFl l → WF (sumOf l)
 unfolding sumOf
-sumOf-wf l w = collapse-wf _ sum (lit< tt) (λ f h v. (h, v)) l w
+sumOf-wf l w = collapse-wf _ (sum 0) (lit< tt, refl) (λ f h v. (h, v, refl)) l w
 
 pub productOf-wf : (l : List Tree) → WFl l → WF (productOf l)
 unfolding productOf
-productOf-wf l w = collapse-wf _ product (lit< tt) (λ f h v. (h, v)) l w
+productOf-wf l w = collapse-wf _ (product 0) (lit< tt, refl) (λ f h v. (h, v, refl)) l w

@@ -83,22 +83,22 @@ module _ (t : Tree) (w : WF t) (light : weight t ≤ maxWeight) where
 
 -- ---- the tables: 1; a + (-1)*a, which takes two steps
 one : Tree
-one = integer (pos 1)
+one = integer 0 (pos 1)
 
 one-wf : WF one
 unfolding one
-one-wf = lit< tt
+one-wf = (lit< tt, refl)
 
 one-light : weight one ≤ maxWeight
 unfolding one weight
 one-light = lit≤ tt
 
 difference : Tree
-difference = sum (cons (symbol 0) (cons (product (cons (integer (negsuc 0)) (cons (symbol 0) nil))) nil))
+difference = sum 0 (cons (symbol 0 0) (cons (product 0 (cons (integer 0 (negsuc 0)) (cons (symbol 0 0) nil))) nil))
 
 difference-wf : WF difference
 unfolding difference trees-compute
-difference-wf = (lit≤ tt, (lit< tt, ((lit≤ tt, (lit< tt, (lit< tt, tt))), tt)))
+difference-wf = (lit≤ tt, ((lit< tt, refl), ((lit≤ tt, ((lit< tt, refl), ((lit< tt, refl), tt)), refl), tt)), refl)
 
 difference-light : weight difference ≤ maxWeight
 unfolding difference weight
@@ -106,7 +106,7 @@ difference-light = lit≤ tt
 
 -- what the first step makes of it
 once : Tree
-once = product (cons (integer (pos 0)) (cons (symbol 0) nil))
+once = product 0 (cons (integer 0 (pos 0)) (cons (symbol 0 0) nil))
 
 -- ---- "One that refuses everything: by the exact conditions of 1 to 6 in demand 1 and of 7 in demand 2." The table 1 is accepted, and
 -- its run meets no integer outside the range.
@@ -155,10 +155,10 @@ always-7-is-refused = not-by-7 (refusesAll 7) 0 refl
 pub zero-is-refused : ¬ KeepsValue returnsZero
 unfolding returnsZero trees-compute one ranAnswer
 zero-is-refused k =
-    let g = gives one one-wf one-light (λ t. done (integer (pos 0)) [] 0) (integer (pos 0)) [] 0 refl in
+    let g = gives one one-wf one-light (λ t. done (integer 0 (pos 0)) [] 0) (integer 0 (pos 0)) [] 0 refl in
     let x = k (encode one) (encode-bytes one) (areas (weight one)) (ap (λ y. y .number) (g .answer)) one (tree-of-written one one-wf one-light) in
-    let b = ap treeOf (g .bytes) ∙ tree-of-written (integer (pos 0)) (lit< tt) (lit≤ tt) in
-    let u : integer (pos 0) ≡ x .0 = same-tree b (x .1) in
+    let b = ap treeOf (g .bytes) ∙ tree-of-written (integer 0 (pos 0)) (lit< tt, refl) (lit≤ tt) in
+    let u : integer 0 (pos 0) ≡ x .0 = same-tree b (x .1) in
     let z : _≡_ {A = ℕ} 0 1 = ap (λ y. value y (λ n. 0)) u ∙ x .2 (λ n. 0) in omega arith
 
 -- ---- a tree that admits a rule is no finished one
@@ -187,26 +187,26 @@ pass-is-refused f =
     let x = f (encode difference) (encode-bytes difference) (areas (weight difference)) (ap (λ y. y .number) (g .answer)) difference
     (tree-of-written difference difference-wf difference-light) in
     let u : x .0 ≡ once = same-tree (x .1) (ap treeOf (g .bytes) ∙ r) in
-    admits-a-rule once (integer (pos 0)) 3 second-step (subst (AdmitsNone editionOne) u (x .2))
+    admits-a-rule once (integer 0 (pos 0)) 3 second-step (subst (AdmitsNone editionOne) u (x .2))
   where
     passed : firstPass editionOne (weight difference) difference ≡ done once (2 ∷ []) 0
     passed = unfold difference once firstPass driver-computes trees-compute in refl
 
-    second-step : ask editionOne once ≡ step 3 (integer (pos 0))
+    second-step : ask editionOne once ≡ step 3 (integer 0 (pos 0))
     second-step = unfold once driver-computes in refl
 
     once-wf : WF once
-    once-wf = unfold once trees-compute in (lit≤ tt, (lit< tt, (lit< tt, tt)))
+    once-wf = unfold once trees-compute in (lit≤ tt, ((lit< tt, refl), ((lit< tt, refl), tt)), refl)
 
     once-light : weight once ≤ maxWeight
     once-light = unfold once weight in (lit≤ tt)
 
 -- one that never enters a member, by the same clause at a member: (a + a)^2 stays as it is, and its base admits step 2
 twice : Tree
-twice = sum (cons (symbol 0) (cons (symbol 0) nil))
+twice = sum 0 (cons (symbol 0 0) (cons (symbol 0 0) nil))
 
 inside : Tree
-inside = power twice 2
+inside = power 0 twice 0 2
 
 pub root-is-refused : ¬ Finishes staysAtRoot
 unfolding staysAtRoot ranAnswer
@@ -218,7 +218,7 @@ root-is-refused f =
     base-admits (subst (AdmitsNone editionOne) u (x .2))
   where
     inside-wf : WF inside
-    inside-wf = unfold inside twice trees-compute in ((lit≤ tt, (lit< tt, (lit< tt, tt))), lit≤ tt, lit< tt)
+    inside-wf = unfold inside twice trees-compute in ((lit≤ tt, ((lit< tt, refl), ((lit< tt, refl), tt)), refl), lit≤ tt, lit< tt, refl, refl)
 
     inside-light : weight inside ≤ maxWeight
     inside-light = unfold inside twice weight in (lit≤ tt)
@@ -227,12 +227,12 @@ root-is-refused f =
     stays = unfold inside twice rootOnly driver-computes trees-compute in refl
 
     double : Tree
-    double = product (cons (integer (pos 2)) (cons (symbol 0) nil))
+    double = product 0 (cons (integer 0 (pos 2)) (cons (symbol 0 0) nil))
 
     step-inside : ask editionOne twice ≡ step 2 double
     step-inside = unfold twice driver-computes in refl
 
-    its-members : members inside ≡ twice ∷ integer (pos 2) ∷ []
+    its-members : members inside ≡ twice ∷ integer 0 (pos 2) ∷ []
     its-members = unfold inside members in refl
 
     first-of : {t : Tree} {l : List Tree} → AllAdmitNone editionOne (t ∷ l) → AdmitsNone editionOne t
@@ -278,7 +278,7 @@ module _ {P : Tree → Tree → Type 0} (f : Simplifier) (g : Makes P f) (t u : 
 pub returning-zero-is-refused : (f : Simplifier) → ReturnsZero f → ¬ KeepsValue f
 unfolding one trees-compute
 returning-zero-is-refused f g k =
-    let x = said-of f g one (integer (pos 0)) refl one-wf one-light (lit< tt) (lit≤ tt) (λ t u. (ρ : ℕ → ℕ) → value u ρ ≡ value t ρ) k in
+    let x = said-of f g one (integer 0 (pos 0)) refl one-wf one-light (lit< tt, refl) (lit≤ tt) (λ t u. (ρ : ℕ → ℕ) → value u ρ ≡ value t ρ) k in
     let z : _≡_ {A = ℕ} 0 1 = x (λ n. 0) in omega arith
 
 module _ where
@@ -290,25 +290,25 @@ module _ where
       admits-a-rule difference once 2 first-step
       (said-of f g difference difference refl difference-wf difference-light difference-wf difference-light (λ t u. AdmitsNone editionOne u) k)
 
-  second-step : ask editionOne once ≡ step 3 (integer (pos 0))
+  second-step : ask editionOne once ≡ step 3 (integer 0 (pos 0))
   second-step = unfold once driver-computes in refl
 
   passed-once : firstPass editionOne (weight difference) difference ≡ done once (2 ∷ []) 0
   passed-once = unfold difference once firstPass driver-computes trees-compute in refl
 
   once-wf : WF once
-  once-wf = unfold once trees-compute in (lit≤ tt, (lit< tt, (lit< tt, tt)))
+  once-wf = unfold once trees-compute in (lit≤ tt, ((lit< tt, refl), ((lit< tt, refl), tt)), refl)
 
   once-light : weight once ≤ maxWeight
   once-light = unfold once weight in (lit≤ tt)
 
   pub stopping-is-refused : (f : Simplifier) → StopsAfterPass f → ¬ Finishes f
   stopping-is-refused f g k =
-      admits-a-rule once (integer (pos 0)) 3 second-step
+      admits-a-rule once (integer 0 (pos 0)) 3 second-step
       (said-of f g difference once (2 ∷ [], 0, passed-once) difference-wf difference-light once-wf once-light (λ t u. AdmitsNone editionOne u) k)
 
   inside-is-wf : WF inside
-  inside-is-wf = unfold inside twice trees-compute in ((lit≤ tt, (lit< tt, (lit< tt, tt))), lit≤ tt, lit< tt)
+  inside-is-wf = unfold inside twice trees-compute in ((lit≤ tt, ((lit< tt, refl), ((lit< tt, refl), tt)), refl), lit≤ tt, lit< tt, refl, refl)
 
   inside-is-light : weight inside ≤ maxWeight
   inside-is-light = unfold inside twice weight in (lit≤ tt)
@@ -317,12 +317,12 @@ module _ where
   no-rule-outside = unfold inside twice driver-computes in refl
 
   double : Tree
-  double = product (cons (integer (pos 2)) (cons (symbol 0) nil))
+  double = product 0 (cons (integer 0 (pos 2)) (cons (symbol 0 0) nil))
 
   step-inside : ask editionOne twice ≡ step 2 double
   step-inside = unfold twice double driver-computes in refl
 
-  its-members : members inside ≡ twice ∷ integer (pos 2) ∷ []
+  its-members : members inside ≡ twice ∷ integer 0 (pos 2) ∷ []
   its-members = unfold inside members in refl
 
   first-of : {t : Tree} {l : List Tree} → AllAdmitNone editionOne (t ∷ l) → AdmitsNone editionOne t

@@ -12,7 +12,7 @@ use Rattle.paper.specs.Verdict.{accepted, refused, tableWeight, verdict}
 use Rattle.paper.specs.Answers.{Lent, valued, cramped, judgement}
 
 abbrev a : Tree
-a = symbol 0
+a = symbol 0 0
 
 abbrev areas : List ℕ → List ℕ → List ℕ → Lent
 areas out steps work = record { out = out; steps = steps; work = work }

@@ -53,26 +53,26 @@ each run (t ∷ l) = andThen (run t) (each run l)
 
 -- the members, a power's exponent among them
 unfoldable pub members : Tree → List Tree
-members (integer z) = []
-members (symbol s) = []
-members (sum f) = toList f
-members (product f) = toList f
-members (power b e) = b ∷ integer (pos e) ∷ []
+members (integer μ z) = []
+members (symbol μ s) = []
+members (sum μ f) = toList f
+members (product μ f) = toList f
+members (power μ b ξ e) = b ∷ integer ξ (pos e) ∷ []
 
 -- the members of a sum, and of a product; none of any other tree
 unfoldable pub asSum : Tree → Option (List Tree)
-asSum (integer z) = none
-asSum (symbol s) = none
-asSum (sum f) = some (toList f)
-asSum (product f) = none
-asSum (power b e) = none
+asSum (integer μ z) = none
+asSum (symbol μ s) = none
+asSum (sum μ f) = some (toList f)
+asSum (product μ f) = none
+asSum (power μ b ξ e) = none
 
 unfoldable pub asProduct : Tree → Option (List Tree)
-asProduct (integer z) = none
-asProduct (symbol s) = none
-asProduct (sum f) = none
-asProduct (product f) = some (toList f)
-asProduct (power b e) = none
+asProduct (integer μ z) = none
+asProduct (symbol μ s) = none
+asProduct (sum μ f) = none
+asProduct (product μ f) = some (toList f)
+asProduct (power μ b ξ e) = none
 
 -- "a sum among a sum's members, or a product among a product's, is replaced by its members; each is one opening": the members
 -- of a gathered list, and its openings
@@ -92,11 +92,11 @@ baseFrom b (u ∷ l) = u
 -- "gather the results": the node with its members' results, and its openings. "A gathered list of fewer than two members would
 -- collapse as after a rule."
 unfoldable pub gather : Tree → List Tree → Tree × ℕ
-gather (integer z) l = (integer z, 0)
-gather (symbol s) l = (symbol s, 0)
-gather (sum f) l = let r = opened asSum l in (sumOf (r .0), r .1)
-gather (product f) l = let r = opened asProduct l in (productOf (r .0), r .1)
-gather (power b e) l = (power (baseFrom b l) e, 0)
+gather (integer μ z) l = (integer μ z, 0)
+gather (symbol μ s) l = (symbol μ s, 0)
+gather (sum μ f) l = let r = opened asSum l in (sumOf (r .0), r .1)
+gather (product μ f) l = let r = opened asProduct l in (productOf (r .0), r .1)
+gather (power μ b ξ e) l = (power μ (baseFrom b l) ξ e, 0)
 
 -- finished where nothing changed and nothing was opened, begun again where something did
 unfoldable pub settle : (Tree → Ran) → List ℕ → ℕ → Tree → Bool → Ran

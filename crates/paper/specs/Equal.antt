@@ -52,47 +52,47 @@ module _ {A : Type 0} where
 
 -- a test of the trees of one kind: no for those of another
 unfoldable pub onInteger : (ℤ → Bool) → Tree → Bool
-onInteger p (integer z) = p z
-onInteger p (symbol s) = false
-onInteger p (sum f) = false
-onInteger p (product f) = false
-onInteger p (power b e) = false
+onInteger p (integer μ z) = p z
+onInteger p (symbol μ s) = false
+onInteger p (sum μ f) = false
+onInteger p (product μ f) = false
+onInteger p (power μ b ξ e) = false
 
 unfoldable pub onSymbol : (ℕ → Bool) → Tree → Bool
-onSymbol p (integer z) = false
-onSymbol p (symbol s) = p s
-onSymbol p (sum f) = false
-onSymbol p (product f) = false
-onSymbol p (power b e) = false
+onSymbol p (integer μ z) = false
+onSymbol p (symbol μ s) = p s
+onSymbol p (sum μ f) = false
+onSymbol p (product μ f) = false
+onSymbol p (power μ b ξ e) = false
 
 unfoldable pub onSum : (List Tree → Bool) → Tree → Bool
-onSum p (integer z) = false
-onSum p (symbol s) = false
-onSum p (sum f) = p (toList f)
-onSum p (product f) = false
-onSum p (power b e) = false
+onSum p (integer μ z) = false
+onSum p (symbol μ s) = false
+onSum p (sum μ f) = p (toList f)
+onSum p (product μ f) = false
+onSum p (power μ b ξ e) = false
 
 unfoldable pub onProduct : (List Tree → Bool) → Tree → Bool
-onProduct p (integer z) = false
-onProduct p (symbol s) = false
-onProduct p (sum f) = false
-onProduct p (product f) = p (toList f)
-onProduct p (power b e) = false
+onProduct p (integer μ z) = false
+onProduct p (symbol μ s) = false
+onProduct p (sum μ f) = false
+onProduct p (product μ f) = p (toList f)
+onProduct p (power μ b ξ e) = false
 
 unfoldable pub onPower : (Tree → ℕ → Bool) → Tree → Bool
-onPower p (integer z) = false
-onPower p (symbol s) = false
-onPower p (sum f) = false
-onPower p (product f) = false
-onPower p (power b e) = p b e
+onPower p (integer μ z) = false
+onPower p (symbol μ s) = false
+onPower p (sum μ f) = false
+onPower p (product μ f) = false
+onPower p (power μ b ξ e) = p b e
 
 unfoldable mutual
   pub equal : Tree → Tree → Bool
-  equal (integer z) u = onInteger (eqZ z) u
-  equal (symbol s) u = onSymbol (eqb s) u
-  equal (sum f) u = onSum (λ l. matched f l) u
-  equal (product f) u = onProduct (λ l. matched f l) u
-  equal (power b e) u = onPower (λ c d. equal b c && eqb e d) u
+  equal (integer μ z) u = onInteger (eqZ z) u
+  equal (symbol μ s) u = onSymbol (eqb s) u
+  equal (sum μ f) u = onSum (λ l. matched f l) u
+  equal (product μ f) u = onProduct (λ l. matched f l) u
+  equal (power μ b ξ e) u = onPower (λ c d. equal b c && eqb e d) u
 
   -- the members of f and those of l are the same multiset of equal trees
   pub matched : Forest → List Tree → Bool

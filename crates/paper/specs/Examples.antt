@@ -1,6 +1,6 @@
 -- "Marked * are the ones for the proved table": the starred examples of the paper, as one table. Letters a, b, c are symbols 0,
 -- 1, 2. proofs/Starred proves the whole table by one statement.
-use Prim.Native.Nat.{ℕ}
+use Prim.Native.Nat.{ℕ, _-_}
 use mathlib.Core.List.{List, [], _∷_}
 use lib.IntN.{pos, negsuc}
 use Rattle.paper.specs.Tree.{Tree, Forest, integer, symbol, sum, product, power, ofList, weight}
@@ -15,22 +15,29 @@ pub record Example : Type 0 where
   pub weight-out : ℕ
 
 abbrev a : Tree
-a = symbol 0
+a = symbol 0 0
 
 abbrev b : Tree
-b = symbol 1
+b = symbol 0 1
 
 abbrev c : Tree
-c = symbol 2
+c = symbol 0 2
 
 abbrev i : ℕ → Tree
-i n = integer (pos n)
+i n = integer 0 (pos n)
 
 abbrev plus : List Tree → Tree
-plus l = sum (ofList l)
+plus l = sum 0 (ofList l)
 
 abbrev times : List Tree → Tree
-times l = product (ofList l)
+times l = product 0 (ofList l)
+
+abbrev raised : Tree → ℕ → Tree
+raised t n = power 0 t 0 n
+
+-- -n, for an n of at least 1
+abbrev minus : ℕ → Tree
+minus n = integer 0 (negsuc (n - 1))
 
 -- the tree, its weight, the result, its steps, its openings, the result's weight
 abbrev gives : Tree → ℕ → Tree → List ℕ → ℕ → ℕ → Example
@@ -51,17 +58,17 @@ unfoldable pub examples : List Example
 examples =
     exampleOne
     -- 2. (a*b)*a gives a^2 * b
-    ∷ gives (times (times (a ∷ b ∷ []) ∷ a ∷ [])) 11 (times (power a 2 ∷ b ∷ [])) (6 ∷ []) 1 9
+    ∷ gives (times (times (a ∷ b ∷ []) ∷ a ∷ [])) 11 (times (raised a 2 ∷ b ∷ [])) (6 ∷ []) 1 9
     -- 3. a + (-1)*a gives 0
-    ∷ gives (plus (a ∷ times (integer (negsuc 0) ∷ a ∷ []) ∷ [])) 9 (i 0) (2 ∷ 3 ∷ []) 0 1
+    ∷ gives (plus (a ∷ times (minus 1 ∷ a ∷ []) ∷ [])) 9 (i 0) (2 ∷ 3 ∷ []) 0 1
     -- 4. a+a+b+c gives 2*a + c + b
     ∷ gives (plus (a ∷ a ∷ b ∷ c ∷ [])) 13 (plus (times (i 2 ∷ a ∷ []) ∷ c ∷ b ∷ [])) (2 ∷ []) 0 12
     -- 5. a*b + b*a gives a*b*2
     ∷ gives (plus (times (a ∷ b ∷ []) ∷ times (b ∷ a ∷ []) ∷ [])) 15 (times (a ∷ b ∷ i 2 ∷ [])) (2 ∷ []) 0 8
     -- 6. 2 * 2^3 gives 2^4, which stays
-    ∷ gives (times (i 2 ∷ power (i 2) 3 ∷ [])) 5 (power (i 2) 4) (6 ∷ []) 0 3
+    ∷ gives (times (i 2 ∷ raised (i 2) 3 ∷ [])) 5 (raised (i 2) 4) (6 ∷ []) 0 3
     -- 7. 2^3 * 5^3 gives 10^3
-    ∷ gives (times (power (i 2) 3 ∷ power (i 5) 3 ∷ [])) 7 (power (i 10) 3) (6 ∷ []) 0 3
+    ∷ gives (times (raised (i 2) 3 ∷ raised (i 5) 3 ∷ [])) 7 (raised (i 10) 3) (6 ∷ []) 0 3
     -- 8. 0+0 gives 0; 1*1 gives 1
     ∷ gives (plus (i 0 ∷ i 0 ∷ [])) 3 (i 0) (1 ∷ []) 0 1
     ∷ gives (times (i 1 ∷ i 1 ∷ [])) 3 (i 1) (4 ∷ []) 0 1
@@ -69,7 +76,7 @@ examples =
     ∷ record { given = plus (i 9223372036854775807 ∷ i 1 ∷ []); answer = over 0; weight-in = 3; weight-out = 0 }
     ∷ gives (times (i 0 ∷ i 9223372036854775807 ∷ i 2 ∷ [])) 4 (i 0) (3 ∷ []) 0 1
     -- 10. (a*b)^1 * c * c * a gives a^2 * b * c^2
-    ∷ gives (times (power (times (a ∷ b ∷ [])) 1 ∷ c ∷ c ∷ a ∷ [])) 19 (times (power a 2 ∷ b ∷ power c 2 ∷ [])) (6 ∷ 6 ∷ []) 1 14
+    ∷ gives (times (raised (times (a ∷ b ∷ [])) 1 ∷ c ∷ c ∷ a ∷ [])) 19 (times (raised a 2 ∷ b ∷ raised c 2 ∷ [])) (6 ∷ 6 ∷ []) 1 14
     -- 12. 2*3*a + 2*3*a gives 12*a
     ∷ gives (plus (times (i 2 ∷ i 3 ∷ a ∷ []) ∷ times (i 2 ∷ i 3 ∷ a ∷ []) ∷ [])) 13 (times (i 12 ∷ a ∷ [])) (2 ∷ 6 ∷ []) 0 5
     ∷ []
@@ -89,8 +96,8 @@ lookalikes =
     -- a + a + 2^62*4 is 7 at 0
     ∷ record { given = plus (a ∷ a ∷ times (i 4611686018427387904 ∷ i 4 ∷ []) ∷ []); answer = over 0; weight-in = 10; weight-out = 0 }
     -- 2 * 2^3 * 3^4 is one step, 6^4; 2 * 6^2 * 3 is two, 6^3
-    ∷ gives (times (i 2 ∷ power (i 2) 3 ∷ power (i 3) 4 ∷ [])) 8 (power (i 6) 4) (6 ∷ []) 0 3
-    ∷ gives (times (i 2 ∷ power (i 6) 2 ∷ i 3 ∷ [])) 6 (power (i 6) 3) (6 ∷ 6 ∷ []) 0 3
+    ∷ gives (times (i 2 ∷ raised (i 2) 3 ∷ raised (i 3) 4 ∷ [])) 8 (raised (i 6) 4) (6 ∷ []) 0 3
+    ∷ gives (times (i 2 ∷ raised (i 6) 2 ∷ i 3 ∷ [])) 6 (raised (i 6) 3) (6 ∷ 6 ∷ []) 0 3
     ∷ []
 
 -- What the starred examples leave open: one table more, each line for a word of the paper that no line above depends on.
@@ -105,30 +112,30 @@ edges =
     ∷ gives (plus (times (i 2 ∷ i 3 ∷ a ∷ []) ∷ times (i 5 ∷ i 3 ∷ a ∷ []) ∷ [])) 13 (times (i 21 ∷ a ∷ [])) (2 ∷ 6 ∷ []) 0 5
     -- "two integers multiply": 2*3 + 4*3; "its rest if the coefficient is 1": 2*a + (-1)*a
     ∷ gives (plus (times (i 2 ∷ i 3 ∷ []) ∷ times (i 4 ∷ i 3 ∷ []) ∷ [])) 7 (i 18) (2 ∷ []) 0 1
-    ∷ gives (plus (times (i 2 ∷ a ∷ []) ∷ times (integer (negsuc 0) ∷ a ∷ []) ∷ [])) 11 a (2 ∷ []) 0 3
+    ∷ gives (plus (times (i 2 ∷ a ∷ []) ∷ times (minus 1 ∷ a ∷ []) ∷ [])) 11 a (2 ∷ []) 0 3
     -- "any other rest R becomes the product (coefficient, R)": R a power, R a sum
-    ∷ gives (plus (power a 2 ∷ power a 2 ∷ [])) 11 (times (i 2 ∷ power a 2 ∷ [])) (2 ∷ []) 0 7
+    ∷ gives (plus (raised a 2 ∷ raised a 2 ∷ [])) 11 (times (i 2 ∷ raised a 2 ∷ [])) (2 ∷ []) 0 7
     ∷ gives (plus (plus (a ∷ b ∷ []) ∷ times (i 2 ∷ plus (a ∷ b ∷ []) ∷ []) ∷ [])) 17 (times (i 3 ∷ plus (a ∷ b ∷ []) ∷ [])) (2 ∷ []) 0 9
     -- "multiply the bases; else ..": 2*2 is 4, not 2^2
     ∷ gives (times (i 2 ∷ i 2 ∷ [])) 3 (i 4) (6 ∷ []) 0 1
     -- "each later one": seven members, the first and the last alike
-    ∷ gives (plus (a ∷ b ∷ c ∷ symbol 3 ∷ symbol 4 ∷ symbol 5 ∷ a ∷ [])) 22 (plus (times (i 2 ∷ a ∷ []) ∷ b ∷ c ∷ symbol 3 ∷ symbol 4 ∷ symbol 5 ∷ [])) (2 ∷ []) 0 21
+    ∷ gives (plus (a ∷ b ∷ c ∷ symbol 0 3 ∷ symbol 0 4 ∷ symbol 0 5 ∷ a ∷ [])) 22 (plus (times (i 2 ∷ a ∷ []) ∷ b ∷ c ∷ symbol 0 3 ∷ symbol 0 4 ∷ symbol 0 5 ∷ [])) (2 ∷ []) 0 21
     -- "with each member": inside a power; "from first to last": the steps 1 and then 2; "each is one opening": two at once
-    ∷ gives (power (plus (a ∷ a ∷ [])) 2) 9 (power (times (i 2 ∷ a ∷ [])) 2) (2 ∷ []) 0 7
+    ∷ gives (raised (plus (a ∷ a ∷ [])) 2) 9 (raised (times (i 2 ∷ a ∷ [])) 2) (2 ∷ []) 0 7
     ∷ gives (times (plus (i 0 ∷ a ∷ []) ∷ plus (b ∷ b ∷ []) ∷ [])) 13 (times (a ∷ i 2 ∷ b ∷ [])) (1 ∷ 2 ∷ []) 1 8
-    ∷ gives (times (times (a ∷ b ∷ []) ∷ times (c ∷ a ∷ []) ∷ [])) 15 (times (power a 2 ∷ b ∷ c ∷ [])) (6 ∷ []) 2 12
+    ∷ gives (times (times (a ∷ b ∷ []) ∷ times (c ∷ a ∷ []) ∷ [])) 15 (times (raised a 2 ∷ b ∷ c ∷ [])) (6 ∷ []) 2 12
     -- "every partial sum and product, in the order named": (2^63 - 1) + 1 + (-1) is 7, (2^63 - 1) + (-1) + 1 is not; 2^62*2*(-1) is 7, 2^62*(-1)*2 is not
-    ∷ record { given = plus (i 9223372036854775807 ∷ i 1 ∷ integer (negsuc 0) ∷ []); answer = over 0; weight-in = 4; weight-out = 0 }
-    ∷ gives (plus (i 9223372036854775807 ∷ integer (negsuc 0) ∷ i 1 ∷ [])) 4 (i 9223372036854775807) (2 ∷ []) 0 1
-    ∷ record { given = times (i 4611686018427387904 ∷ i 2 ∷ integer (negsuc 0) ∷ []); answer = over 0; weight-in = 4; weight-out = 0 }
-    ∷ gives (times (i 4611686018427387904 ∷ integer (negsuc 0) ∷ i 2 ∷ [])) 4 (integer (negsuc 9223372036854775807)) (6 ∷ []) 0 1
+    ∷ record { given = plus (i 9223372036854775807 ∷ i 1 ∷ minus 1 ∷ []); answer = over 0; weight-in = 4; weight-out = 0 }
+    ∷ gives (plus (i 9223372036854775807 ∷ minus 1 ∷ i 1 ∷ [])) 4 (i 9223372036854775807) (2 ∷ []) 0 1
+    ∷ record { given = times (i 4611686018427387904 ∷ i 2 ∷ minus 1 ∷ []); answer = over 0; weight-in = 4; weight-out = 0 }
+    ∷ gives (times (i 4611686018427387904 ∷ minus 1 ∷ i 2 ∷ [])) 4 (minus 9223372036854775808) (6 ∷ []) 0 1
     -- the greatest exponent, and one more
-    ∷ gives (times (power a 9223372036854775806 ∷ a ∷ [])) 9 (power a 9223372036854775807) (6 ∷ []) 0 5
-    ∷ record { given = times (power a 9223372036854775807 ∷ a ∷ []); answer = over 0; weight-in = 9; weight-out = 0 }
+    ∷ gives (times (raised a 9223372036854775806 ∷ a ∷ [])) 9 (raised a 9223372036854775807) (6 ∷ []) 0 5
+    ∷ record { given = times (raised a 9223372036854775807 ∷ a ∷ []); answer = over 0; weight-in = 9; weight-out = 0 }
     -- "steps completed before it", at the node itself: 0 + (2^63 - 1) + 1 is 7 at 1
     ∷ record { given = plus (i 0 ∷ i 9223372036854775807 ∷ i 1 ∷ []); answer = over 1; weight-in = 4; weight-out = 0 }
     -- 11. a^1 alone stays
-    ∷ gives (power a 1) 5 (power a 1) ([]) 0 5
+    ∷ gives (raised a 1) 5 (raised a 1) ([]) 0 5
     ∷ []
 
 unfoldable pub outWeight : Ran → ℕ

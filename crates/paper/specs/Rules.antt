@@ -32,33 +32,33 @@ collapse emptied node (t ∷ []) = t
 collapse emptied node (t ∷ u ∷ l) = node (ofList (t ∷ u ∷ l))
 
 unfoldable pub sumOf : List Tree → Tree
-sumOf l = collapse (integer (pos 0)) sum l
+sumOf l = collapse (integer 0 (pos 0)) (sum 0) l
 
 unfoldable pub productOf : List Tree → Tree
-productOf l = collapse (integer (pos 1)) product l
+productOf l = collapse (integer 0 (pos 1)) (product 0) l
 
 -- ---- a rule on a sum, a rule on a product
 unfoldable pub onSumMembers : (List Tree → Tried) → Tree → Tried
-onSumMembers k (integer z) = does-not-apply
-onSumMembers k (symbol s) = does-not-apply
-onSumMembers k (sum f) = k (toList f)
-onSumMembers k (product f) = does-not-apply
-onSumMembers k (power b e) = does-not-apply
+onSumMembers k (integer μ z) = does-not-apply
+onSumMembers k (symbol μ s) = does-not-apply
+onSumMembers k (sum μ f) = k (toList f)
+onSumMembers k (product μ f) = does-not-apply
+onSumMembers k (power μ b ξ e) = does-not-apply
 
 unfoldable pub onProductMembers : (List Tree → Tried) → Tree → Tried
-onProductMembers k (integer z) = does-not-apply
-onProductMembers k (symbol s) = does-not-apply
-onProductMembers k (sum f) = does-not-apply
-onProductMembers k (product f) = k (toList f)
-onProductMembers k (power b e) = does-not-apply
+onProductMembers k (integer μ z) = does-not-apply
+onProductMembers k (symbol μ s) = does-not-apply
+onProductMembers k (sum μ f) = does-not-apply
+onProductMembers k (product μ f) = k (toList f)
+onProductMembers k (power μ b ξ e) = does-not-apply
 
 -- ---- members that are a certain integer
 unfoldable pub asInteger : Tree → Option ℤ
-asInteger (integer z) = some z
-asInteger (symbol s) = none
-asInteger (sum f) = none
-asInteger (product f) = none
-asInteger (power b e) = none
+asInteger (integer μ z) = some z
+asInteger (symbol μ s) = none
+asInteger (sum μ f) = none
+asInteger (product μ f) = none
+asInteger (power μ b ξ e) = none
 
 unfoldable pub isThe : ℤ → Tree → Bool
 isThe z t = elim (asInteger t) [ none ↦ false | some y ↦ eqZ y z ]
@@ -85,7 +85,7 @@ addZero = onSumMembers (λ l. appliesIf (anyOf (isThe (pos 0)) l) (sumOf (dropAl
 
 -- step 3: "a member is integer 0: the whole is 0"
 unfoldable pub multiplyZero : Tree → Tried
-multiplyZero = onProductMembers (λ l. appliesIf (anyOf (isThe (pos 0)) l) (integer (pos 0)))
+multiplyZero = onProductMembers (λ l. appliesIf (anyOf (isThe (pos 0)) l) (integer 0 (pos 0)))
 
 -- step 4: "drop all members that are integer 1"
 unfoldable pub multiplyOne : Tree → Tried
@@ -135,17 +135,17 @@ firstInteger [] = none
 firstInteger (t ∷ l) = orFirst (asInteger t) t l (firstInteger l)
 
 -- "or 1 and itself if it has no integer member"
-unfoldable pub productTerm : Forest → Option (ℤ × List Tree) → Term
-productTerm f none = term (pos 1) (product f)
-productTerm f (some r) = term (r .0) (productOf (r .1))
+unfoldable pub productTerm : ℕ → Forest → Option (ℤ × List Tree) → Term
+productTerm μ f none = term (pos 1) (product μ f)
+productTerm μ f (some r) = term (r .0) (productOf (r .1))
 
 -- "an integer n has (n, 1); a product has ..; everything else has 1 and itself"
 unfoldable pub termOf : Tree → Term
-termOf (integer z) = term z (integer (pos 1))
-termOf (symbol s) = term (pos 1) (symbol s)
-termOf (sum f) = term (pos 1) (sum f)
-termOf (product f) = productTerm f (firstInteger (toList f))
-termOf (power b e) = term (pos 1) (power b e)
+termOf (integer μ z) = term z (integer 0 (pos 1))
+termOf (symbol μ s) = term (pos 1) (symbol μ s)
+termOf (sum μ f) = term (pos 1) (sum μ f)
+termOf (product μ f) = productTerm μ f (firstInteger (toList f))
+termOf (power μ b ξ e) = term (pos 1) (power μ b ξ e)
 
 -- "Where equal, add the coefficient to the current one"
 unfoldable pub added : Term → Term → Term
@@ -166,11 +166,11 @@ mergeTerms c x = addIf (equal (c .rest) (x .rest)) c x
 -- "coefficient times rest: two integers multiply; a product rest gets the coefficient appended last; any other rest R becomes
 -- the product (coefficient, R)", and whether that is in range
 unfoldable pub times : ℤ → Tree → Tree × Bool
-times z (integer y) = (integer (z *ℤ y), fits (z *ℤ y))
-times z (symbol s) = (product (ofList (integer z ∷ symbol s ∷ [])), true)
-times z (sum f) = (product (ofList (integer z ∷ sum f ∷ [])), true)
-times z (product f) = (product (ofList (toList f ++ (integer z ∷ []))), true)
-times z (power b e) = (product (ofList (integer z ∷ power b e ∷ [])), true)
+times z (integer μ y) = (integer 0 (z *ℤ y), fits (z *ℤ y))
+times z (symbol μ s) = (product 0 (ofList (integer 0 z ∷ symbol μ s ∷ [])), true)
+times z (sum μ f) = (product 0 (ofList (integer 0 z ∷ sum μ f ∷ [])), true)
+times z (product μ f) = (product 0 (ofList (toList f ++ (integer 0 z ∷ []))), true)
+times z (power μ b ξ e) = (product 0 (ofList (integer 0 z ∷ power μ b ξ e ∷ [])), true)
 
 -- "the current member becomes its rest if the coefficient is 1, else coefficient times rest"
 unfoldable pub timesUnless : Bool → Term → Tree × Bool
@@ -193,11 +193,11 @@ unfoldable pub factor : Tree → ℕ → Factor
 factor b e = record { base = b; exponent = e; inRange = true }
 
 unfoldable pub factorOf : Tree → Factor
-factorOf (integer z) = factor (integer z) 1
-factorOf (symbol s) = factor (symbol s) 1
-factorOf (sum f) = factor (sum f) 1
-factorOf (product f) = factor (product f) 1
-factorOf (power b e) = factor b e
+factorOf (integer μ z) = factor (integer μ z) 1
+factorOf (symbol μ s) = factor (symbol μ s) 1
+factorOf (sum μ f) = factor (sum μ f) 1
+factorOf (product μ f) = factor (product μ f) 1
+factorOf (power μ b ξ e) = factor b e
 
 -- "if the bases are equal, add the exponents"
 unfoldable pub raiseIf : Bool → Factor → Factor → Option Factor
@@ -217,7 +217,7 @@ bothIntegers (some a) (some b) = some (a *ℤ b)
 
 -- "If the exponents are equal and both bases are integers, multiply the bases; else ..": z is the product of two integer bases
 unfoldable pub multiplyIf : Bool → Option ℤ → Factor → Factor → Option Factor
-multiplyIf true (some z) c x = some (record { base = integer z; exponent = c .exponent; inRange = c .inRange && x .inRange && fits z })
+multiplyIf true (some z) c x = some (record { base = integer 0 z; exponent = c .exponent; inRange = c .inRange && x .inRange && fits z })
 multiplyIf true none c x = raiseIf (equal (c .base) (x .base)) c x
 multiplyIf false z c x = raiseIf (equal (c .base) (x .base)) c x
 
@@ -228,7 +228,7 @@ mergeFactors c x =
 -- "An exponent 1 leaves the base alone."
 unfoldable pub powerUnless : Bool → Factor → Tree × Bool
 powerUnless true c = (c .base, c .inRange)
-powerUnless false c = (power (c .base) (c .exponent), c .inRange)
+powerUnless false c = (power 0 (c .base) 0 (c .exponent), c .inRange)
 
 unfoldable pub fromFactor : Factor → Tree × Bool
 fromFactor c = powerUnless (eqb (c .exponent) 1) c

@@ -22,13 +22,13 @@ compares n p w y = record { number = n; place = p; which = w; yes = y }
 
 -- a + b; two trees, 1 and 1, where one is due; b^0
 abbrev a+b : List ℕ
-a+b = encode (sum (cons (symbol 0) (cons (symbol 1) nil)))
+a+b = encode (sum 0 (cons (symbol 0 0) (cons (symbol 0 1) nil)))
 
 abbrev cut : List ℕ
-cut = encode (integer (pos 1)) ++ encode (integer (pos 1))
+cut = encode (integer 0 (pos 1)) ++ encode (integer 0 (pos 1))
 
 abbrev b^0 : List ℕ
-b^0 = encode (power (symbol 1) 0)
+b^0 = encode (power 0 (symbol 0 1) 0 0)
 
 -- symbol 0 holds 5, symbol 1 holds 256, the others 0
 abbrev regs : List ℕ
@@ -46,7 +46,7 @@ pub record Sayings : Type 0 where
   pub equal-second : compared a+b b^0 ≡ compares 5 2 2 false
   pub equal-yes : compared a+b a+b ≡ compares 0 0 0 true
   pub zeros-and-past : stretch 4 (1 ∷ 2 ∷ []) (9 ∷ 9 ∷ 9 ∷ 9 ∷ 9 ∷ []) ≡ 1 ∷ 2 ∷ 0 ∷ 0 ∷ 9 ∷ []
-  pub numbers : answerNumbers (ranAnswer 15 (done (symbol 0) (2 ∷ 6 ∷ []) 4)) ≡ 0 ∷ 0 ∷ 1 ∷ 2 ∷ 4 ∷ 15 ∷ 3 ∷ []
+  pub numbers : answerNumbers (ranAnswer 15 (done (symbol 0 0) (2 ∷ 6 ∷ []) 4)) ≡ 0 ∷ 0 ∷ 1 ∷ 2 ∷ 4 ∷ 15 ∷ 3 ∷ []
   pub numbers-refused : answerNumbers (ranAnswer 15 (over 3)) ≡ 7 ∷ 3 ∷ 0 ∷ 0 ∷ 0 ∷ 0 ∷ 0 ∷ []
   pub slice-short : (weightReturns a+b (replicate 23 9) ≡ 6) × (weightAnswers a+b (replicate 23 9) ≡ replicate 23 9)
   pub slice : (weightReturns cut (replicate 25 9) ≡ 4)

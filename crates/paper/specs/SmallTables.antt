@@ -13,26 +13,26 @@ use Rattle.paper.specs.Answers.{valued, compared}
 use Rattle.paper.specs.Calls.{eights, checkAnswers, valueAnswers, equalAnswers}
 
 abbrev a : Tree
-a = symbol 0
+a = symbol 0 0
 
 abbrev b : Tree
-b = symbol 1
+b = symbol 0 1
 
 abbrev i : ℕ → Tree
-i n = integer (pos n)
+i n = integer 0 (pos n)
 
 -- -n, for an n of at least 1
 abbrev minus : ℕ → Tree
-minus n = integer (negsuc (n - 1))
+minus n = integer 0 (negsuc (n - 1))
 
 abbrev plus : Tree → Tree → Tree
-plus t u = sum (cons t (cons u nil))
+plus t u = sum 0 (cons t (cons u nil))
 
 abbrev times : Tree → Tree → Tree
-times t u = product (cons t (cons u nil))
+times t u = product 0 (cons t (cons u nil))
 
 abbrev raised : Tree → ℕ → Tree
-raised t n = power t n
+raised t n = power 0 t 0 n
 
 -- records by themselves: of a sum and a product with n members, and of a power
 abbrev sumOf : ℕ → List ℕ
@@ -93,7 +93,7 @@ valueOf t = valued (encode t) regs .result
 
 -- "symbol 0 first, little-endian"; "sums, products and powers taken modulo 2^64; a negative integer counts as itself plus 2^64"
 pub record Values : Type 0 where
-  pub first-last : valueOf (plus a (symbol 255)) ≡ 12
+  pub first-last : valueOf (plus a (symbol 0 255)) ≡ 12
   pub second : valueOf b ≡ 256
   pub negative : valueOf (minus 1) ≡ 18446744073709551615
   pub least : valueOf (minus 9223372036854775808) ≡ 9223372036854775808

@@ -8,29 +8,29 @@ use Rattle.paper.specs.Driver.{done, over}
 use Rattle.paper.specs.Examples.{Example}
 
 abbrev a : Tree
-a = symbol 0
+a = symbol 0 0
 
 abbrev b : Tree
-b = symbol 1
+b = symbol 0 1
 
 abbrev c : Tree
-c = symbol 2
+c = symbol 0 2
 
 abbrev i : ℕ → Tree
-i n = integer (pos n)
+i n = integer 0 (pos n)
 
 -- -n, for an n of at least 1
 abbrev minus : ℕ → Tree
-minus n = integer (negsuc (n - 1))
+minus n = integer 0 (negsuc (n - 1))
 
 abbrev plus : List Tree → Tree
-plus l = sum (ofList l)
+plus l = sum 0 (ofList l)
 
 abbrev times : List Tree → Tree
-times l = product (ofList l)
+times l = product 0 (ofList l)
 
 abbrev raised : Tree → ℕ → Tree
-raised t n = power t n
+raised t n = power 0 t 0 n
 
 -- the tree, its weight, the result, its steps, its openings, the result's weight
 abbrev gives : Tree → ℕ → Tree → List ℕ → ℕ → ℕ → Example

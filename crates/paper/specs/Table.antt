@@ -17,11 +17,11 @@ recordOf k members number = k ∷ 0 ∷ (bytes 2 members ++ (0 ∷ 0 ∷ 0 ∷ 0
 -- writing: the records of a tree
 unfoldable mutual
   pub encode : Tree → List ℕ
-  encode (integer z) = recordOf 0 0 (word z)
-  encode (symbol s) = recordOf 1 0 s
-  encode (sum f) = recordOf 2 (count f) 0 ++ encodes f
-  encode (product f) = recordOf 3 (count f) 0 ++ encodes f
-  encode (power b e) = recordOf 4 0 0 ++ (encode b ++ recordOf 0 0 e)
+  encode (integer μ z) = recordOf 0 0 (word z)
+  encode (symbol μ s) = recordOf 1 0 s
+  encode (sum μ f) = recordOf 2 (count f) 0 ++ encodes f
+  encode (product μ f) = recordOf 3 (count f) 0 ++ encodes f
+  encode (power μ b ξ e) = recordOf 4 0 0 ++ (encode b ++ recordOf 0 0 e)
 
   pub encodes : Forest → List ℕ
   encodes nil = []
@@ -55,7 +55,7 @@ readMembers r (suc k) s = then (r s) (λ t s′. then (readMembers r k s′) (λ
 -- "The exponent of a power is an integer of at least 1."
 unfoldable pub raised : Tree → List ℕ → ℤ → Reading Tree
 raised b s (pos zero) = none
-raised b s (pos (suc n)) = some (power b (suc n), s)
+raised b s (pos (suc n)) = some (power 0 b 0 (suc n), s)
 raised b s (negsuc n) = none
 
 unfoldable pub readExponent : Tree → List ℕ → Reading Tree
@@ -76,10 +76,10 @@ readTree zero s = none
 readTree (suc n) s =
     cond (ltb (length s) 16) none
     (elim (kindOf (kind s 0)) [
-      | an-integer ↦ some (integer (signed (bits s 0)), drop 16 s)
-      | a-symbol ↦ some (symbol (symbolIn s 0), drop 16 s)
-      | a-sum ↦ then (readMembers (λ q. readTree n q) (countIn s 0) (drop 16 s)) (λ f r. some (sum f, r))
-      | a-product ↦ then (readMembers (λ q. readTree n q) (countIn s 0) (drop 16 s)) (λ f r. some (product f, r))
+      | an-integer ↦ some (integer 0 (signed (bits s 0)), drop 16 s)
+      | a-symbol ↦ some (symbol 0 (symbolIn s 0), drop 16 s)
+      | a-sum ↦ then (readMembers (λ q. readTree n q) (countIn s 0) (drop 16 s)) (λ f r. some (sum 0 f, r))
+      | a-product ↦ then (readMembers (λ q. readTree n q) (countIn s 0) (drop 16 s)) (λ f r. some (product 0 f, r))
       | a-power ↦ then (readTree n (drop 16 s)) readExponent
       | no-kind ↦ none
     ])

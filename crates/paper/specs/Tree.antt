@@ -1,5 +1,6 @@
 -- The tree. "A tree is an integer from -2^63 to 2^63 - 1, a symbol 0 to 255 (none is special), a sum, a product, or a power."
--- The ranges, and "two members or more", stand in WellFormed.
+-- The ranges, and "two members or more", stand in WellFormed. Every record of a tree has a mark: the first number of each constructor,
+-- and of a power the number before the exponent is the mark of the exponent's record. No table has a mark other than 0 (WellFormed).
 use Prim.Native.Nat.{ℕ, zero, suc, _+_, _*_, _%_, _^_}
 use mathlib.Core.List.{List, [], _∷_}
 use lib.IntN.{ℤ}
@@ -8,11 +9,11 @@ use Rattle.paper.specs.Bytes.{word}
 
 mutual
   pub data Tree : Type 0 where
-    integer : ℤ → Tree
-    symbol : ℕ → Tree
-    sum : Forest → Tree
-    product : Forest → Tree
-    power : Tree → ℕ → Tree
+    integer : ℕ → ℤ → Tree
+    symbol : ℕ → ℕ → Tree
+    sum : ℕ → Forest → Tree
+    product : ℕ → Forest → Tree
+    power : ℕ → Tree → ℕ → ℕ → Tree
 
   -- the members of a sum or a product, first to last
   pub data Forest : Type 0 where
@@ -36,11 +37,11 @@ count (cons t f) = suc (count f)
 -- the number of records
 unfoldable mutual
   pub records : Tree → ℕ
-  records (integer z) = 1
-  records (symbol s) = 1
-  records (sum f) = 1 + recordses f
-  records (product f) = 1 + recordses f
-  records (power b e) = 2 + records b
+  records (integer μ z) = 1
+  records (symbol μ s) = 1
+  records (sum μ f) = 1 + recordses f
+  records (product μ f) = 1 + recordses f
+  records (power μ b ξ e) = 2 + records b
 
   pub recordses : Forest → ℕ
   recordses nil = 0
@@ -49,11 +50,11 @@ unfoldable mutual
 -- "The weight of a tree is its number of records plus 2 for each symbol record."
 unfoldable mutual
   pub weight : Tree → ℕ
-  weight (integer z) = 1
-  weight (symbol s) = 3
-  weight (sum f) = 1 + weights f
-  weight (product f) = 1 + weights f
-  weight (power b e) = 2 + weight b
+  weight (integer μ z) = 1
+  weight (symbol μ s) = 3
+  weight (sum μ f) = 1 + weights f
+  weight (product μ f) = 1 + weights f
+  weight (power μ b ξ e) = 2 + weight b
 
   pub weights : Forest → ℕ
   weights nil = 0
@@ -63,11 +64,11 @@ unfoldable mutual
 -- modulo 2^64": ρ s is the register of the symbol s.
 unfoldable mutual
   pub value : Tree → (ℕ → ℕ) → ℕ
-  value (integer z) ρ = word z
-  value (symbol s) ρ = ρ s % modulus
-  value (sum f) ρ = sumValue f ρ
-  value (product f) ρ = productValue f ρ
-  value (power b e) ρ = value b ρ ^ e % modulus
+  value (integer μ z) ρ = word z
+  value (symbol μ s) ρ = ρ s % modulus
+  value (sum μ f) ρ = sumValue f ρ
+  value (product μ f) ρ = productValue f ρ
+  value (power μ b ξ e) ρ = value b ρ ^ e % modulus
 
   pub sumValue : Forest → (ℕ → ℕ) → ℕ
   sumValue nil ρ = 0

@@ -23,7 +23,7 @@ refusesAll k s l = record { answer = refusal k 0; lent = l }
 
 -- one that returns 0 for all
 unfoldable pub returnsZero : Simplifier
-returnsZero = simplifiedBy (λ t. done (integer (pos 0)) [] 0)
+returnsZero = simplifiedBy (λ t. done (integer 0 (pos 0)) [] 0)
 
 -- one that returns its input
 unfoldable pub returnsInput : Simplifier

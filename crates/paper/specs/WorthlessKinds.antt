@@ -25,7 +25,7 @@ Makes P f =
 
 -- "One that returns 0 for all"
 abbrev pub ReturnsZero : Simplifier → Type 0
-ReturnsZero = Makes (λ t u. u ≡ integer (pos 0))
+ReturnsZero = Makes (λ t u. u ≡ integer 0 (pos 0))
 
 -- "One that returns its input"
 abbrev pub ReturnsInput : Simplifier → Type 0

@@ -12,6 +12,7 @@ use lib.Dec.{eqb, ltb}
 use lib.IntN.{ℤ, _+ℤ_, _*ℤ_}
 use Rattle.paper.specs.Bytes.{word, signed}
 use Rattle.paper.specs.Tree.{Tree, Forest, integer, symbol, sum, product, power, records, toList}
+use Rattle.paper.specs.WellFormed.{WF}
 use Rattle.paper.specs.Record.{kind, bits}
 use Rattle.paper.specs.Equal.{equal, eqZ, onInteger}
 use Rattle.paper.specs.Rules.{fits, asInteger, Term, term, firstInteger, productTerm, termOf, added, addIf, mergeTerms}
@@ -36,26 +37,26 @@ pub sized : (s : List ℕ) (i k : ℕ) (t : Tree) → TreeIn s i t → k ≡ rec
 sized s i k t h e = record { there = h; size = e }
 
 -- ---- the first part of a member
-productTerm-good : (f : Forest) (r : Option (ℤ × List Tree)) → productTerm f r .inRange ≡ true
+productTerm-good : (μ : ℕ) (f : Forest) (r : Option (ℤ × List Tree)) → productTerm μ f r .inRange ≡ true
 unfolding productTerm term
-productTerm-good f none = refl
-productTerm-good f (some r) = refl
+productTerm-good μ f none = refl
+productTerm-good μ f (some r) = refl
 
 termOf-good : (t : Tree) → termOf t .inRange ≡ true
 unfolding termOf term
-termOf-good (integer z) = refl
-termOf-good (symbol s) = refl
-termOf-good (sum f) = refl
-termOf-good (product f) = productTerm-good f (firstInteger (toList f))
-termOf-good (power b e) = refl
+termOf-good (integer μ z) = refl
+termOf-good (symbol μ s) = refl
+termOf-good (sum μ f) = refl
+termOf-good (product μ f) = productTerm-good μ f (firstInteger (toList f))
+termOf-good (power μ b ξ e) = refl
 
 factorOf-good : (t : Tree) → factorOf t .inRange ≡ true
 unfolding factorOf factor
-factorOf-good (integer z) = refl
-factorOf-good (symbol s) = refl
-factorOf-good (sum f) = refl
-factorOf-good (product f) = refl
-factorOf-good (power b e) = refl
+factorOf-good (integer μ z) = refl
+factorOf-good (symbol μ s) = refl
+factorOf-good (sum μ f) = refl
+factorOf-good (product μ f) = refl
+factorOf-good (power μ b ξ e) = refl
 
 pub term-part : (s : List ℕ) (n i : ℕ) (t : Tree) → TreeIn s i t → signed n ≡ termOf t .coefficient → n < 2 ^ 64
     → ShowsTerm s n i (termOf t)
@@ -63,15 +64,16 @@ term-part s n i t h e l =
     record { member = t; there = h; rest = refl; coefficient = sym e; bits = l; good = termOf-good t }
 
 -- an integer that stands at a record, by its bits
-pub integer-there : (s : List ℕ) (i : ℕ) (t : Tree) → TreeIn s i t → kind s i ≤ 0 → (t ≡ integer (signed (bits s i))) × (bits s i < 2 ^ 64)
-integer-there s i t h k = go (seen h)
+pub integer-there : (s : List ℕ) (i : ℕ) (t : Tree) → TreeIn s i t → kind s i ≤ 0 → (t ≡ integer 0 (signed (bits s i))) × (bits s i < 2 ^ 64)
+integer-there s i t h k = go (h .wf) (seen h)
   where
-    go : {t : Tree} → Seen s i t → (t ≡ integer (signed (bits s i))) × (bits s i < 2 ^ 64)
-    go (an-integer {z = z} e b w) = (ap integer (sym (ap signed b ∙ signed-word z w)), omega (arith, word-lt z))
-    go (a-symbol e v w) = absurd (omega arith)
-    go (a-sum e n c w m) = absurd (omega arith)
-    go (a-product e n c w m) = absurd (omega arith)
-    go (a-power e w b p q x y v) = absurd (omega arith)
+    go : {t : Tree} → WF t → Seen s i t → (t ≡ integer 0 (signed (bits s i))) × (bits s i < 2 ^ 64)
+    go u (an-integer {z = z} e b w) =
+        (ap (λ m. integer m z) (u .1) ∙ ap (integer 0) (sym (ap signed b ∙ signed-word z w)), omega (arith, word-lt z))
+    go u (a-symbol e v w) = absurd (omega arith)
+    go u (a-sum e n c w m) = absurd (omega arith)
+    go u (a-product e n c w m) = absurd (omega arith)
+    go u (a-power e w b p q x y v) = absurd (omega arith)
 
 pub no-integer-there : (s : List ℕ) (i : ℕ) (t : Tree) → TreeIn s i t → 0 < kind s i → asInteger t ≡ none
 unfolding asInteger
@@ -89,7 +91,7 @@ pub number-part : (s : List ℕ) (e j v : ℕ) (t : Tree) → TreeIn s j (factor
 number-part s e j v t h k q x m =
     let z = integer-there s j (factorOf t .base) h k in
     record {
-      base = z .0 ∙ ap (λ n. integer (signed n)) (sym q);
+      base = z .0 ∙ ap (λ n. integer 0 (signed n)) (sym q);
       bits = omega (arith, z .1);
       exponent = sym x;
       most = m;
@@ -121,11 +123,11 @@ other-size s i t h k = go (seen h)
 
 pub base-size : (t : Tree) → records (factorOf t .base) ≤ records t
 unfolding records factorOf factor
-base-size (integer z) = omega arith
-base-size (symbol s) = omega arith
-base-size (sum f) = omega arith
-base-size (product f) = omega arith
-base-size (power b e) = omega arith
+base-size (integer μ z) = omega arith
+base-size (symbol μ s) = omega arith
+base-size (sum μ f) = omega arith
+base-size (product μ f) = omega arith
+base-size (power μ b ξ e) = omega arith
 
 module _ (s : List ℕ) (e i k : ℕ) (t : Tree) (h : Sized s i k t) (other : asInteger (factorOf t .base) ≡ none)
     (x : e ≡ factorOf t .exponent) (m : e < 2 ^ 63) where
@@ -286,13 +288,13 @@ module _ {s : List ℕ} {e i k : ℕ} {c : Factor} (h : ShowsPower s e i k c) (x
     power-over r = (addExponents c x, raises, exponents-out one-raised other r)
 
 -- an integer base that meets one that is none
-other-than : (z : ℤ) (t : Tree) → asInteger t ≡ none → equal (integer z) t ≡ false
+other-than : (z : ℤ) (t : Tree) → asInteger t ≡ none → equal (integer 0 z) t ≡ false
 unfolding equal onInteger asInteger
-other-than z (integer y) e = absurd (let o : _≡_ {A = ℕ} 0 1 = cc in omega arith)
-other-than z (symbol s) e = refl
-other-than z (sum f) e = refl
-other-than z (product f) e = refl
-other-than z (power b x) e = refl
+other-than z (integer μ y) e = absurd (let o : _≡_ {A = ℕ} 0 1 = cc in omega arith)
+other-than z (symbol μ s) e = refl
+other-than z (sum μ f) e = refl
+other-than z (product μ f) e = refl
+other-than z (power μ b ξ x) e = refl
 
 pub number-apart : {e v : ℕ} {c : Factor} → ShowsNumber e v c → (x : Factor) → asInteger (x .base) ≡ none → mergeFactors c x ≡ none
 unfolding bothIntegers raiseIf asInteger
@@ -321,7 +323,7 @@ module _ {e v f w : ℕ} {c x : Factor} (h : ShowsNumber e v c) (k : ShowsNumber
           timesBases c x (signed v *ℤ signed w),
           multiplies,
           record {
-            base = ap integer (sym (z .2));
+            base = ap (integer 0) (sym (z .2));
             bits = omega (arith, z .1);
             exponent = h .exponent;
             most = h .most;
@@ -343,7 +345,7 @@ module _ {e v f w : ℕ} {c x : Factor} (h : ShowsNumber e v c) (k : ShowsNumber
     by-bits =
         by-integers
         ∙ rw (ne-eqb e f apart) refl
-        ∙ ap (λ b. raiseIf b c x) (ap (λ b. equal b (x .base)) (h .base) ∙ ap (equal (integer (signed v))) (k .base))
+        ∙ ap (λ b. raiseIf b c x) (ap (λ b. equal b (x .base)) (h .base) ∙ ap (equal (integer 0 (signed v))) (k .base))
 
     pub number-other : (v ≡ w → ⊥) → mergeFactors c x ≡ none
     unfolding raiseIf

@@ -37,7 +37,7 @@ pub record ShowsPower (s : List ℕ) (e i k : ℕ) (x : Factor) : Type 0 where
   pub good : x .inRange ≡ true
 
 pub record ShowsNumber (e v : ℕ) (x : Factor) : Type 0 where
-  pub base : x .base ≡ integer (signed v)
+  pub base : x .base ≡ integer 0 (signed v)
   pub bits : v < 2 ^ 64
   pub exponent : x .exponent ≡ e
   pub most : e < 2 ^ 63

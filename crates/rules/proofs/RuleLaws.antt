@@ -29,9 +29,9 @@ use Rattle.rules.specs.Asked.{Ready}
 use Rattle.rules.specs.Tried.{Held}
 
 -- ---- a sum or a product, and a rule on its members
-abbrev node : Bool → Forest → Tree
-node true f = sum f
-node false f = product f
+abbrev node : Bool → ℕ → Forest → Tree
+node true μ f = sum μ f
+node false μ f = product μ f
 
 abbrev pub onMembers : Bool → (List Tree → paper.Tried) → Tree → paper.Tried
 onMembers true k t = onSumMembers k t
@@ -58,7 +58,7 @@ unfolding addZero multiplyOne
 drops true = record { is = λ t. refl }
 drops false = record { is = λ t. refl }
 
-pub zeroes : LooksFor false 0 (λ l. integer (pos 0)) multiplyZero
+pub zeroes : LooksFor false 0 (λ l. integer 0 (pos 0)) multiplyZero
 unfolding multiplyZero
 zeroes = record { is = λ t. refl }
 
@@ -140,43 +140,44 @@ behind-record w p k c x rest e =
     ∙ ap (drop 16) (e ∙ append-assoc (recordOf k c 0) x rest)
     ∙ drop-at (recordOf k c 0) (x ++ rest) 16 (record-length k c 0)
 
-module _ (b : Bool) (f : Forest) where
-  node-weight : weight (node b f) ≡ 1 + weights f
+module _ (b : Bool) (μ : ℕ) (f : Forest) where
+  node-weight : weight (node b μ f) ≡ 1 + weights f
   unfolding weight
   node-weight = go b
     where
-      go : (b : Bool) → weight (node b f) ≡ 1 + weights f
+      go : (b : Bool) → weight (node b μ f) ≡ 1 + weights f
       go true = refl
       go false = refl
 
-  node-encode : encode (node b f) ≡ recordOf (nodeKind b) (count f) 0 ++ encodes f
+  node-encode : encode (node b μ f) ≡ recordOf (nodeKind b) (count f) 0 ++ encodes f
   unfolding encode
   node-encode = go b
     where
-      go : (b : Bool) → encode (node b f) ≡ recordOf (nodeKind b) (count f) 0 ++ encodes f
+      go : (b : Bool) → encode (node b μ f) ≡ recordOf (nodeKind b) (count f) 0 ++ encodes f
       go true = refl
       go false = refl
 
-  on-node : (k : List Tree → paper.Tried) → onMembers b k (node b f) ≡ k (toList f)
+  on-node : (k : List Tree → paper.Tried) → onMembers b k (node b μ f) ≡ k (toList f)
   unfolding onSumMembers onProductMembers
   on-node k = go b
     where
-      go : (b : Bool) → onMembers b k (node b f) ≡ k (toList f)
+      go : (b : Bool) → onMembers b k (node b μ f) ≡ k (toList f)
       go true = refl
       go false = refl
 
 module _ {o w : List ℕ} {d p : ℕ} {t : Tree} {rest : List ℕ} (h : Ready o w d p t rest) where
-  seen-node : (b : Bool) → kind w p ≡ nodeKind b → (f : Forest) × (t ≡ node b f) × SeenMembers w p f
+  seen-node : (b : Bool) → kind w p ≡ nodeKind b → (μ : ℕ) × (f : Forest) × (t ≡ node b μ f) × SeenMembers w p f
   seen-node true k = seen-sum (ready-seen h) k
   seen-node false k = seen-product (ready-seen h) k
 
   pub is-node : (b : Bool) → kind w p ≡ nodeKind b → IsNode b o w d p t rest
   is-node b k =
       let q = seen-node b k in
-      let f = q .0 in
-      let s = q .2 in
-      let heavy = ap weight (q .1) ∙ node-weight b f in
-      let stands = h .stands ∙ ap (λ x. x ++ rest) (ap encode (q .1) ∙ node-encode b f) in
+      let μ = q .0 in
+      let f = q .1 in
+      let s = q .3 in
+      let heavy = ap weight (q .2) ∙ node-weight b μ f in
+      let stands = h .stands ∙ ap (λ x. x ++ rest) (ap encode (q .2) ∙ node-encode b μ f) in
       record {
         members = f;
         held = record {
@@ -188,7 +189,7 @@ module _ {o w : List ℕ} {d p : ℕ} {t : Tree} {rest : List ℕ} (h : Ready o 
           out-room = omega (arith, heavy, h .out-room);
           work-room = omega (arith, heavy, h .work-room);
         };
-        on = λ k. ap (onMembers b k) (q .1) ∙ on-node b f k;
+        on = λ k. ap (onMembers b k) (q .2) ∙ on-node b μ f k;
       }
 
 -- the rules at such a node
@@ -205,7 +206,7 @@ module _ {b : Bool} {o w : List ℕ} {d p : ℕ} {t : Tree} {rest : List ℕ} (s
 
 -- ---- 0 in place of the whole product
 pub zero-put : (w w' : List ℕ) (q : ℕ) (rest : List ℕ) → (q + 1) * 16 ≤ length w → drop ((q + 1) * 16) w ≡ rest
-    → w' ≡ put w (q * 16) (recordOf 0 0 0) → drop (q * 16) w' ≡ encode (integer (pos 0)) ++ rest
+    → w' ≡ put w (q * 16) (recordOf 0 0 0) → drop (q * 16) w' ≡ encode (integer 0 (pos 0)) ++ rest
 unfolding encode word
 zero-put w w' q rest r e s =
     let long = record-length 0 0 0 in

@@ -62,22 +62,22 @@ Same t l = (firstRecord t ++ encodeAll l ≡ encode (closedOver t l)) × (1 + re
 
 same-leaf : (t : Tree) (l : List Tree) → Shape t l → kindNumber t < 2 → Same t l
 unfolding kindNumber firstRecord closedOver encode records ofList
-same-leaf (integer z) l s h = (ap (λ i. recordOf 0 0 (word z) ++ encodeAll i) s ∙ append-nil (recordOf 0 0 (word z)), ap (λ i. 1 + recordsAll i) s)
-same-leaf (symbol v) l s h = (ap (λ i. recordOf 1 0 v ++ encodeAll i) s ∙ append-nil (recordOf 1 0 v), ap (λ i. 1 + recordsAll i) s)
-same-leaf (sum f) l s h = absurd (omega arith)
-same-leaf (product f) l s h = absurd (omega arith)
-same-leaf (power b x) l s h = absurd (omega arith)
+same-leaf (integer μ z) l s h = (ap (λ i. recordOf 0 0 (word z) ++ encodeAll i) s ∙ append-nil (recordOf 0 0 (word z)), ap (λ i. 1 + recordsAll i) s)
+same-leaf (symbol μ v) l s h = (ap (λ i. recordOf 1 0 v ++ encodeAll i) s ∙ append-nil (recordOf 1 0 v), ap (λ i. 1 + recordsAll i) s)
+same-leaf (sum μ f) l s h = absurd (omega arith)
+same-leaf (product μ f) l s h = absurd (omega arith)
+same-leaf (power μ b ξ x) l s h = absurd (omega arith)
 
 same-power : (t : Tree) (l : List Tree) → Shape t l → 3 < kindNumber t → Same t l
 unfolding kindNumber firstRecord closedOver encode records baseFrom ofList
-same-power (integer z) l s h = absurd (omega arith)
-same-power (symbol v) l s h = absurd (omega arith)
-same-power (sum f) l s h = absurd (omega arith)
-same-power (product f) l s h = absurd (omega arith)
-same-power (power b n) l s h =
+same-power (integer μ z) l s h = absurd (omega arith)
+same-power (symbol μ v) l s h = absurd (omega arith)
+same-power (sum μ f) l s h = absurd (omega arith)
+same-power (product μ f) l s h = absurd (omega arith)
+same-power (power μ b ξ n) l s h =
     let u : Tree = s .1 .0 in
-    subst (λ i. Same (power b n) i) (sym (s .1 .1))
-    (ap (λ (i : List ℕ). recordOf 4 0 0 ++ (encode u ++ i)) (append-nil (encode (integer (pos n))) ∙ exponent-record n (s .0)), omega arith)
+    subst (λ i. Same (power μ b ξ n) i) (sym (s .1 .1))
+    (ap (λ (i : List ℕ). recordOf 4 0 0 ++ (encode u ++ i)) (append-nil (encode (integer ξ (pos n))) ∙ exponent-record ξ n (s .0)), omega arith)
 
 module _ {t : Tree} {l : List Tree} {out : List ℕ} {d e k m : ℕ} (g : Gathers t l out d e k m) (in-out : e * 16 ≤ length out) where
   stays : Same t l → Closed (closedOver t l) out out d e
@@ -93,35 +93,35 @@ module _ {t : Tree} {l : List Tree} {out : List ℕ} {d e k m : ℕ} (g : Gather
 -- ---- a sum or a product, over the kind: which tree the collapse of none gives, and which node
 pub record Collapses (t : Tree) (k : ℕ) : Type 0 where
   pub node : Forest → Tree
-  pub is : (l : List Tree) → closedOver t l ≡ collapse (integer (pos (k - 2))) node l
+  pub is : (l : List Tree) → closedOver t l ≡ collapse (integer 0 (pos (k - 2))) node l
   pub written : (l : List Tree) → encode (node (ofList l)) ≡ recordOf k (length l) 0 ++ encodeAll l
   pub recorded : (l : List Tree) → records (node (ofList l)) ≡ 1 + recordsAll l
   pub low : (k - 2) < 2
 
 pub collapses : (t : Tree) → (2 ≤ kindNumber t) → (kindNumber t ≤ 3) → Collapses t (kindNumber t)
 unfolding kindNumber closedOver sumOf productOf encode records
-collapses (integer z) a b = absurd (omega arith)
-collapses (symbol v) a b = absurd (omega arith)
-collapses (sum f) a b =
+collapses (integer μ z) a b = absurd (omega arith)
+collapses (symbol μ v) a b = absurd (omega arith)
+collapses (sum μ f) a b =
     record {
-      node = sum;
+      node = sum 0;
       is = λ l. refl;
       written = λ l. ap (λ n. recordOf 2 n 0 ++ encodeAll l) (list-count l);
       recorded = λ l. refl;
       low = omega arith;
     }
-collapses (product f) a b =
+collapses (product μ f) a b =
     record {
-      node = product;
+      node = product 0;
       is = λ l. refl;
       written = λ l. ap (λ n. recordOf 3 n 0 ++ encodeAll l) (list-count l);
       recorded = λ l. refl;
       low = omega arith;
     }
-collapses (power b x) a c = absurd (omega arith)
+collapses (power μ b ξ x) a c = absurd (omega arith)
 
-unit-word : (n : ℕ) → n < 2 → encode (integer (pos n)) ≡ recordOf 0 0 n
-unit-word n h = exponent-record n (omega arith)
+unit-word : (n : ℕ) → n < 2 → encode (integer 0 (pos n)) ≡ recordOf 0 0 n
+unit-word n h = exponent-record 0 n (omega arith)
 
 module _ {t : Tree} {l : List Tree} {out : List ℕ} {d e k m : ℕ} (g : Gathers t l out d e k m) (in-out : e * 16 ≤ length out) (lo : 2 ≤ k) (hi : k ≤ 3) where
   c : Collapses t k
@@ -134,7 +134,7 @@ module _ {t : Tree} {l : List Tree} {out : List ℕ} {d e k m : ℕ} (g : Gather
   unfolding collapse records
   none-left h out' w =
       let z : l ≡ [] = none-of l (omega (arith, g .many)) in
-      let q : closedOver t l ≡ integer (pos (k - 2)) = ap (closedOver t) z ∙ c .is [] in
+      let q : closedOver t l ≡ integer 0 (pos (k - 2)) = ap (closedOver t) z ∙ c .is [] in
       let f = within in
       let r : (d + 1) * 16 ≡ d * 16 + length (recordOf 0 0 (k - 2)) = omega (arith, record-length 0 0 (k - 2)) in
       subst (λ u. Closed u out out' d (d + 1)) (sym q)
@@ -179,7 +179,7 @@ module _ {t : Tree} {l : List Tree} {out : List ℕ} {d e k m : ℕ} (g : Gather
   pub two-left : 2 ≤ m → (out' : List ℕ) → out' ≡ put out (d * 16) (recordOf k m 0) → Closed (closedOver t l) out out' d e
   unfolding x
   two-left h out' w =
-      let q : closedOver t l ≡ c .node (ofList l) = c .is l ∙ collapse-none (integer (pos (k - 2))) (c .node) l (omega (arith, g .many)) in
+      let q : closedOver t l ≡ c .node (ofList l) = c .is l ∙ collapse-none (integer 0 (pos (k - 2))) (c .node) l (omega (arith, g .many)) in
       let f : length (firstRecord t) ≡ length (recordOf k m 0) = first-length t ∙ sym (record-length k m 0) in
       subst (λ u. Closed u out out' d e) (sym q)
       (record {

@@ -23,31 +23,31 @@ use Rattle.simplify.specs.Driven.{kindNumber, inside}
 module _ (s : List ℕ) (i : ℕ) where
   pub kind-first : (t : Tree) (r : List ℕ) → drop (i * 16) s ≡ encode t ++ r → kind s i ≡ kindNumber t
   unfolding encode kindNumber
-  kind-first (integer z) r e = kind-there s i 0 0 (word z) r e
-  kind-first (symbol v) r e = kind-there s i 1 0 v r e
-  kind-first (sum f) r e = kind-there s i 2 (count f) 0 (encodes f ++ r) (e ∙ append-assoc (recordOf 2 (count f) 0) (encodes f) r)
-  kind-first (product f) r e = kind-there s i 3 (count f) 0 (encodes f ++ r) (e ∙ append-assoc (recordOf 3 (count f) 0) (encodes f) r)
-  kind-first (power b x) r e =
+  kind-first (integer μ z) r e = kind-there s i 0 0 (word z) r e
+  kind-first (symbol μ v) r e = kind-there s i 1 0 v r e
+  kind-first (sum μ f) r e = kind-there s i 2 (count f) 0 (encodes f ++ r) (e ∙ append-assoc (recordOf 2 (count f) 0) (encodes f) r)
+  kind-first (product μ f) r e = kind-there s i 3 (count f) 0 (encodes f ++ r) (e ∙ append-assoc (recordOf 3 (count f) 0) (encodes f) r)
+  kind-first (power μ b ξ x) r e =
       kind-there s i 4 0 0 ((encode b ++ recordOf 0 0 x) ++ r) (e ∙ append-assoc (recordOf 4 0 0) (encode b ++ recordOf 0 0 x) r)
 
-  sum-count : (f : Forest) (r : List ℕ) → drop (i * 16) s ≡ encode (sum f) ++ r → records (sum f) < 65536 → countIn s i ≡ count f
+  sum-count : (μ : ℕ) (f : Forest) (r : List ℕ) → drop (i * 16) s ≡ encode (sum μ f) ++ r → records (sum μ f) < 65536 → countIn s i ≡ count f
   unfolding encode records
-  sum-count f r e h =
+  sum-count μ f r e h =
       count-there s i 2 (count f) 0 (encodes f ++ r) (e ∙ append-assoc (recordOf 2 (count f) 0) (encodes f) r) (omega (arith, count-records f))
 
-  product-count : (f : Forest) (r : List ℕ) → drop (i * 16) s ≡ encode (product f) ++ r → records (product f) < 65536 → countIn s i ≡ count f
+  product-count : (μ : ℕ) (f : Forest) (r : List ℕ) → drop (i * 16) s ≡ encode (product μ f) ++ r → records (product μ f) < 65536 → countIn s i ≡ count f
   unfolding encode records
-  product-count f r e h =
+  product-count μ f r e h =
       count-there s i 3 (count f) 0 (encodes f ++ r) (e ∙ append-assoc (recordOf 3 (count f) 0) (encodes f) r) (omega (arith, count-records f))
 
   -- the number of members that the first record gives
   pub arity-first : (t : Tree) (r : List ℕ) → drop (i * 16) s ≡ encode t ++ r → records t < 65536 → arity s i ≡ length (members t)
   unfolding arity kindNumber members
-  arity-first (integer z) r e h = rw (kind-first (integer z) r e)
-  arity-first (symbol v) r e h = rw (kind-first (symbol v) r e)
-  arity-first (sum f) r e h = rw (kind-first (sum f) r e) (sum-count f r e h ∙ sym (count-list f))
-  arity-first (product f) r e h = rw (kind-first (product f) r e) (product-count f r e h ∙ sym (count-list f))
-  arity-first (power b x) r e h = rw (kind-first (power b x) r e)
+  arity-first (integer μ z) r e h = rw (kind-first (integer μ z) r e)
+  arity-first (symbol μ v) r e h = rw (kind-first (symbol μ v) r e)
+  arity-first (sum μ f) r e h = rw (kind-first (sum μ f) r e) (sum-count μ f r e h ∙ sym (count-list f))
+  arity-first (product μ f) r e h = rw (kind-first (product μ f) r e) (product-count μ f r e h ∙ sym (count-list f))
+  arity-first (power μ b ξ x) r e h = rw (kind-first (power μ b ξ x) r e)
 
 -- ---- which trees are opened
 -- a tree that is opened: its members take its place
@@ -63,15 +63,15 @@ wrong k j e n =
 
 pub is-opened : (k : ℕ) (u : Tree) → (eqb (kindNumber u) k && isNode k) ≡ true → Open k u
 unfolding kindNumber isNode members inside asSum asProduct
-is-opened k (integer z) e = wrong k 0 e refl
-is-opened k (symbol v) e = wrong k 1 e refl
-is-opened k (sum f) e =
-    subst (λ x. Open x (sum f)) (eqb-true 2 k (and-left (eqb 2 k) (isNode k) e))
-    (record { opens-to = refl; counted = λ s i r q h. sum-count s i f r q h ∙ sym (count-list f) })
-is-opened k (product f) e =
-    subst (λ x. Open x (product f)) (eqb-true 3 k (and-left (eqb 3 k) (isNode k) e))
-    (record { opens-to = refl; counted = λ s i r q h. product-count s i f r q h ∙ sym (count-list f) })
-is-opened k (power b x) e = wrong k 4 e refl
+is-opened k (integer μ z) e = wrong k 0 e refl
+is-opened k (symbol μ v) e = wrong k 1 e refl
+is-opened k (sum μ f) e =
+    subst (λ x. Open x (sum μ f)) (eqb-true 2 k (and-left (eqb 2 k) (isNode k) e))
+    (record { opens-to = refl; counted = λ s i r q h. sum-count s i μ f r q h ∙ sym (count-list f) })
+is-opened k (product μ f) e =
+    subst (λ x. Open x (product μ f)) (eqb-true 3 k (and-left (eqb 3 k) (isNode k) e))
+    (record { opens-to = refl; counted = λ s i r q h. product-count s i μ f r q h ∙ sym (count-list f) })
+is-opened k (power μ b ξ x) e = wrong k 4 e refl
 
 neither : (b : Bool) → _≡_ {A = Option (List Tree)} (cond b none none) none
 neither true = refl
@@ -83,9 +83,9 @@ nowhere false b = neither b
 
 pub is-kept : (k : ℕ) (u : Tree) → (eqb (kindNumber u) k && isNode k) ≡ false → inside k u ≡ none
 unfolding kindNumber isNode inside asSum asProduct
-is-kept k (integer z) e = nowhere (eqb k 2) (eqb k 3)
-is-kept k (symbol v) e = nowhere (eqb k 2) (eqb k 3)
-is-kept k (sum f) e = go (eqb k 2) refl
+is-kept k (integer μ z) e = nowhere (eqb k 2) (eqb k 3)
+is-kept k (symbol μ v) e = nowhere (eqb k 2) (eqb k 3)
+is-kept k (sum μ f) e = go (eqb k 2) refl
   where
     go : (a : Bool) → eqb k 2 ≡ a → cond a (some (toList f)) (cond (eqb k 3) none none) ≡ none
     go true q =
@@ -93,7 +93,7 @@ is-kept k (sum f) e = go (eqb k 2) refl
         let x : (eqb 2 2 && isNode 2) ≡ false = subst (λ j. (eqb 2 j && isNode j) ≡ false) (sym s) e in
         absurd (let z : _≡_ {A = ℕ} 0 1 = cc in omega arith)
     go false q = neither (eqb k 3)
-is-kept k (product f) e = go (eqb k 2) (eqb k 3) refl
+is-kept k (product μ f) e = go (eqb k 2) (eqb k 3) refl
   where
     go : (a b : Bool) → eqb k 3 ≡ b → cond a none (cond b (some (toList f)) none) ≡ none
     go true b q = refl
@@ -102,7 +102,7 @@ is-kept k (product f) e = go (eqb k 2) (eqb k 3) refl
         let x : (eqb 3 3 && isNode 3) ≡ false = subst (λ j. (eqb 3 j && isNode j) ≡ false) (sym s) e in
         absurd (let z : _≡_ {A = ℕ} 0 1 = cc in omega arith)
     go false false q = refl
-is-kept k (power b x) e = nowhere (eqb k 2) (eqb k 3)
+is-kept k (power μ b ξ x) e = nowhere (eqb k 2) (eqb k 3)
 
 -- opening takes one off the weight, whatever the kind
 pub inside-opens : (k : ℕ) → Opens (inside k)

@@ -45,32 +45,32 @@ all-many l = omega (arith, count-records (ofList l), list-count l)
 -- ---- a node: its first record, and its members
 pub first-length : (t : Tree) → length (firstRecord t) ≡ 16
 unfolding firstRecord
-first-length (integer z) = record-length 0 0 (word z)
-first-length (symbol s) = record-length 1 0 s
-first-length (sum f) = record-length 2 (count f) 0
-first-length (product f) = record-length 3 (count f) 0
-first-length (power b e) = record-length 4 0 0
+first-length (integer μ z) = record-length 0 0 (word z)
+first-length (symbol μ s) = record-length 1 0 s
+first-length (sum μ f) = record-length 2 (count f) 0
+first-length (product μ f) = record-length 3 (count f) 0
+first-length (power μ b ξ e) = record-length 4 0 0
 
-pub exponent-record : (e : ℕ) → e < 2 ^ 63 → encode (integer (pos e)) ≡ recordOf 0 0 e
+pub exponent-record : (ξ e : ℕ) → e < 2 ^ 63 → encode (integer ξ (pos e)) ≡ recordOf 0 0 e
 unfolding encode word
-exponent-record e h = ap (recordOf 0 0) (mod-eq-of-lt {n = e} {m = modulus} (omega arith))
+exponent-record ξ e h = ap (recordOf 0 0) (mod-eq-of-lt {n = e} {m = modulus} (omega arith))
 
 pub encode-first : (t : Tree) → WF t → encode t ≡ firstRecord t ++ encodeAll (members t)
 unfolding encode firstRecord members ofList
-encode-first (integer z) w = sym (append-nil (recordOf 0 0 (word z)))
-encode-first (symbol s) w = sym (append-nil (recordOf 1 0 s))
-encode-first (sum f) w = ap (λ g. recordOf 2 (count f) 0 ++ encodes g) (sym (of-to-list f))
-encode-first (product f) w = ap (λ g. recordOf 3 (count f) 0 ++ encodes g) (sym (of-to-list f))
-encode-first (power b e) w =
-    ap (λ (l : List ℕ). recordOf 4 0 0 ++ (encode b ++ l)) (sym (exponent-record e (w .2)) ∙ sym (append-nil (encode (integer (pos e)))))
+encode-first (integer μ z) w = sym (append-nil (recordOf 0 0 (word z)))
+encode-first (symbol μ s) w = sym (append-nil (recordOf 1 0 s))
+encode-first (sum μ f) w = ap (λ g. recordOf 2 (count f) 0 ++ encodes g) (sym (of-to-list f))
+encode-first (product μ f) w = ap (λ g. recordOf 3 (count f) 0 ++ encodes g) (sym (of-to-list f))
+encode-first (power μ b ξ e) w =
+    ap (λ (l : List ℕ). recordOf 4 0 0 ++ (encode b ++ l)) (sym (exponent-record ξ e (w .2)) ∙ sym (append-nil (encode (integer ξ (pos e)))))
 
 pub records-first : (t : Tree) → records t ≡ 1 + recordsAll (members t)
 unfolding records members ofList
-records-first (integer z) = refl
-records-first (symbol s) = refl
-records-first (sum f) = ap (λ g. 1 + recordses g) (sym (of-to-list f))
-records-first (product f) = ap (λ g. 1 + recordses g) (sym (of-to-list f))
-records-first (power b e) = omega arith
+records-first (integer μ z) = refl
+records-first (symbol μ s) = refl
+records-first (sum μ f) = ap (λ g. 1 + recordses g) (sym (of-to-list f))
+records-first (product μ f) = ap (λ g. 1 + recordses g) (sym (of-to-list f))
+records-first (power μ b ξ e) = omega arith
 
 pub members-weigh : (t : Tree) → weightAll (members t) < weight t
 members-weigh t = omega (arith, members-lighter t, list-weights (members t))

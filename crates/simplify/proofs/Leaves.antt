@@ -36,17 +36,17 @@ record Leaf (work : List ℕ) (p : ℕ) (t : Tree) : Type 0 where
 
 leaf : (work rest : List ℕ) (p : ℕ) (t : Tree) → WF t → drop (p * 16) work ≡ encode t ++ rest → kind work p < 2 → Leaf work p t
 unfolding encode records kindNumber ask editionOne addZero combineLikeTerms multiplyZero multiplyOne combineLikeFactors members gather openingsAt onSumMembers onProductMembers
-leaf work rest p (integer z) w e l =
+leaf work rest p (integer μ z) w e l =
     let k = kind-there work p 0 0 (word z) rest e in
     let b = bits-there work p 0 0 (word z) rest e (word-lt z) in
-    record { finished = simplify-again (integer z) w (admits-none {t = integer z} refl refl no-more); written = rw (k, b) refl; one = refl }
-leaf work rest p (symbol v) w e l =
+    record { finished = simplify-again (integer μ z) w (admits-none {t = integer μ z} refl refl no-more); written = rw (k, b) refl; one = refl }
+leaf work rest p (symbol μ v) w e l =
     let k = kind-there work p 1 0 v rest e in
-    let b = bits-there work p 1 0 v rest e (omega (arith, w)) in
-    record { finished = simplify-again (symbol v) w (admits-none {t = symbol v} refl refl no-more); written = rw (k, b) refl; one = refl }
-leaf work rest p (sum f) w e l = absurd (omega (arith, kind-first work p (sum f) rest e))
-leaf work rest p (product f) w e l = absurd (omega (arith, kind-first work p (product f) rest e))
-leaf work rest p (power b x) w e l = absurd (omega (arith, kind-first work p (power b x) rest e))
+    let b = bits-there work p 1 0 v rest e (omega (arith, w .0)) in
+    record { finished = simplify-again (symbol μ v) w (admits-none {t = symbol μ v} refl refl no-more); written = rw (k, b) refl; one = refl }
+leaf work rest p (sum μ f) w e l = absurd (omega (arith, kind-first work p (sum μ f) rest e))
+leaf work rest p (product μ f) w e l = absurd (omega (arith, kind-first work p (product μ f) rest e))
+leaf work rest p (power μ b ξ x) w e l = absurd (omega (arith, kind-first work p (power μ b ξ x) rest e))
 
 module _ {t : Tree} {rest out work steps : List ℕ} {d p s : ℕ} (h : Set out work steps d p s t rest) (l : kind work p < 2) where
   this : Leaf work p t

@@ -91,12 +91,12 @@ still k u s o l e = ap (λ (r : List Tree × ℕ). done u s (o + r .1)) (sym e)
 pub pass-closed : (t : Tree) (r : Rans) → passed t r ≡ closedRuns t (openedRuns (inside (kindNumber t)) r)
 unfolding passed closedRuns openedRuns gather closedOver kindNumber inside
 pass-closed t (overs k) = refl
-pass-closed (integer z) (dones l s o) = still 0 (integer z) s o l (opened-nothing (inside 0) (λ t. refl) l)
-pass-closed (symbol v) (dones l s o) = still 1 (symbol v) s o l (opened-nothing (inside 1) (λ t. refl) l)
-pass-closed (sum f) (dones l s o) = refl
-pass-closed (product f) (dones l s o) = refl
-pass-closed (power b e) (dones l s o) =
-    ap (λ (r : List Tree × ℕ). done (closedOver (power b e) (r .0)) s (o + r .1)) (sym (opened-nothing (inside 4) (λ t. refl) l))
+pass-closed (integer μ z) (dones l s o) = still 0 (integer μ z) s o l (opened-nothing (inside 0) (λ t. refl) l)
+pass-closed (symbol μ v) (dones l s o) = still 1 (symbol μ v) s o l (opened-nothing (inside 1) (λ t. refl) l)
+pass-closed (sum μ f) (dones l s o) = refl
+pass-closed (product μ f) (dones l s o) = refl
+pass-closed (power μ b ξ e) (dones l s o) =
+    ap (λ (r : List Tree × ℕ). done (closedOver (power μ b ξ e) (r .0)) s (o + r .1)) (sym (opened-nothing (inside 4) (λ t. refl) l))
 
 -- ---- what a pass keeps, and how the visit goes on from it
 pub drives-kept : (t : Tree) → WF t → RunKept t (drives t)

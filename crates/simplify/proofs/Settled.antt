@@ -31,32 +31,32 @@ abbrev Nones : List Tree → Type 0
 Nones = AllAdmitNone editionOne
 
 -- ---- an integer is finished
-integer-none : (z : ℤ) → None (integer z)
+integer-none : (μ : ℕ) (z : ℤ) → None (integer μ z)
 unfolding ask editionOne addZero combineLikeTerms multiplyZero multiplyOne combineLikeFactors onSumMembers onProductMembers openingsAt gather members
-integer-none z = admits-none refl refl no-more
+integer-none μ z = admits-none refl refl no-more
 
-pub integer-drives : (z : ℤ) → WF (integer z) → drives (integer z) ≡ done (integer z) [] 0
-integer-drives z w = simplify-again (integer z) w (integer-none z)
+pub integer-drives : (μ : ℕ) (z : ℤ) → WF (integer μ z) → drives (integer μ z) ≡ done (integer μ z) [] 0
+integer-drives μ z w = simplify-again (integer μ z) w (integer-none μ z)
 
 -- ---- to which lists a node's members are gathered
-power-shape : (b : Tree) (e : ℕ) (g : List Tree) (ks : List ℕ) (o : ℕ) (a : Ran)
-    → openedRuns (inside 4) (andThen a (andThen (done (integer (pos e)) [] 0) (dones [] [] 0))) ≡ dones g ks o
-    → (u : Tree) × (g ≡ u ∷ integer (pos e) ∷ [])
+power-shape : (b : Tree) (ξ e : ℕ) (g : List Tree) (ks : List ℕ) (o : ℕ) (a : Ran)
+    → openedRuns (inside 4) (andThen a (andThen (done (integer ξ (pos e)) [] 0) (dones [] [] 0))) ≡ dones g ks o
+    → (u : Tree) × (g ≡ u ∷ integer ξ (pos e) ∷ [])
 unfolding openedRuns andThen opened openOne inside
-power-shape b e g ks o (over k) h = absurd (let z : _≡_ {A = ℕ} 0 1 = cc in omega arith)
-power-shape b e g ks o (done u s n) h = (u, cc)
+power-shape b ξ e g ks o (over k) h = absurd (let z : _≡_ {A = ℕ} 0 1 = cc in omega arith)
+power-shape b ξ e g ks o (done u s n) h = (u, cc)
 
 pub shape : (t : Tree) → WF t → (g : List Tree) (ks : List ℕ) (o : ℕ)
     → openedRuns (inside (kindNumber t)) (each drives (members t)) ≡ dones g ks o → Shape t g
 unfolding kindNumber members each openedRuns opened
-shape (integer z) w g ks o h = cc
-shape (symbol s) w g ks o h = cc
-shape (sum f) w g ks o h = tt
-shape (product f) w g ks o h = tt
-shape (power b e) w g ks o h = (
+shape (integer μ z) w g ks o h = cc
+shape (symbol μ s) w g ks o h = cc
+shape (sum μ f) w g ks o h = tt
+shape (product μ f) w g ks o h = tt
+shape (power μ b ξ e) w g ks o h = (
   w .2,
-  power-shape b e g ks o (drives b)
-      (ap (λ (r : Ran). openedRuns (inside 4) (andThen (drives b) (andThen r (dones [] [] 0)))) (sym (integer-drives (pos e) (w .2))) ∙ h),
+  power-shape b ξ e g ks o (drives b)
+      (ap (λ (r : Ran). openedRuns (inside 4) (andThen (drives b) (andThen r (dones [] [] 0)))) (sym (integer-drives ξ (pos e) (w .2, w .4))) ∙ h),
 )
 
 -- ---- the results of members admit none
@@ -113,32 +113,32 @@ none-some e = absurd (let z : _≡_ {A = ℕ} 0 1 = cc in omega arith)
 
 sum-node : (t : Tree) (l : List Tree) → asSum t ≡ some l → None t → Nones l × (opened asSum l .1 ≡ 0)
 unfolding asSum members openingsAt gather
-sum-node (integer z) l e h = none-some e
-sum-node (symbol s) l e h = none-some e
-sum-node (sum f) l e (admits-none a o ms) = let k : toList f ≡ l = cc in (subst Nones k ms, subst (λ m. opened asSum m .1 ≡ 0) k o)
-sum-node (product f) l e h = none-some e
-sum-node (power b x) l e h = none-some e
+sum-node (integer μ z) l e h = none-some e
+sum-node (symbol μ s) l e h = none-some e
+sum-node (sum μ f) l e (admits-none a o ms) = let k : toList f ≡ l = cc in (subst Nones k ms, subst (λ m. opened asSum m .1 ≡ 0) k o)
+sum-node (product μ f) l e h = none-some e
+sum-node (power μ b ξ x) l e h = none-some e
 
 product-node : (t : Tree) (l : List Tree) → asProduct t ≡ some l → None t → Nones l × (opened asProduct l .1 ≡ 0)
 unfolding asProduct members openingsAt gather
-product-node (integer z) l e h = none-some e
-product-node (symbol s) l e h = none-some e
-product-node (sum f) l e h = none-some e
-product-node (product f) l e (admits-none a o ms) = let k : toList f ≡ l = cc in (subst Nones k ms, subst (λ m. opened asProduct m .1 ≡ 0) k o)
-product-node (power b x) l e h = none-some e
+product-node (integer μ z) l e h = none-some e
+product-node (symbol μ s) l e h = none-some e
+product-node (sum μ f) l e h = none-some e
+product-node (product μ f) l e (admits-none a o ms) = let k : toList f ≡ l = cc in (subst Nones k ms, subst (λ m. opened asProduct m .1 ≡ 0) k o)
+product-node (power μ b ξ x) l e h = none-some e
 
 -- ---- the gathered node
 sum-finished : (m : List Tree) → 2 ≤ length m → Nones m → opened asSum m .1 ≡ 0 → ask editionOne (sumOf m) ≡ no-rule → None (sumOf m)
 unfolding sumOf members openingsAt gather
 sum-finished m h n o a =
-    let e : sumOf m ≡ sum (ofList m) = collapse-none (integer (pos 0)) sum m h in
+    let e : sumOf m ≡ sum 0 (ofList m) = collapse-none (integer 0 (pos 0)) (sum 0) m h in
     let b : toList (ofList m) ≡ m = to-of-list m in
     subst None (sym e) (admits-none (ap (ask editionOne) (sym e) ∙ a) (subst (λ l. opened asSum l .1 ≡ 0) (sym b) o) (subst Nones (sym b) n))
 
 product-finished : (m : List Tree) → 2 ≤ length m → Nones m → opened asProduct m .1 ≡ 0 → ask editionOne (productOf m) ≡ no-rule → None (productOf m)
 unfolding productOf members openingsAt gather
 product-finished m h n o a =
-    let e : productOf m ≡ product (ofList m) = collapse-none (integer (pos 1)) product m h in
+    let e : productOf m ≡ product 0 (ofList m) = collapse-none (integer 0 (pos 1)) (product 0) m h in
     let b : toList (ofList m) ≡ m = to-of-list m in
     subst None (sym e) (admits-none (ap (ask editionOne) (sym e) ∙ a) (subst (λ l. opened asProduct l .1 ≡ 0) (sym b) o) (subst Nones (sym b) n))
 
@@ -150,16 +150,16 @@ first-none b (u ∷ l) e (and-more x h) = x
 gathered-none : (t : Tree) (l : List Tree) (s : List ℕ) (o : ℕ) → WF t → RunsKept (members t) (dones l s o) → Nones l
     → ask editionOne (gather t l .0) ≡ no-rule → None (gather t l .0)
 unfolding gather members openingsAt gatheredList
-gathered-none (integer z) l s o w k h a = integer-none z
-gathered-none (symbol v) l s o w k h a = admits-none a refl no-more
-gathered-none (sum f) l s o w k h a =
+gathered-none (integer μ z) l s o w k h a = integer-none μ z
+gathered-none (symbol μ v) l s o w k h a = admits-none a refl no-more
+gathered-none (sum μ f) l s o w k h a =
     let n = opened-none asSum sum-node l h in
-    sum-finished (opened asSum l .0) (gathers-two (sum f) l _ w (omega (arith, count-list f, w .0)) (k .0) (k .1)) (n .0) (n .1) a
-gathered-none (product f) l s o w k h a =
+    sum-finished (opened asSum l .0) (gathers-two (sum μ f) l _ w (omega (arith, count-list f, w .0)) (k .0) (k .1)) (n .0) (n .1) a
+gathered-none (product μ f) l s o w k h a =
     let n = opened-none asProduct product-node l h in
-    product-finished (opened asProduct l .0) (gathers-two (product f) l _ w (omega (arith, count-list f, w .0)) (k .0) (k .1)) (n .0) (n .1) a
-gathered-none (power b e) l s o w k h a =
-    admits-none a refl (and-more (first-none b l (kepts-length (k .1)) h) (and-more (integer-none (pos e)) no-more))
+    product-finished (opened asProduct l .0) (gathers-two (product μ f) l _ w (omega (arith, count-list f, w .0)) (k .0) (k .1)) (n .0) (n .1) a
+gathered-none (power μ b ξ e) l s o w k h a =
+    admits-none a refl (and-more (first-none b l (kepts-length (k .1)) h) (and-more (integer-none ξ (pos e)) no-more))
 
 pub settled : (t u : Tree) (s : List ℕ) (o : ℕ) → WF t → passed t (each drives (members t)) ≡ done u s o → ask editionOne u ≡ no-rule → None u
 unfolding passed

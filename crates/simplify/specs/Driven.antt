@@ -33,18 +33,18 @@ weightAll l = weights (ofList l)
 
 -- ---- a node by its first record: its kind, and the record itself
 unfoldable pub kindNumber : Tree → ℕ
-kindNumber (integer z) = 0
-kindNumber (symbol s) = 1
-kindNumber (sum f) = 2
-kindNumber (product f) = 3
-kindNumber (power b e) = 4
+kindNumber (integer μ z) = 0
+kindNumber (symbol μ s) = 1
+kindNumber (sum μ f) = 2
+kindNumber (product μ f) = 3
+kindNumber (power μ b ξ e) = 4
 
 unfoldable pub firstRecord : Tree → List ℕ
-firstRecord (integer z) = recordOf 0 0 (word z)
-firstRecord (symbol s) = recordOf 1 0 s
-firstRecord (sum f) = recordOf 2 (count f) 0
-firstRecord (product f) = recordOf 3 (count f) 0
-firstRecord (power b e) = recordOf 4 0 0
+firstRecord (integer μ z) = recordOf 0 0 (word z)
+firstRecord (symbol μ s) = recordOf 1 0 s
+firstRecord (sum μ f) = recordOf 2 (count f) 0
+firstRecord (product μ f) = recordOf 3 (count f) 0
+firstRecord (power μ b ξ e) = recordOf 4 0 0
 
 -- the members of a tree that is opened among the members of a node of kind k: of a sum in a sum, of a product in a product
 unfoldable pub inside : ℕ → Tree → Option (List Tree)
@@ -61,11 +61,11 @@ passed t (dones l s o) = done (gather t l .0) s (o + gather t l .1)
 
 -- the node t with the gathered members l: "A gathered list of fewer than two members would collapse as after a rule."
 unfoldable pub closedOver : Tree → List Tree → Tree
-closedOver (integer z) l = integer z
-closedOver (symbol s) l = symbol s
-closedOver (sum f) l = sumOf l
-closedOver (product f) l = productOf l
-closedOver (power b e) l = power (baseFrom b l) e
+closedOver (integer μ z) l = integer μ z
+closedOver (symbol μ s) l = symbol μ s
+closedOver (sum μ f) l = sumOf l
+closedOver (product μ f) l = productOf l
+closedOver (power μ b ξ e) l = power μ (baseFrom b l) ξ e
 
 -- ---- what is needed
 -- the tree t is the first of what is pending, with room for the rules, for its result and for its steps
@@ -120,11 +120,11 @@ GivenIs r rest out out' work' steps steps' d s (given.Over n) = (k : ℕ) × (r 
 -- ---- the gathered node's first record
 -- which lists t's members are gathered to: a leaf has none, a power its base's result and its exponent
 abbrev pub Shape : Tree → List Tree → Type 0
-Shape (integer z) l = l ≡ []
-Shape (symbol s) l = l ≡ []
-Shape (sum f) l = Unit {0}
-Shape (product f) l = Unit {0}
-Shape (power b e) l = (e < 2 ^ 63) × ((u : Tree) × (l ≡ u ∷ integer (pos e) ∷ []))
+Shape (integer μ z) l = l ≡ []
+Shape (symbol μ s) l = l ≡ []
+Shape (sum μ f) l = Unit {0}
+Shape (product μ f) l = Unit {0}
+Shape (power μ b ξ e) l = (e < 2 ^ 63) × ((u : Tree) × (l ≡ u ∷ integer ξ (pos e) ∷ []))
 
 -- t's first record stands at d, and the m gathered members after it, up to e
 pub record Gathers (t : Tree) (l : List Tree) (out : List ℕ) (d e k m : ℕ) : Type 0 where

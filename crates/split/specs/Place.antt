@@ -11,11 +11,11 @@ use Rattle.split.specs.declared.Rest.the-variants.{One, At, Without}
 
 -- a power's base stands behind its record; any other tree is its own
 unfoldable pub baseAt : ℕ → Tree → ℕ
-baseAt i (integer z) = i
-baseAt i (symbol v) = i
-baseAt i (sum f) = i
-baseAt i (product f) = i
-baseAt i (power b e) = i + 1
+baseAt i (integer μ z) = i
+baseAt i (symbol μ v) = i
+baseAt i (sum μ f) = i
+baseAt i (product μ f) = i
+baseAt i (power μ b ξ e) = i + 1
 
 -- the record of the first integer among the trees f, which stand from record i on; 0 where there is none
 unfoldable pub hereOr : Option ℤ → ℕ → ℕ → ℕ
@@ -33,8 +33,8 @@ productRest i n x = cond (ltb x 1) (At i) (cond (ltb 2 n) (Without i x) (cond (e
 
 -- an integer leaves 1; a tree that is neither an integer nor a product leaves itself
 unfoldable pub restAt : ℕ → Tree → Rest
-restAt i (integer z) = One
-restAt i (symbol v) = At i
-restAt i (sum f) = At i
-restAt i (product f) = productRest i (count f) (integerAt (i + 1) f)
-restAt i (power b e) = At i
+restAt i (integer μ z) = One
+restAt i (symbol μ v) = At i
+restAt i (sum μ f) = At i
+restAt i (product μ f) = productRest i (count f) (integerAt (i + 1) f)
+restAt i (power μ b ξ e) = At i

@@ -6,5 +6,6 @@ pub use Rattle.paper.specs.Standing.{TreeIn, TreesIn, SomeTree}
 
 -- some product stands at record i of the table s
 pub record SomeProduct (s : List ℕ) (i : ℕ) : Type 0 where
+  pub mark : ℕ
   pub members : Forest
-  pub there : TreeIn s i (product members)
+  pub there : TreeIn s i (product mark members)

@@ -1,6 +1,6 @@
 // The splits of a member, read off its records: coefficient and rest, base and exponent. The rest is a view: nothing is copied.
 ghost use mathlib.Core.Path.{_≡_};
-ghost use Prim.Native.Nat.{_+_, _^_, _<_};
+ghost use Prim.Native.Nat.{ℕ, _+_, _^_, _<_};
 ghost use Rattle.paper.specs.Bytes.{signed};
 ghost use Rattle.paper.specs.Tree.{Tree, Forest, product, records};
 ghost use Rattle.paper.specs.Rules.{termOf, factorOf};
@@ -36,7 +36,7 @@ pub fn skip_tree(s: &[u8], i: usize) -> usize
 // The record of the first integer among the members of the product at record i; 0 where there is none.
 fn first_integer(s: &[u8], i: usize) -> usize
     requires { ⌜ SomeProduct (now s) i ⌝ }
-    ensures { λ r. ⌜ ((f : Forest) → TreeIn (now (s .entry)) i (product f) → r ≡ integerAt (i + 1) f) ⌝ }
+    ensures { λ r. ⌜ ((μ : ℕ) (f : Forest) → TreeIn (now (s .entry)) i (product μ f) → r ≡ integerAt (i + 1) f) ⌝ }
 {
     let mut at = i + 1;
     let mut left = record::count(s, i);

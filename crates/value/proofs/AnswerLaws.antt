@@ -19,11 +19,11 @@ module _ (ρ σ : ℕ → ℕ) (same : (k : ℕ) → k < 256 → ρ k ≡ σ k) 
     unfolding value
 
     pub same-value : (t : Tree) → WF t → value t ρ ≡ value t σ
-    same-value (integer z) w = refl
-    same-value (symbol v) w = ap (λ (n : ℕ). n % modulus) (same v w)
-    same-value (sum f) w = same-sum f (w .1)
-    same-value (product f) w = same-product f (w .1)
-    same-value (power b e) w = ap (λ (n : ℕ). n ^ e % modulus) (same-value b (w .0))
+    same-value (integer μ z) w = refl
+    same-value (symbol μ v) w = ap (λ (n : ℕ). n % modulus) (same v (w .0))
+    same-value (sum μ f) w = same-sum f (w .1)
+    same-value (product μ f) w = same-product f (w .1)
+    same-value (power μ b ξ e) w = ap (λ (n : ℕ). n ^ e % modulus) (same-value b (w .0))
 
     same-sum : (f : Forest) → WFs f → sumValue f ρ ≡ sumValue f σ
     same-sum nil w = refl

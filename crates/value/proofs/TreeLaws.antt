@@ -28,26 +28,26 @@ module _ {s : List ℕ} {i : ℕ} where
   unfolding value records
   integer-value ρ t h k r v e =
       let q = seen-integer (seen h) k in
-      rw (q .1) (record { value = v ∙ q .2; end = e })
+      rw (q .2) (record { value = v ∙ q .3; end = e })
 
   pub symbol-value : (ρ : ℕ → ℕ) (t : Tree) → TreeIn s i t → kind s i ≡ 1 → (r : Valued) → r .value ≡ ρ (symbolIn s i)
       → r .value < modulus → r .end ≡ i + 1 → Evaluated i (records t) (value t ρ) r
   unfolding value records
   symbol-value ρ t h k r v l e =
       let q = seen-symbol (seen h) k in
-      let w : r .value ≡ ρ (q .0) = v ∙ ap ρ (q .2) in
-      rw (q .1) (record { value = sym (mod-eq-of-lt l) ∙ ap (λ (n : ℕ). n % modulus) w; end = e })
+      let w : r .value ≡ ρ (q .1) = v ∙ ap ρ (q .3) in
+      rw (q .2) (record { value = sym (mod-eq-of-lt l) ∙ ap (λ (n : ℕ). n % modulus) w; end = e })
 
   -- the members of a sum or a product, n being the count of its record
   module _ {n : ℕ} (c : n ≡ countIn s i) where
-    sums : (t : Tree) → TreeIn s i t → (f : Forest) → t ≡ sum f → TreesIn s (i + 1) n f
-    sums t h f e = rw c (sum-trees (subst (TreeIn s i) e h))
+    sums : (t : Tree) → TreeIn s i t → (μ : ℕ) (f : Forest) → t ≡ sum μ f → TreesIn s (i + 1) n f
+    sums t h μ f e = rw c (sum-trees (subst (TreeIn s i) e h))
 
-    products : (t : Tree) → TreeIn s i t → (f : Forest) → t ≡ product f → TreesIn s (i + 1) n f
-    products t h f e = rw c (product-trees (subst (TreeIn s i) e h))
+    products : (t : Tree) → TreeIn s i t → (μ : ℕ) (f : Forest) → t ≡ product μ f → TreesIn s (i + 1) n f
+    products t h μ f e = rw c (product-trees (subst (TreeIn s i) e h))
 
     pub sum-there : SomeTree s i → kind s i ≡ 2 → SomeTrees s (i + 1) n
-    sum-there h k = let q = seen-sum (seen (h .there)) k in record { trees = q .0; there = sums (h .tree) (h .there) (q .0) (q .1) }
+    sum-there h k = let q = seen-sum (seen (h .there)) k in record { trees = q .1; there = sums (h .tree) (h .there) (q .0) (q .1) (q .2) }
 
     pub sum-value : (ρ : ℕ → ℕ) (t : Tree) → TreeIn s i t → kind s i ≡ 2 → (r : Valued)
         → ((f : Forest) → TreesIn s (i + 1) n f → Evaluated (i + 1) (recordses f) (sumValue f ρ) r)
@@ -55,13 +55,13 @@ module _ {s : List ℕ} {i : ℕ} where
     unfolding value records
     sum-value ρ t h k r g =
         let q = seen-sum (seen h) k in
-        let m = g (q .0) (sums t h (q .0) (q .1)) in
-        rw (q .1) (record { value = m .value; end = omega (arith, m .end) })
+        let m = g (q .1) (sums t h (q .0) (q .1) (q .2)) in
+        rw (q .2) (record { value = m .value; end = omega (arith, m .end) })
 
     pub product-there : SomeTree s i → kind s i ≡ 3 → SomeTrees s (i + 1) n
     product-there h k =
         let q = seen-product (seen (h .there)) k in
-        record { trees = q .0; there = products (h .tree) (h .there) (q .0) (q .1) }
+        record { trees = q .1; there = products (h .tree) (h .there) (q .0) (q .1) (q .2) }
 
     pub product-value : (ρ : ℕ → ℕ) (t : Tree) → TreeIn s i t → kind s i ≡ 3 → (r : Valued)
         → ((f : Forest) → TreesIn s (i + 1) n f → Evaluated (i + 1) (recordses f) (productValue f ρ) r)
@@ -69,17 +69,17 @@ module _ {s : List ℕ} {i : ℕ} where
     unfolding value records
     product-value ρ t h k r g =
         let q = seen-product (seen h) k in
-        let m = g (q .0) (products t h (q .0) (q .1)) in
-        rw (q .1) (record { value = m .value; end = omega (arith, m .end) })
+        let m = g (q .1) (products t h (q .0) (q .1) (q .2)) in
+        rw (q .2) (record { value = m .value; end = omega (arith, m .end) })
 
   -- the base of a power, and the exponent after it
-  base : (t b : Tree) (e : ℕ) → TreeIn s i t → t ≡ power b e → TreeIn s (i + 1) b
-  base t b e h q = power-tree (subst (TreeIn s i) q h)
+  base : {t b : Tree} {μ ξ e : ℕ} → TreeIn s i t → t ≡ power μ b ξ e → TreeIn s (i + 1) b
+  base h q = power-tree (subst (TreeIn s i) q h)
 
   pub base-there : SomeTree s i → kind s i ≡ 4 → SomeTree s (i + 1)
   base-there h k =
       let q = seen-power (seen (h .there)) k in
-      record { tree = q .0; there = base (h .tree) (q .0) (q .1) (h .there) (q .2) }
+      record { tree = q .1; there = base (h .there) (q .4) }
 
   module _ (ρ : ℕ → ℕ) (k : kind s i ≡ 4) (r : Valued)
       (g : (b : Tree) → TreeIn s (i + 1) b → Evaluated (i + 1) (records b) (value b ρ) r) where
@@ -87,14 +87,14 @@ module _ {s : List ℕ} {i : ℕ} where
     unfolding records
     exponent-inside h =
         let q = seen-power (seen (h .there)) k in
-        let b = g (q .0) (base (h .tree) (q .0) (q .1) (h .there) (q .2)) in
-        omega (arith, b .end, ap records (q .2), tree-within (h .there))
+        let b = g (q .1) (base (h .there) (q .4)) in
+        omega (arith, b .end, ap records (q .4), tree-within (h .there))
 
     pub power-value : (t : Tree) → TreeIn s i t → (u : Valued) → u .value ≡ r .value ^ bits s (r .end) % modulus
         → u .end ≡ r .end + 1 → Evaluated i (records t) (value t ρ) u
     unfolding value records
     power-value t h u v e =
         let q = seen-power (seen h) k in
-        let b = g (q .0) (base t (q .0) (q .1) h (q .2)) in
-        let x : bits s (r .end) ≡ q .1 = ap (bits s) (b .end) ∙ q .3 .exponent-bits in
-        rw (q .2) (record { value = v ∙ rw (b .value, x); end = omega (arith, b .end) })
+        let b = g (q .1) (base h (q .4)) in
+        let x : bits s (r .end) ≡ q .3 = ap (bits s) (b .end) ∙ q .5 .exponent-bits in
+        rw (q .4) (record { value = v ∙ rw (b .value, x); end = omega (arith, b .end) })

@@ -63,19 +63,19 @@ Extra none n m = (n ≤ m) × (m ≤ n + 2)
 
 times-records : (z : ℤ) (t : Tree) → Extra (asInteger t) (records t) (records (times z t .0))
 unfolding times asInteger records ofList
-times-records z (integer y) = refl
-times-records z (symbol s) = (omega arith, omega arith)
-times-records z (sum f) = (omega arith, omega arith)
-times-records z (product f) = let r = longer-records f z in (omega arith, omega arith)
-times-records z (power b e) = (omega arith, omega arith)
+times-records z (integer μ y) = refl
+times-records z (symbol μ s) = (omega arith, omega arith)
+times-records z (sum μ f) = (omega arith, omega arith)
+times-records z (product μ f) = let r = longer-records μ f z in (omega arith, omega arith)
+times-records z (power μ b ξ e) = (omega arith, omega arith)
 
 same-records : (t : Tree) → Extra (asInteger t) (records t) (records t)
 unfolding asInteger records
-same-records (integer y) = refl
-same-records (symbol s) = (omega arith, omega arith)
-same-records (sum f) = (omega arith, omega arith)
-same-records (product f) = (omega arith, omega arith)
-same-records (power b e) = (omega arith, omega arith)
+same-records (integer μ y) = refl
+same-records (symbol μ s) = (omega arith, omega arith)
+same-records (sum μ f) = (omega arith, omega arith)
+same-records (product μ f) = (omega arith, omega arith)
+same-records (power μ b ξ e) = (omega arith, omega arith)
 
 -- with a coefficient of 1, or any other
 timed-records : (b : Bool) (c : Term) → Extra (asInteger (c .rest)) (records (c .rest)) (records (timesUnless b c .0))
@@ -90,20 +90,20 @@ extra-most none n m l h = h .1
 -- a well-formed tree that is no integer weighs 2 or more
 heavy : (t : Tree) → WF t → asInteger t ≡ none → 2 ≤ weight t
 unfolding asInteger weight
-heavy (integer z) w e = absurd (let o : _≡_ {A = ℕ} 0 1 = cc in omega arith)
-heavy (symbol s) w e = omega arith
-heavy (sum f) w e = omega (arith, two-members f (w .0))
-heavy (product f) w e = omega (arith, two-members f (w .0))
-heavy (power b x) w e = omega arith
+heavy (integer μ z) w e = absurd (let o : _≡_ {A = ℕ} 0 1 = cc in omega arith)
+heavy (symbol μ s) w e = omega arith
+heavy (sum μ f) w e = omega (arith, two-members f (w .0))
+heavy (product μ f) w e = omega (arith, two-members f (w .0))
+heavy (power μ b ξ x) w e = omega arith
 
 -- where the rest is no integer, neither is the member
 rest-integer : (t : Tree) → asInteger (termOf t .rest) ≡ none → asInteger t ≡ none
 unfolding asInteger termOf term
-rest-integer (integer z) e = absurd (let o : _≡_ {A = ℕ} 0 1 = cc in omega arith)
-rest-integer (symbol s) e = refl
-rest-integer (sum f) e = refl
-rest-integer (product f) e = refl
-rest-integer (power b x) e = refl
+rest-integer (integer μ z) e = absurd (let o : _≡_ {A = ℕ} 0 1 = cc in omega arith)
+rest-integer (symbol μ s) e = refl
+rest-integer (sum μ f) e = refl
+rest-integer (product μ f) e = refl
+rest-integer (power μ b ξ x) e = refl
 
 -- ---- a member by itself
 others-records : (b : Bool) (z : ℤ) (l : List Tree) → records (timesUnless b (term z (productOf l)) .0) ≤ 2 + total weight l
@@ -116,28 +116,28 @@ others-records false z (t ∷ []) =
     omega (arith, records-weight t)
 others-records true z (t ∷ u ∷ l) = omega (arith, records-weight t, records-weight u, recordses-weights (ofList l), list-weights l)
 others-records false z (t ∷ u ∷ l) =
-    let e = longer-records (ofList (t ∷ u ∷ l)) z in
+    let e = longer-records 0 (ofList (t ∷ u ∷ l)) z in
     omega (arith, records-weight t, records-weight u, recordses-weights (ofList l), list-weights l)
 
-product-records : (f : Forest) (r : Option (ℤ × List Tree)) → TakenOut (toList f) r
-    → records (fromTerm (productTerm f r) .0) ≤ weight (product f)
+product-records : (μ : ℕ) (f : Forest) (r : Option (ℤ × List Tree)) → TakenOut (toList f) r
+    → records (fromTerm (productTerm μ f r) .0) ≤ weight (product μ f)
 unfolding productTerm fromTerm term timesUnless eqZ weight
-product-records f none h = omega (arith, records-weight (product f))
-product-records f (some r) h =
-    omega (arith, others-records (eqZ (r .0) (pos 1)) (r .0) (r .1), taken-total weight h, weights-list f)
+product-records μ f none h = omega (arith, records-weight (product μ f))
+product-records μ f (some r) h =
+    omega (arith, others-records (eqZ (r .0) (pos 1)) (r .0) (r .1), taken-total weight (h .1), weights-list f)
 
-integer-term : (b : Bool) (z : ℤ) → records (timesUnless b (term z (integer (pos 1))) .0) ≤ weight (integer z)
+integer-term : (b : Bool) (μ : ℕ) (z : ℤ) → records (timesUnless b (term z (integer 0 (pos 1))) .0) ≤ weight (integer μ z)
 unfolding timesUnless term times records weight
-integer-term true z = omega arith
-integer-term false z = omega arith
+integer-term true μ z = omega arith
+integer-term false μ z = omega arith
 
 term-records : (t : Tree) → records (fromTerm (termOf t) .0) ≤ weight t
 unfolding termOf fromTerm term timesUnless eqZ
-term-records (integer z) = integer-term (eqZ z (pos 1)) z
-term-records (symbol s) = records-weight (symbol s)
-term-records (sum f) = records-weight (sum f)
-term-records (product f) = product-records f (firstInteger (toList f)) (firstInteger-taken (toList f))
-term-records (power b e) = records-weight (power b e)
+term-records (integer μ z) = integer-term (eqZ z (pos 1)) μ z
+term-records (symbol μ s) = records-weight (symbol μ s)
+term-records (sum μ f) = records-weight (sum μ f)
+term-records (product μ f) = product-records μ f (firstInteger (toList f)) (firstInteger-taken (toList f))
+term-records (power μ b ξ e) = records-weight (power μ b ξ e)
 
 raised-records : (b : Bool) (c : Factor) → records (powerUnless b c .0) ≤ records (c .base) + 2
 unfolding powerUnless records
@@ -146,11 +146,11 @@ raised-records false c = omega arith
 
 factor-records : (t : Tree) → records (fromFactor (factorOf t) .0) ≤ weight t
 unfolding factorOf factor fromFactor powerUnless weight
-factor-records (integer z) = records-weight (integer z)
-factor-records (symbol s) = records-weight (symbol s)
-factor-records (sum f) = records-weight (sum f)
-factor-records (product f) = records-weight (product f)
-factor-records (power b e) = omega (arith, raised-records (eqb e 1) (factor b e), records-weight b)
+factor-records (integer μ z) = records-weight (integer μ z)
+factor-records (symbol μ s) = records-weight (symbol μ s)
+factor-records (sum μ f) = records-weight (sum μ f)
+factor-records (product μ f) = records-weight (product μ f)
+factor-records (power μ b ξ e) = omega (arith, raised-records (eqb e 1) (factor b e), records-weight b)
 
 pub join-first : (b : Bool) (t : Tree) → records (join b (split b t) .0) ≤ weight t
 join-first true t = term-records t
@@ -175,13 +175,13 @@ term-grows c t w e =
 no-integer : (c : Factor) (t : Tree) → c .exponent ≡ 1 → equal (c .base) (factorOf t .base) ≡ true
     → (c .exponent ≡ factorOf t .exponent → bothIntegers (asInteger (c .base)) (asInteger (factorOf t .base)) ≡ none) → asInteger t ≡ none
 unfolding asInteger factorOf factor bothIntegers
-no-integer c (integer z) x e h =
-    let s = same-integer (same-view (c .base) (integer z) e) in
+no-integer c (integer μ z) x e h =
+    let s = same-integer (same-view (c .base) (integer μ z) e) in
     absurd (let n = rw s at (h x) in let o : _≡_ {A = ℕ} 0 1 = cc in omega arith)
-no-integer c (symbol s) x e h = refl
-no-integer c (sum f) x e h = refl
-no-integer c (product f) x e h = refl
-no-integer c (power b y) x e h = refl
+no-integer c (symbol μ s) x e h = refl
+no-integer c (sum μ f) x e h = refl
+no-integer c (product μ f) x e h = refl
+no-integer c (power μ b ξ y) x e h = refl
 
 exponents-grow : (b b' : Bool) (c d : Factor) (w : ℕ) → d .base ≡ c .base → (b ≡ true → 2 ≤ w)
     → records (powerUnless b' d .0) ≤ records (powerUnless b c .0) + w
@@ -197,7 +197,7 @@ bases-grow false c d q = omega arith
 factor-grows : (c : Factor) (t : Tree) {d : Factor} → WF t → Merged c (factorOf t) d
     → records (fromFactor d .0) ≤ records (fromFactor c .0) + weight t
 unfolding fromFactor timesBases addExponents records
-factor-grows c t w (by-bases {y} {z} p q e) = omega (arith, bases-grow (eqb (c .exponent) 1) c (timesBases c (factorOf t) (y *ℤ z)) (sym (ap records p)))
+factor-grows c t w (by-bases {y = y} {z = z} p q e) = omega (arith, bases-grow (eqb (c .exponent) 1) c (timesBases c (factorOf t) (y *ℤ z)) (sym (ap records p)))
 factor-grows c t w (by-exponents e h) =
     exponents-grow (eqb (c .exponent) 1) _ c _ (weight t) refl (λ o. heavy t w (no-integer c t (eqb-true (c .exponent) 1 o) e h))
 

@@ -61,16 +61,16 @@ timed-more : (n : ℕ) (t : Tree) → n < 2 ^ 64 → (n ≡ 1 → ⊥) → timed
 unfolding timed timesUnless term
 timed-more n t l h = rw (not-so (eqZ (signed n) (pos 1)) (λ e. h (same-bits n 1 l (omega arith) (eqZ-true (signed n) (pos 1) e)))) refl
 
-times-product : (z : ℤ) (f : Forest) → times z (product f) ≡ (product (ofList (toList f ++ (integer z ∷ []))), true)
+times-product : (μ : ℕ) (z : ℤ) (f : Forest) → times z (product μ f) ≡ (product 0 (ofList (toList f ++ (integer 0 z ∷ []))), true)
 unfolding times
-times-product z f = refl
+times-product μ z f = refl
 
 times-other : (s : List ℕ) (i : ℕ) (z : ℤ) (t : Tree) → TreeIn s i t → 1 ≤ kind s i → (kind s i ≡ 3 → ⊥)
-    → times z t ≡ (product (ofList (integer z ∷ t ∷ [])), true)
+    → times z t ≡ (product 0 (ofList (integer 0 z ∷ t ∷ [])), true)
 unfolding times
 times-other s i z t h k o = go (seen h)
   where
-    go : {t : Tree} → Seen s i t → times z t ≡ (product (ofList (integer z ∷ t ∷ [])), true)
+    go : {t : Tree} → Seen s i t → times z t ≡ (product 0 (ofList (integer 0 z ∷ t ∷ [])), true)
     go (an-integer e b w) = absurd (omega arith)
     go (a-symbol e v w) = refl
     go (a-sum e n c w m) = refl
@@ -78,18 +78,18 @@ times-other s i z t h k o = go (seen h)
     go (a-power e w b p q x y v) = refl
 
 -- two integers multiply, by their bits
-times-is : (n b v : ℕ) → numOf (signed n *ℤ signed b) ≡ Is v → times (signed n) (integer (signed b)) ≡ (integer (signed v), true)
+times-is : (n b v : ℕ) → numOf (signed n *ℤ signed b) ≡ Is v → times (signed n) (integer 0 (signed b)) ≡ (integer 0 (signed v), true)
 unfolding times
 times-is n b v q = let z = numOf-is (signed n *ℤ signed b) v q in rw (z .0, sym (z .2)) refl
 
-times-out : (n b : ℕ) → numOf (signed n *ℤ signed b) ≡ Out → times (signed n) (integer (signed b)) .1 ≡ false
+times-out : (n b : ℕ) → numOf (signed n *ℤ signed b) ≡ Out → times (signed n) (integer 0 (signed b)) .1 ≡ false
 unfolding times
 times-out n b q = numOf-is-out (signed n *ℤ signed b) q
 
 pub product-bits : (n b v : ℕ) → numOf (signed n *ℤ signed b) ≡ Is v → v < 2 ^ 64
 product-bits n b v q = omega (arith, numOf-is (signed n *ℤ signed b) v q .1, word-lt (signed n *ℤ signed b))
 
-integer-records : (z : ℤ) → records (integer z) ≡ 1
+integer-records : (z : ℤ) → records (integer 0 z) ≡ 1
 unfolding records
 integer-records z = refl
 
@@ -100,24 +100,24 @@ module _ (n : ℕ) {t : Tree} {k : ℕ} (size : k ≡ records t) where
   one-becomes e = record { is = timed-one n t e; size = size }
 
   module _ (l : n < 2 ^ 64) (more : n ≡ 1 → ⊥) where
-    pub longer-becomes : {f : Forest} → t ≡ product f
-        → Becomes (timed n t) (product (ofList (toList f ++ (integer (signed n) ∷ [])))) (k + 1)
-    longer-becomes {f} e =
+    pub longer-becomes : {μ : ℕ} {f : Forest} → t ≡ product μ f
+        → Becomes (timed n t) (product 0 (ofList (toList f ++ (integer 0 (signed n) ∷ [])))) (k + 1)
+    longer-becomes {μ} {f} e =
         record {
-          is = timed-more n t l more ∙ ap (times (signed n)) e ∙ times-product (signed n) f;
-          size = omega (arith, ap records e, longer-records f (signed n));
+          is = timed-more n t l more ∙ ap (times (signed n)) e ∙ times-product μ (signed n) f;
+          size = omega (arith, ap records e, longer-records μ f (signed n));
         }
 
     pub pair-becomes : (s : List ℕ) (i : ℕ) → TreeIn s i t → 1 ≤ kind s i → (kind s i ≡ 3 → ⊥)
-        → Becomes (timed n t) (product (ofList (integer (signed n) ∷ t ∷ []))) (k + 2)
+        → Becomes (timed n t) (product 0 (ofList (integer 0 (signed n) ∷ t ∷ []))) (k + 2)
     pair-becomes s i h a o =
         record { is = timed-more n t l more ∙ times-other s i (signed n) t h a o; size = omega (arith, pair-records (signed n) t) }
 
-module _ (n b : ℕ) {t : Tree} (l : n < 2 ^ 64) (more : n ≡ 1 → ⊥) (e : t ≡ integer (signed b)) where
-  both-integers : timed n t ≡ times (signed n) (integer (signed b))
+module _ (n b : ℕ) {t : Tree} (l : n < 2 ^ 64) (more : n ≡ 1 → ⊥) (e : t ≡ integer 0 (signed b)) where
+  both-integers : timed n t ≡ times (signed n) (integer 0 (signed b))
   both-integers = timed-more n t l more ∙ ap (times (signed n)) e
 
-  pub integer-becomes : (v : ℕ) → numOf (signed n *ℤ signed b) ≡ Is v → Becomes (timed n t) (integer (signed v)) 1
+  pub integer-becomes : (v : ℕ) → numOf (signed n *ℤ signed b) ≡ Is v → Becomes (timed n t) (integer 0 (signed v)) 1
   integer-becomes v q = record { is = both-integers ∙ times-is n b v q; size = sym (integer-records (signed v)) }
 
   pub integer-over : numOf (signed n *ℤ signed b) ≡ Out → timed n t .1 ≡ false
@@ -128,12 +128,12 @@ fits-signed : (n : ℕ) → n < 2 ^ 64 → fits (signed n) ≡ true
 unfolding fits
 fits-signed n l = lt-ltb (mag (signed n)) (2 ^ 63) (signed-in-range n l)
 
-timed-unit : (n : ℕ) → n < 2 ^ 64 → timed n (integer (pos 1)) ≡ (integer (signed n), true)
+timed-unit : (n : ℕ) → n < 2 ^ 64 → timed n (integer 0 (pos 1)) ≡ (integer 0 (signed n), true)
 unfolding timed timesUnless term times one
 timed-unit n l = go (eqZ (signed n) (pos 1)) refl
   where
-    go : (b : Bool) → eqZ (signed n) (pos 1) ≡ b → timesUnless b (term (signed n) (integer (pos 1))) ≡ (integer (signed n), true)
-    go true e = ap (λ z. (integer z, true)) (sym (eqZ-true (signed n) (pos 1) e))
+    go : (b : Bool) → eqZ (signed n) (pos 1) ≡ b → timesUnless b (term (signed n) (integer 0 (pos 1))) ≡ (integer 0 (signed n), true)
+    go true e = ap (λ z. (integer 0 z, true)) (sym (eqZ-true (signed n) (pos 1) e))
     go false e = rw (*ℤ-one (signed n), fits-signed n l) refl
 
 module _ {s : List ℕ} {n i : ℕ} {c : Term} (h : ShowsTerm s n i c) where
@@ -141,7 +141,7 @@ module _ {s : List ℕ} {n i : ℕ} {c : Term} (h : ShowsTerm s n i c) where
   unfolding fromTerm timed timesUnless term
   from-term = rw (h .coefficient, h .rest, h .good) refl
 
-  pub unit-becomes : termOf (h .member) .rest ≡ integer (pos 1) → Becomes (fromTerm c) (integer (signed n)) 1
+  pub unit-becomes : termOf (h .member) .rest ≡ integer 0 (pos 1) → Becomes (fromTerm c) (integer 0 (signed n)) 1
   unit-becomes e = record { is = from-term ∙ ap (timed n) e ∙ timed-unit n (h .bits); size = sym (integer-records (signed n)) }
 
 -- ---- a factor: its base, of k records, and its exponent e
@@ -162,7 +162,7 @@ module _ {c : Factor} {e k : ℕ} (h : Shown c e k) where
   unfolding fromFactor powerUnless
   base-becomes o = record { is = rw (eq-eqb (c .exponent) 1 (h .exponent ∙ o), h .good) refl; size = h .size }
 
-  pub power-becomes : (e ≡ 1 → ⊥) → Becomes (fromFactor c) (power (c .base) e) (k + 2)
+  pub power-becomes : (e ≡ 1 → ⊥) → Becomes (fromFactor c) (power 0 (c .base) 0 e) (k + 2)
   unfolding fromFactor powerUnless
   power-becomes o =
       record {

@@ -38,36 +38,36 @@ recordses-snoc l t = recordses-append l (t ∷ []) ∙ omega arith
 
 -- ---- the products and the power that are written
 pub pair-encoded : (z : ℤ) (t : Tree)
-    → encode (product (ofList (integer z ∷ t ∷ []))) ≡ (recordOf 3 2 0 ++ recordOf 0 0 (word z)) ++ encode t
+    → encode (product 0 (ofList (integer 0 z ∷ t ∷ []))) ≡ (recordOf 3 2 0 ++ recordOf 0 0 (word z)) ++ encode t
 unfolding encode ofList count
 pair-encoded z t =
     ap (λ (x : List ℕ). recordOf 3 2 0 ++ (recordOf 0 0 (word z) ++ x)) (append-nil (encode t))
     ∙ sym (append-assoc (recordOf 3 2 0) (recordOf 0 0 (word z)) (encode t))
 
-pub pair-records : (z : ℤ) (t : Tree) → records (product (ofList (integer z ∷ t ∷ []))) ≡ records t + 2
+pub pair-records : (z : ℤ) (t : Tree) → records (product 0 (ofList (integer 0 z ∷ t ∷ []))) ≡ records t + 2
 unfolding records ofList
 pair-records z t = omega arith
 
 pub longer-encoded : (f : Forest) (z : ℤ)
-    → encode (product (ofList (toList f ++ (integer z ∷ [])))) ≡ (recordOf 3 (count f + 1) 0 ++ encodes f) ++ recordOf 0 0 (word z)
+    → encode (product 0 (ofList (toList f ++ (integer 0 z ∷ [])))) ≡ (recordOf 3 (count f + 1) 0 ++ encodes f) ++ recordOf 0 0 (word z)
 unfolding encode
 longer-encoded f z =
-    let l = toList f ++ (integer z ∷ []) in
-    let n : count (ofList l) ≡ count f + 1 = omega (arith, list-count l, length-append (toList f) (integer z ∷ []), count-list f) in
+    let l = toList f ++ (integer 0 z ∷ []) in
+    let n : count (ofList l) ≡ count f + 1 = omega (arith, list-count l, length-append (toList f) (integer 0 z ∷ []), count-list f) in
     ap (λ n. recordOf 3 n 0 ++ encodes (ofList l)) n
     ∙ ap (λ (x : List ℕ). recordOf 3 (count f + 1) 0 ++ x)
-    (encodes-snoc (toList f) (integer z) ∙ ap (λ g. encodes g ++ recordOf 0 0 (word z)) (of-to-list f))
+    (encodes-snoc (toList f) (integer 0 z) ∙ ap (λ g. encodes g ++ recordOf 0 0 (word z)) (of-to-list f))
     ∙ sym (append-assoc (recordOf 3 (count f + 1) 0) (encodes f) (recordOf 0 0 (word z)))
 
-pub longer-records : (f : Forest) (z : ℤ) → records (product (ofList (toList f ++ (integer z ∷ [])))) ≡ records (product f) + 1
+pub longer-records : (μ : ℕ) (f : Forest) (z : ℤ) → records (product 0 (ofList (toList f ++ (integer 0 z ∷ [])))) ≡ records (product μ f) + 1
 unfolding records
-longer-records f z = omega (arith, recordses-snoc (toList f) (integer z), ap recordses (of-to-list f))
+longer-records μ f z = omega (arith, recordses-snoc (toList f) (integer 0 z), ap recordses (of-to-list f))
 
-pub power-encoded : (b : Tree) (e : ℕ) → encode (power b e) ≡ (recordOf 4 0 0 ++ encode b) ++ recordOf 0 0 e
+pub power-encoded : (b : Tree) (e : ℕ) → encode (power 0 b 0 e) ≡ (recordOf 4 0 0 ++ encode b) ++ recordOf 0 0 e
 unfolding encode
 power-encoded b e = sym (append-assoc (recordOf 4 0 0) (encode b) (recordOf 0 0 e))
 
-pub power-records : (b : Tree) (e : ℕ) → records (power b e) ≡ records b + 2
+pub power-records : (b : Tree) (e : ℕ) → records (power 0 b 0 e) ≡ records b + 2
 unfolding records
 power-records b e = omega arith
 

@@ -33,23 +33,26 @@ pub record Rows (s : List ℕ) (i x e : ℕ) (front back : List Tree) : Type 0 w
   pub second : Stands s (x + 1) (encodes (ofList back))
 
 module _ {s : List ℕ} {i x e : ℕ} {front back : List Tree} {z : ℤ} (h : Gap s i x e front back z) where
+  abbrev left-out : Tree
+  left-out = integer (h .integer-mark) z
+
   abbrev all : List Tree
-  all = front ++ (integer z ∷ back)
+  all = front ++ (left-out ∷ back)
 
   at : ProductAt s i (e - i) (ofList all)
   at = product-at s i (e - i) (ofList all) (record { there = h .whole; size = omega (arith, h .end) })
 
   sizes : recordses (ofList all) ≡ recordses (ofList front) + (1 + recordses (ofList back))
   unfolding records ofList
-  sizes = recordses-append front (integer z ∷ back)
+  sizes = recordses-append front (left-out ∷ back)
 
-  rows : Stands s (i + 1) (encodes (ofList front) ++ (encode (integer z) ++ encodes (ofList back)))
+  rows : Stands s (i + 1) (encodes (ofList front) ++ (encode left-out ++ encodes (ofList back)))
   unfolding encode ofList
-  rows = subst (Stands s (i + 1)) (encodes-append front (integer z ∷ back)) (at .stand)
+  rows = subst (Stands s (i + 1)) (encodes-append front (left-out ∷ back)) (at .stand)
 
-  after-front : Stands s x (encode (integer z) ++ encodes (ofList back))
+  after-front : Stands s x (encode left-out ++ encodes (ofList back))
   after-front =
-      subst (λ k. Stands s k (encode (integer z) ++ encodes (ofList back))) (sym (h .place))
+      subst (λ k. Stands s k (encode left-out ++ encodes (ofList back))) (sym (h .place))
       (stands-next (encodes (ofList front)) _ rows (recordses (ofList front)) (encodes-length (ofList front)))
 
   pub gap-rows : Rows s i x e front back
@@ -59,10 +62,10 @@ module _ {s : List ℕ} {i x e : ℕ} {front back : List Tree} {z : ℤ} (h : Ga
         place = h .place;
         end = omega (arith, h .end, h .place, sizes);
         within = omega (arith, h .end, tree-within (h .whole));
-        counted = omega (arith, at .counted, list-count all, length-append front (integer z ∷ back), length-append front back);
+        counted = omega (arith, at .counted, list-count all, length-append front (left-out ∷ back), length-append front back);
         both = recordses-append front back;
-        first = stands-first (encodes (ofList front)) (encode (integer z) ++ encodes (ofList back)) rows;
-        second = stands-next (encode (integer z)) (encodes (ofList back)) after-front 1 (encode-length (integer z));
+        first = stands-first (encodes (ofList front)) (encode left-out ++ encodes (ofList back)) rows;
+        second = stands-next (encode left-out) (encodes (ofList back)) after-front 1 (encode-length left-out);
       }
 
 -- the two rows side by side
@@ -82,7 +85,7 @@ pub record Left (s : List ℕ) (i x e : ℕ) (t : Tree) : Type 0 where
   pub back : List Tree
   pub number : ℤ
   pub gap : Gap s i x e front back number
-  pub is : t ≡ product (ofList (front ++ back))
+  pub is : t ≡ product 0 (ofList (front ++ back))
   pub counted : countIn s i ≡ length (front ++ back) + 1
   pub row : e ≡ i + 2 + recordses (ofList (front ++ back))
   pub size : e - i - 1 ≡ records t
@@ -90,7 +93,8 @@ pub record Left (s : List ℕ) (i x e : ℕ) (t : Tree) : Type 0 where
 pub left-of : {s : List ℕ} {i x e : ℕ} {t : Tree} → Lessened s i x t → ((u : Tree) → TreeIn s i u → e ≡ i + records u) → Left s i x e t
 unfolding records
 left-of h f =
-    let gap : Gap _ _ _ _ (h .front) (h .back) (h .number) = record { whole = h .whole; place = h .place; end = f _ (h .whole) } in
+    let gap : Gap _ _ _ _ (h .front) (h .back) (h .number) =
+    record { mark = h .mark; integer-mark = h .integer-mark; whole = h .whole; place = h .place; end = f _ (h .whole) } in
     let rows = gap-rows gap in
     record {
       front = h .front;
@@ -103,7 +107,7 @@ left-of h f =
       size = omega (arith, rows .place, rows .end, rows .both, ap records (h .left));
     }
 
-left-encoded : (l : List Tree) → encode (product (ofList l)) ≡ recordOf 3 (length l) 0 ++ encodes (ofList l)
+left-encoded : (l : List Tree) → encode (product 0 (ofList l)) ≡ recordOf 3 (length l) 0 ++ encodes (ofList l)
 unfolding encode
 left-encoded l = ap (λ n. recordOf 3 n 0 ++ encodes (ofList l)) (list-count l)
 
@@ -126,6 +130,6 @@ module _ {s : List ℕ} {i x e : ℕ} {t : Tree} (l : Left s i x e t) (out d₁ 
 
   pub left-longer-written : (d₃ : List ℕ) (n a : ℕ) → n < 2 ^ 64 → c ≡ countIn s i → a ≡ m + (e - i - 1) → (m + (e - i - 1 + 1)) * 16 ≤ length out
       → d₁ ≡ put out (m * 16) (recordOf 3 c 0) → d₂ ≡ put d₁ ((m + 1) * 16) (encodes (ofList both)) → d₃ ≡ put d₂ (a * 16) (recordOf 0 0 n)
-      → d₃ ≡ put out (m * 16) (encode (product (ofList (toList (ofList both) ++ (integer (signed n) ∷ [])))))
+      → d₃ ≡ put out (m * 16) (encode (product 0 (ofList (toList (ofList both) ++ (integer 0 (signed n) ∷ [])))))
   left-longer-written d₃ n a b h k r =
       longer-written out d₁ d₂ d₃ m n b (ofList both) c (e - i - 1) a (omega (arith, l .counted, list-count both)) (omega (arith, l .row)) k r

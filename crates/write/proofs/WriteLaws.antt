@@ -34,31 +34,32 @@ pub record ProductAt (s : List ℕ) (i k : ℕ) (f : Forest) : Type 0 where
   pub stand : Stands s (i + 1) (encodes f)
   pub within : (i + k) * 16 ≤ length s
 
-pub product-at : (s : List ℕ) (i k : ℕ) (f : Forest) → Sized s i k (product f) → ProductAt s i k f
+pub product-at : (s : List ℕ) (i k : ℕ) {μ : ℕ} (f : Forest) → Sized s i k (product μ f) → ProductAt s i k f
 unfolding records
 product-at s i k f h =
     let t = product-trees (h .there) in
     record { counted = sym (t .counted); size = h .size; stand = t .stand; within = omega (arith, h .size, tree-within (h .there)) }
 
 pub record IsProduct (t : Tree) : Type 0 where
+  pub mark : ℕ
   pub members : Forest
-  pub is : t ≡ product members
+  pub is : t ≡ product mark members
 
 pub is-product : (s : List ℕ) (i : ℕ) (t : Tree) → TreeIn s i t → kind s i ≡ 3 → IsProduct t
-is-product s i t h k = let q = seen-product (seen h) k in record { members = q .0; is = q .1 }
+is-product s i t h k = let q = seen-product (seen h) k in record { mark = q .0; members = q .1; is = q .2 }
 
 -- ---- the records that are written one after the other
 integer-is : (n : ℕ) → n < 2 ^ 64 → recordOf 0 0 (word (signed n)) ≡ recordOf 0 0 n
 integer-is n l = ap (recordOf 0 0) (word-signed n l)
 
-pub integer-written : (out d : List ℕ) (a n : ℕ) → n < 2 ^ 64 → d ≡ put out a (recordOf 0 0 n) → d ≡ put out a (encode (integer (signed n)))
+pub integer-written : (out d : List ℕ) (a n : ℕ) → n < 2 ^ 64 → d ≡ put out a (recordOf 0 0 n) → d ≡ put out a (encode (integer 0 (signed n)))
 unfolding encode
 integer-written out d a n l p = p ∙ ap (put out a) (sym (integer-is n l))
 
 module _ (out d₁ d₂ d₃ : List ℕ) (m n : ℕ) (l : n < 2 ^ 64) where
   pub pair-written : (t : Tree) → (m + (records t + 2)) * 16 ≤ length out → d₁ ≡ put out (m * 16) (recordOf 3 2 0)
       → d₂ ≡ put d₁ ((m + 1) * 16) (recordOf 0 0 n) → d₃ ≡ put d₂ ((m + 2) * 16) (encode t)
-      → d₃ ≡ put out (m * 16) (encode (product (ofList (integer (signed n) ∷ t ∷ []))))
+      → d₃ ≡ put out (m * 16) (encode (product 0 (ofList (integer 0 (signed n) ∷ t ∷ []))))
   pair-written t r p q w =
       let a = record-length 3 2 0 in
       let b = record-length 0 0 n in
@@ -70,7 +71,7 @@ module _ (out d₁ d₂ d₃ : List ℕ) (m n : ℕ) (l : n < 2 ^ 64) where
 
   pub longer-written : (f : Forest) (c k a : ℕ) → c ≡ count f + 1 → k ≡ 1 + recordses f → a ≡ m + k → (m + (k + 1)) * 16 ≤ length out
       → d₁ ≡ put out (m * 16) (recordOf 3 c 0) → d₂ ≡ put d₁ ((m + 1) * 16) (encodes f) → d₃ ≡ put d₂ (a * 16) (recordOf 0 0 n)
-      → d₃ ≡ put out (m * 16) (encode (product (ofList (toList f ++ (integer (signed n) ∷ [])))))
+      → d₃ ≡ put out (m * 16) (encode (product 0 (ofList (toList f ++ (integer 0 (signed n) ∷ [])))))
   longer-written f c k a e g h r p q w =
       let j = record-length 3 c 0 in
       let b = record-length 0 0 n in
@@ -84,7 +85,7 @@ module _ (out d₁ d₂ d₃ : List ℕ) (m n : ℕ) (l : n < 2 ^ 64) where
 -- a factor whose base has k records: with the exponent 1 the base, with any other the record of a power, the base, and the exponent
 power-written : (out d₁ d₂ d₃ : List ℕ) (m e : ℕ) (b : Tree) (a : ℕ) → a ≡ m + 1 + records b → (m + (records b + 2)) * 16 ≤ length out
     → d₁ ≡ put out (m * 16) (recordOf 4 0 0) → d₂ ≡ put d₁ ((m + 1) * 16) (encode b) → d₃ ≡ put d₂ (a * 16) (recordOf 0 0 e)
-    → d₃ ≡ put out (m * 16) (encode (power b e))
+    → d₃ ≡ put out (m * 16) (encode (power 0 b 0 e))
 power-written out d₁ d₂ d₃ m e b a h r p q w =
     let j = record-length 4 0 0 in
     let c = record-length 0 0 e in

@@ -31,6 +31,8 @@ timed n t = timesUnless (eqZ (signed n) (pos 1)) (term (signed n) t)
 
 -- the product at record i up to record e has the integer z at record x, the members `front` before it and `back` after it
 pub record Gap (s : List ℕ) (i x e : ℕ) (front back : List Tree) (z : ℤ) : Type 0 where
-  pub whole : TreeIn s i (product (ofList (front ++ (integer z ∷ back))))
+  pub mark : ℕ
+  pub integer-mark : ℕ
+  pub whole : TreeIn s i (product mark (ofList (front ++ (integer integer-mark z ∷ back))))
   pub place : x ≡ i + 1 + recordses (ofList front)
-  pub end : e ≡ i + records (product (ofList (front ++ (integer z ∷ back))))
+  pub end : e ≡ i + records (product mark (ofList (front ++ (integer integer-mark z ∷ back))))

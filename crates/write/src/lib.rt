@@ -2,7 +2,7 @@
 ghost use mathlib.Core.Path.{_≡_};
 ghost use mathlib.Core.Bool.{Bool};
 ghost use mathlib.Core.List.{List, [], _∷_, _++_};
-ghost use Prim.Native.Nat.{_+_, _*_, _≤_};
+ghost use Prim.Native.Nat.{ℕ, _+_, _*_, _≤_};
 ghost use lib.ListN.{length};
 ghost use lib.IntN.{ℤ};
 ghost use Rattle.paper.specs.Bytes.{signed};
@@ -34,7 +34,7 @@ fn copy_tree(out: &mut [u8], m: usize, s: &[u8], i: usize, k: usize)
 fn write_pair(out: &mut [u8], m: usize, n: u64, s: &[u8], i: usize, k: usize)
     requires { ⌜ ((t : Tree) × Sized (now s) i k t) × ((m + (k + 2)) * 16 ≤ length (now out)) ⌝ }
     ensures { λ _. ⌜ ((t : Tree) → Sized (now (s .entry)) i k t
-        → now (out .exit) ≡ put (now (out .entry)) (m * 16) (encode (product (ofList (integer (signed n) ∷ t ∷ []))))) ⌝ }
+        → now (out .exit) ≡ put (now (out .entry)) (m * 16) (encode (product 0 (ofList (integer 0 (signed n) ∷ t ∷ []))))) ⌝ }
 {
     record::write_record(out, m, 3, 2, 0);
     record::write_record(out, m + 1, 0, 0, n);
@@ -43,9 +43,9 @@ fn write_pair(out: &mut [u8], m: usize, n: u64, s: &[u8], i: usize, k: usize)
 
 // The product of k records at record i with the integer n appended last.
 fn write_longer(out: &mut [u8], m: usize, n: u64, s: &[u8], i: usize, k: usize)
-    requires { ⌜ ((f : Forest) × Sized (now s) i k (product f)) × ((m + (k + 1)) * 16 ≤ length (now out)) ⌝ }
-    ensures { λ _. ⌜ ((f : Forest) → Sized (now (s .entry)) i k (product f)
-        → now (out .exit) ≡ put (now (out .entry)) (m * 16) (encode (product (ofList (toList f ++ (integer (signed n) ∷ [])))))) ⌝ }
+    requires { ⌜ ((μ : ℕ) × (f : Forest) × Sized (now s) i k (product μ f)) × ((m + (k + 1)) * 16 ≤ length (now out)) ⌝ }
+    ensures { λ _. ⌜ ((μ : ℕ) (f : Forest) → Sized (now (s .entry)) i k (product μ f)
+        → now (out .exit) ≡ put (now (out .entry)) (m * 16) (encode (product 0 (ofList (toList f ++ (integer 0 (signed n) ∷ [])))))) ⌝ }
 {
     record::write_record(out, m, 3, record::count(s, i) + 1, 0);
     stretch::copy_bytes(out, (m + 1) * 16, s, (i + 1) * 16, (k - 1) * 16);

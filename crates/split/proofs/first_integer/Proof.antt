@@ -1,5 +1,6 @@
 -- `split::first_integer` meets its contract. The loop's invariant: the first integer among the members from the record on is the
 -- product's. Assumes nothing.
+use Prim.Native.Nat.{ℕ}
 use native.Mathlib.Omega.{arith}
 use Rattle.paper.specs.Tree.{Forest, product}
 use Rattle.split.specs.Standing.{TreeIn}
@@ -9,7 +10,7 @@ use Rattle.split.proofs.first_integer.Statement.{statement}
 use Rattle.split.proofs.first_integer.Tie as tie
 
 abbrev Inv-loop : tie.InvT-loop
-Inv-loop s i at₀ left₀ at left = (f : Forest) → TreeIn s i (product f) → Searched s i at left f
+Inv-loop s i at₀ left₀ at left = (μ : ℕ) (f : Forest) → TreeIn s i (product μ f) → Searched s i at left f
 
 abbrev μ-loop : tie.MeasureT-loop
 μ-loop s i at₀ left₀ at left = left
@@ -21,22 +22,22 @@ count-requires : tie.Need-count-requires Inv-loop μ-loop
 count-requires c κs = record-within (c .before .pre .there)
 
 loop-holds : tie.Need-loop-holds Inv-loop μ-loop
-loop-holds c = λ f h. rw (c .count .ensures .0) (searched-start h)
+loop-holds c = λ μ f h. rw (c .count .ensures .0) (searched-start h)
 
 kind-requires : tie.Need-kind-requires Inv-loop μ-loop
 kind-requires c κs =
     let some = c .before .before .before .before .pre in
-    record-within (searched-tree (c .before .loop .inv (some .members) (some .there)) (c .loop-test .taken) .there)
+    record-within (searched-tree (c .before .loop .inv (some .mark) (some .members) (some .there)) (c .loop-test .taken) .there)
 
 returns : tie.Need-returns Inv-loop μ-loop
-returns c = λ f h.
+returns c = λ μ f h.
     let k = c .before .kind .ensures in
-    searched-here (c .before .before .before .loop .inv f h) (c .before .before .loop-test .taken) (omega arith)
+    searched-here (c .before .before .before .loop .inv μ f h) (c .before .before .loop-test .taken) (omega arith)
 
 skip-tree-requires : tie.Need-skip-tree-requires Inv-loop μ-loop
 skip-tree-requires c κs =
     let some = c .before .before .before .before .before .before .pre in
-    searched-tree (c .before .before .before .loop .inv (some .members) (some .there)) (c .before .before .loop-test .taken)
+    searched-tree (c .before .before .before .loop .inv (some .mark) (some .members) (some .there)) (c .before .before .loop-test .taken)
 
 sub-left : tie.Need-sub-left Inv-loop μ-loop
 sub-left c = omega arith
@@ -45,13 +46,13 @@ loop-less : tie.Need-loop-less Inv-loop μ-loop
 loop-less c = omega arith
 
 loop-again : tie.Need-loop-again Inv-loop μ-loop
-loop-again c = λ f h.
+loop-again c = λ μ f h.
     let k = c .before .before .kind .ensures in
-    searched-later (c .before .before .before .before .loop .inv f h) (c .before .before .before .loop-test .taken) (omega arith)
+    searched-later (c .before .before .before .before .loop .inv μ f h) (c .before .before .before .loop-test .taken) (omega arith)
     (c .skip-tree .result) (c .skip-tree .ensures)
 
 returns-2 : tie.Need-returns-2 Inv-loop μ-loop
-returns-2 c = λ f h. searched-none (c .before .loop .inv f h) (omega arith)
+returns-2 c = λ μ f h. searched-none (c .before .loop .inv μ f h) (omega arith)
 
 pub first-integer-spec : {M : Type 1} → statement M
 first-integer-spec =

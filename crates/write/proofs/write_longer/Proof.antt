@@ -39,8 +39,8 @@ abbrev last-of : End → Last
 last-of c = c .before .before .before
 
 -- the product that the contract asks for
-asked : (c : tie.Start) → let g = c .args in ProductAt (g .s .now) (g .i) (g .k) (c .pre .0 .0)
-asked c = let g = c .args in product-at (g .s .now) (g .i) (g .k) (c .pre .0 .0) (c .pre .0 .1)
+asked : (c : tie.Start) → let g = c .args in ProductAt (g .s .now) (g .i) (g .k) (c .pre .0 .1)
+asked c = let g = c .args in product-at (g .s .now) (g .i) (g .k) (c .pre .0 .1) (c .pre .0 .2)
 
 count-requires : tie.Need-count-requires
 count-requires c κs = omega (arith, asked (c .before .before .before))
@@ -92,7 +92,7 @@ same-length : tie.Need-same-length
 same-length c = search needs
 
 returns : tie.Need-returns
-returns c f h =
+returns c μ f h =
     let last = last-of c in
     let copy = copy-of last in
     let counted = counted-of copy in

@@ -110,12 +110,12 @@ module _ (c : tie.After-mul) where
   abbrev bits : ℕ
   bits = c .before .bits .result
 
-  an-integer : (t : Tree) → At (known-of (c .before .before .before)) t → t ≡ integer (signed bits)
+  an-integer : (t : Tree) → At (known-of (c .before .before .before)) t → t ≡ integer 0 (signed bits)
   an-integer t h =
       let kind = c .before .before .before in
       let g = start-of (known-of kind) .args in
       let z = integer-there (g .s .now) (g .i) t h (omega (arith, kind .kind .ensures, c .before .before .if2 .taken)) in
-      z .0 ∙ ap (λ b. integer (signed b)) (sym (c .before .bits .ensures))
+      z .0 ∙ ap (λ b. integer 0 (signed b)) (sym (c .before .bits .ensures))
 
 kind-requires : tie.Need-kind-requires
 kind-requires c κs = record-within (there (c .before))
@@ -175,12 +175,12 @@ module _ (c : tie.Then3) where
       is-product (g .s .now) (g .i) t h (sym (c .before .before .kind .ensures) ∙ c .if3 .taken)
 
   product-stands : (t : Tree) (h : At product-known t)
-      → let g = start-of product-known .args in Sized (g .s .now) (g .i) (k product-known) (product (a-product t h .members))
+      → let g = start-of product-known .args in Sized (g .s .now) (g .i) (k product-known) (product (a-product t h .mark) (a-product t h .members))
   product-stands t h = stands product-known _ (subst (At product-known) (a-product t h .is) h)
 
   longer : (t : Tree) (h : At product-known t)
       → let g = start-of product-known .args in
-      Becomes (timed (g .n) t) (product (ofList (toList (a-product t h .members) ++ (integer (signed (g .n)) ∷ [])))) (k product-known + 1)
+      Becomes (timed (g .n) t) (product 0 (ofList (toList (a-product t h .members) ++ (integer 0 (signed (g .n)) ∷ [])))) (k product-known + 1)
   longer t h =
       longer-becomes _ (size product-known t h) (start-of product-known .fits .n .fits) (c .before .before .before .if1 .left)
       (a-product t h .is)
@@ -191,7 +191,7 @@ module _ (c : tie.Then3) where
 write-longer-requires : tie.Need-write-longer-requires
 write-longer-requires c κs =
     let known = product-known (c .before) in
-    ((_, product-stands (c .before) (asked known) (there known)), longer-room (c .before))
+    ((_, _, product-stands (c .before) (asked known) (there known)), longer-room (c .before))
 
 add-t25 : tie.Need-add-t25
 add-t25 c = record { fits = omega (arith, longer-room (product-of c)) }
@@ -207,7 +207,7 @@ returns-4 c t h =
     let test = product-of c in
     let g = start-of (product-known test) .args in
     written (longer test t h) (g .out .now) (g .m) _ _ (omega arith)
-    (c .before .before .write-longer .ensures _ (product-stands test t h))
+    (c .before .before .write-longer .ensures _ _ (product-stands test t h))
 
 -- ---- for any other tree, the product of n and the tree
 module _ (c : tie.Else3) where
@@ -216,7 +216,7 @@ module _ (c : tie.Else3) where
 
   pair : (t : Tree) → At other-known t
       → let g = start-of other-known .args in
-      Becomes (timed (g .n) t) (product (ofList (integer (signed (g .n)) ∷ t ∷ []))) (k other-known + 2)
+      Becomes (timed (g .n) t) (product 0 (ofList (integer 0 (signed (g .n)) ∷ t ∷ []))) (k other-known + 2)
   pair t h =
       let kind = c .before .before in
       let start = start-of other-known in

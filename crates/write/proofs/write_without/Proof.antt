@@ -159,7 +159,7 @@ module _ (c : tie.Else1) where
   more : (t : Tree) (h : Is (c .before) t)
       → let g = start-of (c .before) .args in
       let l = left (c .before) t h in
-      Becomes (timed (g .n) t) (product (ofList (toList (ofList (l .front ++ l .back)) ++ (integer (signed (g .n)) ∷ []))))
+      Becomes (timed (g .n) t) (product 0 (ofList (toList (ofList (l .front ++ l .back)) ++ (integer 0 (signed (g .n)) ∷ []))))
       (end (c .before) - g .i - 1 + 1)
   more t h =
       let l = left (c .before) t h in

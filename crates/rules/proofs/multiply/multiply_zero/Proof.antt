@@ -108,7 +108,7 @@ returns-2 c =
     let e = end skipped h in
     let any = sym (searched at h) ∙ skipped .before .before .if2 .taken in
     let place : (q + 1) * 16 ≡ (entry-of (product-of at) .args .p + records t) * 16 = omega (arith, e .is, e .some) in (
-      integer (pos 0),
+      integer 0 (pos 0),
       finds (node (product-of at) h) zeroes any,
       zero-put w _ q rest (omega (arith, e .some, e .within)) (ap (λ n. drop n w) place ∙ ready-after h) (wrote .write-record .ensures),
       refl,
