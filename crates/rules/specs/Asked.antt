@@ -1,9 +1,8 @@
 -- What the rules are asked with, and what they answer: "The rules, each tried on one node", tried in the paper's order.
-use Prim.Native.Nat.{ℕ, _+_, _*_, _≤_}
+use Prim.Native.Nat.{ℕ, _+_, _*_, _≤_, _<_}
 use mathlib.Core.Path.{_≡_}
 use mathlib.Core.List.{List, _++_}
 use lib.ListN.{length, take, drop}
-use Rattle.paper.specs.Limits.{maxWeight}
 use Rattle.paper.specs.Tree.{Tree, weight}
 use Rattle.paper.specs.WellFormed.{WF}
 use Rattle.paper.specs.Table.{encode}
@@ -13,13 +12,14 @@ use Rattle.rules.specs.declared.Asked.{Asked}
 use Rattle.rules.specs.declared.Asked.the-variants.{Nothing, Step, Over}
 
 -- a well-formed tree t stands at the head of what is pending, from record p of `work` on, and `rest` after it; d records of `out` are
--- done, and there is room for all that a rule may write
+-- done, and there is room for all that a rule may write: for each unit of the weight one record, and one entry of four bytes in the
+-- walk's table of members
 pub record Ready (out work : List ℕ) (d p : ℕ) (t : Tree) (rest : List ℕ) : Type 0 where
   pub wf : WF t
-  pub light : weight t ≤ maxWeight
+  pub light : weight t < 65536
   pub stands : drop (p * 16) work ≡ encode t ++ rest
   pub out-room : 16 * (d + weight t) ≤ length out
-  pub work-room : 16384 + (16 * weight t + length rest) ≤ length work
+  pub work-room : 20 * weight t + length rest ≤ length work
 
 -- what each answer says of t: `Nothing`, no rule applies and t is pending as it was; `Step k q`, the step k applies and its result is
 -- pending from record q on in place of t; `Over`, a rule "meets an integer outside the signed 64-bit range". What is done stays.

@@ -4,7 +4,6 @@ use mathlib.Core.Path.{_≡_}
 use mathlib.Core.Bool.{Bool}
 use mathlib.Core.List.{List, _++_}
 use lib.ListN.{length, take, drop}
-use Rattle.paper.specs.Limits.{maxWeight}
 use Rattle.paper.specs.Tree.{Tree, Forest, weights, count, records, recordses, ofList}
 use Rattle.paper.specs.WellFormed.{WFs}
 use Rattle.paper.specs.Record.{countIn}
@@ -28,11 +27,11 @@ Answers x rest out out' work work' d p Over = x ≡ paper.range-exceeded
 pub record Held (out work : List ℕ) (d p : ℕ) (f : Forest) (rest : List ℕ) : Type 0 where
   pub wf : WFs f
   pub two : 2 ≤ count f
-  pub light : 1 + weights f ≤ maxWeight
+  pub light : 1 + weights f < 65536
   pub counted : countIn work p ≡ count f
   pub stand : drop ((p + 1) * 16) work ≡ encodes f ++ rest
   pub out-room : 16 * (d + (1 + weights f)) ≤ length out
-  pub work-room : 16384 + (16 * (1 + weights f) + length rest) ≤ length work
+  pub work-room : 20 * (1 + weights f) + length rest ≤ length work
 
 -- of those members, what a function that only reads asks for
 pub record MembersIn (s : List ℕ) (p : ℕ) (f : Forest) : Type 0 where

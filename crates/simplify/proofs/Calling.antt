@@ -10,6 +10,7 @@ use lib.Seq.{length-take-le}
 use lib.Dec.{eqb}
 use borrow.Author.Tests.{eq-eqb, ne-eqb, lt-ltb, le-ltb}
 use borrow.Rule.Slice.PartMut.{putMid, mid-len}
+use Rattle.paper.specs.Limits.{maxWeight}
 use Rattle.paper.specs.Bytes.{Bytes, stretch}
 use Rattle.paper.specs.Tree.{Tree, weight}
 use Rattle.paper.specs.Verdict.{accepted, isAccepted, tableWeight, verdict}
@@ -21,7 +22,7 @@ use Rattle.table.specs.declared.Measured.{Measured}
 use Rattle.table.specs.Measured as table
 use Rattle.simplify.specs.declared.Answer.{Answer}
 use Rattle.simplify.specs.Answer.{says, lent, gives, filled, Lending, Leaves}
-use Rattle.simplify.proofs.Runs.{drives}
+use Rattle.driver.proofs.Runs.{drives}
 
 -- a stretch that was lent and filled
 pub lent-stretch : (n : ℕ) (d l xs : List ℕ) → n ≤ length d → l ≡ filled (length (take (n - 0) (drop 0 d))) xs → putMid 0 (n - 0) d l ≡ stretch n xs d
@@ -84,7 +85,7 @@ module _ (s : List ℕ) (m : Measured) (e : table.says m ≡ paper.weighed s) wh
     pub holds : Bytes s → Holds s
     holds b = accepted-holds s b fine
 
-    pub light : Bytes s → m .result ≤ 3072
+    pub light : Bytes s → m .result ≤ maxWeight
     light b = omega (arith, weight-is, holds b .weighs, holds b .light)
 
     -- refusal 6
@@ -141,7 +142,7 @@ module _ {s : List ℕ} {m : Measured} {out steps work : List ℕ} (c : Accepted
       let lw = mid-len 0 65536 work (c .work-room) in
       record {
         wf = k .wf;
-        light = l;
+        light = omega arith;
         written = k .written;
         weighs = w;
         out-room = omega arith;

@@ -7,18 +7,18 @@ use native.Mathlib.Omega.{arith}
 use lib.ListN.{length, take, drop, replicate, length-replicate, drop-of-length-le}
 use Rattle.paper.specs.Tree.{Tree, records, weight}
 use Rattle.paper.specs.Record.{weightFrom}
-use Rattle.paper.specs.Table.{encode, treeOf}
+use Rattle.paper.specs.Table.{encode}
 use Rattle.paper.specs.Driver.{over}
 use Rattle.paper.specs.Answers as paper
 use Rattle.paper.proofs.EncodeLaws.{encode-length, records-weight}
 use Rattle.paper.proofs.TableLaws.{weight-there}
-use Rattle.paper.proofs.ReadLaws.{tree-of-written}
 use Rattle.stretch.specs.Put.{part, put}
 use Rattle.stretch.proofs.Laws.{drop-put-at, part-whole}
 use Rattle.simplify.specs.declared.Answer.{Answer}
 use Rattle.simplify.specs.Answer.{says, filled, Lending, Leaves}
-use Rattle.simplify.specs.Driven.{Set, Drove}
-use Rattle.simplify.proofs.Runs.{drives, drives-kept, run-lighter}
+use Rattle.driver.specs.Driven.{Set, Drove}
+use Rattle.driver.proofs.Forests.{few-records, tree-once}
+use Rattle.driver.proofs.Runs.{drives, drives-kept, run-lighter}
 
 -- an area cleared from a place on
 pub clear-end : (d xs : List ℕ) (a : ℕ) → take a d ≡ xs → length xs ≡ a → a ≤ length d → put d a (replicate (length d - a) 0) ≡ filled (length d) xs
@@ -38,9 +38,8 @@ clear-all d = let z : length d - 0 ≡ length d = omega arith in ap (λ i. put d
 -- two trees of one table are one
 pub lending-once : {table out steps work : List ℕ} {w : ℕ} {t u : Tree} → Lending table out steps work w t → Lending table out steps work w u → t ≡ u
 lending-once {table = table} {t = t} {u = u} a b =
-    let x = ap treeOf (a .written) ∙ tree-of-written t (a .wf) (a .light) in
-    let y = ap treeOf (b .written) ∙ tree-of-written u (b .wf) (b .light) in
-    cc
+    let same = ap (λ (s : List ℕ). s ++ []) (sym (a .written) ∙ b .written) in
+    tree-once t u [] [] (a .wf) (b .wf) (few-records t (a .light)) (few-records u (b .light)) same .0
 
 module _ {table out steps work : List ℕ} {w : ℕ} {t : Tree} (h : Lending table out steps work w t) where
   pub for-every : (Q : Tree → Type 0) → Q t → (u : Tree) → Lending table out steps work w u → Q u

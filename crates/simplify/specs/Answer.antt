@@ -1,9 +1,8 @@
 -- The simplifier's answer in the paper's terms, and what a run leaves in the areas that it is lent.
-use Prim.Native.Nat.{ℕ, _+_, _-_, _*_, _/_, _≤_}
+use Prim.Native.Nat.{ℕ, _-_, _*_, _/_, _≤_, _<_}
 use mathlib.Core.Path.{_≡_}
 use mathlib.Core.List.{List, [], _++_}
 use lib.ListN.{length, replicate}
-use Rattle.paper.specs.Limits.{maxWeight}
 use Rattle.paper.specs.Tree.{Tree, weight}
 use Rattle.paper.specs.WellFormed.{WF}
 use Rattle.paper.specs.Table.{encode}
@@ -38,12 +37,12 @@ filled n xs = xs ++ replicate (n - length xs) 0
 -- the table holds the tree t, of weight w, and the areas have room for a run on it
 pub record Lending (table out steps work : List ℕ) (w : ℕ) (t : Tree) : Type 0 where
   pub wf : WF t
-  pub light : weight t ≤ maxWeight
+  pub light : weight t < 65536
   pub written : table ≡ encode t
   pub weighs : w ≡ weight t
   pub out-room : 16 * w ≤ length out
   pub steps-room : w ≤ length steps
-  pub work-room : 16384 + 16 * w ≤ length work
+  pub work-room : 20 * w ≤ length work
   pub work-records : length work ≡ 16 * (length work / 16)
 
 -- what the run r, on a tree of weight w, answers and leaves in areas that are its own from end to end

@@ -1,6 +1,4 @@
 // The simplifier: it judges a table, lends exact stretches to a run of the driver, and clears what the run leaves.
-mod driver;
-
 ghost use mathlib.Core.Path.{_≡_};
 ghost use mathlib.Core.List.{List};
 ghost use Prim.Native.Nat.{ℕ};

@@ -6,11 +6,11 @@ use mathlib.Core.List.{[]}
 use native.Mathlib.Omega.{arith}
 use lib.ListN.{length}
 use borrow.Author.Needs.{needs}
-use Rattle.simplify.specs.declared.driver.Driven.{Driven as Answer}
-use Rattle.simplify.specs.declared.driver.Driven.the-variants as driven-as
+use Rattle.driver.specs.declared.Driven.{Driven as Answer}
+use Rattle.driver.specs.declared.Driven.the-variants as driven-as
 use Rattle.simplify.specs.Answer.{Leaves}
-use Rattle.simplify.specs.Driven.{Set, DrivenIs, Drove}
-use Rattle.simplify.proofs.Runs.{drives}
+use Rattle.driver.specs.Driven.{Set, DrivenIs, Drove}
+use Rattle.driver.proofs.Runs.{drives}
 use Rattle.simplify.proofs.Running.{for-every, table-fits, set-up, left-over, done-fits, left-done}
 use Rattle.simplify.proofs.run.Statement.{statement}
 use Rattle.simplify.proofs.run.Tie as tie

@@ -1,0 +1,147 @@
+-- The four functions of the driver, which call each other, meet their contracts: each need of each function is answered in the module
+-- of its name below this one, and the measures in Cycle fall with every call. Assumes nothing.
+mod Cycle
+mod Drive
+mod Member
+mod Members
+mod Pass
+use Rattle.driver.proofs.drive.Reads as drive
+use Rattle.driver.proofs.+drive+drive_member+drive_members+pass.Lts-drive as drive-lts
+use Rattle.driver.proofs.+drive+drive_member+drive_members+pass.Proof.Drive as Drive
+use Rattle.driver.proofs.drive_member.Reads as drive-member
+use Rattle.driver.proofs.+drive+drive_member+drive_members+pass.Lts-drive_member as drive-member-lts
+use Rattle.driver.proofs.+drive+drive_member+drive_members+pass.Proof.Member as Member
+use Rattle.driver.proofs.drive_members.Reads as drive-members
+use Rattle.driver.proofs.+drive+drive_member+drive_members+pass.Lts-drive_members as drive-members-lts
+use Rattle.driver.proofs.+drive+drive_member+drive_members+pass.Proof.Members as Members
+use Rattle.driver.proofs.pass.Reads as pass
+use Rattle.driver.proofs.+drive+drive_member+drive_members+pass.Lts-pass as pass-lts
+use Rattle.driver.proofs.+drive+drive_member+drive_members+pass.Proof.Pass as Pass
+use Rattle.driver.proofs.+drive+drive_member+drive_members+pass.Proof.Cycle.{μ-drive, μ-drive-member, μ-drive-members, μ-pass}
+use Rattle.driver.proofs.+drive+drive_member+drive_members+pass.Proof.Cycle.{drive-at, drive-member-at, drive-members-at, pass-at}
+use Rattle.driver.proofs.+drive+drive_member+drive_members+pass.{statement}
+use Rattle.driver.proofs.+drive+drive_member+drive_members+pass.Tie.{close}
+
+pub +drive+drive-member+drive-members+pass-spec : {M : Type 1} → statement M
++drive+drive-member+drive-members+pass-spec =
+    close μ-drive μ-drive-member μ-drive-members μ-pass
+    (λ t. drive-lts.spec (Drive.claims t) (drive-at t) drive.Post Drive.Inv Drive.μ
+    (Drive.loop-holds t)
+    (Drive.ask-requires t)
+    (Drive.enum-told t)
+    (Drive.same-length t)
+    (Drive.same-length-2 t)
+    (Drive.same-length-3 t)
+    (Drive.returns t)
+    (Drive.enum-known-asked t)
+    (Drive.slice-write-steps t)
+    (Drive.add-n t)
+    (Drive.loop-less t)
+    (Drive.loop-again t)
+    (Drive.enum-told-2 t)
+    (Drive.mul-copy-bytes t)
+    (Drive.mul-copy-bytes-2 t)
+    (Drive.mul-copy-bytes-3 t)
+    (Drive.copy-bytes-requires t)
+    (Drive.add-t29 t)
+    (Drive.add-t33 t)
+    (Drive.same-length-4 t)
+    (Drive.same-length-5 t)
+    (Drive.same-length-6 t)
+    (Drive.returns-2 t)
+    (Drive.pass-requires t)
+    (Drive.enum-known-g t)
+    (Drive.same-length-7 t)
+    (Drive.same-length-8 t)
+    (Drive.same-length-9 t)
+    (Drive.returns-3 t)
+    (Drive.enum-known-g-2 t)
+    (Drive.sub-if2 t)
+    (Drive.add-if2 t)
+    (Drive.same-length-10 t)
+    (Drive.same-length-11 t)
+    (Drive.same-length-12 t)
+    (Drive.returns-4 t)
+    (Drive.add-o t)
+    (Drive.sub-size t)
+    (Drive.sub-at t)
+    (Drive.mul-copy-bytes-4 t)
+    (Drive.mul-copy-bytes-5 t)
+    (Drive.mul-copy-bytes-6 t)
+    (Drive.copy-bytes-requires-2 t)
+    (Drive.loop-less-2 t)
+    (Drive.loop-again-2 t))
+    (λ t. drive-member-lts.spec (Member.claims t) (drive-member-at t) drive-member.Post
+    (Member.kind-requires t)
+    (Member.bits-requires t)
+    (Member.write-record-requires t)
+    (Member.add-t25 t)
+    (Member.add-t26 t)
+    (Member.same-length t)
+    (Member.same-length-2 t)
+    (Member.returns t)
+    (Member.drive-requires t)
+    (Member.enum-known-g t)
+    (Member.enum-known-g-2 t)
+    (Member.kind-requires-2 t)
+    (Member.opens-requires t)
+    (Member.count-requires t)
+    (Member.mul-shift-left t)
+    (Member.mul-shift-left-2 t)
+    (Member.add-shift-left t)
+    (Member.sub-shift-left t)
+    (Member.sub-shift-left-2 t)
+    (Member.mul-shift-left-3 t)
+    (Member.shift-left-requires t)
+    (Member.sub-t43 t)
+    (Member.add-t48 t)
+    (Member.same-length-3 t)
+    (Member.same-length-4 t)
+    (Member.same-length-5 t)
+    (Member.returns-2 t)
+    (Member.same-length-6 t)
+    (Member.same-length-7 t)
+    (Member.same-length-8 t)
+    (Member.returns-3 t)
+    (Member.same-length-9 t)
+    (Member.same-length-10 t)
+    (Member.same-length-11 t)
+    (Member.returns-4 t))
+    (λ t. drive-members-lts.spec (Members.claims t) (drive-members-at t) drive-members.Post Members.Inv Members.μ
+    (Members.loop-holds t)
+    (Members.drive-member-requires t)
+    (Members.enum-known-g t)
+    (Members.same-length t)
+    (Members.same-length-2 t)
+    (Members.same-length-3 t)
+    (Members.returns t)
+    (Members.enum-known-g-2 t)
+    (Members.add-o t)
+    (Members.add-m t)
+    (Members.add-i t)
+    (Members.loop-less t)
+    (Members.loop-again t)
+    (Members.same-length-4 t)
+    (Members.same-length-5 t)
+    (Members.same-length-6 t)
+    (Members.returns-2 t))
+    (λ t. pass-lts.spec (Pass.claims t) (pass-at t) pass.Post
+    (Pass.kind-requires t)
+    (Pass.arity-requires t)
+    (Pass.mul-copy-bytes t)
+    (Pass.mul-copy-bytes-2 t)
+    (Pass.copy-bytes-requires t)
+    (Pass.add-drive-members t)
+    (Pass.add-drive-members-2 t)
+    (Pass.drive-members-requires t)
+    (Pass.enum-known-g t)
+    (Pass.enum-known-g-2 t)
+    (Pass.close-up-requires t)
+    (Pass.same-length t)
+    (Pass.same-length-2 t)
+    (Pass.same-length-3 t)
+    (Pass.returns t)
+    (Pass.same-length-4 t)
+    (Pass.same-length-5 t)
+    (Pass.same-length-6 t)
+    (Pass.returns-2 t))

@@ -1,0 +1,191 @@
+-- The gathered node is closed up: the first record of a leaf or a power stays; that of a sum or a product gets the number of its
+-- members, where these are two or more; one member takes the node's place, and none leaves 0 or 1, as after a rule. By cases on the
+-- node and on the list. Assumes nothing.
+use Prim.Native.Nat.{ℕ, _+_, _-_, _*_, _<_, _≤_}
+use mathlib.Core.Path.{_≡_, refl, sym, ap, _∙_, subst}
+use mathlib.Core.List.{List, [], _∷_, _++_, append-nil, append-assoc}
+use native.Mathlib.Omega.{arith}
+use lib.IntN.{pos}
+use lib.ListN.{length, take, drop, length-append, take-append-drop}
+use lib.Seq.{length-take-le, drop-at, take-at, take-take, drop-drop}
+use Rattle.paper.specs.Bytes.{word}
+use Rattle.paper.specs.Tree.{Tree, Forest, integer, symbol, sum, product, power, ofList, records}
+use Rattle.paper.specs.Table.{recordOf, encode}
+use Rattle.paper.specs.Rules.{collapse, sumOf, productOf}
+use Rattle.paper.specs.Driver.{baseFrom}
+use Rattle.paper.proofs.EncodeLaws.{record-length, encodes-length}
+use Rattle.paper.proofs.GatherLaws.{collapse-none}
+use Rattle.paper.proofs.WFLaws.{list-count}
+use Rattle.stretch.specs.Put.{part, put}
+use Rattle.stretch.proofs.Laws.{take-put-end}
+use Rattle.driver.specs.Driven.{encodeAll, recordsAll, kindNumber, firstRecord, closedOver, Shape, Gathers, Closed}
+use Rattle.driver.proofs.Forests.{first-length, exponent-record}
+use Rattle.driver.proofs.Places.{none-of, part-end}
+
+-- another first record before what stands after it
+new-front : (o x f y r : List ℕ) (a m : ℕ) → take m o ≡ x ++ (f ++ y) → length x ≡ a → length f ≡ length r → m ≤ length o
+    → take m (put o a r) ≡ x ++ (r ++ y)
+unfolding put
+new-front o x f y r a m e l k h =
+    let z : List ℕ = drop m o in
+    let whole : o ≡ x ++ (f ++ (y ++ z)) =
+    sym (take-append-drop m o) ∙ ap (λ (i : List ℕ). i ++ z) e ∙ append-assoc x (f ++ y) z ∙ ap (λ (i : List ℕ). x ++ i) (append-assoc f y z) in
+    let fr : take a o ≡ x = ap (take a) whole ∙ take-at x (f ++ (y ++ z)) a l in
+    let bk : drop (a + length r) o ≡ y ++ z =
+    sym (drop-drop (length r) a o) ∙ ap (λ (i : List ℕ). drop (length r) (drop a i)) whole
+    ∙ ap (drop (length r)) (drop-at x (f ++ (y ++ z)) a l) ∙ drop-at f (y ++ z) (length r) k in
+    let long : length (x ++ (r ++ y)) ≡ m =
+    length-append x (r ++ y) ∙ omega (arith, length-append r y, ap length e, length-append x (f ++ y), length-append f y, length-take-le m o h) in
+    ap (λ (i : List ℕ). take m (i ++ (r ++ drop (a + length r) o))) fr
+    ∙ ap (λ (i : List ℕ). take m (x ++ (r ++ i))) bk
+    ∙ ap (take m) (ap (λ (i : List ℕ). x ++ i) (sym (append-assoc r y z)) ∙ sym (append-assoc x (r ++ y) z))
+    ∙ take-at (x ++ (r ++ y)) z m long
+
+module _ {t : Tree} {l : List Tree} {out : List ℕ} {d e k m : ℕ} (g : Gathers t l out d e k m) (in-out : e * 16 ≤ length out) where
+  x : List ℕ
+  x = take (d * 16) out
+
+  x-long : length x ≡ d * 16
+  unfolding x
+  x-long = length-take-le (d * 16) out (omega (arith, g .end))
+
+  there : take (e * 16) out ≡ x ++ (firstRecord t ++ encodeAll l)
+  unfolding x
+  there =
+      sym (take-append-drop (d * 16) (take (e * 16) out))
+      ∙ ap (λ (i : List ℕ). i ++ drop (d * 16) (take (e * 16) out)) (take-take (d * 16) (e * 16) out (omega (arith, g .end)))
+      ∙ ap (λ (i : List ℕ). take (d * 16) out ++ i) (g .there)
+
+-- ---- a leaf or a power: what stands there is the tree
+abbrev Same : Tree → List Tree → Type 0
+Same t l = (firstRecord t ++ encodeAll l ≡ encode (closedOver t l)) × (1 + recordsAll l ≡ records (closedOver t l))
+
+same-leaf : (t : Tree) (l : List Tree) → Shape t l → kindNumber t < 2 → Same t l
+unfolding kindNumber firstRecord closedOver encode records ofList
+same-leaf (integer μ z) l s h = (ap (λ i. recordOf 0 0 (word z) ++ encodeAll i) s ∙ append-nil (recordOf 0 0 (word z)), ap (λ i. 1 + recordsAll i) s)
+same-leaf (symbol μ v) l s h = (ap (λ i. recordOf 1 0 v ++ encodeAll i) s ∙ append-nil (recordOf 1 0 v), ap (λ i. 1 + recordsAll i) s)
+same-leaf (sum μ f) l s h = absurd (omega arith)
+same-leaf (product μ f) l s h = absurd (omega arith)
+same-leaf (power μ b ξ x) l s h = absurd (omega arith)
+
+same-power : (t : Tree) (l : List Tree) → Shape t l → 3 < kindNumber t → Same t l
+unfolding kindNumber firstRecord closedOver encode records baseFrom ofList
+same-power (integer μ z) l s h = absurd (omega arith)
+same-power (symbol μ v) l s h = absurd (omega arith)
+same-power (sum μ f) l s h = absurd (omega arith)
+same-power (product μ f) l s h = absurd (omega arith)
+same-power (power μ b ξ n) l s h =
+    let u : Tree = s .1 .0 in
+    subst (λ i. Same (power μ b ξ n) i) (sym (s .1 .1))
+    (ap (λ (i : List ℕ). recordOf 4 0 0 ++ (encode u ++ i)) (append-nil (encode (integer ξ (pos n))) ∙ exponent-record ξ n (s .0)), omega arith)
+
+module _ {t : Tree} {l : List Tree} {out : List ℕ} {d e k m : ℕ} (g : Gathers t l out d e k m) (in-out : e * 16 ≤ length out) where
+  stays : Same t l → Closed (closedOver t l) out out d e
+  unfolding x
+  stays s = record { end = g .end ∙ let r = s .1 in omega arith; wrote = there g in-out ∙ ap (λ (i : List ℕ). take (d * 16) out ++ i) (s .0) }
+
+  pub leaf-stays : k < 2 → Closed (closedOver t l) out out d e
+  leaf-stays h = stays (same-leaf t l (g .shape) (omega (arith, g .kind-is)))
+
+  pub power-stays : 3 < k → Closed (closedOver t l) out out d e
+  power-stays h = stays (same-power t l (g .shape) (omega (arith, g .kind-is)))
+
+-- ---- a sum or a product, over the kind: which tree the collapse of none gives, and which node
+pub record Collapses (t : Tree) (k : ℕ) : Type 0 where
+  pub node : Forest → Tree
+  pub is : (l : List Tree) → closedOver t l ≡ collapse (integer 0 (pos (k - 2))) node l
+  pub written : (l : List Tree) → encode (node (ofList l)) ≡ recordOf k (length l) 0 ++ encodeAll l
+  pub recorded : (l : List Tree) → records (node (ofList l)) ≡ 1 + recordsAll l
+  pub low : (k - 2) < 2
+
+pub collapses : (t : Tree) → (2 ≤ kindNumber t) → (kindNumber t ≤ 3) → Collapses t (kindNumber t)
+unfolding kindNumber closedOver sumOf productOf encode records
+collapses (integer μ z) a b = absurd (omega arith)
+collapses (symbol μ v) a b = absurd (omega arith)
+collapses (sum μ f) a b =
+    record {
+      node = sum 0;
+      is = λ l. refl;
+      written = λ l. ap (λ n. recordOf 2 n 0 ++ encodeAll l) (list-count l);
+      recorded = λ l. refl;
+      low = omega arith;
+    }
+collapses (product μ f) a b =
+    record {
+      node = product 0;
+      is = λ l. refl;
+      written = λ l. ap (λ n. recordOf 3 n 0 ++ encodeAll l) (list-count l);
+      recorded = λ l. refl;
+      low = omega arith;
+    }
+collapses (power μ b ξ x) a c = absurd (omega arith)
+
+unit-word : (n : ℕ) → n < 2 → encode (integer 0 (pos n)) ≡ recordOf 0 0 n
+unit-word n h = exponent-record 0 n (omega arith)
+
+module _ {t : Tree} {l : List Tree} {out : List ℕ} {d e k m : ℕ} (g : Gathers t l out d e k m) (in-out : e * 16 ≤ length out) (lo : 2 ≤ k) (hi : k ≤ 3) where
+  c : Collapses t k
+  c = subst (Collapses t) (sym (g .kind-is)) (collapses t (omega (arith, g .kind-is)) (omega (arith, g .kind-is)))
+
+  within : d * 16 + 16 ≤ length out
+  within = omega (arith, g .end)
+
+  pub none-left : m < 1 → (out' : List ℕ) → out' ≡ put out (d * 16) (recordOf 0 0 (k - 2)) → Closed (closedOver t l) out out' d (d + 1)
+  unfolding collapse records
+  none-left h out' w =
+      let z : l ≡ [] = none-of l (omega (arith, g .many)) in
+      let q : closedOver t l ≡ integer 0 (pos (k - 2)) = ap (closedOver t) z ∙ c .is [] in
+      let f = within in
+      let r : (d + 1) * 16 ≡ d * 16 + length (recordOf 0 0 (k - 2)) = omega (arith, record-length 0 0 (k - 2)) in
+      subst (λ u. Closed u out out' d (d + 1)) (sym q)
+      (record {
+        end = refl;
+        wrote =
+            ap (take ((d + 1) * 16)) w ∙ take-put-end out (d * 16) (recordOf 0 0 (k - 2)) ((d + 1) * 16) r (omega arith)
+            ∙ ap (λ (i : List ℕ). take (d * 16) out ++ i) (sym (unit-word (k - 2) (c .low)));
+      })
+
+  pub one-left : 1 ≤ m → m < 2 → (out' : List ℕ) → out' ≡ put out (d * 16) (part out (d * 16 + 16) ((e - d - 1) * 16))
+      → Closed (closedOver t l) out out' d (e - 1)
+  unfolding collapse records encode x ofList
+  one-left a b out' w = go l refl (omega (arith, g .many))
+    where
+      go : (i : List Tree) → l ≡ i → length i ≡ 1 → Closed (closedOver t l) out out' d (e - 1)
+      go [] z h = absurd (omega arith)
+      go (u ∷ v ∷ i) z h = absurd (omega arith)
+      go (u ∷ []) z h =
+          let q : closedOver t l ≡ u = ap (closedOver t) z ∙ c .is (u ∷ []) in
+          let y : encodeAll l ≡ encode u = ap encodeAll z ∙ append-nil (encode u) in
+          let n : recordsAll l ≡ records u + 0 = ap recordsAll z in
+          let s : take (e * 16) out ≡ (take (d * 16) out ++ firstRecord t) ++ encodeAll l
+          = there g in-out ∙ sym (append-assoc (take (d * 16) out) (firstRecord t) (encodeAll l)) in
+          let p : length (take (d * 16) out ++ firstRecord t) ≡ d * 16 + 16
+          = length-append (take (d * 16) out) (firstRecord t) ∙ omega (arith, x-long g in-out, first-length t) in
+          let j : length (encodeAll l) ≡ (e - d - 1) * 16 = omega (arith, encodes-length (ofList l), g .end) in
+          let o : e * 16 ≡ d * 16 + 16 + (e - d - 1) * 16 = omega (arith, g .end) in
+          let r : (e - 1) * 16 ≡ d * 16 + length (encodeAll l) = omega (arith, g .end) in
+          let f = within in
+          subst (λ v. Closed v out out' d (e - 1)) (sym q)
+          (record {
+            end = omega (arith, g .end);
+            wrote =
+                ap (take ((e - 1) * 16))
+                (w ∙ ap (put out (d * 16)) (part-end out (take (d * 16) out ++ firstRecord t) (encodeAll l) (d * 16 + 16)
+                ((e - d - 1) * 16) (e * 16) s o p j (omega arith)))
+                ∙ take-put-end out (d * 16) (encodeAll l) ((e - 1) * 16) r (omega arith)
+                ∙ ap (λ (i : List ℕ). take (d * 16) out ++ i) y;
+          })
+
+  pub two-left : 2 ≤ m → (out' : List ℕ) → out' ≡ put out (d * 16) (recordOf k m 0) → Closed (closedOver t l) out out' d e
+  unfolding x
+  two-left h out' w =
+      let q : closedOver t l ≡ c .node (ofList l) = c .is l ∙ collapse-none (integer 0 (pos (k - 2))) (c .node) l (omega (arith, g .many)) in
+      let f : length (firstRecord t) ≡ length (recordOf k m 0) = first-length t ∙ sym (record-length k m 0) in
+      subst (λ u. Closed u out out' d e) (sym q)
+      (record {
+        end = g .end ∙ omega (arith, c .recorded l);
+        wrote =
+            ap (take (e * 16)) w
+            ∙ new-front out (take (d * 16) out) (firstRecord t) (encodeAll l) (recordOf k m 0) (d * 16) (e * 16) (there g in-out) (x-long g in-out) f in-out
+            ∙ ap (λ (i : List ℕ). take (d * 16) out ++ i) (ap (λ n. recordOf k n 0 ++ encodeAll l) (g .many) ∙ sym (c .written l));
+      })

@@ -1,0 +1,127 @@
+-- Trees that stand one after the other. Their records, and what they weigh, are those of the forest of them, so the paper's laws of
+-- forests hold of them; a node is its first record and its members; and bytes hold one tree, and one list of trees of a given length,
+-- at the most, since reading gives back what was written. Assumes nothing.
+use Prim.Native.Nat.{ℕ, _+_, _*_, _^_, _<_, _≤_}
+use mathlib.Core.Path.{_≡_, refl, sym, ap, _∙_, subst}
+use mathlib.Core.List.{List, [], _∷_, _++_, append-assoc, append-nil}
+use mathlib.Core.Option.{Option, some}
+use native.Mathlib.Omega.{arith}
+use native.Mathlib.Nat.{mod-eq-of-lt}
+use lib.ListN.{length, take}
+use lib.Seq.{length-take-le}
+use lib.IntN.{pos}
+use Rattle.paper.specs.Limits.{modulus}
+use Rattle.paper.specs.Bytes.{word}
+use Rattle.paper.specs.Tree.{Tree, integer, symbol, sum, product, power, ofList, count, records, recordses, weight}
+use Rattle.paper.specs.WellFormed.{WF, WFl}
+use Rattle.paper.specs.Table.{recordOf, encode, encodes, readTree}
+use Rattle.paper.specs.Driver.{members}
+use Rattle.paper.proofs.EncodeLaws.{record-length, records-weight, recordses-weights, count-records}
+use Rattle.paper.proofs.WFLaws.{list-count, of-to-list}
+use Rattle.paper.proofs.ReadLaws.{read-written}
+use Rattle.paper.proofs.Value.{list-weights}
+use Rattle.paper.proofs.Fuel.{members-lighter}
+use Rattle.driver.specs.Driven.{encodeAll, recordsAll, weightAll, firstRecord, Set, SetAll}
+
+-- ---- lists of trees
+pub encode-both : (l m : List Tree) → encodeAll (l ++ m) ≡ encodeAll l ++ encodeAll m
+unfolding encode ofList
+encode-both [] m = refl
+encode-both (t ∷ l) m = ap (λ (x : List ℕ). encode t ++ x) (encode-both l m) ∙ sym (append-assoc (encode t) (encodeAll l) (encodeAll m))
+
+pub records-both : (l m : List Tree) → recordsAll (l ++ m) ≡ recordsAll l + recordsAll m
+unfolding records ofList
+records-both [] m = omega arith
+records-both (t ∷ l) m = omega (arith, records-both l m)
+
+pub weight-both : (l m : List Tree) → weightAll (l ++ m) ≡ weightAll l + weightAll m
+unfolding weight ofList
+weight-both [] m = omega arith
+weight-both (t ∷ l) m = omega (arith, weight-both l m)
+
+pub all-many : (l : List Tree) → length l ≤ recordsAll l
+all-many l = omega (arith, count-records (ofList l), list-count l)
+
+-- ---- a node: its first record, and its members
+pub first-length : (t : Tree) → length (firstRecord t) ≡ 16
+unfolding firstRecord
+first-length (integer μ z) = record-length 0 0 (word z)
+first-length (symbol μ s) = record-length 1 0 s
+first-length (sum μ f) = record-length 2 (count f) 0
+first-length (product μ f) = record-length 3 (count f) 0
+first-length (power μ b ξ e) = record-length 4 0 0
+
+pub exponent-record : (ξ e : ℕ) → e < 2 ^ 63 → encode (integer ξ (pos e)) ≡ recordOf 0 0 e
+unfolding encode word
+exponent-record ξ e h = ap (recordOf 0 0) (mod-eq-of-lt {n = e} {m = modulus} (omega arith))
+
+pub encode-first : (t : Tree) → WF t → encode t ≡ firstRecord t ++ encodeAll (members t)
+unfolding encode firstRecord members ofList
+encode-first (integer μ z) w = sym (append-nil (recordOf 0 0 (word z)))
+encode-first (symbol μ s) w = sym (append-nil (recordOf 1 0 s))
+encode-first (sum μ f) w = ap (λ g. recordOf 2 (count f) 0 ++ encodes g) (sym (of-to-list f))
+encode-first (product μ f) w = ap (λ g. recordOf 3 (count f) 0 ++ encodes g) (sym (of-to-list f))
+encode-first (power μ b ξ e) w =
+    ap (λ (l : List ℕ). recordOf 4 0 0 ++ (encode b ++ l)) (sym (exponent-record ξ e (w .2)) ∙ sym (append-nil (encode (integer ξ (pos e)))))
+
+pub records-first : (t : Tree) → records t ≡ 1 + recordsAll (members t)
+unfolding records members ofList
+records-first (integer μ z) = refl
+records-first (symbol μ s) = refl
+records-first (sum μ f) = ap (λ g. 1 + recordses g) (sym (of-to-list f))
+records-first (product μ f) = ap (λ g. 1 + recordses g) (sym (of-to-list f))
+records-first (power μ b ξ e) = omega arith
+
+pub members-weigh : (t : Tree) → weightAll (members t) < weight t
+members-weigh t = omega (arith, members-lighter t, list-weights (members t))
+
+-- ---- where a tree is set up, the records done end within the area
+pub front-long : {out work steps : List ℕ} {d p s : ℕ} {t : Tree} {rest : List ℕ} → Set out work steps d p s t rest
+    → length (take (d * 16) out) ≡ d * 16
+front-long {out = out} {d = d} h = length-take-le (d * 16) out (omega (arith, h .ready .out-room))
+
+-- a light tree has few records
+pub few-records : (t : Tree) → weight t < 65536 → records t < 65536
+few-records t l = omega (arith, records-weight t)
+
+-- ---- what stands there is determined
+pub tree-once : (t u : Tree) (r q : List ℕ) → WF t → WF u → records t < 65536 → records u < 65536 → encode t ++ r ≡ encode u ++ q
+    → (t ≡ u) × (r ≡ q)
+tree-once t u r q v w h k e =
+    let n : ℕ = records t + records u in
+    let a : readTree n (encode t ++ r) ≡ some (t, r) = read-written t n r v h (omega arith) in
+    let b : readTree n (encode u ++ q) ≡ some (u, q) = read-written u n q w k (omega arith) in
+    let c : _≡_ {A = Option (Tree × List ℕ)} (some (t, r)) (some (u, q)) = sym a ∙ ap (readTree n) e ∙ b in
+    let d : _≡_ {A = Tree × List ℕ} (t, r) (u, q) = cc in
+    (ap (λ (x : Tree × List ℕ). x .0) d, ap (λ (x : Tree × List ℕ). x .1) d)
+
+pub set-once : {out work steps : List ℕ} {d p s : ℕ} {t u : Tree} {r q : List ℕ}
+    → Set out work steps d p s t r → Set out work steps d p s u q → (t ≡ u) × (r ≡ q)
+set-once {t = t} {u = u} {r = r} {q = q} a b =
+    tree-once t u r q (a .ready .wf) (b .ready .wf) (few-records t (a .ready .light)) (few-records u (b .ready .light))
+    (sym (a .ready .stands) ∙ b .ready .stands)
+
+-- what holds of the tree that is set up, and of what is pending after it, holds of whichever are
+pub for-every : {out work steps : List ℕ} {d p s : ℕ} {t : Tree} {rest : List ℕ} → Set out work steps d p s t rest
+    → (Q : Tree → List ℕ → Type 0) → Q t rest → (u : Tree) (r : List ℕ) → Set out work steps d p s u r → Q u r
+for-every {rest = rest} h Q q u r g =
+    let e = set-once h g in
+    subst (λ x. Q u x) (e .1) (subst (λ x. Q x rest) (e .0) q)
+
+pub trees-once : (l m : List Tree) (r q : List ℕ) → WFl l → WFl m → recordsAll l < 65536 → recordsAll m < 65536 → length l ≡ length m
+    → encodeAll l ++ r ≡ encodeAll m ++ q → (l ≡ m) × (r ≡ q)
+unfolding encode records ofList
+trees-once [] [] r q v w h k n e = (refl, e)
+trees-once [] (u ∷ m) r q v w h k n e = absurd (omega arith)
+trees-once (t ∷ l) [] r q v w h k n e = absurd (omega arith)
+trees-once (t ∷ l) (u ∷ m) r q v w h k n e =
+    let a = tree-once t u (encodeAll l ++ r) (encodeAll m ++ q) (v .0) (w .0) (omega arith) (omega arith)
+    (sym (append-assoc (encode t) (encodeAll l) r) ∙ e ∙ append-assoc (encode u) (encodeAll m) q) in
+    let b = trees-once l m r q (v .1) (w .1) (omega arith) (omega arith) (omega arith) (a .1) in
+    (ap (λ (x : Tree). x ∷ l) (a .0) ∙ ap (λ (x : List Tree). u ∷ x) (b .0), b .1)
+
+pub set-all-once : {out work steps : List ℕ} {d p s : ℕ} {l m : List Tree} {r q : List ℕ}
+    → SetAll out work steps d p s l r → SetAll out work steps d p s m q → length l ≡ length m → (l ≡ m) × (r ≡ q)
+set-all-once {l = l} {m = m} {r = r} {q = q} a b n =
+    trees-once l m r q (a .wf) (b .wf) (omega (arith, recordses-weights (ofList l), a .light)) (omega (arith, recordses-weights (ofList m), b .light)) n
+    (sym (a .stands) ∙ b .stands)

@@ -1,0 +1,13 @@
+pub mod Forests
+pub mod Runs
+pub mod Weighs
+pub mod Settled
+pub mod Places
+pub mod Driving
+pub mod FirstRecords
+pub mod Opening
+pub mod Leaves
+pub mod Membering
+pub mod Passing
+pub mod Closing
+pub mod Unique

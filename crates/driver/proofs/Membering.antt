@@ -1,0 +1,237 @@
+-- The loop over a node's members. Its invariant in continuation style: what is gathered of all the members is what was gathered so
+-- far, before what will be gathered of those left; and all together weigh less by the steps and openings so far. Assumes nothing.
+use Prim.Native.Nat.{ℕ, _+_, _*_, _<_, _≤_}
+use mathlib.Core.Path.{_≡_, refl, sym, ap, _∙_, subst}
+use mathlib.Core.List.{List, [], _∷_, _++_, append-nil, append-assoc}
+use native.Mathlib.Omega.{arith}
+use lib.ListN.{length, take, drop, length-append}
+use Rattle.paper.specs.Tree.{Tree, ofList, records, weight}
+use Rattle.paper.specs.WellFormed.{WF, WFl}
+use Rattle.paper.specs.Table.{encode}
+use Rattle.paper.specs.Verdict.{tableWeight}
+use Rattle.paper.specs.Driver.{overs, each}
+use Rattle.paper.proofs.EncodeLaws.{encodes-length, recordses-weights}
+use Rattle.driver.specs.Driven.{encodeAll, recordsAll, weightAll, inside, openedRuns, Set, SetAll, Gave}
+use Rattle.driver.proofs.Forests.{encode-both, records-both, weight-both, all-many, set-all-once}
+use Rattle.driver.proofs.Weighs.{weighs-all}
+use Rattle.driver.proofs.Runs.{drives, drives-kept, run-lighter, before, joined, before-none, before-joined, gather-first, gather-none, same-dones}
+use Rattle.driver.proofs.Places.{none-of}
+use Rattle.driver.proofs.Opening.{member-weighs}
+
+-- out₀, work₀, steps₀ at the entry, members from record p on; i of the c are driven, and gathered to m up to record e of out
+pub record MInv (out₀ work₀ steps₀ : List ℕ) (k c d p s : ℕ) (out work steps : List ℕ) (i e q n o m : ℕ) : Type 0 where
+  pub l : List Tree
+  pub rest : List ℕ
+  pub many : length l ≡ c
+  pub set-up : SetAll out₀ work₀ steps₀ d p s l rest
+  pub g : List Tree
+  pub r : List Tree
+  pub ks : List ℕ
+  pub wf : WFl r
+  pub stands : drop (q * 16) work ≡ encodeAll r ++ rest
+  pub place : q * 16 + length (encodeAll r ++ rest) ≡ length work
+  pub to-go : length r + i ≡ c
+  pub gathered : m ≡ length g
+  pub end : e ≡ d + recordsAll g
+  pub wrote : take (e * 16) out ≡ take (d * 16) out₀ ++ encodeAll g
+  pub noted-end : n ≡ s + length ks
+  pub noted : take n steps ≡ take s steps₀ ++ ks
+  pub goes-on : openedRuns (inside k) (each drives l) ≡ before g ks o (openedRuns (inside k) (each drives r))
+  pub lighter : weightAll g + (length ks + o) + weightAll r ≤ weightAll l
+  pub out-long : length out ≡ length out₀
+  pub work-long : length work ≡ length work₀
+  pub steps-long : length steps ≡ length steps₀
+
+pub start : {out work steps : List ℕ} {d p s : ℕ} {l : List Tree} {rest : List ℕ} (k c : ℕ) → length l ≡ c → SetAll out work steps d p s l rest
+    → MInv out work steps k c d p s out work steps 0 d p s 0 0
+unfolding encode records weight ofList
+start {out = out} {steps = steps} {d = d} {s = s} {l = l} {rest = rest} k c e h =
+    record {
+      l = l;
+      rest = rest;
+      many = e;
+      set-up = h;
+      g = [];
+      r = l;
+      ks = [];
+      wf = h .wf;
+      stands = h .stands;
+      place = h .place;
+      to-go = omega arith;
+      gathered = refl;
+      end = omega arith;
+      wrote = sym (append-nil (take (d * 16) out));
+      noted-end = omega arith;
+      noted = sym (append-nil (take s steps));
+      goes-on = sym (before-none (openedRuns (inside k) (each drives l)));
+      lighter = omega arith;
+      out-long = refl;
+      work-long = refl;
+      steps-long = refl;
+    }
+
+-- a list that is not empty, by its first tree
+pub record First (r : List Tree) : Type 0 where
+  pub x : Tree
+  pub xs : List Tree
+  pub is : r ≡ x ∷ xs
+
+first : (r : List Tree) → 0 < length r → First r
+first [] h = absurd (omega arith)
+first (t ∷ l) h = record { x = t; xs = l; is = refl }
+
+module _ {out₀ work₀ steps₀ : List ℕ} {k c d p s : ℕ} {out work steps : List ℕ} {i e q n o m : ℕ}
+    (v : MInv out₀ work₀ steps₀ k c d p s out work steps i e q n o m) where
+  pub for-every : (Q : List Tree → List ℕ → Type 0) → Q (v .l) (v .rest) → (l : List Tree) (rest : List ℕ) → length l ≡ c
+      → SetAll out₀ work₀ steps₀ d p s l rest → Q l rest
+  for-every Q z l rest a h =
+      let b = set-all-once (v .set-up) h (v .many ∙ sym a) in
+      subst (λ x. Q l x) (b .1) (subst (λ x. Q x (v .rest)) (b .0) z)
+
+  pub small : (o < 65536) × (m < 65536) × (i ≤ c) × (c < 65536)
+  small =
+      let a = recordses-weights (ofList (v .g)) in
+      let b = all-many (v .g) in
+      let f = recordses-weights (ofList (v .l)) in
+      let j = all-many (v .l) in (
+        omega (arith, v .lighter, v .set-up .light),
+        omega (arith, v .gathered, v .lighter, v .set-up .light),
+        omega (arith, v .to-go),
+        omega (arith, v .many, v .set-up .light),
+      )
+
+  weighs-now : tableWeight (drop (q * 16) work) ≡ weightAll (v .r) + tableWeight (v .rest)
+  weighs-now = ap tableWeight (v .stands) ∙ weighs-all (v .r) (v .rest)
+
+  weighs-then : tableWeight (drop (p * 16) work₀) ≡ weightAll (v .l) + tableWeight (v .rest)
+  weighs-then = ap tableWeight (v .set-up .stands) ∙ weighs-all (v .l) (v .rest)
+
+  pub no-heavier : tableWeight (drop (q * 16) work) ≤ tableWeight (drop (p * 16) work₀)
+  no-heavier = omega (arith, weighs-now, weighs-then, v .lighter)
+
+  -- the next member
+  module _ (h : i < c) where
+    pub f : First (v .r)
+    f = first (v .r) (omega (arith, v .to-go))
+
+    abbrev pub x : Tree
+    x = f .x
+
+    abbrev pub rest-after : List ℕ
+    rest-after = encodeAll (f .xs) ++ v .rest
+
+    weight-next : weightAll (v .r) ≡ weight x + weightAll (f .xs)
+    unfolding weight ofList
+    weight-next = ap weightAll (f .is)
+
+    stands-next : drop (q * 16) work ≡ encode x ++ rest-after
+    unfolding encode ofList
+    stands-next = v .stands ∙ ap (λ r. encodeAll r ++ v .rest) (f .is) ∙ append-assoc (encode x) (encodeAll (f .xs)) (v .rest)
+
+    wf-next : WF x × WFl (f .xs)
+    wf-next = subst WFl (f .is) (v .wf)
+
+    pub set-next : Set out work steps e q n x rest-after
+    set-next =
+        let a = recordses-weights (ofList (v .g)) in
+        let b = weight-next in
+        let w = recordses-weights (ofList (f .xs)) in
+        let y = encodes-length (ofList (f .xs)) in
+        let z : length rest-after ≡ length (encodeAll (f .xs)) + length (v .rest) = length-append (encodeAll (f .xs)) (v .rest) in
+        let u = v .set-up in
+        record {
+          ready =
+              record {
+                wf = wf-next .0;
+                light = omega (arith, u .light, v .lighter);
+                stands = stands-next;
+                out-room = omega (arith, u .out-room, v .lighter, v .out-long, v .end);
+                work-room = omega (arith, u .work-room, v .lighter, v .work-long);
+              };
+          steps-room = omega (arith, u .steps-room, v .lighter, v .noted-end, v .steps-long);
+        }
+
+    goes-next : openedRuns (inside k) (each drives (v .l))
+        ≡ before (v .g) (v .ks) o (joined (openedRuns (inside k) (each drives (x ∷ []))) (openedRuns (inside k) (each drives (f .xs))))
+    goes-next = v .goes-on ∙ ap (before (v .g) (v .ks) o) (ap (λ r. openedRuns (inside k) (each drives r)) (f .is) ∙ gather-first (inside k) x (f .xs))
+
+    -- the member was refused
+    pub burst : (j : ℕ) → (b : ℕ) × (openedRuns (inside k) (each drives (x ∷ [])) ≡ overs b) × (j ≡ n + b)
+        → (b : ℕ) × (openedRuns (inside k) (each drives (v .l)) ≡ overs b) × (j ≡ s + b)
+    unfolding before joined
+    burst j b = (
+      length (v .ks) + b .0,
+      goes-next ∙ ap (λ r. before (v .g) (v .ks) o (joined r (openedRuns (inside k) (each drives (f .xs))))) (b .1),
+      let b2 = b .2 in omega (arith, v .noted-end),
+    )
+
+    -- the member is gathered
+    module _ {out' work' steps' : List ℕ} {e' q' n' o' m' : ℕ}
+        (a : Gave (openedRuns (inside k) (each drives (x ∷ []))) rest-after out out' work' steps steps' e n e' q' n' o' m')
+        (lo : length out' ≡ length out) (lw : length work' ≡ length work) (lz : length steps' ≡ length steps) where
+      weighs : weightAll (a .to) + (length (a .ks) + o') ≤ weight x
+      weighs =
+          member-weighs k x (λ u s o r. run-lighter x u s o (drives x) (drives-kept x (wf-next .0)) r .1) (a .to) (a .ks) o' (a .ran)
+
+      pub sums-fit : (o + o' < 65536) × (m + m' < 131072)
+      sums-fit =
+          let w = weighs in
+          let z = weight-next in
+          let b = recordses-weights (ofList (a .to)) in
+          let y = all-many (a .to) in
+          (omega (arith, v .lighter, v .set-up .light), omega (arith, small .1, a .many, v .lighter, v .set-up .light))
+
+      pub next : MInv out₀ work₀ steps₀ k c d p s out' work' steps' (i + 1) e' q' n' (o + o') (m + m')
+      unfolding joined
+      next =
+          let w = weighs in
+          let z = weight-next in
+          record {
+            l = v .l;
+            rest = v .rest;
+            many = v .many;
+            set-up = v .set-up;
+            g = v .g ++ a .to;
+            r = f .xs;
+            ks = v .ks ++ a .ks;
+            wf = wf-next .1;
+            stands = a .left;
+            place = a .place;
+            to-go = let y : length (v .r) ≡ 1 + length (f .xs) = ap length (f .is) ∙ omega arith in omega (arith, v .to-go);
+            gathered = omega (arith, v .gathered, a .many, length-append (v .g) (a .to));
+            end = omega (arith, v .end, a .end, records-both (v .g) (a .to));
+            wrote =
+                a .wrote ∙ ap (λ (y : List ℕ). y ++ encodeAll (a .to)) (v .wrote)
+                ∙ append-assoc (take (d * 16) out₀) (encodeAll (v .g)) (encodeAll (a .to))
+                ∙ ap (λ (y : List ℕ). take (d * 16) out₀ ++ y) (sym (encode-both (v .g) (a .to)));
+            noted-end = omega (arith, v .noted-end, a .noted-end, length-append (v .ks) (a .ks));
+            noted = a .noted ∙ ap (λ (y : List ℕ). y ++ a .ks) (v .noted) ∙ append-assoc (take s steps₀) (v .ks) (a .ks);
+            goes-on =
+                goes-next ∙ ap (λ r. before (v .g) (v .ks) o (joined r (openedRuns (inside k) (each drives (f .xs))))) (a .ran)
+                ∙ before-joined (v .g) (v .ks) o (a .to) (a .ks) o' (openedRuns (inside k) (each drives (f .xs)));
+            lighter = omega (arith, v .lighter, weight-both (v .g) (a .to), length-append (v .ks) (a .ks));
+            out-long = lo ∙ v .out-long;
+            work-long = lw ∙ v .work-long;
+            steps-long = lz ∙ v .steps-long;
+          }
+
+  -- all members are gathered
+  pub finish : c ≤ i → Gave (openedRuns (inside k) (each drives (v .l))) (v .rest) out₀ out work steps₀ steps d s e q n o m
+  unfolding before encode ofList
+  finish h =
+      let z : v .r ≡ [] = none-of (v .r) (omega (arith, v .to-go)) in
+      record {
+        to = v .g;
+        ks = v .ks;
+        ran =
+            v .goes-on ∙ ap (λ r. before (v .g) (v .ks) o (openedRuns (inside k) (each drives r))) z
+            ∙ ap (before (v .g) (v .ks) o) (gather-none (inside k))
+            ∙ same-dones (append-nil (v .g)) (append-nil (v .ks)) (omega arith);
+        many = v .gathered;
+        end = v .end;
+        wrote = v .wrote;
+        left = v .stands ∙ ap (λ r. encodeAll r ++ v .rest) z;
+        place = subst (λ r. q * 16 + length (encodeAll r ++ v .rest) ≡ length work) z (v .place);
+        noted-end = v .noted-end;
+        noted = v .noted;
+      }

@@ -1,0 +1,139 @@
+-- The driver on records: what it needs around it, and what each of its answers says of the paper's runs. `out` holds the done
+-- records, `take (d * 16) out`; `work` the pending ones, `drop (p * 16) work`; `steps` the steps so far, `take s steps`.
+use Prim.Native.Nat.{ℕ, _+_, _*_, _≤_, _<_, _^_}
+use mathlib.Core.Path.{_≡_}
+use mathlib.Core.Bool.{cond}
+use mathlib.Core.List.{List, [], _∷_, _++_}
+use mathlib.Core.Option.{Option, none}
+use lib.ListN.{length, take, drop}
+use lib.Dec.{eqb}
+use lib.IntN.{pos}
+use Rattle.paper.specs.Bytes.{word}
+use Rattle.paper.specs.Tree.{Tree, integer, symbol, sum, product, power, ofList, count, records, recordses, weight, weights}
+use Rattle.paper.specs.WellFormed.{WFl}
+use Rattle.paper.specs.Table.{recordOf, encode, encodes}
+use Rattle.paper.specs.Rules.{sumOf, productOf}
+use Rattle.paper.specs.Driver.{Ran, done, over, Rans, dones, overs, asSum, asProduct, opened, baseFrom, gather}
+use Rattle.driver.specs.declared.Driven.{Driven}
+use Rattle.driver.specs.declared.Driven.the-variants as driven
+use Rattle.driver.specs.declared.Given.{Given}
+use Rattle.driver.specs.declared.Given.the-variants as given
+use Rattle.rules.specs.Asked.{Ready}
+
+-- ---- trees that stand one after the other: their records, how many, and their weight, as of a node's members
+abbrev pub encodeAll : List Tree → List ℕ
+encodeAll l = encodes (ofList l)
+
+abbrev pub recordsAll : List Tree → ℕ
+recordsAll l = recordses (ofList l)
+
+abbrev pub weightAll : List Tree → ℕ
+weightAll l = weights (ofList l)
+
+-- ---- a node by its first record: its kind, and the record itself
+unfoldable pub kindNumber : Tree → ℕ
+kindNumber (integer μ z) = 0
+kindNumber (symbol μ s) = 1
+kindNumber (sum μ f) = 2
+kindNumber (product μ f) = 3
+kindNumber (power μ b ξ e) = 4
+
+unfoldable pub firstRecord : Tree → List ℕ
+firstRecord (integer μ z) = recordOf 0 0 (word z)
+firstRecord (symbol μ s) = recordOf 1 0 s
+firstRecord (sum μ f) = recordOf 2 (count f) 0
+firstRecord (product μ f) = recordOf 3 (count f) 0
+firstRecord (power μ b ξ e) = recordOf 4 0 0
+
+-- the members of a tree that is opened among the members of a node of kind k: of a sum in a sum, of a product in a product
+unfoldable pub inside : ℕ → Tree → Option (List Tree)
+inside k t = cond (eqb k 2) (asSum t) (cond (eqb k 3) (asProduct t) none)
+
+-- ---- what a pass over the members makes: the gathered members, and the gathered node
+unfoldable pub openedRuns : (Tree → Option (List Tree)) → Rans → Rans
+openedRuns ins (overs k) = overs k
+openedRuns ins (dones l s o) = dones (opened ins l .0) s (o + opened ins l .1)
+
+unfoldable pub passed : Tree → Rans → Ran
+passed t (overs k) = over k
+passed t (dones l s o) = done (gather t l .0) s (o + gather t l .1)
+
+-- the node t with the gathered members l: "A gathered list of fewer than two members would collapse as after a rule."
+unfoldable pub closedOver : Tree → List Tree → Tree
+closedOver (integer μ z) l = integer μ z
+closedOver (symbol μ s) l = symbol μ s
+closedOver (sum μ f) l = sumOf l
+closedOver (product μ f) l = productOf l
+closedOver (power μ b ξ e) l = power μ (baseFrom b l) ξ e
+
+-- ---- what is needed
+-- the tree t is the first of what is pending, with room for the rules, for its result and for its steps
+pub record Set (out work steps : List ℕ) (d p s : ℕ) (t : Tree) (rest : List ℕ) : Type 0 where
+  pub ready : Ready out work d p t rest
+  pub steps-room : s + weight t ≤ length steps
+
+-- the same of trees that stand one after the other
+pub record SetAll (out work steps : List ℕ) (d p s : ℕ) (l : List Tree) (rest : List ℕ) : Type 0 where
+  pub wf : WFl l
+  pub light : weightAll l < 65536
+  pub stands : drop (p * 16) work ≡ encodeAll l ++ rest
+  pub place : p * 16 + length (encodeAll l ++ rest) ≡ length work
+  pub out-room : 16 * (d + weightAll l) ≤ length out
+  pub work-room : 20 * weightAll l + length rest ≤ length work
+  pub steps-room : s + weightAll l ≤ length steps
+
+-- ---- what the answers say
+-- the run r is done: its tree stands at the end of what is done, rest is what is pending, and its steps are noted
+pub record Drove (r : Ran) (rest out out' work' steps steps' : List ℕ) (d s e q n o : ℕ) : Type 0 where
+  pub to : Tree
+  pub ks : List ℕ
+  pub ran : r ≡ done to ks o
+  pub end : e ≡ d + records to
+  pub wrote : take (e * 16) out' ≡ take (d * 16) out ++ encode to
+  pub left : drop (q * 16) work' ≡ rest
+  pub place : q * 16 + length rest ≡ length work'
+  pub noted-end : n ≡ s + length ks
+  pub noted : take n steps' ≡ take s steps ++ ks
+
+abbrev pub DrivenIs : (r : Ran) (rest out out' work' steps steps' : List ℕ) (d s : ℕ) → Driven → Type 0
+DrivenIs r rest out out' work' steps steps' d s (driven.Done e q n o) = Drove r rest out out' work' steps steps' d s e q n o
+DrivenIs r rest out out' work' steps steps' d s (driven.Over n) = (k : ℕ) × (r ≡ over k) × (n ≡ s + k)
+
+-- the same of runs on members: m trees stand at the end of what is done
+pub record Gave (r : Rans) (rest out out' work' steps steps' : List ℕ) (d s e q n o m : ℕ) : Type 0 where
+  pub to : List Tree
+  pub ks : List ℕ
+  pub ran : r ≡ dones to ks o
+  pub many : m ≡ length to
+  pub end : e ≡ d + recordsAll to
+  pub wrote : take (e * 16) out' ≡ take (d * 16) out ++ encodeAll to
+  pub left : drop (q * 16) work' ≡ rest
+  pub place : q * 16 + length rest ≡ length work'
+  pub noted-end : n ≡ s + length ks
+  pub noted : take n steps' ≡ take s steps ++ ks
+
+abbrev pub GivenIs : (r : Rans) (rest out out' work' steps steps' : List ℕ) (d s : ℕ) → Given → Type 0
+GivenIs r rest out out' work' steps steps' d s (given.Members e q n o m) = Gave r rest out out' work' steps steps' d s e q n o m
+GivenIs r rest out out' work' steps steps' d s (given.Over n) = (k : ℕ) × (r ≡ overs k) × (n ≡ s + k)
+
+-- ---- the gathered node's first record
+-- which lists t's members are gathered to: a leaf has none, a power its base's result and its exponent
+abbrev pub Shape : Tree → List Tree → Type 0
+Shape (integer μ z) l = l ≡ []
+Shape (symbol μ s) l = l ≡ []
+Shape (sum μ f) l = Unit {0}
+Shape (product μ f) l = Unit {0}
+Shape (power μ b ξ e) l = (e < 2 ^ 63) × ((u : Tree) × (l ≡ u ∷ integer ξ (pos e) ∷ []))
+
+-- t's first record stands at d, and the m gathered members after it, up to e
+pub record Gathers (t : Tree) (l : List Tree) (out : List ℕ) (d e k m : ℕ) : Type 0 where
+  pub kind-is : k ≡ kindNumber t
+  pub shape : Shape t l
+  pub many : m ≡ length l
+  pub end : e ≡ d + 1 + recordsAll l
+  pub there : drop (d * 16) (take (e * 16) out) ≡ firstRecord t ++ encodeAll l
+
+-- the tree u stands at d, up to r, and the records before it are as they were
+pub record Closed (u : Tree) (out out' : List ℕ) (d r : ℕ) : Type 0 where
+  pub end : r ≡ d + records u
+  pub wrote : take (r * 16) out' ≡ take (d * 16) out ++ encode u

@@ -1,0 +1,210 @@
+// The driver: at a node the rules are asked, then the members are driven and gathered, and it begins again while anything changes.
+ghost use mathlib.Core.Path.{_≡_};
+ghost use mathlib.Core.List.{List, [], _∷_};
+ghost use Prim.Native.Nat.{ℕ, _+_, _*_, _≤_, _<_};
+ghost use mathlib.Core.Bool.{_&&_};
+ghost use lib.ListN.{length};
+ghost use lib.Dec.{eqb};
+ghost use Rattle.paper.specs.Record.{isNode};
+ghost use Rattle.paper.specs.Tree.{Tree};
+ghost use Rattle.paper.specs.Rules.{editionOne};
+ghost use Rattle.paper.specs.Driver.{each, members, simplify};
+ghost use Rattle.driver.specs.Driven.{inside, openedRuns, passed, closedOver, Set, SetAll, DrivenIs, GivenIs, Gathers, Closed};
+
+// What became of a tree: the records done, the first record pending, the steps noted and the openings; or the steps completed
+// when a rule left the range.
+pub enum Driven {
+    Done(usize, usize, usize, usize),
+    Over(usize),
+}
+
+// The same of members, and their number.
+enum Given {
+    Members(usize, usize, usize, usize, usize),
+    Over(usize),
+}
+
+// Drives the tree at record p of work until nothing changes, and appends its result to the d records done and its steps to the s.
+pub fn drive(
+    out: &mut [u8],
+    work: &mut [u8],
+    steps: &mut [u8],
+    d: usize,
+    p: usize,
+    s: usize,
+) -> Driven
+    requires { ⌜ ((t : Tree) × (rest : List ℕ) × Set (now out) (now work) (now steps) d p s t rest) ⌝ }
+    ensures { λ r. ⌜ ((t : Tree) (rest : List ℕ) → Set (now (out .entry)) (now (work .entry)) (now (steps .entry)) d p s t rest
+        → DrivenIs (simplify editionOne t) rest (now (out .entry)) (now (out .exit)) (now (work .exit))
+        (now (steps .entry)) (now (steps .exit)) d s r) ⌝ }
+{
+    // The tree's record, the steps noted and the openings so far; and its number of records where it comes from a pass, so that its
+    // members are finished, else 0.
+    let mut at = p;
+    let mut n = s;
+    let mut o = 0;
+    let mut size = 0;
+    loop {
+        let asked = rules::ask(out, work, d, at);
+        match asked {
+            rules::Asked::Over => return Driven::Over(n),
+            rules::Asked::Step(k, q) => {
+                steps[n] = k;
+                n += 1;
+                at = q;
+                size = 0;
+            }
+            rules::Asked::Nothing => {
+                if 0 < size {
+                    stretch::copy_bytes(out, d * 16, work, at * 16, size * 16);
+                    return Driven::Done(d + size, at + size, n, o);
+                }
+                let g = pass(out, work, steps, d, at, n);
+                match g {
+                    Driven::Over(k) => return Driven::Over(k),
+                    Driven::Done(e, q, j, b) => {
+                        if j - n + b < 1 {
+                            return Driven::Done(e, q, n, o);
+                        }
+                        n = j;
+                        o += b;
+                        size = e - d;
+                        at = q - size;
+                        stretch::copy_bytes(work, at * 16, out, d * 16, size * 16);
+                    }
+                }
+            }
+        }
+    }
+}
+
+// Passes once over the members of the tree at record p: its first record goes to done, and its members' results, gathered.
+fn pass(out: &mut [u8], work: &mut [u8], steps: &mut [u8], d: usize, p: usize, s: usize) -> Driven
+    requires { ⌜ ((t : Tree) × (rest : List ℕ) × Set (now out) (now work) (now steps) d p s t rest) ⌝ }
+    ensures { λ r. ⌜ ((t : Tree) (rest : List ℕ) → Set (now (out .entry)) (now (work .entry)) (now (steps .entry)) d p s t rest
+        → DrivenIs (passed t (each (simplify editionOne) (members t))) rest (now (out .entry)) (now (out .exit)) (now (work .exit))
+        (now (steps .entry)) (now (steps .exit)) d s r) ⌝ }
+{
+    let k = record::kind(work, p);
+    let c = record::arity(work, p);
+    stretch::copy_bytes(out, d * 16, work, p * 16, 16);
+    let g = drive_members(out, work, steps, k, c, d + 1, p + 1, s);
+    match g {
+        Given::Over(n) => Driven::Over(n),
+        Given::Members(e, q, n, o, m) => {
+            let r = close_up(out, k, m, d, e);
+            Driven::Done(r, q, n, o)
+        }
+    }
+}
+
+// Drives the c members of a node of kind k that stand from record p on, first to last.
+fn drive_members(
+    out: &mut [u8],
+    work: &mut [u8],
+    steps: &mut [u8],
+    k: u8,
+    c: usize,
+    d: usize,
+    p: usize,
+    s: usize,
+) -> Given
+    requires { ⌜ ((l : List Tree) × (rest : List ℕ) × (length l ≡ c) × SetAll (now out) (now work) (now steps) d p s l rest) ⌝ }
+    ensures { λ r. ⌜ ((l : List Tree) (rest : List ℕ) → length l ≡ c → SetAll (now (out .entry)) (now (work .entry)) (now (steps .entry)) d p s l rest
+        → GivenIs (openedRuns (inside k) (each (simplify editionOne) l)) rest (now (out .entry)) (now (out .exit)) (now (work .exit))
+        (now (steps .entry)) (now (steps .exit)) d s r) ⌝ }
+{
+    let mut i = 0;
+    let mut e = d;
+    let mut q = p;
+    let mut n = s;
+    let mut o = 0;
+    let mut m = 0;
+    while i < c {
+        let g = drive_member(out, work, steps, k, e, q, n);
+        match g {
+            Given::Over(j) => return Given::Over(j),
+            Given::Members(e1, q1, n1, o1, m1) => {
+                e = e1;
+                q = q1;
+                n = n1;
+                o += o1;
+                m += m1;
+            }
+        }
+        i += 1;
+    }
+    Given::Members(e, q, n, o, m)
+}
+
+// Drives the member at record p of a node of kind k, and opens its result where that is of the node's kind. A leaf is finished, and kept.
+fn drive_member(
+    out: &mut [u8],
+    work: &mut [u8],
+    steps: &mut [u8],
+    k: u8,
+    d: usize,
+    p: usize,
+    s: usize,
+) -> Given
+    requires { ⌜ ((t : Tree) × (rest : List ℕ) × Set (now out) (now work) (now steps) d p s t rest) ⌝ }
+    ensures { λ r. ⌜ ((t : Tree) (rest : List ℕ) → Set (now (out .entry)) (now (work .entry)) (now (steps .entry)) d p s t rest
+        → GivenIs (openedRuns (inside k) (each (simplify editionOne) (t ∷ []))) rest (now (out .entry)) (now (out .exit)) (now (work .exit))
+        (now (steps .entry)) (now (steps .exit)) d s r) ⌝ }
+{
+    let j = record::kind(work, p);
+    if j < 2 {
+        record::write_record(out, d, j, 0, record::bits(work, p));
+        return Given::Members(d + 1, p + 1, s, 0, 1);
+    }
+    let g = drive(out, work, steps, d, p, s);
+    match g {
+        Driven::Over(n) => Given::Over(n),
+        Driven::Done(e, q, n, o) => {
+            if opens(k, record::kind(out, d)) {
+                let m = record::count(out, d);
+                stretch::shift_left(out, d * 16, d * 16 + 16, (e - d - 1) * 16);
+                return Given::Members(e - 1, q, n, o + 1, m);
+            }
+            Given::Members(e, q, n, o, 1)
+        }
+    }
+}
+
+// A tree of kind j is opened among the members of a node of kind k: a sum in a sum, a product in a product.
+fn opens(k: u8, j: u8) -> bool
+    ensures { λ r. ⌜ r ≡ (eqb j k && isNode k) ⌝ }
+{
+    if j == k {
+        if k == 2 {
+            return true;
+        }
+        return k == 3;
+    }
+    false
+}
+
+// The first record of a gathered node at d, of kind k, with its m gathered members up to e: a sum or a product of fewer than two
+// collapses. Answers where the tree ends.
+fn close_up(out: &mut [u8], k: u8, m: usize, d: usize, e: usize) -> usize
+    requires { ⌜ (d < e) × (e * 16 ≤ length (now out)) ⌝ }
+    ensures { λ r. ⌜ ((t : Tree) (l : List Tree) → Gathers t l (now (out .entry)) d e k m
+        → Closed (closedOver t l) (now (out .entry)) (now (out .exit)) d r) ⌝ }
+{
+    if k < 2 {
+        return e;
+    }
+    if 3 < k {
+        return e;
+    }
+    if m < 1 {
+        record::write_record(out, d, 0, 0, (k - 2) as u64);
+        return d + 1;
+    }
+    if m < 2 {
+        stretch::shift_left(out, d * 16, d * 16 + 16, (e - d - 1) * 16);
+        return e - 1;
+    }
+    record::write_record(out, d, k, m, 0);
+    e
+}
