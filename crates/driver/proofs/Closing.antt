@@ -1,7 +1,6 @@
 -- The gathered node is closed up: the first record of a leaf or a power stays; that of a sum or a product gets the number of its
--- members, where these are two or more; one member takes the node's place, and none leaves 0 or 1, as after a rule. By cases on the
--- node and on the list. Assumes nothing.
-use Prim.Native.Nat.{ℕ, _+_, _-_, _*_, _<_, _≤_}
+-- members. By cases on the node. Assumes nothing.
+use Prim.Native.Nat.{ℕ, _+_, _*_, _<_, _≤_}
 use mathlib.Core.Path.{_≡_, refl, sym, ap, _∙_, subst}
 use mathlib.Core.List.{List, [], _∷_, _++_, append-nil, append-assoc}
 use native.Mathlib.Omega.{arith}
@@ -9,18 +8,14 @@ use lib.IntN.{pos}
 use lib.ListN.{length, take, drop, length-append, take-append-drop}
 use lib.Seq.{length-take-le, drop-at, take-at, take-take, drop-drop}
 use Rattle.paper.specs.Bytes.{word}
-use Rattle.paper.specs.Tree.{Tree, Forest, integer, symbol, sum, product, power, ofList, records}
+use Rattle.paper.specs.Tree.{Tree, integer, symbol, sum, product, power, ofList, records}
 use Rattle.paper.specs.Table.{recordOf, encode}
-use Rattle.paper.specs.Rules.{collapse, sumOf, productOf}
 use Rattle.paper.specs.Driver.{baseFrom}
-use Rattle.paper.proofs.EncodeLaws.{record-length, encodes-length}
-use Rattle.paper.proofs.GatherLaws.{collapse-none}
+use Rattle.paper.proofs.EncodeLaws.{record-length}
 use Rattle.paper.proofs.WFLaws.{list-count}
-use Rattle.stretch.specs.Put.{part, put}
-use Rattle.stretch.proofs.Laws.{take-put-end}
+use Rattle.stretch.specs.Put.{put}
 use Rattle.driver.specs.Driven.{encodeAll, recordsAll, kindNumber, firstRecord, closedOver, Shape, Gathers, Closed}
 use Rattle.driver.proofs.Forests.{first-length, exponent-record}
-use Rattle.driver.proofs.Places.{none-of, part-end}
 
 -- another first record before what stands after it
 new-front : (o x f y r : List ℕ) (a m : ℕ) → take m o ≡ x ++ (f ++ y) → length x ≡ a → length f ≡ length r → m ≤ length o
@@ -90,102 +85,31 @@ module _ {t : Tree} {l : List Tree} {out : List ℕ} {d e k m : ℕ} (g : Gather
   pub power-stays : 3 < k → Closed (closedOver t l) out out d e
   power-stays h = stays (same-power t l (g .shape) (omega (arith, g .kind-is)))
 
--- ---- a sum or a product, over the kind: which tree the collapse of none gives, and which node
-pub record Collapses (t : Tree) (k : ℕ) : Type 0 where
-  pub node : Forest → Tree
-  pub is : (l : List Tree) → closedOver t l ≡ collapse (integer 0 (pos (k - 2))) node l
-  pub written : (l : List Tree) → encode (node (ofList l)) ≡ recordOf k (length l) 0 ++ encodeAll l
-  pub recorded : (l : List Tree) → records (node (ofList l)) ≡ 1 + recordsAll l
-  pub low : (k - 2) < 2
+-- ---- a sum or a product, over the kind: its records with other members
+record Counts (t : Tree) (k : ℕ) : Type 0 where
+  written : (l : List Tree) → encode (closedOver t l) ≡ recordOf k (length l) 0 ++ encodeAll l
+  recorded : (l : List Tree) → records (closedOver t l) ≡ 1 + recordsAll l
 
-pub collapses : (t : Tree) → (2 ≤ kindNumber t) → (kindNumber t ≤ 3) → Collapses t (kindNumber t)
-unfolding kindNumber closedOver sumOf productOf encode records
-collapses (integer μ z) a b = absurd (omega arith)
-collapses (symbol μ v) a b = absurd (omega arith)
-collapses (sum μ f) a b =
-    record {
-      node = sum 0;
-      is = λ l. refl;
-      written = λ l. ap (λ n. recordOf 2 n 0 ++ encodeAll l) (list-count l);
-      recorded = λ l. refl;
-      low = omega arith;
-    }
-collapses (product μ f) a b =
-    record {
-      node = product 0;
-      is = λ l. refl;
-      written = λ l. ap (λ n. recordOf 3 n 0 ++ encodeAll l) (list-count l);
-      recorded = λ l. refl;
-      low = omega arith;
-    }
-collapses (power μ b ξ x) a c = absurd (omega arith)
-
-unit-word : (n : ℕ) → n < 2 → encode (integer 0 (pos n)) ≡ recordOf 0 0 n
-unit-word n h = exponent-record 0 n (omega arith)
+counts : (t : Tree) → 2 ≤ kindNumber t → kindNumber t ≤ 3 → Counts t (kindNumber t)
+unfolding kindNumber closedOver encode records
+counts (integer μ z) a b = absurd (omega arith)
+counts (symbol μ v) a b = absurd (omega arith)
+counts (sum μ f) a b = record { written = λ l. ap (λ n. recordOf 2 n 0 ++ encodeAll l) (list-count l); recorded = λ l. refl }
+counts (product μ f) a b = record { written = λ l. ap (λ n. recordOf 3 n 0 ++ encodeAll l) (list-count l); recorded = λ l. refl }
+counts (power μ b ξ x) a c = absurd (omega arith)
 
 module _ {t : Tree} {l : List Tree} {out : List ℕ} {d e k m : ℕ} (g : Gathers t l out d e k m) (in-out : e * 16 ≤ length out) (lo : 2 ≤ k) (hi : k ≤ 3) where
-  c : Collapses t k
-  c = subst (Collapses t) (sym (g .kind-is)) (collapses t (omega (arith, g .kind-is)) (omega (arith, g .kind-is)))
+  c : Counts t k
+  c = subst (Counts t) (sym (g .kind-is)) (counts t (omega (arith, g .kind-is)) (omega (arith, g .kind-is)))
 
-  within : d * 16 + 16 ≤ length out
-  within = omega (arith, g .end)
-
-  pub none-left : m < 1 → (out' : List ℕ) → out' ≡ put out (d * 16) (recordOf 0 0 (k - 2)) → Closed (closedOver t l) out out' d (d + 1)
-  unfolding collapse records
-  none-left h out' w =
-      let z : l ≡ [] = none-of l (omega (arith, g .many)) in
-      let q : closedOver t l ≡ integer 0 (pos (k - 2)) = ap (closedOver t) z ∙ c .is [] in
-      let f = within in
-      let r : (d + 1) * 16 ≡ d * 16 + length (recordOf 0 0 (k - 2)) = omega (arith, record-length 0 0 (k - 2)) in
-      subst (λ u. Closed u out out' d (d + 1)) (sym q)
-      (record {
-        end = refl;
-        wrote =
-            ap (take ((d + 1) * 16)) w ∙ take-put-end out (d * 16) (recordOf 0 0 (k - 2)) ((d + 1) * 16) r (omega arith)
-            ∙ ap (λ (i : List ℕ). take (d * 16) out ++ i) (sym (unit-word (k - 2) (c .low)));
-      })
-
-  pub one-left : 1 ≤ m → m < 2 → (out' : List ℕ) → out' ≡ put out (d * 16) (part out (d * 16 + 16) ((e - d - 1) * 16))
-      → Closed (closedOver t l) out out' d (e - 1)
-  unfolding collapse records encode x ofList
-  one-left a b out' w = go l refl (omega (arith, g .many))
-    where
-      go : (i : List Tree) → l ≡ i → length i ≡ 1 → Closed (closedOver t l) out out' d (e - 1)
-      go [] z h = absurd (omega arith)
-      go (u ∷ v ∷ i) z h = absurd (omega arith)
-      go (u ∷ []) z h =
-          let q : closedOver t l ≡ u = ap (closedOver t) z ∙ c .is (u ∷ []) in
-          let y : encodeAll l ≡ encode u = ap encodeAll z ∙ append-nil (encode u) in
-          let n : recordsAll l ≡ records u + 0 = ap recordsAll z in
-          let s : take (e * 16) out ≡ (take (d * 16) out ++ firstRecord t) ++ encodeAll l
-          = there g in-out ∙ sym (append-assoc (take (d * 16) out) (firstRecord t) (encodeAll l)) in
-          let p : length (take (d * 16) out ++ firstRecord t) ≡ d * 16 + 16
-          = length-append (take (d * 16) out) (firstRecord t) ∙ omega (arith, x-long g in-out, first-length t) in
-          let j : length (encodeAll l) ≡ (e - d - 1) * 16 = omega (arith, encodes-length (ofList l), g .end) in
-          let o : e * 16 ≡ d * 16 + 16 + (e - d - 1) * 16 = omega (arith, g .end) in
-          let r : (e - 1) * 16 ≡ d * 16 + length (encodeAll l) = omega (arith, g .end) in
-          let f = within in
-          subst (λ v. Closed v out out' d (e - 1)) (sym q)
-          (record {
-            end = omega (arith, g .end);
-            wrote =
-                ap (take ((e - 1) * 16))
-                (w ∙ ap (put out (d * 16)) (part-end out (take (d * 16) out ++ firstRecord t) (encodeAll l) (d * 16 + 16)
-                ((e - d - 1) * 16) (e * 16) s o p j (omega arith)))
-                ∙ take-put-end out (d * 16) (encodeAll l) ((e - 1) * 16) r (omega arith)
-                ∙ ap (λ (i : List ℕ). take (d * 16) out ++ i) y;
-          })
-
-  pub two-left : 2 ≤ m → (out' : List ℕ) → out' ≡ put out (d * 16) (recordOf k m 0) → Closed (closedOver t l) out out' d e
+  pub members-counted : (out' : List ℕ) → out' ≡ put out (d * 16) (recordOf k m 0) → Closed (closedOver t l) out out' d e
   unfolding x
-  two-left h out' w =
-      let q : closedOver t l ≡ c .node (ofList l) = c .is l ∙ collapse-none (integer 0 (pos (k - 2))) (c .node) l (omega (arith, g .many)) in
+  members-counted out' w =
       let f : length (firstRecord t) ≡ length (recordOf k m 0) = first-length t ∙ sym (record-length k m 0) in
-      subst (λ u. Closed u out out' d e) (sym q)
-      (record {
+      record {
         end = g .end ∙ omega (arith, c .recorded l);
         wrote =
             ap (take (e * 16)) w
             ∙ new-front out (take (d * 16) out) (firstRecord t) (encodeAll l) (recordOf k m 0) (d * 16) (e * 16) (there g in-out) (x-long g in-out) f in-out
             ∙ ap (λ (i : List ℕ). take (d * 16) out ++ i) (ap (λ n. recordOf k n 0 ++ encodeAll l) (g .many) ∙ sym (c .written l));
-      })
+      }

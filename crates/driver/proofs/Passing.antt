@@ -99,15 +99,13 @@ module _ {out work steps : List ℕ} {d p s : ℕ} {t : Tree} {rest : List ℕ} 
       gathered-all : take (e' * 16) out'' ≡ take (d * 16) out ++ (firstRecord t ++ encodeAll (a .to))
       gathered-all = a .wrote ∙ ap (λ (x : List ℕ). x ++ encodeAll (a .to)) front-now ∙ append-assoc (take (d * 16) out) (firstRecord t) (encodeAll (a .to))
 
-      pub close-fits : (d < e') × (e' * 16 ≤ length out'')
+      pub close-fits : e' * 16 ≤ length out''
       close-fits =
           let l = first-length t in
-          let g = a .end in (
-            omega arith,
-            front-fits out'' (take (d * 16) out ++ (firstRecord t ++ encodeAll (a .to))) (e' * 16) gathered-all
-                (length-append (take (d * 16) out) (firstRecord t ++ encodeAll (a .to))
-                ∙ omega (arith, front-long h, length-append (firstRecord t) (encodeAll (a .to)), encodes-length (ofList (a .to)))),
-          )
+          let g = a .end in
+          front-fits out'' (take (d * 16) out ++ (firstRecord t ++ encodeAll (a .to))) (e' * 16) gathered-all
+          (length-append (take (d * 16) out) (firstRecord t ++ encodeAll (a .to))
+          ∙ omega (arith, front-long h, length-append (firstRecord t) (encodeAll (a .to)), encodes-length (ofList (a .to))))
 
       pub gathers : Gathers t (a .to) out'' d e' k m
       gathers =

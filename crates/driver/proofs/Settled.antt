@@ -1,7 +1,7 @@
 -- After a pass every member is finished and none is of the node's kind: results admit none, and so do the members of a result that
 -- is opened, none of which is of its kind again. So where the rules are then asked in vain, the node admits none, and the driver
 -- would leave it as it is. A power's exponent is an integer, and comes back unchanged. Assumes nothing.
-use Prim.Native.Nat.{ℕ, _+_, _≤_}
+use Prim.Native.Nat.{ℕ, _+_}
 use mathlib.Core.Path.{_≡_, refl, sym, ap, _∙_, subst}
 use mathlib.Core.List.{List, [], _∷_, _++_}
 use mathlib.Core.Option.{Option, none, some}
@@ -11,13 +11,12 @@ use lib.IntN.{ℤ, pos}
 use Rattle.paper.specs.Tree.{Tree, integer, symbol, sum, product, power, toList, ofList}
 use Rattle.paper.specs.WellFormed.{WF, WFl}
 use Rattle.paper.specs.Rules.{editionOne, addZero, combineLikeTerms, multiplyZero, multiplyOne, combineLikeFactors, onSumMembers, onProductMembers}
-use Rattle.paper.specs.Rules.{sumOf, productOf}
 use Rattle.paper.specs.Driver.{no-rule, ask, Ran, done, over, Rans, dones, overs, andThen, each, members}
 use Rattle.paper.specs.Driver.{asSum, asProduct, openOne, opened, baseFrom, gather}
 use Rattle.paper.specs.Admits.{openingsAt, AdmitsNone, admits-none, AllAdmitNone, no-more, and-more}
 use Rattle.paper.proofs.EditionOne.{edition-one-good}
-use Rattle.paper.proofs.WFLaws.{to-of-list, count-list}
-use Rattle.paper.proofs.GatherLaws.{members-wf, gatheredList, gathers-two, kepts-length, collapse-none}
+use Rattle.paper.proofs.WFLaws.{to-of-list}
+use Rattle.paper.proofs.GatherLaws.{members-wf, kepts-length}
 use Rattle.paper.proofs.DriverLaws.{RunsKept, each-kept}
 use Rattle.paper.proofs.FinishedLaws.{Ended, simplify-ended}
 use Rattle.paper.proofs.Simplified.{simplify-again}
@@ -128,19 +127,18 @@ product-node (product μ f) l e (admits-none a o ms) = let k : toList f ≡ l = 
 product-node (power μ b ξ x) l e h = none-some e
 
 -- ---- the gathered node
-sum-finished : (m : List Tree) → 2 ≤ length m → Nones m → opened asSum m .1 ≡ 0 → ask editionOne (sumOf m) ≡ no-rule → None (sumOf m)
-unfolding sumOf members openingsAt gather
-sum-finished m h n o a =
-    let e : sumOf m ≡ sum 0 (ofList m) = collapse-none (integer 0 (pos 0)) (sum 0) m h in
+sum-finished : (μ : ℕ) (m : List Tree) → Nones m → opened asSum m .1 ≡ 0 → ask editionOne (sum μ (ofList m)) ≡ no-rule → None (sum μ (ofList m))
+unfolding members openingsAt gather
+sum-finished μ m n o a =
     let b : toList (ofList m) ≡ m = to-of-list m in
-    subst None (sym e) (admits-none (ap (ask editionOne) (sym e) ∙ a) (subst (λ l. opened asSum l .1 ≡ 0) (sym b) o) (subst Nones (sym b) n))
+    admits-none a (subst (λ l. opened asSum l .1 ≡ 0) (sym b) o) (subst Nones (sym b) n)
 
-product-finished : (m : List Tree) → 2 ≤ length m → Nones m → opened asProduct m .1 ≡ 0 → ask editionOne (productOf m) ≡ no-rule → None (productOf m)
-unfolding productOf members openingsAt gather
-product-finished m h n o a =
-    let e : productOf m ≡ product 0 (ofList m) = collapse-none (integer 0 (pos 1)) (product 0) m h in
+product-finished : (μ : ℕ) (m : List Tree) → Nones m → opened asProduct m .1 ≡ 0 → ask editionOne (product μ (ofList m)) ≡ no-rule
+    → None (product μ (ofList m))
+unfolding members openingsAt gather
+product-finished μ m n o a =
     let b : toList (ofList m) ≡ m = to-of-list m in
-    subst None (sym e) (admits-none (ap (ask editionOne) (sym e) ∙ a) (subst (λ l. opened asProduct l .1 ≡ 0) (sym b) o) (subst Nones (sym b) n))
+    admits-none a (subst (λ l. opened asProduct l .1 ≡ 0) (sym b) o) (subst Nones (sym b) n)
 
 first-none : (b : Tree) (l : List Tree) → length l ≡ 2 → Nones l → None (baseFrom b l)
 unfolding baseFrom
@@ -149,15 +147,15 @@ first-none b (u ∷ l) e (and-more x h) = x
 
 gathered-none : (t : Tree) (l : List Tree) (s : List ℕ) (o : ℕ) → WF t → RunsKept (members t) (dones l s o) → Nones l
     → ask editionOne (gather t l .0) ≡ no-rule → None (gather t l .0)
-unfolding gather members openingsAt gatheredList
+unfolding gather members openingsAt
 gathered-none (integer μ z) l s o w k h a = integer-none μ z
 gathered-none (symbol μ v) l s o w k h a = admits-none a refl no-more
 gathered-none (sum μ f) l s o w k h a =
     let n = opened-none asSum sum-node l h in
-    sum-finished (opened asSum l .0) (gathers-two (sum μ f) l _ w (omega (arith, count-list f, w .0)) (k .0) (k .1)) (n .0) (n .1) a
+    sum-finished μ (opened asSum l .0) (n .0) (n .1) a
 gathered-none (product μ f) l s o w k h a =
     let n = opened-none asProduct product-node l h in
-    product-finished (opened asProduct l .0) (gathers-two (product μ f) l _ w (omega (arith, count-list f, w .0)) (k .0) (k .1)) (n .0) (n .1) a
+    product-finished μ (opened asProduct l .0) (n .0) (n .1) a
 gathered-none (power μ b ξ e) l s o w k h a =
     admits-none a refl (and-more (first-none b l (kepts-length (k .1)) h) (and-more (integer-none ξ (pos e)) no-more))
 

@@ -12,7 +12,6 @@ use Rattle.paper.specs.Bytes.{word}
 use Rattle.paper.specs.Tree.{Tree, integer, symbol, sum, product, power, ofList, count, records, recordses, weight, weights}
 use Rattle.paper.specs.WellFormed.{WFl}
 use Rattle.paper.specs.Table.{recordOf, encode, encodes}
-use Rattle.paper.specs.Rules.{sumOf, productOf}
 use Rattle.paper.specs.Driver.{Ran, done, over, Rans, dones, overs, asSum, asProduct, opened, baseFrom, gather}
 use Rattle.driver.specs.declared.Driven.{Driven}
 use Rattle.driver.specs.declared.Driven.the-variants as driven
@@ -58,12 +57,12 @@ unfoldable pub passed : Tree → Rans → Ran
 passed t (overs k) = over k
 passed t (dones l s o) = done (gather t l .0) s (o + gather t l .1)
 
--- the node t with the gathered members l: "A gathered list of fewer than two members would collapse as after a rule."
+-- the node t with the gathered members l
 unfoldable pub closedOver : Tree → List Tree → Tree
 closedOver (integer μ z) l = integer μ z
 closedOver (symbol μ s) l = symbol μ s
-closedOver (sum μ f) l = sumOf l
-closedOver (product μ f) l = productOf l
+closedOver (sum μ f) l = sum μ (ofList l)
+closedOver (product μ f) l = product μ (ofList l)
 closedOver (power μ b ξ e) l = power μ (baseFrom b l) ξ e
 
 -- ---- what is needed

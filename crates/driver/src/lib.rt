@@ -92,8 +92,8 @@ fn pass(out: &mut [u8], work: &mut [u8], steps: &mut [u8], d: usize, p: usize, s
     match g {
         Given::Over(n) => Driven::Over(n),
         Given::Members(e, q, n, o, m) => {
-            let r = close_up(out, k, m, d, e);
-            Driven::Done(r, q, n, o)
+            close_up(out, k, m, d);
+            Driven::Done(e, q, n, o)
         }
     }
 }
@@ -184,27 +184,17 @@ fn opens(k: u8, j: u8) -> bool
     false
 }
 
-// The first record of a gathered node at d, of kind k, with its m gathered members up to e: a sum or a product of fewer than two
-// collapses. Answers where the tree ends.
-fn close_up(out: &mut [u8], k: u8, m: usize, d: usize, e: usize) -> usize
-    requires { ⌜ (d < e) × (e * 16 ≤ length (now out)) ⌝ }
-    ensures { λ r. ⌜ ((t : Tree) (l : List Tree) → Gathers t l (now (out .entry)) d e k m
-        → Closed (closedOver t l) (now (out .entry)) (now (out .exit)) d r) ⌝ }
+// The first record of a gathered node at d, of kind k: a sum's or a product's gets the number m of its gathered members.
+fn close_up(out: &mut [u8], k: u8, m: usize, d: usize)
+    requires { ⌜ d * 16 + 16 ≤ length (now out) ⌝ }
+    ensures { λ _. ⌜ ((t : Tree) (l : List Tree) (e : ℕ) → Gathers t l (now (out .entry)) d e k m → e * 16 ≤ length (now (out .entry))
+        → Closed (closedOver t l) (now (out .entry)) (now (out .exit)) d e) ⌝ }
 {
     if k < 2 {
-        return e;
+        return;
     }
     if 3 < k {
-        return e;
-    }
-    if m < 1 {
-        record::write_record(out, d, 0, 0, (k - 2) as u64);
-        return d + 1;
-    }
-    if m < 2 {
-        stretch::shift_left(out, d * 16, d * 16 + 16, (e - d - 1) * 16);
-        return e - 1;
+        return;
     }
     record::write_record(out, d, k, m, 0);
-    e
 }

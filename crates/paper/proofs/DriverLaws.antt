@@ -16,7 +16,7 @@ use Rattle.paper.specs.Driver.{Asked, no-rule, step, out-of-range, ask, 
 use Rattle.paper.specs.Driver.{gather, settle, gathered, visit, run}
 use Rattle.paper.specs.Good.{Kept, GoodAnswer, Good, Goods, no-rules, a-rule}
 use Rattle.paper.proofs.KeptLaws.{kept-refl, kept-then, kept-of}
-use Rattle.paper.proofs.GatherLaws.{Kepts, nothing, more, gather-kept, gather-wf, members-wf}
+use Rattle.paper.proofs.GatherLaws.{Kepts, nothing, more, gather-kept, gather-wf, kepts-length, members-wf}
 
 -- what is shown of a run, and of the runs of members
 abbrev pub RunKept : Tree → Ran → Type 0
@@ -64,7 +64,7 @@ each-kept f h (t ∷ l) w = andThen-kept t l (f t) (each f l) (h t (w .0)) (each
 -- what gathering the results of a node's members gives: well-formed, and kept
 pub gathered-tree : (t : Tree) (l : List Tree) (s : List ℕ) (o : ℕ) → WF t → RunsKept (members t) (dones l s o)
     → WF (gather t l .0) × Kept (length s + (o + gather t l .1)) t (gather t l .0)
-gathered-tree t l s o w p = (gather-wf t l w (p .0), kept-of (omega arith) (gather-kept t l (length s + o) (p .1)))
+gathered-tree t l s o w p = (gather-wf t l w (kepts-length (p .1)) (p .0), kept-of (omega arith) (gather-kept t l (length s + o) (p .1)))
 
 gathered-kept : (t : Tree) → WF t → (again : Tree → Ran) → ((u : Tree) → WF u → RunKept u (again u))
     → (r : Rans) → RunsKept (members t) r → RunKept t (gathered again t r)

@@ -1,7 +1,7 @@
 -- Gathering: opening a sum among a sum's members, or a product among a product's, keeps the value and takes one off the weight
 -- for each opening; and since what is opened has two members or more, a gathered list never has fewer than two. Each is one
 -- induction on the list, over either kind of node. Assumes nothing.
-use Prim.Native.Nat.{ℕ, zero, suc, _+_, _*_, _≤_, _<_}
+use Prim.Native.Nat.{ℕ, suc, _+_, _*_, _≤_, _<_}
 use mathlib.Core.Path.{_≡_, refl, sym, ap, _∙_, subst}
 use mathlib.Core.List.{List, [], _∷_, _++_}
 use mathlib.Core.Option.{Option, none, some}
@@ -9,16 +9,16 @@ use native.Mathlib.Omega.{arith}
 use lib.ListN.{length, length-append}
 use lib.IntN.{pos}
 use Rattle.paper.specs.Limits.{modulus}
-use Rattle.paper.specs.Tree.{Tree, Forest, integer, symbol, sum, product, power, toList, ofList, weight}
-use Rattle.paper.specs.WellFormed.{WF, WFl}
-use Rattle.paper.specs.Rules.{collapse, sumOf, productOf}
+use Rattle.paper.specs.Tree.{Tree, Forest, integer, symbol, sum, product, power, toList, ofList, count, weight}
+use Rattle.paper.specs.WellFormed.{WF, WFs, WFl}
+use Rattle.paper.specs.Rules.{collapse}
 use Rattle.paper.specs.Driver.{members, asSum, asProduct, openOne, opened, baseFrom, gather}
 use Rattle.paper.specs.Good.{Kept}
 use Rattle.paper.proofs.Congruence.{Agree, agree-refl, agree-of, agree-trans, agree-add, agree-mul, agree-pow}
-use Rattle.paper.proofs.Value.{exact, total, multiplied, total-append, multiplied-append, sum-list, product-list, weights-list, weight-pos}
+use Rattle.paper.proofs.Value.{exact, total, multiplied, total-append, multiplied-append, sum-list, list-sum, product-list}
+use Rattle.paper.proofs.Value.{list-product, weights-list, list-weights, weight-pos}
 use Rattle.paper.proofs.KeptLaws.{value-of-exact, kept-exact}
-use Rattle.paper.proofs.WFLaws.{wf-list, wf-append, count-list, of-to-list, sumOf-wf, productOf-wf}
-use Rattle.paper.proofs.OutcomeLaws.{sumOf-exact, sumOf-weight, productOf-exact, productOf-weight}
+use Rattle.paper.proofs.WFLaws.{wf-list, list-wf, wf-append, count-list, list-count, of-to-list}
 
 -- ---- opening, over either kind: `inside` gives the members of a node of that kind
 -- a fold over lists, g being what one tree counts for, that counts a node of the kind for what its members count for
@@ -39,10 +39,10 @@ module _ {inside : Tree → Option (List Tree)} {op : ℕ → ℕ → ℕ} {F : 
   opened-folds (t ∷ l) =
       openOne-folds t (inside t) (opened inside l) refl ∙ ap (op (g t)) (opened-folds l) ∙ sym (folds .first t l)
 
--- a node of the kind weighs one more than its members, and where it is well-formed has two or more of them, well-formed
+-- a node of the kind weighs one more than its members, and where it is well-formed they are, and there is one at least
 pub record Opens (inside : Tree → Option (List Tree)) : Type 0 where
   pub heavier : (t : Tree) (l : List Tree) → inside t ≡ some l → weight t ≡ 1 + total weight l
-  pub wf-members : (t : Tree) (l : List Tree) → inside t ≡ some l → WF t → WFl l × (2 ≤ length l)
+  pub wf-members : (t : Tree) (l : List Tree) → inside t ≡ some l → WF t → WFl l × (1 ≤ length l)
 
 module _ {inside : Tree → Option (List Tree)} (opens : Opens inside) where
   openOne-weight : (t : Tree) (o : Option (List Tree)) (r : List Tree × ℕ) → inside t ≡ o
@@ -103,7 +103,7 @@ unfolding weight
 sums-open =
     record {
       heavier = as-sum (λ t l. weight t ≡ 1 + total weight l) (λ μ f. ap (λ n. 1 + n) (sym (weights-list f)));
-      wf-members = as-sum (λ t l. WF t → WFl l × (2 ≤ length l)) (λ μ f w. (wf-list f (w .1), omega (arith, count-list f, w .0)));
+      wf-members = as-sum (λ t l. WF t → WFl l × (1 ≤ length l)) (λ μ f w. (wf-list f (w .1), omega (arith, count-list f, w .0)));
     }
 
 pub products-open : Opens asProduct
@@ -111,7 +111,7 @@ unfolding weight
 products-open =
     record {
       heavier = as-product (λ t l. weight t ≡ 1 + total weight l) (λ μ f. ap (λ n. 1 + n) (sym (weights-list f)));
-      wf-members = as-product (λ t l. WF t → WFl l × (2 ≤ length l)) (λ μ f w. (wf-list f (w .1), omega (arith, count-list f, w .0)));
+      wf-members = as-product (λ t l. WF t → WFl l × (1 ≤ length l)) (λ μ f w. (wf-list f (w .1), omega (arith, count-list f, w .0)));
     }
 
 sums-fold : (ρ : ℕ → ℕ) → Folds asSum _+_ (total (λ t. exact t ρ)) (λ t. exact t ρ)
@@ -179,16 +179,16 @@ gather-kept (symbol μ s) l k h = record { value-kept = λ ρ. refl; lighter = o
 gather-kept (sum μ f) l k h =
     let m = opened asSum l .0 in
     record {
-      value-kept = value-of-exact (sum μ f) (sumOf m)
-          (λ ρ. agree-trans (agree-of (sumOf-exact m ρ ∙ opened-folds (sums-fold ρ) l)) (agree-trans (kepts-total h ρ) (agree-of (sum-list f ρ))));
-      lighter = omega (arith, sumOf-weight m, opened-weight sums-open l, kepts-weight h, weights-list f);
+      value-kept = value-of-exact (sum μ f) (sum μ (ofList m))
+          (λ ρ. agree-trans (agree-of (list-sum m ρ ∙ opened-folds (sums-fold ρ) l)) (agree-trans (kepts-total h ρ) (agree-of (sum-list f ρ))));
+      lighter = omega (arith, list-weights m, opened-weight sums-open l, kepts-weight h, weights-list f);
     }
 gather-kept (product μ f) l k h =
     let m = opened asProduct l .0 in
     record {
-      value-kept = value-of-exact (product μ f) (productOf m)
-          (λ ρ. agree-trans (agree-of (productOf-exact m ρ ∙ opened-folds (products-fold ρ) l)) (agree-trans (kepts-multiplied h ρ) (agree-of (product-list f ρ))));
-      lighter = omega (arith, productOf-weight m, opened-weight products-open l, kepts-weight h, weights-list f);
+      value-kept = value-of-exact (product μ f) (product μ (ofList m))
+          (λ ρ. agree-trans (agree-of (list-product m ρ ∙ opened-folds (products-fold ρ) l)) (agree-trans (kepts-multiplied h ρ) (agree-of (product-list f ρ))));
+      lighter = omega (arith, list-weights m, opened-weight products-open l, kepts-weight h, weights-list f);
     }
 gather-kept (power μ b ξ e) l k h = power-kept μ b (integer ξ (pos e)) ξ e k l (unfold weight in refl) h
 
@@ -205,14 +205,21 @@ unfolding baseFrom
 baseFrom-wf b [] w v = w
 baseFrom-wf b (u ∷ l) w v = v .0
 
--- the gathered node is well-formed
-pub gather-wf : (t : Tree) (l : List Tree) → WF t → WFl l → WF (gather t l .0)
-unfolding gather
-gather-wf (integer μ z) l w v = w
-gather-wf (symbol μ s) l w v = w
-gather-wf (sum μ f) l w v = sumOf-wf (opened asSum l .0) (opened-wf sums-open l v .0)
-gather-wf (product μ f) l w v = productOf-wf (opened asProduct l .0) (opened-wf products-open l v .0)
-gather-wf (power μ b ξ e) l w v = (baseFrom-wf b l (w .0) v, w .1, w .2, w .3, w .4)
+-- opened members of well-formed ones, as many as a node has: two or more, well-formed
+gathered-members : {ins : Tree → Option (List Tree)} → Opens ins → (f : Forest) (l : List Tree) → 2 ≤ count f → length l ≡ count f → WFl l
+    → (2 ≤ count (ofList (opened ins l .0))) × WFs (ofList (opened ins l .0))
+gathered-members {ins} o f l two many v =
+    let w = opened-wf o l v in
+    (omega (arith, w .1, list-count (opened ins l .0)), list-wf (opened ins l .0) (w .0))
+
+-- the gathered node is well-formed, where there are as many results as members
+pub gather-wf : (t : Tree) (l : List Tree) → WF t → length l ≡ length (members t) → WFl l → WF (gather t l .0)
+unfolding gather members
+gather-wf (integer μ z) l w n v = w
+gather-wf (symbol μ s) l w n v = w
+gather-wf (sum μ f) l w n v = let g = gathered-members sums-open f l (w .0) (n ∙ count-list f) v in (g .0, g .1, w .2)
+gather-wf (product μ f) l w n v = let g = gathered-members products-open f l (w .0) (n ∙ count-list f) v in (g .0, g .1, w .2)
+gather-wf (power μ b ξ e) l w n v = (baseFrom-wf b l (w .0) v, w .1, w .2, w .3, w .4)
 
 -- the list that is gathered: what the members' results become, where a sum's or a product's are opened
 unfoldable pub gatheredList : Tree → List Tree → List Tree
@@ -222,7 +229,7 @@ gatheredList (sum μ f) l = opened asSum l .0
 gatheredList (product μ f) l = opened asProduct l .0
 gatheredList (power μ b ξ e) l = l
 
--- a gathered sum or product has two members or more: the collapse of a gathered list never happens
+-- a gathered sum or product has two members or more
 pub gathers-two : (t : Tree) (l : List Tree) (k : ℕ) → WF t → 0 < length (members t) → WFl l → Kepts k (members t) l → 2 ≤ length (gatheredList t l)
 unfolding gatheredList members
 gathers-two (integer μ z) l k w m v h = absurd (omega arith)
@@ -251,13 +258,11 @@ collapse-none emptied node (t ∷ []) h = absurd (omega arith)
 collapse-none emptied node (t ∷ u ∷ l) h = refl
 
 pub gather-same : (t : Tree) → WF t → gather t (members t) .1 ≡ 0 → gather t (members t) .0 ≡ t
-unfolding gather members baseFrom sumOf productOf
+unfolding gather members baseFrom
 gather-same (integer μ z) w e = refl
 gather-same (symbol μ s) w e = refl
 gather-same (sum μ f) w e =
-    ap sumOf (opened-none asSum (toList f) e)
-    ∙ collapse-none (integer 0 (pos 0)) (sum 0) (toList f) (omega (arith, count-list f, w .0)) ∙ ap (sum 0) (of-to-list f) ∙ ap (λ m. sum m f) (sym (w .2))
+    ap (λ l. sum μ (ofList l)) (opened-none asSum (toList f) e) ∙ ap (sum μ) (of-to-list f)
 gather-same (product μ f) w e =
-    ap productOf (opened-none asProduct (toList f) e)
-    ∙ collapse-none (integer 0 (pos 1)) (product 0) (toList f) (omega (arith, count-list f, w .0)) ∙ ap (product 0) (of-to-list f) ∙ ap (λ m. product m f) (sym (w .2))
+    ap (λ l. product μ (ofList l)) (opened-none asProduct (toList f) e) ∙ ap (product μ) (of-to-list f)
 gather-same (power μ b ξ x) w e = refl

@@ -45,6 +45,7 @@ pub mod JudgementLaws
 pub mod Simplified
 pub mod DemandLaws
 pub mod Takeover
+pub mod Gathering
 pub mod ValueKept
 pub mod Computes
 pub mod Starred

@@ -9,8 +9,8 @@ use mathlib.Core.Option.{Option, none, some}
 use lib.ListN.{length}
 use lib.IntN.{pos}
 use lib.Dec.{eqb}
-use Rattle.paper.specs.Tree.{Tree, Forest, integer, symbol, sum, product, power, toList, weight}
-use Rattle.paper.specs.Rules.{Rule, Tried, does-not-apply, applies, range-exceeded, sumOf, productOf}
+use Rattle.paper.specs.Tree.{Tree, Forest, integer, symbol, sum, product, power, toList, ofList, weight}
+use Rattle.paper.specs.Rules.{Rule, Tried, does-not-apply, applies, range-exceeded}
 
 -- what the rules, tried in their order, answer at a node
 pub data Asked : Type 0 where
@@ -89,13 +89,12 @@ unfoldable pub baseFrom : Tree → List Tree → Tree
 baseFrom b [] = b
 baseFrom b (u ∷ l) = u
 
--- "gather the results": the node with its members' results, and its openings. "A gathered list of fewer than two members would
--- collapse as after a rule."
+-- "gather the results": the node with its members' results, and its openings (never fewer than two members: proofs/Gathering)
 unfoldable pub gather : Tree → List Tree → Tree × ℕ
 gather (integer μ z) l = (integer μ z, 0)
 gather (symbol μ s) l = (symbol μ s, 0)
-gather (sum μ f) l = let r = opened asSum l in (sumOf (r .0), r .1)
-gather (product μ f) l = let r = opened asProduct l in (productOf (r .0), r .1)
+gather (sum μ f) l = let r = opened asSum l in (sum μ (ofList (r .0)), r .1)
+gather (product μ f) l = let r = opened asProduct l in (product μ (ofList (r .0)), r .1)
 gather (power μ b ξ e) l = (power μ (baseFrom b l) ξ e, 0)
 
 -- finished where nothing changed and nothing was opened, begun again where something did

@@ -18,6 +18,7 @@ pub mod Standing
 pub mod Walk
 pub mod Rules
 pub mod Driver
+pub mod Gathering
 pub mod Admits
 pub mod Good
 pub mod Answers

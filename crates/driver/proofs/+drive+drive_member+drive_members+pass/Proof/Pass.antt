@@ -189,8 +189,9 @@ module _ (t : ℕ) where
       let copied = copied-of called in
       let moved = moved-of copied in
       let entry = entry-of (kinded-of (counted-of moved)) in
-      let m = moved .copy-bytes in
-      close-fits (entry .pre .1 .2) (m .last .0) (m .ensures) (kind-of copied) (gave gathered) (m .kept .0) (called .drive-members .kept .0)
+      let a = moved .copy-bytes .kept .0 in
+      let b = called .drive-members .kept .0 in
+      omega (arith, record-fits (entry .pre .1 .2) .1)
 
   pub same-length : lts.Need-same-length (claims t) (pass-at t) reads.Post
   same-length c = search needs
@@ -235,9 +236,10 @@ module _ (t : ℕ) where
       let r = called .drive-members in
       let n = c .before .before .before .before .before .g2 .given .0 in
       let closing = c .before .before .close-up in
+      let fits = close-fits (entry .pre .1 .2) (m .last .0) (m .ensures) (kind-of copied) (gave gathered) (m .kept .0) (r .kept .0) in
       let there = gathers (entry .pre .1 .2) (m .last .0) (m .ensures) (kind-of copied) (gave gathered) (m .kept .0) (r .kept .0) in
       for-every (entry .pre .1 .2)
       (λ u x. Drove (passed u (each drives (members u))) x (g .out .now) (closing .last .0) (r .last .1 .0) (g .steps .now) (r .last .1 .1 .0)
-      (g .d) (g .s) (closing .result) (n .1 .0) (n .1 .1 .0) (n .1 .1 .1 .0))
+      (g .d) (g .s) (n .0) (n .1 .0) (n .1 .1 .0) (n .1 .1 .1 .0))
       (closed-up (entry .pre .1 .2) (m .last .0) (m .ensures) (kind-of copied) (gave gathered) (m .kept .0) (r .kept .0)
-      (closing .ensures (entry .pre .1 .0) (gave gathered .to) there))
+      (closing .ensures (entry .pre .1 .0) (gave gathered .to) (n .0) there fits))
