@@ -1,14 +1,16 @@
-/* random SEED COUNT [FROM]: the calls on COUNT random tables beside a checker and an evaluator (own.c) and an equality test in plain
-   C that share nothing with the port. Of five tables one is damaged. Compared: every number of every answer, but for the simplifier's own; its
-   result by what must hold of it: a good table of the same value under random registers, of the weight that was answered, lighter by at
-   least a unit for each step and opening, and simplified again it is itself, with no step and no opening. Every lent area is guarded. */
+/* random SEED COUNT [FROM]: the calls on COUNT random tables beside a checker and an evaluator (own.c), a simplifier (rules.c) and an equality
+   test in plain C that share nothing with the port. Of five tables one is damaged. Compared: every number of every answer and every byte that
+   is written. Besides, the result by what must hold of it: a good table of the same value under random registers, of the weight that was
+   answered, lighter by at least a unit for each step and opening, and simplified again it is itself, with no step and no opening. Every
+   lent area is guarded. */
 #include "../../include/simmergate.h"
 #include "lent.h"
 #include "own.h"
+#include "rules.h"
 #include "text.h"
 #include "tables.h"
 
-/* ---- Judged by the plain reading of own.c, and equality in plain C. ---- */
+/* ---- Judged by the plain readings of own.c and rules.c, and equality in plain C. ---- */
 
 struct judged { uint64_t number, place, weight; };
 
@@ -186,17 +188,14 @@ static void try_equal(struct judged v) {
     if (!holds(&lent_table, table, length, length) || !holds(&lent_other, other, other_length, other_length)) fail("equal: a table changed");
 }
 
-/* What an accepted call left: `records` records in out, which are no less than the answer says. */
-static void try_result(struct judged v, const uint64_t *said, const uint8_t *out, const uint8_t *steps) {
+/* What an accepted call left: the records and steps that the plain C has, and zeros. */
+static void try_result(struct judged v, const uint64_t *said, struct simplified own, const uint8_t *own_out, const uint8_t *own_steps) {
     static uint8_t result[49152], again[49152], again_steps[3072], again_work[65536], again_answer[56];
     uint64_t records = said[2], given = said[3], opened = said[4];
-    if (records == 0 || records > v.weight || given > v.weight || said[1] != 0) fail("simplify: impossible counts");
-    memcpy(result, out, 16 * records);
-    if (!holds(&lent_out, out, 16 * records, 16 * v.weight)) fail("simplify: out past the records is not zero, or changed past its stretch");
-    if (!holds(&lent_steps, steps, given, v.weight)) fail("simplify: steps past the steps is not zero, or changed past its stretch");
-    for (uint64_t i = 0; i < given; i++) {
-        if (steps[i] < 1 || steps[i] > 6 || steps[i] == 5) fail("simplify: no such step");
-    }
+    if (said[1] != 0 || records != own.records || given != own.steps || opened != own.openings) fail("simplify: other counts than the plain C's");
+    memcpy(result, own_out, 16 * records);
+    if (!holds(&lent_out, own_out, 16 * records, 16 * v.weight)) fail("simplify: out is another one, or changed past its stretch");
+    if (!holds(&lent_steps, own_steps, given, v.weight)) fail("simplify: steps is another one, or changed past its stretch");
     struct judged after = judge(result, 16 * records);
     if (after.number != 0) fail("simplify: the result is no good table");
     if (said[5] != v.weight || said[6] != after.weight) fail("simplify: the weights are others");
@@ -238,8 +237,12 @@ static void try_simplify(struct judged v) {
     if (said[0] != number || (number != 0 && number != 7)) fail("simplify: a good table refused by another number than 7");
     if (!holds(&lent_work, lent_zeros, 0, 65536)) fail("simplify: work is not zero, or changed past its stretch");
     counts[number]++;
-    if (number == 0) { try_result(v, said, o, s); return; }
-    if (said[1] >= v.weight || said[2] + said[3] + said[4] + said[5] + said[6] != 0) fail("simplify: impossible numbers beside 7");
+    static uint8_t own_out[49152], own_steps[3072];
+    struct simplified own = own_simplify(table, own_out, own_steps);
+    if (number != own.number) fail("simplify: the plain C says otherwise whether an integer leaves the range");
+    if (number == 0) { try_result(v, said, own, own_out, own_steps); return; }
+    if (said[1] != own.place) fail("simplify: 7 at another place than the plain C's");
+    if (said[2] + said[3] + said[4] + said[5] + said[6] != 0) fail("simplify: other numbers than 0 beside 7");
     if (!holds(&lent_out, lent_zeros, 0, 16 * w) || !holds(&lent_steps, lent_zeros, 0, w)) fail("simplify: 7, and out or steps is not zero");
 }
 
@@ -270,7 +273,7 @@ int main(int argc, char **argv) {
         }
         if (equal_seen == 0 || unequal_seen == 0) { printf("random: no equal or no unequal tables\n"); return 1; }
     }
-    printf("random tables beside plain C: %llu (seed %llu), %llu calls; simplified %llu (%llu steps, %llu openings, values equal), refused 1 to 7:",
+    printf("random tables beside plain C: %llu (seed %llu), %llu calls; simplified %llu (%llu steps, %llu openings, all bytes equal, values equal), refused 1 to 7:",
            (unsigned long long)count, (unsigned long long)seed, (unsigned long long)calls, (unsigned long long)counts[0],
            (unsigned long long)steps_seen, (unsigned long long)openings_seen);
     for (int i = 1; i < 8; i++) printf(" %llu", (unsigned long long)counts[i]);

@@ -1,6 +1,6 @@
-/* replay LINES: replays tests/answers/simplify.tsv (standard input, so many lines) through simmergate_simplify. On every table: the returned
-   number, the seven numbers of the answer, every byte of out, steps and work, and the bytes around them, with areas exactly as large
-   as they must be, larger ones, and each of them one byte too short. */
+/* replay FILE LINES: replays a file of stored answers (on standard input, so many lines; see tests/answers/README.md) through
+   simmergate_simplify. On every table: the returned number, the seven numbers of the answer, every byte of out, steps and work, and the
+   bytes around them, with areas exactly as large as they must be, larger ones, and each of them one byte too short. */
 #include "../../include/simmergate.h"
 #include "lent.h"
 #include "text.h"
@@ -86,8 +86,8 @@ int main(int argc, char **argv) {
         accepted += number == 0;
         left_range += number == 7;
     }
-    if (argc != 2 || (uint64_t)lines != decimal(argv[1])) { printf("replay: %ld stored answers on standard input, not as many as they should be\n", lines); return 1; }
-    printf("stored answers: %ld tables (%ld accepted, %ld out of range, %ld refused otherwise), %ld calls, all bytes as stored\n", lines, accepted,
-           left_range, lines - accepted - left_range, calls);
+    if (argc != 3 || (uint64_t)lines != decimal(argv[2])) { printf("replay: %ld stored answers on standard input, not as many as they should be\n", lines); return 1; }
+    printf("stored answers of %s: %ld tables (%ld accepted, %ld out of range, %ld refused otherwise), %ld calls, all bytes as stored\n", argv[1], lines,
+           accepted, left_range, lines - accepted - left_range, calls);
     return 0;
 }

@@ -10,7 +10,7 @@ mod symbolic;
 use std::io::BufRead;
 use symbolic::simplify::{rules, step::Step};
 
-pub fn applied(_: bool) {}
+pub fn applied(_: bool, _: bool) {}
 
 fn lettered(symbol: u8) -> String { ((b'a' + symbol % 26) as char).to_string() }
 

@@ -13,8 +13,8 @@
 //!   range    a step that leaves the signed 64-bit range refuses the table
 //!   plain    no complexity is computed (the published driver computes one and does not use it)
 //!
-//! The third change, the rest kept in order, is in the build: see `build`. `bench N` answers all
-//! tables N times with nothing written, for counting instructions.
+//! Two changes more are in the build, the rest kept in order and all integers in the coefficient: see
+//! `build`. `bench N` answers all tables N times with nothing written, for counting instructions.
 #![allow(dead_code, unused, mismatched_lifetime_syntaxes)]
 mod approx;
 mod primitive;
@@ -33,12 +33,14 @@ struct Changes { driver: bool, range: bool, plain: bool }
 /// What ends a run that leaves the range: the number of steps completed before.
 struct Refused(usize);
 
-thread_local!(static RANGE: Cell<bool> = Cell::new(false); static STEPS: Cell<usize> = Cell::new(0));
+thread_local!(static RANGE: Cell<bool> = Cell::new(false); static STEPS: Cell<usize> = Cell::new(0);
+    static BEYOND: Cell<bool> = Cell::new(false));
 
-/// A rule applied, and left the signed 64-bit range on the way or not.
-pub fn applied(out: bool) {
+/// A rule applied, and left the signed 64-bit range on the way or not, and 128 bits or not.
+pub fn applied(out: bool, beyond: bool) {
     let steps = STEPS.with(|s| s.get());
     if out && RANGE.with(|r| r.get()) { resume_unwind(Box::new(Refused(steps))); }
+    if beyond { BEYOND.with(|b| b.set(true)); }
     STEPS.with(|s| s.set(steps + 1));
 }
 
@@ -75,8 +77,8 @@ type Answer = (Vec<Step>, Option<usize>, Option<Vec<u8>>);
 
 fn answer(table: &[u8], changes: Changes) -> Answer {
     let e = records::tree(table, &mut 0, records::numbered);
-    rug::begin();
     STEPS.with(|s| s.set(0));
+    BEYOND.with(|b| b.set(false));
     RANGE.with(|r| r.set(changes.range));
     let mut steps = vec![];
     let mut opened = 0;
@@ -88,7 +90,7 @@ fn answer(table: &[u8], changes: Changes) -> Answer {
         symbolic::simplify_with_steps(&e)
     };
     let mut written = vec![];
-    let fits = records::put(&result, &mut written) && !rug::beyond();
+    let fits = records::put(&result, &mut written) && !BEYOND.with(|b| b.get());
     (steps, changes.driver.then(|| opened), fits.then(|| written))
 }
 

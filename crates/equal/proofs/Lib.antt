@@ -2,7 +2,7 @@ pub mod SameLaws
 pub mod HeadLaws
 pub mod MarkLaws
 pub mod MatchLaws
-pub mod NumberLaws
+pub mod AnswerLaws
 pub mod MarkOutLaws
 pub mod ViewLaws
 pub mod RestLaws

@@ -6,36 +6,47 @@ use mathlib.Core.Bool.{Bool, true, false}
 use mathlib.Core.List.{List, [], _∷_}
 use mathlib.Core.Option.{none, some}
 use native.Mathlib.Omega.{arith}
-use borrow.Author.Tests.{eq-eqb, ne-eqb}
+use borrow.Author.Tests.{ltb-true, ltb-false}
 use lib.ListN.{length, getD}
-use Rattle.paper.specs.Record.{countIn}
+use Rattle.paper.specs.Record.{kind, countIn}
 use Rattle.paper.specs.Tree.{Tree, Forest, nil, cons, records, recordses, toList}
 use Rattle.paper.specs.Equal.{removeFirst, goOn, isEmpty, sameBag, equal}
 use Rattle.paper.proofs.Bags.{First, removeFirst-first}
+use Rattle.paper.specs.Rules.{asInteger, withOther, othersOf}
+use Rattle.paper.proofs.Tests.{true-not-false}
+use Rattle.paper.proofs.Seen.{seen-integer}
 use Rattle.paper.proofs.EncodeLaws.{count-records}
 use Rattle.paper.proofs.WFLaws.{count-list}
 use Rattle.split.specs.Standing.{TreeIn, TreesIn, SomeTree}
-use Rattle.paper.proofs.StandingLaws.{FirstOf, first-of, none-of}
-use Rattle.equal.specs.Matching.{matchOf, without, unmarked, Takeable, Matchable}
+use Rattle.split.proofs.SplitLaws.{no-integer}
+use Rattle.paper.proofs.StandingLaws.{seen, FirstOf, first-of, none-of}
+use Rattle.equal.specs.Matching.{matchOf, isPassed, without, unmarked, Takeable, Matchable}
 use Rattle.equal.proofs.SameLaws.{taken-length, Nodes}
 use Rattle.equal.proofs.MarkLaws.{unmarked-all}
 use Rattle.equal.specs.declared.Match.{Match}
 
--- ---- the trees of a row without the one at a record
-pub without-later : (i x : ℕ) (f : Forest) → x < i → without i x f ≡ toList f
-unfolding without toList
-without-later i x nil l = refl
-without-later i x (cons t f) l =
-    rw (ne-eqb i x (λ e. omega arith)) (ap (λ (k : List Tree). t ∷ k) (without-later (i + records t) x f (omega arith)))
+-- ---- the trees of a row, one by one: an integer that is passed over, and any other
+module _ (skip : Bool) {s : List ℕ} {i : ℕ} {t : Tree} (h : TreeIn s i t) (f : Forest) where
+  pub without-integer : isPassed skip s i ≡ true → (without skip (cons t f) ≡ without skip f) × (records t ≡ 1)
+  unfolding isPassed without othersOf withOther asInteger toList records
+  without-integer e = by skip e
+    where
+      by : (b : Bool) → isPassed b s i ≡ true → (without b (cons t f) ≡ without b f) × (records t ≡ 1)
+      by true e = let q = seen-integer (seen h) (omega (arith, ltb-true (kind s i) 1 e)) in rw (q .2) (refl, refl)
+      by false e = absurd (true-not-false e refl)
 
-module _ (i x : ℕ) (t : Tree) (f : Forest) where
-  pub without-here : i ≡ x → without i x (cons t f) ≡ without (i + records t) x f
-  unfolding without
-  without-here e = rw (eq-eqb i x e) refl
+  pub without-other : isPassed skip s i ≡ false → without skip (cons t f) ≡ t ∷ without skip f
+  unfolding isPassed without othersOf withOther toList
+  without-other e = by skip e
+    where
+      by : (b : Bool) → isPassed b s i ≡ false → without b (cons t f) ≡ t ∷ without b f
+      by true e = rw (no-integer h (omega (arith, ltb-false (kind s i) 1 e))) refl
+      by false e = refl
 
-  pub without-other : (i ≡ x → ⊥) → without i x (cons t f) ≡ t ∷ without (i + records t) x f
-  unfolding without
-  without-other e = rw (ne-eqb i x e) refl
+without-none : (skip : Bool) → without skip nil ≡ []
+unfolding without othersOf toList
+without-none true = refl
+without-none false = refl
 
 -- ---- one tree matched
 bag-none : (t : Tree) (l k : List Tree) → removeFirst (equal t) k ≡ none → sameBag equal (t ∷ l) k ≡ false
@@ -55,25 +66,25 @@ removed-length : (p : Tree → Bool) (l m : List Tree) → removeFirst p l ≡ s
 removed-length p l m e = taken-length (subst (First p l) e (removeFirst-first p l) .2)
 
 -- the trees of f matched so far: those from record `at` on are left, equally many as are unmarked, and say what the whole does
-pub record Matched (a : List ℕ) (i x : ℕ) (us₀ us : List ℕ) (f g : Forest) (at left : ℕ) : Type 0 where
+pub record Matched (a : List ℕ) (i : ℕ) (skip : Bool) (us₀ us : List ℕ) (f g : Forest) (at left : ℕ) : Type 0 where
   pub rest : Forest
   pub stand : TreesIn a at left rest
   pub ends : at + recordses rest ≡ i + recordses f
-  pub as-many : length (without at x rest) ≡ length (unmarked us 0 g)
-  pub same : sameBag equal (without at x rest) (unmarked us 0 g) ≡ sameBag equal (without i x f) (unmarked us₀ 0 g)
+  pub as-many : length (without skip rest) ≡ length (unmarked us 0 g)
+  pub same : sameBag equal (without skip rest) (unmarked us 0 g) ≡ sameBag equal (without skip f) (unmarked us₀ 0 g)
 
-module _ {a : List ℕ} {i x : ℕ} {f g : Forest} where
-  pub matched-start : {n : ℕ} (us : List ℕ) → TreesIn a i n f → length (without i x f) ≡ length (unmarked us 0 g) → Matched a i x us us f g i n
+module _ {a : List ℕ} {i : ℕ} {skip : Bool} {f g : Forest} where
+  pub matched-start : {n : ℕ} (us : List ℕ) → TreesIn a i n f → length (without skip f) ≡ length (unmarked us 0 g) → Matched a i skip us us f g i n
   matched-start us h l = record { rest = f; stand = h; ends = refl; as-many = l; same = refl }
 
-  module _ {us₀ us : List ℕ} {at left : ℕ} (h : Matched a i x us₀ us f g at left) where
-    pub matched-done : left ≡ 0 → (sameBag equal (without i x f) (unmarked us₀ 0 g) ≡ true) × (at ≡ i + recordses f)
-    unfolding without records
+  module _ {us₀ us : List ℕ} {at left : ℕ} (h : Matched a i skip us₀ us f g at left) where
+    pub matched-done : left ≡ 0 → (sameBag equal (without skip f) (unmarked us₀ 0 g) ≡ true) × (at ≡ i + recordses f)
+    unfolding records
     matched-done e =
         let z : h .rest ≡ nil = none-of (h .rest) (h .stand) e in
-        let w : without at x (h .rest) ≡ [] = ap (without at x) z in
+        let w : without skip (h .rest) ≡ [] = ap (without skip) z ∙ without-none skip in
         let r : recordses (h .rest) ≡ 0 = ap recordses z in
-        let l : length (without at x (h .rest)) ≡ 0 = ap length w in
+        let l : length (without skip (h .rest)) ≡ 0 = ap length w in
         let all = bag-end (unmarked us 0 g) (omega (arith, h .as-many)) in
         (sym (h .same) ∙ ap (λ k. sameBag equal k (unmarked us 0 g)) w ∙ all, omega (arith, h .ends))
 
@@ -92,12 +103,13 @@ module _ {a : List ℕ} {i x : ℕ} {f g : Forest} where
       unfolding records
       after = omega (arith, h .ends, ap recordses (next .whole))
 
-      -- the one that is left out
-      pub matched-out : at ≡ x → (y : ℕ) → ((t : Tree) → TreeIn a at t → y ≡ at + records t) → Matched a i x us₀ us f g y (left - 1)
-      matched-out e y to =
-          let w : without at x (h .rest) ≡ without (at + records (next .tree)) x (next .others)
-          = ap (without at x) (next .whole) ∙ without-here at x (next .tree) (next .others) e in
-          rw (to (next .tree) (next .there))
+      -- one that is passed over
+      pub matched-out : isPassed skip a at ≡ true → Matched a i skip us₀ us f g (at + 1) (left - 1)
+      matched-out e =
+          let q = without-integer skip (next .there) (next .others) e in
+          let w : without skip (h .rest) ≡ without skip (next .others) = ap (without skip) (next .whole) ∙ q .0 in
+          let past : at + 1 ≡ at + records (next .tree) = omega (arith, q .1) in
+          rw past
           (record {
             rest = next .others;
             stand = next .after;
@@ -106,25 +118,25 @@ module _ {a : List ℕ} {i x : ℕ} {f g : Forest} where
             same = ap (λ k. sameBag equal k (unmarked us 0 g)) (sym w) ∙ h .same;
           })
 
-      module _ (n : at ≡ x → ⊥) where
-        first : without at x (h .rest) ≡ next .tree ∷ without (at + records (next .tree)) x (next .others)
-        first = ap (without at x) (next .whole) ∙ without-other at x (next .tree) (next .others) n
+      module _ (n : isPassed skip a at ≡ false) where
+        first : without skip (h .rest) ≡ next .tree ∷ without skip (next .others)
+        first = ap (without skip) (next .whole) ∙ without-other skip (next .there) (next .others) n
 
         -- one that equals no unmarked one
         pub matched-none : ((t : Tree) → TreeIn a at t → removeFirst (equal t) (unmarked us 0 g) ≡ none)
-            → sameBag equal (without i x f) (unmarked us₀ 0 g) ≡ false
+            → sameBag equal (without skip f) (unmarked us₀ 0 g) ≡ false
         matched-none r =
             sym (h .same)
             ∙ ap (λ k. sameBag equal k (unmarked us 0 g)) first
-            ∙ bag-none (next .tree) (without (at + records (next .tree)) x (next .others)) (unmarked us 0 g) (r (next .tree) (next .there))
+            ∙ bag-none (next .tree) (without skip (next .others)) (unmarked us 0 g) (r (next .tree) (next .there))
 
         -- one that took an equal one
         pub matched-more : (vs : List ℕ) (y : ℕ)
             → ((t : Tree) → TreeIn a at t → (y ≡ at + records t) × (removeFirst (equal t) (unmarked us 0 g) ≡ some (unmarked vs 0 g)))
-            → Matched a i x us₀ vs f g y (left - 1)
+            → Matched a i skip us₀ vs f g y (left - 1)
         matched-more vs y r =
             let t = next .tree in
-            let k : List Tree = without (at + records t) x (next .others) in
+            let k : List Tree = without skip (next .others) in
             let q = r t (next .there) in
             rw (q .0)
             (record {
@@ -152,18 +164,19 @@ module _ {a : List ℕ} {i : ℕ} {b : List ℕ} {j : ℕ} {t u : Tree} (q : Nod
   nodes-room room l = omega (arith, q .other-size, others-there .counted, count-records (q .others))
 
   module _ (us : List ℕ) (zero-marks : (k : ℕ) → k < n → getD us k 0 ≡ 0) where
-    all-ones : without (i + 1) 0 (q .ones) ≡ toList (q .ones)
-    all-ones = without-later (i + 1) 0 (q .ones) (omega arith)
+    all-ones : without false (q .ones) ≡ toList (q .ones)
+    unfolding without
+    all-ones = refl
 
     all-others : unmarked us 0 (q .others) ≡ toList (q .others)
     all-others = unmarked-all us 0 n (q .others) (λ k p l. zero-marks k l) (omega (arith, others-there .counted))
 
-    as-many : length (without (i + 1) 0 (q .ones)) ≡ length (unmarked us 0 (q .others))
+    as-many : length (without false (q .ones)) ≡ length (unmarked us 0 (q .others))
     as-many =
         omega
         (arith, ap length all-ones, ap length all-others, count-list (q .ones), count-list (q .others), ones-there .counted, others-there .counted)
 
-    pub nodes-matchable : records u ≤ length us → Matchable a (i + 1) n 0 b (j + 1) n us
+    pub nodes-matchable : records u ≤ length us → Matchable a (i + 1) n false b (j + 1) n us
     nodes-matchable l =
         record {
           ones = q .ones;
@@ -176,8 +189,8 @@ module _ {a : List ℕ} {i : ℕ} {b : List ℕ} {j : ℕ} {t u : Tree} (q : Nod
 
     -- what the comparison of the members answers is what that of the trees does
     pub nodes-same : (r : Match)
-        → ((f g : Forest) → TreesIn a (i + 1) n f → TreesIn b (j + 1) n g → length (without (i + 1) 0 f) ≡ length (unmarked us 0 g)
-        → r ≡ matchOf (sameBag equal (without (i + 1) 0 f) (unmarked us 0 g)) (i + 1 + recordses f))
+        → ((f g : Forest) → TreesIn a (i + 1) n f → TreesIn b (j + 1) n g → length (without false f) ≡ length (unmarked us 0 g)
+        → r ≡ matchOf (sameBag equal (without false f) (unmarked us 0 g)) (i + 1 + recordses f))
         → r ≡ matchOf (equal t u) (i + records t)
     nodes-same r told =
         let e : i + 1 + recordses (q .ones) ≡ i + records t = omega (arith, q .size) in

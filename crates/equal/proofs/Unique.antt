@@ -14,8 +14,6 @@ use Rattle.equal.proofs.same.Reads as same
 use Rattle.equal.proofs.same.Kinds as same-kinds
 use Rattle.equal.proofs.same_rest.Reads as same-rest
 use Rattle.equal.proofs.same_rest.Kinds as same-rest-kinds
-use Rattle.equal.proofs.same_number.Reads as same-number
-use Rattle.equal.proofs.same_number.Kinds as same-number-kinds
 
 says-once : (r r′ : Compared) → says r ≡ says r′ → r ≡ r′
 says-once r r′ e =
@@ -35,6 +33,3 @@ same-once κs a v v' x x' q p p' =
 pub same-rest-once : Once 2 same-rest-kinds.ps same-rest-kinds.r same-rest.Pre same-rest.Post
 same-rest-once κs a v v' x x' q p p' =
     p (q .one) (q .other) (q .one-there) (q .other-there) ∙ sym (p' (q .one) (q .other) (q .one-there) (q .other-there))
-
-pub same-number-once : Once 1 same-number-kinds.ps same-number-kinds.r same-number.Pre same-number.Post
-same-number-once κs a v v' x x' q p p' = p (q .tree) (q .there) ∙ sym (p' (q .tree) (q .there))

@@ -1,12 +1,15 @@
--- What matching compares and answers: the trees of a row without one of them, those that are not marked, and what the code asks for.
+-- What matching compares and answers: the trees of a row with or without its integers, those that are not marked, and what the code asks
+-- for.
 use Prim.Native.Nat.{ℕ, _+_, _≤_, _<_}
 use mathlib.Core.Path.{_≡_}
-use mathlib.Core.Bool.{Bool, true, false, cond}
+use mathlib.Core.Bool.{Bool, true, false, cond, _&&_}
 use mathlib.Core.List.{List, [], _∷_}
 use mathlib.Core.Option.{none, some}
 use lib.ListN.{length, getD}
-use lib.Dec.{eqb}
-use Rattle.paper.specs.Tree.{Tree, Forest, nil, cons, records, recordses}
+use lib.Dec.{eqb, ltb}
+use Rattle.paper.specs.Tree.{Tree, Forest, nil, cons, records, recordses, toList}
+use Rattle.paper.specs.Record.{kind}
+use Rattle.paper.specs.Rules.{othersOf}
 use Rattle.paper.specs.Equal.{removeFirst, equal}
 use Rattle.split.specs.Standing.{TreeIn, TreesIn}
 use Rattle.equal.specs.declared.Match.{Match}
@@ -17,10 +20,14 @@ abbrev pub matchOf : Bool → ℕ → Match
 matchOf true e = Ends e
 matchOf false e = Different
 
--- the trees of f, which stand from record i on, without the one at record x
-unfoldable pub without : ℕ → ℕ → Forest → List Tree
-without i x nil = []
-without i x (cons t f) = cond (eqb i x) (without (i + records t) x f) (t ∷ without (i + records t) x f)
+-- the trees of f, without its integers where they are passed over
+unfoldable pub without : Bool → Forest → List Tree
+without false f = toList f
+without true f = othersOf (toList f)
+
+-- the tree at record i is passed over: integers are, and this is one
+unfoldable pub isPassed : Bool → List ℕ → ℕ → Bool
+isPassed skip s i = skip && ltb (kind s i) 1
 
 -- the trees of f that are not used yet: those whose mark, from mark k on, is 0
 unfoldable pub unmarked : List ℕ → ℕ → Forest → List Tree
@@ -48,11 +55,11 @@ abbrev pub Took : Tree → Forest → List ℕ → List ℕ → ℕ → Match �
 Took t g us us′ e Different = removeFirst (equal t) (unmarked us 0 g) ≡ none
 Took t g us us′ e (Ends x) = (x ≡ e) × (removeFirst (equal t) (unmarked us 0 g) ≡ some (unmarked us′ 0 g))
 
--- n trees stand in the one table, m in the other; without the one at record x, and without the marked ones, there are as many
-pub record Matchable (a : List ℕ) (i n x : ℕ) (b : List ℕ) (j m : ℕ) (us : List ℕ) : Type 0 where
+-- n trees stand in the one table, m in the other; without those passed over, and without the marked ones, there are as many
+pub record Matchable (a : List ℕ) (i n : ℕ) (skip : Bool) (b : List ℕ) (j m : ℕ) (us : List ℕ) : Type 0 where
   pub ones : Forest
   pub others : Forest
   pub ones-there : TreesIn a i n ones
   pub others-there : TreesIn b j m others
   pub enough : recordses others < length us
-  pub as-many : length (without i x ones) ≡ length (unmarked us 0 others)
+  pub as-many : length (without skip ones) ≡ length (unmarked us 0 others)

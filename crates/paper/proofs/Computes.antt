@@ -11,7 +11,7 @@ use Rattle.paper.specs.Walk.{lastOf, initOf, lastFirst, oneRemoved, turn
 use Rattle.paper.specs.Walk as Walk
 use Rattle.paper.specs.Rules.{fits, collapse, sumOf, productOf, onSumMembers, onProductMembers, asInteger, isThe, unless, dropAll, anyOf}
 use Rattle.paper.specs.Rules.{appliesIf, addZero, multiplyZero, multiplyOne, allInRange, rebuilt, outcome, combine}
-use Rattle.paper.specs.Rules.{term, behind, orFirst, firstInteger, productTerm, termOf, added, addIf, mergeTerms, times, timesUnless}
+use Rattle.paper.specs.Rules.{term, withInteger, integersOf, withOther, othersOf, timesOne, timesEach, unit, productTerm, termOf, added, addIf, mergeTerms, times, timesUnless}
 use Rattle.paper.specs.Rules.{fromTerm, combineLikeTerms, factor, factorOf, raiseIf, bothIntegers, multiplyIf, mergeFactors}
 use Rattle.paper.specs.Rules.{powerUnless, fromFactor, combineLikeFactors, editionOne}
 use Rattle.paper.specs.Driver.{ask, after, andThen, each, members, asSum, asProduct, openOne, opened, baseFrom, gather}
@@ -45,7 +45,7 @@ unfoldable pub rules-compute : Unit {0}
 unfolding
     equality-computes toList ofList lastOf initOf lastFirst oneRemoved Walk.onto turn walk fits collapse sumOf productOf
     onSumMembers onProductMembers asInteger isThe unless dropAll anyOf appliesIf addZero multiplyZero multiplyOne allInRange rebuilt
-    outcome combine term behind orFirst firstInteger productTerm termOf added addIf mergeTerms times timesUnless fromTerm
+    outcome combine term withInteger integersOf withOther othersOf timesOne timesEach unit productTerm termOf added addIf mergeTerms times timesUnless fromTerm
     combineLikeTerms factor factorOf raiseIf bothIntegers multiplyIf mergeFactors powerUnless fromFactor combineLikeFactors editionOne
 rules-compute = tt
 

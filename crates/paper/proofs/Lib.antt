@@ -46,6 +46,7 @@ pub mod Simplified
 pub mod DemandLaws
 pub mod Takeover
 pub mod Gathering
+pub mod Coefficient
 pub mod ValueKept
 pub mod Computes
 pub mod Starred

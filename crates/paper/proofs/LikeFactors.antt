@@ -85,7 +85,7 @@ module _ (ρ : ℕ → ℕ) where
       agree-trans (agree-of (multiplied-fold unreduced (comeOut factorOf mergeFactors fromFactor l)))
       (agree-trans
       (combine-keeps factorOf mergeFactors fromFactor times-laws agree-times unreduced worth
-      factorOf-worth mergeFactors-worth (λ c. agree-of (fromFactor-worth c)) l)
+      (λ t. agree-of (factorOf-worth t)) mergeFactors-worth (λ c. agree-of (fromFactor-worth c)) l)
       (agree-of (sym (multiplied-fold unreduced l))))
 
 -- step 6 keeps the value

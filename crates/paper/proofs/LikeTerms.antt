@@ -5,44 +5,22 @@ use Prim.Native.Nat.{ℕ, _+_, _*_}
 use mathlib.Core.Path.{_≡_, refl, sym, ap, _∙_, subst}
 use mathlib.Core.Bool.{Bool, true, false}
 use mathlib.Core.List.{List, [], _∷_, _++_}
-use mathlib.Core.Option.{Option, none, some, Option·some-injective, Option·none-ne-some}
+use mathlib.Core.Option.{some, Option·some-injective, Option·none-ne-some}
 use native.Mathlib.Omega.{arith}
 use lib.IntN.{ℤ, pos}
 use Rattle.paper.specs.Limits.{modulus}
 use Rattle.paper.specs.Bytes.{word}
 use Rattle.paper.specs.Tree.{Tree, Forest, integer, symbol, sum, product, power, toList, ofList, value}
 use Rattle.paper.specs.Equal.{equal, eqZ}
-use Rattle.paper.specs.Rules.{sumOf, asInteger, Term, term, behind, orFirst, firstInteger, productTerm, termOf}
+use Rattle.paper.specs.Rules.{sumOf, asInteger, Term, term, withInteger, integersOf, withOther, othersOf, Multiplied, timesOne, timesEach, unit, productTerm, termOf}
 use Rattle.paper.specs.Rules.{added, addIf, mergeTerms, times, timesUnless, fromTerm}
 use Rattle.paper.proofs.Congruence.{Agree, agree-refl, agree-of, agree-trans, agree-add, agree-mul, word-add, word-mul}
-use Rattle.paper.proofs.Value.{exact, exactProduct, value-exact, total, multiplied, multiplied-append}
+use Rattle.paper.proofs.Value.{exact, value-exact, total, multiplied, multiplied-append}
 use Rattle.paper.proofs.Value.{sum-list, product-list, list-product}
 use Rattle.paper.proofs.Tests.{eqZ-true}
-use Rattle.paper.proofs.Bags.{Taken, here, there}
-use Rattle.paper.proofs.EqualView.{equal-exact, taken-multiplied}
+use Rattle.paper.proofs.EqualView.{equal-exact}
 use Rattle.paper.proofs.WalkLaws.{Respects, plus-laws}
 use Rattle.paper.proofs.OutcomeLaws.{sumOf-exact, productOf-exact, total-fold, comeOut, combine-keeps}
-
--- the first integer member and the others: it is taken out of the members
-abbrev pub TakenOut : List Tree → Option (ℤ × List Tree) → Type 0
-TakenOut l none = Unit {0}
-TakenOut l (some r) = (μ : ℕ) × Taken (integer μ (r .0)) l (r .1)
-
-pub firstInteger-taken : (l : List Tree) → TakenOut l (firstInteger l)
-unfolding firstInteger orFirst asInteger behind
-firstInteger-taken [] = tt
-firstInteger-taken (t ∷ l) = go t (firstInteger l) (firstInteger-taken l)
-  where
-    later : (t : Tree) (r : Option (ℤ × List Tree)) → TakenOut l r → TakenOut (t ∷ l) (behind t r)
-    later t none h = tt
-    later t (some r) h = (h .0, there (h .1))
-
-    go : (t : Tree) (r : Option (ℤ × List Tree)) → TakenOut l r → TakenOut (t ∷ l) (orFirst (asInteger t) t l r)
-    go (integer μ z) r h = (μ, here)
-    go (symbol μ s) r h = later (symbol μ s) r h
-    go (sum μ f) r h = later (sum μ f) r h
-    go (product μ f) r h = later (product μ f) r h
-    go (power μ b ξ e) r h = later (power μ b ξ e) r h
 
 -- where two terms merge, their rests are equal and the coefficients are added
 pub mergeTerms-some : (c x d : Term) → mergeTerms c x ≡ some d → (equal (c .rest) (x .rest) ≡ true) × (added c x ≡ d)
@@ -64,19 +42,41 @@ module _ (ρ : ℕ → ℕ) where
   unfoldable worth : Term → ℕ
   worth c = word (c .coefficient) * unreduced (c .rest)
 
-  productTerm-worth : (μ : ℕ) (f : Forest) (r : Option (ℤ × List Tree)) → TakenOut (toList f) r → worth (productTerm μ f r) ≡ exactProduct f ρ
-  unfolding worth productTerm term word exact
-  productTerm-worth μ f none h = omega arith
-  productTerm-worth μ f (some r) h =
-      ap (λ n. word (r .0) * n) (productOf-exact (r .1) ρ) ∙ sym (taken-multiplied unreduced (h .1)) ∙ product-list f ρ
+  -- the words of integers, multiplied
+  unfoldable words : List ℤ → ℕ
+  words [] = 1
+  words (z ∷ l) = word z * words l
 
-  termOf-worth : (t : Tree) → worth (termOf t) ≡ unreduced t
+  timesEach-word : (c : Multiplied) (l : List ℤ) → Agree modulus (word (timesEach c l .number)) (word (c .number) * words l)
+  unfolding timesEach timesOne words
+  timesEach-word c [] = agree-of (omega arith)
+  timesEach-word c (z ∷ l) =
+      agree-trans (timesEach-word (timesOne c z) l)
+      (agree-trans (agree-mul (word-mul (c .number) z) (agree-refl {a = words l})) (agree-of (omega arith)))
+
+  -- the integers and the others make the product
+  parted : (l : List Tree) → words (integersOf l) * multiplied unreduced (othersOf l) ≡ multiplied unreduced l
+  unfolding integersOf othersOf withInteger withOther asInteger words multiplied exact
+  parted [] = refl
+  parted (integer μ z ∷ l) = let h = parted l in rw (← h) (omega arith)
+  parted (symbol μ s ∷ l) = let h = parted l in rw (← h) (omega arith)
+  parted (sum μ f ∷ l) = let h = parted l in rw (← h) (omega arith)
+  parted (product μ f ∷ l) = let h = parted l in rw (← h) (omega arith)
+  parted (power μ b ξ e ∷ l) = let h = parted l in rw (← h) (omega arith)
+
+  productTerm-worth : (l : List Tree) → Agree modulus (worth (productTerm l)) (multiplied unreduced l)
+  unfolding worth productTerm unit word
+  productTerm-worth l =
+      agree-trans (agree-mul (timesEach-word unit (integersOf l)) (agree-of (productOf-exact (othersOf l) ρ)))
+      (agree-of (omega (arith, parted l)))
+
+  termOf-worth : (t : Tree) → Agree modulus (worth (termOf t)) (unreduced t)
   unfolding worth termOf term word exact
-  termOf-worth (integer μ z) = omega arith
-  termOf-worth (symbol μ s) = omega arith
-  termOf-worth (sum μ f) = omega arith
-  termOf-worth (product μ f) = productTerm-worth μ f (firstInteger (toList f)) (firstInteger-taken (toList f))
-  termOf-worth (power μ b ξ e) = omega arith
+  termOf-worth (integer μ z) = agree-of (omega arith)
+  termOf-worth (symbol μ s) = agree-of (omega arith)
+  termOf-worth (sum μ f) = agree-of (omega arith)
+  termOf-worth (product μ f) = agree-trans (productTerm-worth (toList f)) (agree-of (product-list f ρ))
+  termOf-worth (power μ b ξ e) = agree-of (omega arith)
 
   added-worth : (c x : Term) → equal (c .rest) (x .rest) ≡ true → Agree modulus (worth (added c x)) (worth c + worth x)
   unfolding worth added

@@ -1,27 +1,26 @@
 -- Step 2 keeps trees well-formed. The rest of a term is well-formed all along, and its coefficient is in range where its flag says
 -- so: this holds of the terms of well-formed members, and a merge keeps it; so where the flags of the members that come out say that
 -- all are in range, all are well-formed. Assumes nothing.
-use Prim.Native.Nat.{ℕ, _^_}
+use Prim.Native.Nat.{_^_}
 use mathlib.Core.Path.{_≡_, subst, refl}
 use mathlib.Core.Bool.{Bool, true, false, _&&_}
 use mathlib.Core.List.{List, [], _∷_, _++_}
-use mathlib.Core.Option.{Option, none, some}
+use mathlib.Core.Option.{some}
 use native.Mathlib.Omega.{arith}
 use lib.ListN.{length-append}
 use lib.IntN.{ℤ, pos, _+ℤ_, _*ℤ_}
 use lib.Signed.{mag}
 use lib.Dec.{lit<}
 use borrow.Author.Tests.{ltb-true}
-use Rattle.paper.specs.Tree.{Tree, Forest, integer, symbol, sum, product, power, toList, ofList, count}
+use Rattle.paper.specs.Tree.{Tree, integer, symbol, sum, product, power, toList, ofList, count}
 use Rattle.paper.specs.WellFormed.{InRange, WF, WFl}
 use Rattle.paper.specs.Equal.{eqZ}
-use Rattle.paper.specs.Rules.{fits, sumOf, Term, term, firstInteger, productTerm, termOf}
+use Rattle.paper.specs.Rules.{fits, sumOf, Term, term, asInteger, withOther, othersOf, integersOf, Multiplied, timesOne, timesEach, unit, productTerm, termOf}
 use Rattle.paper.specs.Rules.{added, mergeTerms, times, timesUnless, fromTerm}
 use Rattle.paper.proofs.Tests.{and-left, and-right}
-use Rattle.paper.proofs.Bags.{Taken, here, there}
 use Rattle.paper.proofs.WFLaws.{wf-list, list-wf, count-list, list-count, wf-append, sumOf-wf, productOf-wf}
 use Rattle.paper.proofs.OutcomeLaws.{comeOut, stayInRange, combine-wf}
-use Rattle.paper.proofs.LikeTerms.{TakenOut, firstInteger-taken, mergeTerms-some}
+use Rattle.paper.proofs.LikeTerms.{mergeTerms-some}
 
 -- the rest is well-formed, and the coefficient is in range where the flag says so
 pub record TermWF (c : Term) : Type 0 where
@@ -40,21 +39,37 @@ term-wf z t r w = record { rest-wf = w; coefficient-in-range = λ h. r }
 one-in-range : InRange (pos 1)
 one-in-range = lit< tt
 
-taken-wf : {u : Tree} {l m : List Tree} → Taken u l m → WFl l → WF u × WFl m
-taken-wf here w = w
-taken-wf (there r) w = let v = taken-wf r (w .1) in (v .0, (w .0, v .1))
+others-wf : (l : List Tree) → WFl l → WFl (othersOf l)
+unfolding othersOf withOther asInteger
+others-wf [] w = tt
+others-wf (integer μ z ∷ l) w = others-wf l (w .1)
+others-wf (symbol μ s ∷ l) w = (w .0, others-wf l (w .1))
+others-wf (sum μ f ∷ l) w = (w .0, others-wf l (w .1))
+others-wf (product μ f ∷ l) w = (w .0, others-wf l (w .1))
+others-wf (power μ b ξ e ∷ l) w = (w .0, others-wf l (w .1))
 
-productTerm-wf : (μ : ℕ) (f : Forest) (r : Option (ℤ × List Tree)) → WF (product μ f) → TakenOut (toList f) r → TermWF (productTerm μ f r)
-unfolding productTerm
-productTerm-wf μ f none w h = term-wf (pos 1) (product μ f) one-in-range w
-productTerm-wf μ f (some r) w h = let v = taken-wf (h .1) (wf-list f (w .1)) in term-wf (r .0) _ (v .0 .0) (productOf-wf (r .1) (v .1))
+-- where every partial product was in range, so is the last
+each-in-range : (c : Multiplied) (l : List ℤ) → (c .inRange ≡ true → InRange (c .number)) → timesEach c l .inRange ≡ true
+    → InRange (timesEach c l .number)
+unfolding timesEach timesOne
+each-in-range c [] r h = r h
+each-in-range c (z ∷ l) r h =
+    each-in-range (timesOne c z) l (λ k. fits-true (c .number *ℤ z) (and-right (c .inRange) _ k)) h
+
+productTerm-wf : (l : List Tree) → WFl l → TermWF (productTerm l)
+unfolding productTerm unit
+productTerm-wf l w =
+    record {
+      rest-wf = productOf-wf (othersOf l) (others-wf l w);
+      coefficient-in-range = each-in-range unit (integersOf l) (λ h. one-in-range);
+    }
 
 pub termOf-wf : (t : Tree) → WF t → TermWF (termOf t)
 unfolding termOf
 termOf-wf (integer μ z) w = term-wf z (integer 0 (pos 1)) (w .0) (one-in-range, refl)
 termOf-wf (symbol μ s) w = term-wf (pos 1) (symbol μ s) one-in-range w
 termOf-wf (sum μ f) w = term-wf (pos 1) (sum μ f) one-in-range w
-termOf-wf (product μ f) w = productTerm-wf μ f (firstInteger (toList f)) w (firstInteger-taken (toList f))
+termOf-wf (product μ f) w = productTerm-wf (toList f) (wf-list f (w .1))
 termOf-wf (power μ b ξ e) w = term-wf (pos 1) (power μ b ξ e) one-in-range w
 
 -- ---- merging

@@ -6,20 +6,20 @@ use Prim.Native.Nat.{ℕ, _+_, _≤_}
 use mathlib.Core.Path.{_≡_, refl, subst}
 use mathlib.Core.Bool.{Bool, true, false}
 use mathlib.Core.List.{List, [], _∷_, _++_}
-use mathlib.Core.Option.{Option, none, some}
+use mathlib.Core.Option.{some}
 use native.Mathlib.Omega.{arith}
 use lib.IntN.{ℤ, pos, _+ℤ_}
-use Rattle.paper.specs.Tree.{Tree, Forest, integer, symbol, sum, product, power, toList, ofList, weight}
+use lib.ListN.{length}
+use Rattle.paper.specs.Tree.{Tree, integer, symbol, sum, product, power, toList, ofList, weight}
 use Rattle.paper.specs.WellFormed.{WF, WFl}
 use Rattle.paper.specs.Equal.{eqZ}
-use Rattle.paper.specs.Rules.{asInteger, collapse, sumOf, productOf, Term, term, firstInteger, productTerm, termOf}
+use Rattle.paper.specs.Rules.{asInteger, collapse, sumOf, productOf, Term, term, withInteger, withOther, integersOf, othersOf, timesEach, unit, productTerm, termOf}
 use Rattle.paper.specs.Rules.{added, mergeTerms, times, timesUnless, fromTerm}
 use Rattle.paper.proofs.Value.{total, total-append, weights-list, list-weights}
 use Rattle.paper.proofs.Bulk.{atLeast, bulk, weight-bulk, bulk-wf}
-use Rattle.paper.proofs.Bags.{Taken}
-use Rattle.paper.proofs.EqualView.{Same, s-integer, s-symbol, s-sum, s-product, s-power, same-view, taken-total}
-use Rattle.paper.proofs.OutcomeLaws.{sumOf-weight, walked, comeOut, combine-lowers}
-use Rattle.paper.proofs.LikeTerms.{TakenOut, firstInteger-taken, mergeTerms-some}
+use Rattle.paper.proofs.EqualView.{Same, s-integer, s-symbol, s-sum, s-product, s-power, same-view}
+use Rattle.paper.proofs.OutcomeLaws.{sumOf-weight, productOf-weight, walked, comeOut, combine-lowers}
+use Rattle.paper.proofs.LikeTerms.{mergeTerms-some}
 use Rattle.paper.proofs.LikeTermsWF.{termOf-wf}
 
 -- what the coefficient adds, where the flag says whether it is 1
@@ -94,18 +94,29 @@ productOf-extra b (t ∷ []) = omega (arith, extra-two b t)
 productOf-extra true (t ∷ u ∷ l) = omega (arith, list-weights l)
 productOf-extra false (t ∷ u ∷ l) = omega (arith, list-weights l)
 
-productTerm-cost : (μ : ℕ) (f : Forest) (r : Option (ℤ × List Tree)) → TakenOut (toList f) r → WF (productTerm μ f r .rest)
-    → cost (productTerm μ f r) ≤ weight (product μ f)
-unfolding productTerm cost term eqZ extra weight
-productTerm-cost μ f none h w = omega (arith, bulk-wf (product μ f) w)
-productTerm-cost μ f (some r) h w =
-    omega (
-      arith,
-      bulk-wf (productOf (r .1)) w,
-      productOf-extra (eqZ (r .0) (pos 1)) (r .1),
-      taken-total weight (h .1),
-      weights-list f,
-    )
+-- an integer weighs 1
+pub parted-weight : (l : List Tree) → length (integersOf l) + total weight (othersOf l) ≡ total weight l
+unfolding integersOf othersOf withInteger withOther asInteger total weight
+parted-weight [] = refl
+parted-weight (integer μ z ∷ l) = omega (arith, parted-weight l)
+parted-weight (symbol μ s ∷ l) = omega (arith, parted-weight l)
+parted-weight (sum μ f ∷ l) = omega (arith, parted-weight l)
+parted-weight (product μ f ∷ l) = omega (arith, parted-weight l)
+parted-weight (power μ b ξ e ∷ l) = omega (arith, parted-weight l)
+
+-- with no integer the coefficient is 1 and adds nothing; else an integer pays for it
+productTerm-cost : (l : List Tree) → WF (productTerm l .rest) → cost (productTerm l) ≤ 1 + total weight l
+unfolding productTerm cost timesEach unit extra eqZ
+productTerm-cost l w = go (integersOf l) (parted-weight l)
+  where
+    rest : Tree
+    rest = productOf (othersOf l)
+
+    go : (is : List ℤ) → length is + total weight (othersOf l) ≡ total weight l
+        → bulk rest + extra (eqZ (timesEach unit is .number) (pos 1)) rest ≤ 1 + total weight l
+    go [] h = omega (arith, bulk-wf rest w, productOf-weight (othersOf l))
+    go (z ∷ is) h =
+        omega (arith, bulk-wf rest w, productOf-extra (eqZ (timesEach unit (z ∷ is) .number) (pos 1)) (othersOf l))
 
 termOf-cost : (t : Tree) → WF t → cost (termOf t) ≤ weight t
 unfolding termOf cost term eqZ bulk atLeast asInteger extra weight
@@ -113,7 +124,7 @@ termOf-cost (integer μ z) w = omega (arith, extra-integer (eqZ z (pos 1)) 0 (po
 termOf-cost (symbol μ s) w = omega arith
 termOf-cost (sum μ f) w = omega (arith, bulk-wf (sum μ f) w)
 termOf-cost (product μ f) w =
-    productTerm-cost μ f (firstInteger (toList f)) (firstInteger-taken (toList f)) (termOf-wf (product μ f) w .rest-wf)
+    omega (arith, productTerm-cost (toList f) (termOf-wf (product μ f) w .rest-wf), weights-list f)
 termOf-cost (power μ b ξ e) w = omega (arith, bulk-wf (power μ b ξ e) w)
 
 -- step 2 lowers the weight by at least as many as it removes

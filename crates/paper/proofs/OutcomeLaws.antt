@@ -88,13 +88,13 @@ module _ {P : Type 0} (split : Tree → P) (merge : P → P → Option P) (join 
 
   -- a worth of parts that splitting, merging and joining keep modulo 2^64: the walk keeps the fold of the members
   module _ {op : ℕ → ℕ → ℕ} {e : ℕ} (C : Commutes op e) (R : Respects op (Agree modulus)) (g : Tree → ℕ) (worth : P → ℕ)
-      (split-worth : (t : Tree) → worth (split t) ≡ g t)
+      (split-worth : (t : Tree) → Agree modulus (worth (split t)) (g t))
       (merge-worth : (c x d : P) → merge c x ≡ some d → Agree modulus (worth d) (op (worth c) (worth x)))
       (join-worth : (c : P) → Agree modulus (g (join c .0)) (worth c)) where
-    split-fold : (l : List Tree) → fold op e worth (map split l) ≡ fold op e g l
+    split-fold : (l : List Tree) → Agree modulus (fold op e worth (map split l)) (fold op e g l)
     unfolding fold
-    split-fold [] = refl
-    split-fold (t ∷ l) = rw (split-worth t) (ap (op (g t)) (split-fold l))
+    split-fold [] = agree-of refl
+    split-fold (t ∷ l) = R .both (split-worth t) (split-fold l)
 
     join-fold : (ps : List P) → Agree modulus (fold op e g (map (λ r. r .0) (map join ps))) (fold op e worth ps)
     unfolding fold
@@ -104,7 +104,7 @@ module _ {P : Type 0} (split : Tree → P) (merge : P → P → Option P) (join 
     pub combine-keeps : (l : List Tree) → Agree modulus (fold op e g (comeOut l)) (fold op e g l)
     combine-keeps l =
         agree-trans (join-fold (walked l .parts))
-        (agree-trans (walk-keeps merge C R worth merge-worth (length l) (map split l)) (agree-of (split-fold l)))
+        (agree-trans (walk-keeps merge C R worth merge-worth (length l) (map split l)) (split-fold l))
 
   -- a cost of parts that no splitting and no joining raises and each merge lowers: the weight falls by what is removed
   module _ (cost : P → ℕ)

@@ -1,13 +1,16 @@
 -- Trees that stand in a table, for code: where their records lie, what the first record tells, and that where trees stand their
 -- members do. Each is a law of the records of trees, with the bounds carried along. Assumes nothing.
 use Prim.Native.Nat.{ℕ, _+_, _-_, _*_, _≤_, _<_}
-use mathlib.Core.Path.{_≡_, refl, sym}
-use mathlib.Core.List.{List}
+use mathlib.Core.Path.{_≡_, refl, sym, ap, _∙_}
+use mathlib.Core.List.{List, _++_}
+use mathlib.Core.Option.{some}
 use native.Mathlib.Omega.{arith}
 use lib.ListN.{length}
 use Rattle.paper.specs.Record.{countIn}
 use Rattle.paper.specs.Tree.{Tree, Forest, sum, product, power, nil, cons, count, records, recordses}
+use Rattle.paper.specs.Table.{encode, Reading, readTree}
 use Rattle.paper.proofs.EncodeLaws.{records-pos}
+use Rattle.paper.proofs.ReadLaws.{read-written}
 use Rattle.paper.proofs.Stands.{first-member, other-members}
 use Rattle.paper.proofs.Seen.{Seen, see, a-sum, a-product, a-power, SeenPower, stands-within}
 use Rattle.paper.specs.Standing.{TreeIn, TreesIn}
@@ -78,3 +81,19 @@ module _ {s : List ℕ} {i n : ℕ} where
   unfolding count
   none-of nil h e = refl
   none-of (cons t f) h e = absurd (omega (arith, h .counted))
+
+-- one tree stands at a record: what is read there
+pub one-tree : {s : List ℕ} {i : ℕ} {t u : Tree} → TreeIn s i t → TreeIn s i u → t ≡ u
+one-tree {t = t} {u = u} h g =
+    let n = records t + records u in
+    let there = h .stands .after in
+    let other = g .stands .after in
+    let bytes : encode t ++ there ≡ encode u ++ other = sym (h .stands .there) ∙ g .stands .there in
+    let read : _≡_ {A = Reading Tree} (some (t, there)) (some (u, other)) =
+    sym (read-written t n there (h .wf) (h .few) (omega arith)) ∙ ap (readTree n) bytes
+    ∙ read-written u n other (g .wf) (g .few) (omega arith) in
+    let both : _≡_ {A = Tree × List ℕ} (t, there) (u, other) = cc in
+    ap (λ (r : Tree × List ℕ). r .0) both
+
+pub one-product : {s : List ℕ} {i μ ν : ℕ} {f g : Forest} → TreeIn s i (product μ f) → TreeIn s i (product ν g) → f ≡ g
+one-product h g = let same = one-tree h g in cc

@@ -77,8 +77,8 @@ examples =
     ∷ gives (times (i 0 ∷ i 9223372036854775807 ∷ i 2 ∷ [])) 4 (i 0) (3 ∷ []) 0 1
     -- 10. (a*b)^1 * c * c * a gives a^2 * b * c^2
     ∷ gives (times (raised (times (a ∷ b ∷ [])) 1 ∷ c ∷ c ∷ a ∷ [])) 19 (times (raised a 2 ∷ b ∷ raised c 2 ∷ [])) (6 ∷ 6 ∷ []) 1 14
-    -- 12. 2*3*a + 2*3*a gives 12*a
-    ∷ gives (plus (times (i 2 ∷ i 3 ∷ a ∷ []) ∷ times (i 2 ∷ i 3 ∷ a ∷ []) ∷ [])) 13 (times (i 12 ∷ a ∷ [])) (2 ∷ 6 ∷ []) 0 5
+    -- 12. 2*3*a + 2*3*a gives 12*a; "the single step 2" since all integer members make the coefficient
+    ∷ gives (plus (times (i 2 ∷ i 3 ∷ a ∷ []) ∷ times (i 2 ∷ i 3 ∷ a ∷ []) ∷ [])) 13 (times (i 12 ∷ a ∷ [])) (2 ∷ []) 0 5
     ∷ []
 
 -- "Programs that would look right": "a+a+b+a would leave its first step with a second a and list step 2 twice; the rules give it
@@ -95,6 +95,18 @@ lookalikes =
     }
     -- a + a + 2^62*4 is 7 at 0
     ∷ record { given = plus (a ∷ a ∷ times (i 4611686018427387904 ∷ i 4 ∷ []) ∷ []); answer = over 0; weight-in = 10; weight-out = 0 }
+    -- "expect 2*3*a + 6*a to combine at once"
+    ∷ gives (plus (times (i 2 ∷ i 3 ∷ a ∷ []) ∷ times (i 6 ∷ a ∷ []) ∷ [])) 12 (times (i 12 ∷ a ∷ [])) (2 ∷ []) 0 5
+    -- "7 also for a partial product of coefficients", in order: 2^62*4*0*a + b + b is 7 at 0, 0*2^62*4*a + b + b is not; and 2^62*(-1)*a
+    -- twice gives (-2^63)*a
+    ∷ record {
+      given = plus (times (i 4611686018427387904 ∷ i 4 ∷ i 0 ∷ a ∷ []) ∷ b ∷ b ∷ []);
+      answer = over 0;
+      weight-in = 14;
+      weight-out = 0;
+    }
+    ∷ gives (plus (times (i 0 ∷ i 4611686018427387904 ∷ i 4 ∷ a ∷ []) ∷ b ∷ b ∷ [])) 14 (times (i 2 ∷ b ∷ [])) (2 ∷ 3 ∷ 1 ∷ []) 0 5
+    ∷ gives (plus (times (i 4611686018427387904 ∷ minus 1 ∷ a ∷ []) ∷ times (i 4611686018427387904 ∷ minus 1 ∷ a ∷ []) ∷ [])) 13 (times (minus 9223372036854775808 ∷ a ∷ [])) (2 ∷ []) 0 5
     -- 2 * 2^3 * 3^4 is one step, 6^4; 2 * 6^2 * 3 is two, 6^3
     ∷ gives (times (i 2 ∷ raised (i 2) 3 ∷ raised (i 3) 4 ∷ [])) 8 (raised (i 6) 4) (6 ∷ []) 0 3
     ∷ gives (times (i 2 ∷ raised (i 6) 2 ∷ i 3 ∷ [])) 6 (raised (i 6) 3) (6 ∷ 6 ∷ []) 0 3
@@ -108,9 +120,23 @@ edges =
     ∷ gives (times (a ∷ i 1 ∷ i 1 ∷ [])) 6 a (4 ∷ []) 0 3
     -- "in the order above": 0*1 is step 3, not 4
     ∷ gives (times (i 0 ∷ i 1 ∷ [])) 3 (i 0) (3 ∷ []) 0 1
-    -- "its first integer member": 2*3*a + 5*3*a is steps 2 and 6; by the last one it would be 6, 6, 2
-    ∷ gives (plus (times (i 2 ∷ i 3 ∷ a ∷ []) ∷ times (i 5 ∷ i 3 ∷ a ∷ []) ∷ [])) 13 (times (i 21 ∷ a ∷ [])) (2 ∷ 6 ∷ []) 0 5
-    -- "two integers multiply": 2*3 + 4*3; "its rest if the coefficient is 1": 2*a + (-1)*a
+    -- "the product of all integer members": 2*3*a + 5*3*a is step 2 alone, and so is 2*3 + 4; "the rest is the product of the others", in
+    -- the current member's order: 2*3*a*b + b*a*7
+    ∷ gives (plus (times (i 2 ∷ i 3 ∷ a ∷ []) ∷ times (i 5 ∷ i 3 ∷ a ∷ []) ∷ [])) 13 (times (i 21 ∷ a ∷ [])) (2 ∷ []) 0 5
+    ∷ gives (plus (times (i 2 ∷ i 3 ∷ []) ∷ i 4 ∷ [])) 5 (i 10) (2 ∷ []) 0 1
+    ∷ gives (plus (times (i 2 ∷ i 3 ∷ a ∷ b ∷ []) ∷ times (b ∷ a ∷ i 7 ∷ []) ∷ [])) 18 (times (a ∷ b ∷ i 13 ∷ [])) (2 ∷ []) 0 8
+    -- a member that is not merged becomes its coefficient times its rest as well, but not where nothing is removed: 2*a*3 + b + b is step 2
+    -- alone, 2*a*3 + b + c step 6 in the member
+    ∷ gives (plus (times (i 2 ∷ a ∷ i 3 ∷ []) ∷ b ∷ b ∷ [])) 13 (plus (times (i 6 ∷ a ∷ []) ∷ times (i 2 ∷ b ∷ []) ∷ [])) (2 ∷ []) 0 11
+    ∷ gives (plus (times (i 2 ∷ a ∷ i 3 ∷ []) ∷ b ∷ c ∷ [])) 13 (plus (times (i 6 ∷ a ∷ []) ∷ b ∷ c ∷ [])) (6 ∷ []) 0 12
+    -- members of a product inside the product are no members of it: 2*(3*a) + 6*a is opened first
+    ∷ gives (plus (times (i 2 ∷ times (i 3 ∷ a ∷ []) ∷ []) ∷ times (i 6 ∷ a ∷ []) ∷ [])) 13 (times (i 12 ∷ a ∷ [])) (6 ∷ 2 ∷ []) 1 5
+    -- "the product of the others", in order: 2*a*b + a*b; a power of an integer is no integer member: 2*2^3*a + a; a member that is removed is judged
+    -- as well: a + 2^62*4*0*a is 7 at 0
+    ∷ gives (plus (times (i 2 ∷ a ∷ b ∷ []) ∷ times (a ∷ b ∷ []) ∷ [])) 16 (times (a ∷ b ∷ i 3 ∷ [])) (2 ∷ []) 0 8
+    ∷ gives (plus (times (i 2 ∷ raised (i 2) 3 ∷ a ∷ []) ∷ a ∷ [])) 12 (plus (times (raised (i 2) 4 ∷ a ∷ []) ∷ a ∷ [])) (6 ∷ []) 0 11
+    ∷ record { given = plus (a ∷ times (i 4611686018427387904 ∷ i 4 ∷ i 0 ∷ a ∷ []) ∷ []); answer = over 0; weight-in = 11; weight-out = 0 }
+    -- 2*3 + 4*3; "its rest if the coefficient is 1": 2*a + (-1)*a
     ∷ gives (plus (times (i 2 ∷ i 3 ∷ []) ∷ times (i 4 ∷ i 3 ∷ []) ∷ [])) 7 (i 18) (2 ∷ []) 0 1
     ∷ gives (plus (times (i 2 ∷ a ∷ []) ∷ times (minus 1 ∷ a ∷ []) ∷ [])) 11 a (2 ∷ []) 0 3
     -- "any other rest R becomes the product (coefficient, R)": R a power, R a sum

@@ -121,30 +121,50 @@ pub record Term : Type 0 where
 unfoldable pub term : ℤ → Tree → Term
 term z t = record { coefficient = z; rest = t; inRange = true }
 
--- "its first integer member and the product of the others in order": that integer, and the others
-unfoldable pub behind : Tree → Option (ℤ × List Tree) → Option (ℤ × List Tree)
-behind t none = none
-behind t (some r) = some (r .0, t ∷ r .1)
+-- "the product of all integer members, in order", and "the product of the others": the integers, and the others
+unfoldable pub withInteger : Option ℤ → List ℤ → List ℤ
+withInteger none l = l
+withInteger (some z) l = z ∷ l
 
-unfoldable pub orFirst : Option ℤ → Tree → List Tree → Option (ℤ × List Tree) → Option (ℤ × List Tree)
-orFirst (some z) t l r = some (z, l)
-orFirst none t l r = behind t r
+unfoldable pub integersOf : List Tree → List ℤ
+integersOf [] = []
+integersOf (t ∷ l) = withInteger (asInteger t) (integersOf l)
 
-unfoldable pub firstInteger : List Tree → Option (ℤ × List Tree)
-firstInteger [] = none
-firstInteger (t ∷ l) = orFirst (asInteger t) t l (firstInteger l)
+unfoldable pub withOther : Option ℤ → Tree → List Tree → List Tree
+withOther none t l = t ∷ l
+withOther (some z) t l = l
 
--- "or 1 and itself if it has no integer member"
-unfoldable pub productTerm : ℕ → Forest → Option (ℤ × List Tree) → Term
-productTerm μ f none = term (pos 1) (product μ f)
-productTerm μ f (some r) = term (r .0) (productOf (r .1))
+unfoldable pub othersOf : List Tree → List Tree
+othersOf [] = []
+othersOf (t ∷ l) = withOther (asInteger t) t (othersOf l)
+
+-- a product of integers, and whether every partial product was in range
+pub record Multiplied : Type 0 where
+  pub number : ℤ
+  pub inRange : Bool
+
+unfoldable pub timesOne : Multiplied → ℤ → Multiplied
+timesOne c z = record { number = c .number *ℤ z; inRange = c .inRange && fits (c .number *ℤ z) }
+
+unfoldable pub timesEach : Multiplied → List ℤ → Multiplied
+timesEach c [] = c
+timesEach c (z ∷ l) = timesEach (timesOne c z) l
+
+unfoldable pub unit : Multiplied
+unit = record { number = pos 1; inRange = true }
+
+-- "the rest is the product of the others, or 1 if none is left"
+unfoldable pub productTerm : List Tree → Term
+productTerm l =
+    let c = timesEach unit (integersOf l) in
+    record { coefficient = c .number; rest = productOf (othersOf l); inRange = c .inRange }
 
 -- "an integer n has (n, 1); a product has ..; everything else has 1 and itself"
 unfoldable pub termOf : Tree → Term
 termOf (integer μ z) = term z (integer 0 (pos 1))
 termOf (symbol μ s) = term (pos 1) (symbol μ s)
 termOf (sum μ f) = term (pos 1) (sum μ f)
-termOf (product μ f) = productTerm μ f (firstInteger (toList f))
+termOf (product μ f) = productTerm (toList f)
 termOf (power μ b ξ e) = term (pos 1) (power μ b ξ e)
 
 -- "Where equal, add the coefficient to the current one"

@@ -3,23 +3,24 @@
 -- bits, any other by its records. By cases on the tests. Assumes nothing.
 use Prim.Native.Nat.{ℕ, _+_, _-_, _^_, _<_, _≤_}
 use mathlib.Core.Path.{_≡_, refl, sym, ap, _∙_}
-use mathlib.Core.Bool.{Bool, true, false, cond}
+use mathlib.Core.Bool.{Bool, true, false, cond, _&&_}
 use mathlib.Core.List.{List}
 use mathlib.Core.Option.{Option, none, some}
 use native.Mathlib.Omega.{arith}
 use borrow.Author.Tests.{eq-eqb, ne-eqb, ltb-true}
 use lib.Dec.{eqb, ltb}
-use lib.IntN.{ℤ, _+ℤ_, _*ℤ_}
+use lib.IntN.{ℤ, pos, _+ℤ_, _*ℤ_}
 use Rattle.paper.specs.Bytes.{word, signed}
 use Rattle.paper.specs.Tree.{Tree, Forest, integer, symbol, sum, product, power, records, toList}
 use Rattle.paper.specs.WellFormed.{WF}
 use Rattle.paper.specs.Record.{kind, bits}
 use Rattle.paper.specs.Equal.{equal, eqZ, onInteger}
-use Rattle.paper.specs.Rules.{fits, asInteger, Term, term, firstInteger, productTerm, termOf, added, addIf, mergeTerms}
-use Rattle.paper.specs.Rules.{Factor, factor, factorOf, raiseIf, bothIntegers, multiplyIf, mergeFactors}
+use Rattle.paper.specs.Rules.{fits, asInteger, Term, termOf, added, addIf, mergeTerms, timesUnless, fromTerm}
+use Rattle.paper.specs.Rules.{Factor, factor, factorOf, raiseIf, bothIntegers, multiplyIf, mergeFactors, powerUnless, fromFactor}
 use Rattle.paper.proofs.Congruence.{word-lt}
 use Rattle.paper.proofs.EncodeLaws.{signed-word, word-signed}
 use Rattle.paper.proofs.Tests.{eqZ-true, eqZ-self, not-so}
+use Rattle.paper.proofs.LikeTermsWF.{termOf-wf}
 use Rattle.paper.proofs.MergeFactors.{timesBases, addExponents}
 use Rattle.paper.proofs.Seen.{Seen, an-integer, a-symbol, a-sum, a-product, a-power}
 use Rattle.number.specs.declared.Num.the-variants.{Is, Out}
@@ -27,9 +28,11 @@ use Rattle.number.specs.Num.{numOf}
 use Rattle.number.proofs.NumLaws.{numOf-is, numOf-is-out, add-exponents}
 use Rattle.split.specs.Standing.{TreeIn, SomeTree}
 use Rattle.paper.proofs.StandingLaws.{seen}
+use Rattle.split.specs.Rest.{coefficientOf}
 use Rattle.split.proofs.SplitLaws.{base-power, base-itself}
-use Rattle.part.specs.Like.{Like, split}
-use Rattle.part.specs.Part.{Sized, ShowsTerm, ShowsPower, ShowsNumber, Shows, MergedIs}
+use Rattle.equal.proofs.RestLaws.{integer-apart}
+use Rattle.part.specs.Like.{Like, split, join}
+use Rattle.part.specs.Part.{Sized, ShowsTerm, ShowsWide, ShowsPower, ShowsNumber, Shows, inRange, MergedIs}
 use Rattle.part.specs.declared.Part.the-variants as part
 use Rattle.part.specs.declared.Merged.{Merged}
 
@@ -37,18 +40,43 @@ pub sized : (s : List ℕ) (i k : ℕ) (t : Tree) → TreeIn s i t → k ≡ rec
 sized s i k t h e = record { there = h; size = e }
 
 -- ---- the first part of a member
-productTerm-good : (μ : ℕ) (f : Forest) (r : Option (ℤ × List Tree)) → productTerm μ f r .inRange ≡ true
-unfolding productTerm term
-productTerm-good μ f none = refl
-productTerm-good μ f (some r) = refl
+-- the coefficient that is read off a member: in range, and its bits; or not
+module _ (t : Tree) where
+  pub coefficient-is : WF t → {v : ℕ} → Is v ≡ coefficientOf (termOf t)
+      → (termOf t .coefficient ≡ signed v) × (v < 2 ^ 64) × (termOf t .inRange ≡ true)
+  unfolding coefficientOf
+  coefficient-is w {v} e = by (termOf t .inRange) refl
+    where
+      z : ℤ
+      z = termOf t .coefficient
 
-termOf-good : (t : Tree) → termOf t .inRange ≡ true
-unfolding termOf term
-termOf-good (integer μ z) = refl
-termOf-good (symbol μ s) = refl
-termOf-good (sum μ f) = refl
-termOf-good (product μ f) = productTerm-good μ f (firstInteger (toList f))
-termOf-good (power μ b ξ e) = refl
+      by : (b : Bool) → termOf t .inRange ≡ b → (z ≡ signed v) × (v < 2 ^ 64) × (termOf t .inRange ≡ true)
+      by true p =
+          let d : Is v ≡ Is (word z) = e ∙ ap (λ b. cond b (Is (word z)) Out) p in
+          let same : v ≡ word z = cc in
+          (sym (ap signed same ∙ signed-word z (termOf-wf t w .coefficient-in-range p)), omega (arith, word-lt z), p)
+      by false p =
+          let d : Is v ≡ Out = e ∙ ap (λ b. cond b (Is (word z)) Out) p in
+          absurd (let o : _≡_ {A = ℕ} 0 1 = cc in omega arith)
+
+  pub coefficient-out : Out ≡ coefficientOf (termOf t) → termOf t .inRange ≡ false
+  unfolding coefficientOf
+  coefficient-out e = by (termOf t .inRange) refl
+    where
+      by : (b : Bool) → termOf t .inRange ≡ b → termOf t .inRange ≡ false
+      by true p =
+          let d : Out ≡ Is (word (termOf t .coefficient)) = e ∙ ap (λ b. cond b (Is (word (termOf t .coefficient))) Out) p in
+          absurd (let o : _≡_ {A = ℕ} 0 1 = cc in omega arith)
+      by false p = p
+
+module _ (s : List ℕ) (i : ℕ) (t : Tree) (h : TreeIn s i t) where
+  pub term-part : {n : ℕ} → Is n ≡ coefficientOf (termOf t) → ShowsTerm s n i (termOf t)
+  term-part e =
+      let c = coefficient-is t (h .wf) e in
+      record { member = t; there = h; rest = refl; coefficient = c .0; bits = c .1; good = c .2 }
+
+  pub wide-part : Out ≡ coefficientOf (termOf t) → ShowsWide s i (termOf t)
+  wide-part e = record { member = t; there = h; rest = refl; wide = coefficient-out t e }
 
 factorOf-good : (t : Tree) → factorOf t .inRange ≡ true
 unfolding factorOf factor
@@ -57,11 +85,6 @@ factorOf-good (symbol μ s) = refl
 factorOf-good (sum μ f) = refl
 factorOf-good (product μ f) = refl
 factorOf-good (power μ b ξ e) = refl
-
-pub term-part : (s : List ℕ) (n i : ℕ) (t : Tree) → TreeIn s i t → signed n ≡ termOf t .coefficient → n < 2 ^ 64
-    → ShowsTerm s n i (termOf t)
-term-part s n i t h e l =
-    record { member = t; there = h; rest = refl; coefficient = sym e; bits = l; good = termOf-good t }
 
 -- an integer that stands at a record, by its bits
 pub integer-there : (s : List ℕ) (i : ℕ) (t : Tree) → TreeIn s i t → kind s i ≤ 0 → (t ≡ integer 0 (signed (bits s i))) × (bits s i < 2 ^ 64)
@@ -74,17 +97,6 @@ integer-there s i t h k = go (h .wf) (seen h)
     go u (a-sum e n c w m) = absurd (omega arith)
     go u (a-product e n c w m) = absurd (omega arith)
     go u (a-power e w b p q x y v) = absurd (omega arith)
-
-pub no-integer-there : (s : List ℕ) (i : ℕ) (t : Tree) → TreeIn s i t → 0 < kind s i → asInteger t ≡ none
-unfolding asInteger
-no-integer-there s i t h k = go (seen h)
-  where
-    go : {t : Tree} → Seen s i t → asInteger t ≡ none
-    go (an-integer e b w) = absurd (omega arith)
-    go (a-symbol e v w) = refl
-    go (a-sum e n c w m) = refl
-    go (a-product e n c w m) = refl
-    go (a-power e w b p q x y v) = refl
 
 pub number-part : (s : List ℕ) (e j v : ℕ) (t : Tree) → TreeIn s j (factorOf t .base) → kind s j ≤ 0 → v ≡ bits s j
     → e ≡ factorOf t .exponent → e < 2 ^ 63 → ShowsNumber e v (factorOf t)
@@ -156,51 +168,54 @@ module _ (s : List ℕ) (e i k : ℕ) (t : Tree) (h : Sized s i k t) (other : as
 pub power-two : (s : List ℕ) (i k : ℕ) (t : Tree) → Sized s i k t → kind s i ≡ 4 → 2 ≤ k
 power-two s i k t h q = omega (arith, h .size, power-size s i t (h .there) q)
 
--- ---- terms that meet: the one that the code holds, and the term of a later member u
-module _ {s : List ℕ} {n i : ℕ} {c : Term} (h : ShowsTerm s n i c) (u : Tree) where
-  abbrev same : Bool
-  same = equal (termOf (h .member) .rest) (termOf u .rest)
-
-  rests : equal (c .rest) (termOf u .rest) ≡ same
-  rests = ap (λ r. equal r (termOf u .rest)) (h .rest)
-
-  pub term-apart : same ≡ false → mergeTerms c (termOf u) ≡ none
+-- ---- terms that meet: c, that has the rest of a member, and the term of a later member u
+module _ (c : Term) (u : Tree) where
+  pub term-apart : equal (c .rest) (termOf u .rest) ≡ false → mergeTerms c (termOf u) ≡ none
   unfolding mergeTerms addIf
-  term-apart e = rw (rests ∙ e) refl
+  term-apart e = rw e refl
 
-  takes : same ≡ true → mergeTerms c (termOf u) ≡ some (added c (termOf u))
-  unfolding mergeTerms addIf
-  takes e = rw (rests ∙ e) refl
+  module _ (e : equal (c .rest) (termOf u .rest) ≡ true) where
+    takes : mergeTerms c (termOf u) ≡ some (added c (termOf u))
+    unfolding mergeTerms addIf
+    takes = rw e refl
 
-  module _ (m : ℕ) (other : signed m ≡ termOf u .coefficient) (e : same ≡ true) where
-    total : c .coefficient +ℤ termOf u .coefficient ≡ signed n +ℤ signed m
-    total = rw (h .coefficient, sym other) refl
-
-    pub term-into : {v : ℕ} → numOf (signed n +ℤ signed m) ≡ Is v
-        → (d : Term) × (mergeTerms c (termOf u) ≡ some d) × ShowsTerm s v i d
+    -- one of the two is out of range already
+    pub wide-over : c .inRange ≡ false → (d : Term) × (mergeTerms c (termOf u) ≡ some d) × (d .inRange ≡ false)
     unfolding added
-    term-into {v} q =
-        let z = numOf-is (signed n +ℤ signed m) v q in
-        let l = word-lt (signed n +ℤ signed m) in (
-          added c (termOf u),
-          takes e,
-          record {
-            member = h .member;
-            there = h .there;
-            rest = h .rest;
-            coefficient = total ∙ sym (z .2);
-            bits = omega (arith, z .1);
-            good = rw (h .good, termOf-good u, ap fits total ∙ z .0) refl;
-          },
-        )
+    wide-over w = (added c (termOf u), takes, rw w refl)
 
-    pub term-over : numOf (signed n +ℤ signed m) ≡ Out → (d : Term) × (mergeTerms c (termOf u) ≡ some d) × (d .inRange ≡ false)
+    pub later-over : c .inRange ≡ true → termOf u .inRange ≡ false → (d : Term) × (mergeTerms c (termOf u) ≡ some d) × (d .inRange ≡ false)
     unfolding added
-    term-over q = (
-      added c (termOf u),
-      takes e,
-      rw (h .good, termOf-good u, ap fits total ∙ numOf-is-out (signed n +ℤ signed m) q) refl,
-    )
+    later-over g w = (added c (termOf u), takes, rw (g, w) refl)
+
+    -- both are in range, with the bits n and m
+    module _ {s : List ℕ} {n i : ℕ} (h : ShowsTerm s n i c) (m : ℕ) (other : termOf u .coefficient ≡ signed m) (good : termOf u .inRange ≡ true) where
+      total : c .coefficient +ℤ termOf u .coefficient ≡ signed n +ℤ signed m
+      total = rw (h .coefficient, other) refl
+
+      pub term-into : {v : ℕ} → numOf (signed n +ℤ signed m) ≡ Is v
+          → (d : Term) × (mergeTerms c (termOf u) ≡ some d) × ShowsTerm s v i d × (d .inRange ≡ true)
+      unfolding added
+      term-into {v} q =
+          let z = numOf-is (signed n +ℤ signed m) v q in
+          let in-range : added c (termOf u) .inRange ≡ true = rw (h .good, good, ap fits total ∙ z .0) refl in (
+            added c (termOf u),
+            takes,
+            record {
+              member = h .member;
+              there = h .there;
+              rest = h .rest;
+              coefficient = total ∙ sym (z .2);
+              bits = omega (arith, z .1, word-lt (signed n +ℤ signed m));
+              good = in-range;
+            },
+            in-range,
+          )
+
+      pub term-over : numOf (signed n +ℤ signed m) ≡ Out → (d : Term) × (mergeTerms c (termOf u) ≡ some d) × (d .inRange ≡ false)
+      unfolding added
+      term-over q =
+          (added c (termOf u), takes, rw (h .good, good, ap fits total ∙ numOf-is-out (signed n +ℤ signed m) q) refl)
 
 -- ---- exponents that are added: the code's sum is the paper's, and is in range with it
 pub record Raised (c : Factor) (e : ℕ) : Type 0 where
@@ -275,31 +290,24 @@ module _ {s : List ℕ} {e i k : ℕ} {c : Factor} (h : ShowsPower s e i k c) (x
     unfolding raiseIf addExponents
     raises = one-way ∙ rw q refl
 
-    pub power-into : {v : ℕ} → numOf (signed e +ℤ signed f) ≡ Is v → (d : Factor) × (mergeFactors c x ≡ some d) × ShowsPower s v i k d
+    pub power-into : {v : ℕ} → numOf (signed e +ℤ signed f) ≡ Is v → (d : Factor) × (mergeFactors c x ≡ some d) × ShowsPower s v i k d × (d .inRange ≡ true)
     unfolding addExponents
     power-into r =
         let z = exponents-in one-raised other r in (
           addExponents c x,
           raises,
           record { sized = h .sized; other = h .other; exponent = z .exponent; most = z .most; good = z .good },
+          z .good,
         )
 
     pub power-over : numOf (signed e +ℤ signed f) ≡ Out → (d : Factor) × (mergeFactors c x ≡ some d) × (d .inRange ≡ false)
     power-over r = (addExponents c x, raises, exponents-out one-raised other r)
 
 -- an integer base that meets one that is none
-other-than : (z : ℤ) (t : Tree) → asInteger t ≡ none → equal (integer 0 z) t ≡ false
-unfolding equal onInteger asInteger
-other-than z (integer μ y) e = absurd (let o : _≡_ {A = ℕ} 0 1 = cc in omega arith)
-other-than z (symbol μ s) e = refl
-other-than z (sum μ f) e = refl
-other-than z (product μ f) e = refl
-other-than z (power μ b ξ x) e = refl
-
 pub number-apart : {e v : ℕ} {c : Factor} → ShowsNumber e v c → (x : Factor) → asInteger (x .base) ≡ none → mergeFactors c x ≡ none
 unfolding bothIntegers raiseIf asInteger
 number-apart {e} {v} {c} h x n =
-    by-base c x (rw (h .base, n) refl) ∙ rw (ap (λ b. equal b (x .base)) (h .base) ∙ other-than (signed v) (x .base) n) refl
+    by-base c x (rw (h .base, n) refl) ∙ rw (ap (λ b. equal b (x .base)) (h .base) ∙ integer-apart 0 (signed v) (x .base) n) refl
 
 pub same-bits : (v w : ℕ) → v < 2 ^ 64 → w < 2 ^ 64 → signed v ≡ signed w → v ≡ w
 same-bits v w h k e = sym (word-signed v h) ∙ ap word e ∙ word-signed w k
@@ -315,11 +323,12 @@ module _ {e v f w : ℕ} {c x : Factor} (h : ShowsNumber e v c) (k : ShowsNumber
     unfolding multiplyIf timesBases
     multiplies = by-integers ∙ rw (eq-eqb e f q) refl
 
-    pub number-times : {n : ℕ} → numOf (signed v *ℤ signed w) ≡ Is n → (d : Factor) × (mergeFactors c x ≡ some d) × ShowsNumber e n d
+    pub number-times : {n : ℕ} → numOf (signed v *ℤ signed w) ≡ Is n → (d : Factor) × (mergeFactors c x ≡ some d) × ShowsNumber e n d × (d .inRange ≡ true)
     unfolding timesBases
     number-times {n} r =
         let z = numOf-is (signed v *ℤ signed w) n r in
-        let l = word-lt (signed v *ℤ signed w) in (
+        let l = word-lt (signed v *ℤ signed w) in
+        let in-range : timesBases c x (signed v *ℤ signed w) .inRange ≡ true = rw (h .good, k .good, z .0) refl in (
           timesBases c x (signed v *ℤ signed w),
           multiplies,
           record {
@@ -327,8 +336,9 @@ module _ {e v f w : ℕ} {c x : Factor} (h : ShowsNumber e v c) (k : ShowsNumber
             bits = omega (arith, z .1);
             exponent = h .exponent;
             most = h .most;
-            good = rw (h .good, k .good, z .0) refl;
+            good = in-range;
           },
+          in-range,
         )
 
     pub number-times-over : numOf (signed v *ℤ signed w) ≡ Out → (d : Factor) × (mergeFactors c x ≡ some d) × (d .inRange ≡ false)
@@ -364,11 +374,11 @@ module _ {e v f w : ℕ} {c x : Factor} (h : ShowsNumber e v c) (k : ShowsNumber
       unfolding raiseIf addExponents
       merges = by-bits ∙ rw (ap (λ b. eqZ (signed v) (signed b)) (sym q) ∙ eqZ-self (signed v)) refl
 
-      pub number-raised : {n : ℕ} → numOf (signed e +ℤ signed f) ≡ Is n → (d : Factor) × (mergeFactors c x ≡ some d) × ShowsNumber n v d
+      pub number-raised : {n : ℕ} → numOf (signed e +ℤ signed f) ≡ Is n → (d : Factor) × (mergeFactors c x ≡ some d) × ShowsNumber n v d × (d .inRange ≡ true)
       unfolding addExponents
       number-raised r =
           let z = exponents-in one-of other-of r in
-          (addExponents c x, merges, record { base = h .base; bits = h .bits; exponent = z .exponent; most = z .most; good = z .good })
+          (addExponents c x, merges, record { base = h .base; bits = h .bits; exponent = z .exponent; most = z .most; good = z .good }, z .good)
 
       pub number-raised-over : numOf (signed e +ℤ signed f) ≡ Out → (d : Factor) × (mergeFactors c x ≡ some d) × (d .inRange ≡ false)
       number-raised-over r = (addExponents c x, merges, exponents-out one-of other-of r)
@@ -379,6 +389,11 @@ module _ (s : List ℕ) (t : Tree) (r : Merged) where
       → (b : Bool) (x : Like b) → Shows b s (part.Term n i) x → MergedIs b s x (split b t) r
   of-term n i f true x h = f x h
   of-term n i f false x h = absurd h
+
+  pub of-wide : (i : ℕ) → ((c : Term) → ShowsWide s i c → MergedIs true s c (termOf t) r)
+      → (b : Bool) (x : Like b) → Shows b s (part.Wide i) x → MergedIs b s x (split b t) r
+  of-wide i f true x h = f x h
+  of-wide i f false x h = absurd h
 
   pub of-power : (e i k : ℕ) → ((c : Factor) → ShowsPower s e i k c → MergedIs false s c (factorOf t) r)
       → (b : Bool) (x : Like b) → Shows b s (part.Power e i k) x → MergedIs b s x (split b t) r
@@ -395,6 +410,28 @@ pub term-stands : (s : List ℕ) (n i : ℕ) (b : Bool) (x : Like b) → Shows b
 term-stands s n i true x h = record { tree = h .member; there = h .there }
 term-stands s n i false x h = absurd h
 
+pub wide-stands : (s : List ℕ) (i : ℕ) (b : Bool) (x : Like b) → Shows b s (part.Wide i) x → SomeTree s i
+wide-stands s i true x h = record { tree = h .member; there = h .there }
+wide-stands s i false x h = absurd h
+
 pub power-stands : (s : List ℕ) (e i k : ℕ) (b : Bool) (x : Like b) → Shows b s (part.Power e i k) x → SomeTree s i
 power-stands s e i k true x h = absurd h
 power-stands s e i k false x h = record { tree = x .base; there = h .sized .there }
+
+-- ---- a part that left the range: so has the member that it becomes
+pub and-bad : (a b : Bool) → a ≡ false → a && b ≡ false
+and-bad true b e = absurd (let o : _≡_ {A = ℕ} 0 1 = cc in omega arith)
+and-bad false b e = refl
+
+pub joins-bad : (b : Bool) (c : Like b) → inRange b c ≡ false → join b c .1 ≡ false
+unfolding fromTerm timesUnless fromFactor powerUnless
+joins-bad true c e = go (eqZ (c .coefficient) (pos 1))
+  where
+    go : (b : Bool) → timesUnless b c .1 ≡ false
+    go true = e
+    go false = and-bad (c .inRange) _ e
+joins-bad false c e = go (eqb (c .exponent) 1)
+  where
+    go : (b : Bool) → powerUnless b c .1 ≡ false
+    go true = e
+    go false = e

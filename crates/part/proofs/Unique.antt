@@ -14,7 +14,6 @@ use Rattle.paper.proofs.Tests.{true-not-false}
 use Rattle.split.specs.Standing.{TreeIn}
 use Rattle.part.specs.Like.{Like, split, merge}
 use Rattle.part.specs.Part.{Sized, Shows, inRange, MergedIs}
-use Rattle.part.specs.declared.Part.the-variants as part
 use Rattle.part.specs.declared.Part.{Part}
 use Rattle.part.specs.declared.Merged.{Merged}
 use Rattle.part.specs.declared.Merged.the-variants.{Apart, Into, Over}
@@ -49,15 +48,6 @@ SayAlike b s Over Apart = ⊥
 SayAlike b s Over (Into c) = ⊥
 SayAlike b s Over Over = Unit {0}
 
--- a part that is shown is in range
-in-and-out : (b : Bool) (s : List ℕ) (p : Part) (x : Like b) → Shows b s p x → inRange b x ≡ false → ⊥
-in-and-out true s (part.Term n i) x h e = true-not-false (h .good) e
-in-and-out true s (part.Power n i k) x h e = h
-in-and-out true s (part.Number n v) x h e = h
-in-and-out false s (part.Term n i) x h e = h
-in-and-out false s (part.Power n i k) x h e = true-not-false (h .good) e
-in-and-out false s (part.Number n v) x h e = true-not-false (h .good) e
-
 module _ (b : Bool) (s : List ℕ) (c x : Like b) where
   -- where one answer says that the part takes up the other, the part that it becomes is one
   same-part : (d d' : Like b) → merge b c x ≡ some d → merge b c x ≡ some d' → d ≡ d'
@@ -71,12 +61,10 @@ module _ (b : Bool) (s : List ℕ) (c x : Like b) where
   merged-once (Into p) (Into p') h h' =
       record { shown = h .0; one = h .2; other = subst (Shows b s p') (sym (same-part (h .0) (h' .0) (h .1) (h' .1))) (h' .2) }
   merged-once (Into p) Over h h' =
-      absurd
-      (in-and-out b s p (h .0) (h .2) (subst (λ y. inRange b y ≡ false) (sym (same-part (h .0) (h' .0) (h .1) (h' .1))) (h' .2)))
+      absurd (true-not-false (h .3) (subst (λ y. inRange b y ≡ false) (sym (same-part (h .0) (h' .0) (h .1) (h' .1))) (h' .2)))
   merged-once Over Apart h h' = let e = h .1 in absurd (let z : _≡_ {A = ℕ} 0 1 = cc in omega arith)
   merged-once Over (Into p) h h' =
-      absurd
-      (in-and-out b s p (h' .0) (h' .2) (subst (λ y. inRange b y ≡ false) (sym (same-part (h' .0) (h .0) (h' .1) (h .1))) (h .2)))
+      absurd (true-not-false (h' .3) (subst (λ y. inRange b y ≡ false) (sym (same-part (h' .0) (h .0) (h' .1) (h .1))) (h .2)))
   merged-once Over Over h h' = tt
 
 pub merge-once : (κs : Lfts 2) (a : Dens κs kinds.ps) (b : Bool) (x : Like b) (t : Tree) (r r' : Merged) (y y' : AtExit (endedOf 2 kinds.ps kinds.r) κs)

@@ -1,5 +1,5 @@
 -- A part of a member as the code holds it, and the paper's part that it shows: `Term n i`, the coefficient with the bits n and the rest
--- of the member at record i; `Power e i k`, the exponent e and the base of k records at record i, no integer;
+-- of the member at record i; `Wide i`, the term of the member at record i, whose coefficient is out of range; `Power e i k`, the exponent e and the base of k records at record i, no integer;
 -- `Number e v`, the exponent e and the integer base with the bits v, which need not stand in a record.
 use Prim.Native.Nat.{ℕ, _^_, _<_, _≤_}
 use mathlib.Core.Path.{_≡_}
@@ -29,6 +29,12 @@ pub record ShowsTerm (s : List ℕ) (n i : ℕ) (x : Term) : Type 0 where
   pub bits : n < 2 ^ 64
   pub good : x .inRange ≡ true
 
+pub record ShowsWide (s : List ℕ) (i : ℕ) (x : Term) : Type 0 where
+  pub member : Tree
+  pub there : TreeIn s i member
+  pub rest : x .rest ≡ termOf member .rest
+  pub wide : x .inRange ≡ false
+
 pub record ShowsPower (s : List ℕ) (e i k : ℕ) (x : Factor) : Type 0 where
   pub sized : Sized s i k (x .base)
   pub other : asInteger (x .base) ≡ none
@@ -43,18 +49,21 @@ pub record ShowsNumber (e v : ℕ) (x : Factor) : Type 0 where
   pub most : e < 2 ^ 63
   pub good : x .inRange ≡ true
 
--- every part that the code holds is in range so far
+-- every part that the code holds is in range so far, but for the term of a member whose own coefficient is not
 abbrev pub Shows : (b : Bool) → List ℕ → Part → Like b → Type 0
 Shows true s (part.Term n i) x = ShowsTerm s n i x
+Shows true s (part.Wide i) x = ShowsWide s i x
 Shows true s (part.Power e i k) x = ⊥
 Shows true s (part.Number e v) x = ⊥
 Shows false s (part.Term n i) x = ⊥
+Shows false s (part.Wide i) x = ⊥
 Shows false s (part.Power e i k) x = ShowsPower s e i k x
 Shows false s (part.Number e v) x = ShowsNumber e v x
 
 -- what the part shows stands from record p on, if it stands in a record
 abbrev pub From : ℕ → Part → Type 0
 From p (part.Term n i) = p ≤ i
+From p (part.Wide i) = p ≤ i
 From p (part.Power e i k) = p ≤ i
 From p (part.Number e v) = Unit {0}
 
@@ -68,11 +77,11 @@ abbrev pub inRange : (b : Bool) → Like b → Bool
 inRange true c = c .inRange
 inRange false c = c .inRange
 
--- the answer to "does the current part c take up the later part x": `Apart`, no; `Into p`, it does, and p shows what it becomes;
--- `Over`, it does, and leaves the range
+-- the answer to "does the current part c take up the later part x": `Apart`, no; `Into p`, it does, in range, and p shows what it
+-- becomes; `Over`, it does, and leaves the range
 abbrev pub MergedIs : (b : Bool) → List ℕ → Like b → Like b → Merged → Type 0
 MergedIs b s c x Apart = merge b c x ≡ none
-MergedIs b s c x (Into p) = (d : Like b) × (merge b c x ≡ some d) × Shows b s p d
+MergedIs b s c x (Into p) = (d : Like b) × (merge b c x ≡ some d) × Shows b s p d × (inRange b d ≡ true)
 MergedIs b s c x Over = (d : Like b) × (merge b c x ≡ some d) × (inRange b d ≡ false)
 
 -- a part and a later member, and room for the marks of a comparison

@@ -1,19 +1,24 @@
 // The part of a member that the walk of step 2 or of step 6 compares: coefficient and rest, or base and exponent. Where a part takes
 // up a later one it changes; nothing is written.
+ghost use mathlib.Core.Path.{_≡_};
 ghost use mathlib.Core.Bool.{Bool, true, false};
 ghost use Prim.Native.Nat.{ℕ, _≤_};
 ghost use lib.ListN.{length};
 ghost use Rattle.paper.specs.Tree.{Tree};
+ghost use Rattle.paper.specs.Equal.{equal};
 ghost use Rattle.paper.specs.Rules.{Term, termOf, Factor, factorOf};
 ghost use Rattle.split.specs.Standing.{TreeIn, SomeTree};
 ghost use Rattle.equal.specs.Matching.{Comparable};
 ghost use Rattle.part.specs.Like.{Like, split};
-ghost use Rattle.part.specs.Part.{Sized, Shows, ShowsTerm, ShowsPower, ShowsNumber, From, MergedIs, IntoFrom, Mergeable};
+ghost use Rattle.part.specs.Part.{Sized, Shows, ShowsTerm, ShowsWide, ShowsPower, ShowsNumber};
+ghost use Rattle.part.specs.Part.{From, MergedIs, IntoFrom, Mergeable};
+use number::Num;
 
-// A term's coefficient, and the record of the member whose rest is its rest; a factor's exponent, and the record and the size of its
-// base; a factor's exponent and the bits of its integer base.
+// A term's coefficient, and the record of the member whose rest is its rest; the same of a member whose own coefficient is out of range;
+// a factor's exponent, and the record and the size of its base; a factor's exponent and the bits of its integer base.
 pub enum Part {
     Term(u64, usize),
+    Wide(usize),
     Power(u64, usize, usize),
     Number(u64, u64),
 }
@@ -25,6 +30,19 @@ pub enum Merged {
     Over,
 }
 
+// The term of the member at record `at`.
+fn term_of(s: &[u8], at: usize) -> Part
+    requires { ⌜ SomeTree (now s) at ⌝ }
+    ensures { λ r. ⌜ ((t : Tree) → TreeIn (now (s .entry)) at t → Shows true (now (s .entry)) r (termOf t)) ⌝ }
+    ensures place { λ r. ⌜ ((p : ℕ) → p ≤ at → From p r) ⌝ }
+{
+    let n = split::coefficient(s, at);
+    match n {
+        Num::Is(v) => Part::Term(v, at),
+        Num::Out => Part::Wide(at),
+    }
+}
+
 // The part of the member of `size` records at record `at`, of a sum (terms) or of a product.
 pub fn part_of(s: &[u8], at: usize, size: usize, terms: bool) -> Part
     requires { ⌜ ((t : Tree) × Sized (now s) at size t) ⌝ }
@@ -32,7 +50,7 @@ pub fn part_of(s: &[u8], at: usize, size: usize, terms: bool) -> Part
     ensures place { λ r. ⌜ ((p : ℕ) → p ≤ at → From p r) ⌝ }
 {
     if terms {
-        return Part::Term(split::coefficient(s, at), at);
+        return term_of(s, at);
     }
     let e = split::exponent(s, at);
     let b = split::base(s, at);
@@ -53,14 +71,42 @@ fn merge_term(s: &[u8], n: u64, i: usize, at: usize, marks: &mut [u8]) -> Merged
     ensures place { λ r. ⌜ ((p : ℕ) → p ≤ i → IntoFrom p r) ⌝ }
 {
     if equal::same_rest(s, i, at, marks) {
-        let sum = number::add(n, split::coefficient(s, at));
-        match sum {
-            number::Num::Is(v) => Merged::Into(Part::Term(v, i)),
-            number::Num::Out => Merged::Over,
-        }
-    } else {
-        Merged::Apart
+        return add_term(s, n, i, at);
     }
+    Merged::Apart
+}
+
+// The term with the coefficient n and the rest of the member at record i, where the member at record `at` has the same rest.
+fn add_term(s: &[u8], n: u64, i: usize, at: usize) -> Merged
+    requires { ⌜ SomeTree (now s) at ⌝ }
+    ensures { λ r. ⌜ ((c : Term) (t : Tree) → ShowsTerm (now (s .entry)) n i c → TreeIn (now (s .entry)) at t
+        → equal (c .rest) (termOf t .rest) ≡ true → MergedIs true (now (s .entry)) c (termOf t) r) ⌝ }
+    ensures place { λ r. ⌜ ((p : ℕ) → p ≤ i → IntoFrom p r) ⌝ }
+{
+    let later = split::coefficient(s, at);
+    match later {
+        Num::Is(m) => {
+            let sum = number::add(n, m);
+            match sum {
+                Num::Is(v) => Merged::Into(Part::Term(v, i)),
+                Num::Out => Merged::Over,
+            }
+        }
+        Num::Out => Merged::Over,
+    }
+}
+
+// The term of the member at record `wide`, whose coefficient is out of range, where it meets the member at record `at`.
+fn merge_wide(s: &[u8], wide: usize, at: usize, marks: &mut [u8]) -> Merged
+    requires { ⌜ Comparable (now s) wide (now s) at (length (now marks)) ⌝ }
+    ensures { λ r. ⌜ ((c : Term) (t : Tree) → ShowsWide (now (s .entry)) wide c → TreeIn (now (s .entry)) at t
+        → MergedIs true (now (s .entry)) c (termOf t) r) ⌝ }
+    ensures place { λ r. ⌜ ((p : ℕ) → IntoFrom p r) ⌝ }
+{
+    if equal::same_rest(s, wide, at, marks) {
+        return Merged::Over;
+    }
+    Merged::Apart
 }
 
 // The factor with the exponent e and the base at record i, no integer, where it meets the member at record `at`.
@@ -77,8 +123,8 @@ fn merge_power(s: &[u8], e: u64, i: usize, k: usize, at: usize, marks: &mut [u8]
         equal::Match::Ends(_) => {
             let sum = number::add(e, split::exponent(s, at));
             match sum {
-                number::Num::Is(f) => Merged::Into(Part::Power(f, i, k)),
-                number::Num::Out => Merged::Over,
+                Num::Is(f) => Merged::Into(Part::Power(f, i, k)),
+                Num::Out => Merged::Over,
             }
         }
     }
@@ -101,8 +147,8 @@ fn merge_number(s: &[u8], e: u64, v: u64, at: usize) -> Merged
     if e == f {
         let product = number::mul(v, w);
         return match product {
-            number::Num::Is(x) => Merged::Into(Part::Number(e, x)),
-            number::Num::Out => Merged::Over,
+            Num::Is(x) => Merged::Into(Part::Number(e, x)),
+            Num::Out => Merged::Over,
         };
     }
     if v != w {
@@ -110,8 +156,8 @@ fn merge_number(s: &[u8], e: u64, v: u64, at: usize) -> Merged
     }
     let sum = number::add(e, f);
     match sum {
-        number::Num::Is(x) => Merged::Into(Part::Number(x, v)),
-        number::Num::Out => Merged::Over,
+        Num::Is(x) => Merged::Into(Part::Number(x, v)),
+        Num::Out => Merged::Over,
     }
 }
 
@@ -124,6 +170,7 @@ pub fn merge(s: &[u8], c: Part, at: usize, marks: &mut [u8]) -> Merged
 {
     match c {
         Part::Term(n, i) => merge_term(s, n, i, at, marks),
+        Part::Wide(i) => merge_wide(s, i, at, marks),
         Part::Power(e, i, k) => merge_power(s, e, i, k, at, marks),
         Part::Number(e, v) => merge_number(s, e, v, at),
     }

@@ -1,25 +1,31 @@
 -- The splits of a tree that stands in a table, by the kind of its first record: coefficient and rest, base and exponent; and the
--- search for the first integer of a product, one member at a time. By cases on the tree, which the record tells. Assumes nothing.
-use Prim.Native.Nat.{ℕ, _+_, _-_, _*_, _^_, _≤_, _<_}
+-- integers and the others of a product, one member at a time. By cases on the tree, which the record tells. Assumes nothing.
+use Prim.Native.Nat.{ℕ, suc, _+_, _-_, _*_, _^_, _≤_, _<_}
 use mathlib.Core.Path.{_≡_, refl, sym, ap, _∙_, subst}
-use mathlib.Core.List.{List, [], _∷_, _++_}
+use mathlib.Core.Bool.{Bool, true, false, cond, _&&_}
+use mathlib.Core.List.{List, [], _∷_}
 use mathlib.Core.Option.{Option, none, some}
 use native.Mathlib.Omega.{arith}
-use lib.ListN.{length, length-append}
-use lib.IntN.{ℤ, pos}
+use lib.ListN.{length}
+use lib.IntN.{ℤ, pos, _*ℤ_}
 use borrow.Author.Tests.{lt-ltb, le-ltb, eq-eqb, ne-eqb}
 use Rattle.paper.specs.Bytes.{signed, word}
 use Rattle.paper.specs.Record.{kind, countIn, bits}
-use Rattle.paper.specs.Tree.{Tree, Forest, integer, symbol, sum, product, power, nil, cons, count, records, recordses, toList, ofList}
-use Rattle.paper.specs.Rules.{asInteger, behind, orFirst, firstInteger, productTerm, productOf, collapse, term, termOf, factor, factorOf}
-use Rattle.paper.specs.WellFormed.{InRange}
-use Rattle.paper.proofs.EncodeLaws.{signed-word, records-pos}
-use Rattle.paper.proofs.Seen.{Seen, SeenPower, seen-power, seen-product, an-integer, a-symbol, a-sum, a-product, a-power}
-use Rattle.paper.proofs.WFLaws.{of-to-list, list-count}
+use Rattle.paper.specs.Tree.{Tree, Forest, integer, symbol, sum, product, power, nil, cons, count, records, toList, ofList}
+use Rattle.paper.specs.Rules.{fits, asInteger, productOf, collapse, withInteger, integersOf, withOther, othersOf}
+use Rattle.paper.specs.Rules.{Multiplied, timesOne, timesEach, unit, productTerm, Term, term, termOf, factor, factorOf}
+use Rattle.paper.proofs.Congruence.{word-lt}
+use Rattle.paper.proofs.EncodeLaws.{signed-word, word-signed}
+use Rattle.paper.proofs.Seen.{Seen, SeenPower, seen-integer, seen-power, seen-product, an-integer, a-symbol, a-sum, a-product, a-power}
+use Rattle.paper.proofs.WFLaws.{of-to-list, count-list}
+use Rattle.number.specs.declared.Num.{Num}
+use Rattle.number.specs.declared.Num.the-variants.{Is, Out}
+use Rattle.number.specs.Num.{numOf}
+use Rattle.number.proofs.NumLaws.{numOf-is, numOf-is-out}
 use Rattle.split.specs.Standing.{TreeIn, TreesIn, SomeTree, SomeProduct}
-use Rattle.split.specs.Place.{baseAt, hereOr, integerAt, productRest, restAt}
-use Rattle.split.specs.Rest.{Lessened}
-use Rattle.split.specs.declared.Rest.the-variants.{One, At, Without}
+use Rattle.split.specs.Place.{baseAt, laterOther, lastOther, productRest, restAt}
+use Rattle.split.specs.Rest.{coefficientOf, Lessened}
+use Rattle.split.specs.declared.Rest.the-variants.{One, At, Others}
 use Rattle.paper.proofs.StandingLaws.{seen, tree-within, power-tree, product-trees, FirstOf, first-tree, other-trees, first-of, none-of}
 
 -- ---- base and exponent
@@ -101,124 +107,244 @@ module _ {s : List ℕ} {i : ℕ} where
             most = omega (arith, p .5 .most);
           }
 
--- ---- the first integer of a product, one member at a time
--- of the trees f, from record i of the table s on, the integer z stands at record x, and the others, in order, are l
-record Parted (s : List ℕ) (i x : ℕ) (f : Forest) (z : ℤ) (l : List Tree) : Type 0 where
-  front : List Tree
-  back : List Tree
-  mark : ℕ
-  whole : toList f ≡ front ++ (integer mark z ∷ back)
-  others : l ≡ front ++ back
-  place : x ≡ i + recordses (ofList front)
-  number : bits s x ≡ word z
-  range : InRange z
-
--- the record of the first integer among the trees f, 0 where there is none; and the others
-abbrev FirstInteger : List ℕ → ℕ → Forest → ℕ → Option (ℤ × List Tree) → Type 0
-FirstInteger s i f x none = x ≡ 0
-FirstInteger s i f x (some r) = Parted s i x f (r .0) (r .1)
-
-module _ (s : List ℕ) (i : ℕ) where
-  further : (t : Tree) (f : Forest) (x : ℕ) → asInteger t ≡ none → FirstInteger s (i + records t) f x (firstInteger (toList f))
-      → FirstInteger s i (cons t f) x (firstInteger (toList (cons t f)))
-  unfolding firstInteger toList orFirst behind ofList records
-  further t f x e r = rw e (by (firstInteger (toList f)) r)
-    where
-      by : (o : Option (ℤ × List Tree)) → FirstInteger s (i + records t) f x o → FirstInteger s i (cons t f) x (behind t o)
-      by none r = r
-      by (some o) r =
-          record {
-            front = t ∷ r .front;
-            back = r .back;
-            mark = r .mark;
-            whole = ap (λ l. t ∷ l) (r .whole);
-            others = ap (λ l. t ∷ l) (r .others);
-            place = r .place ∙ omega arith;
-            number = r .number;
-            range = r .range;
-          }
-
--- the first integer stands where `integerAt` says
-first-there : (s : List ℕ) (i n : ℕ) (f : Forest) → TreesIn s i n f → FirstInteger s i f (integerAt i f) (firstInteger (toList f))
-unfolding firstInteger toList orFirst asInteger ofList records integerAt hereOr
-first-there s i n nil h = refl
-first-there s i n (cons t f) h = by t (seen (first-tree h)) (first-there s (i + records t) (n - 1) f (other-trees h))
+-- ---- members of a product, integers and others
+pub no-integer : {s : List ℕ} {i : ℕ} {t : Tree} → TreeIn s i t → 1 ≤ kind s i → asInteger t ≡ none
+unfolding asInteger
+no-integer {s} {i} {t} h k = by t (seen h)
   where
-    by : (t : Tree) → Seen s i t → FirstInteger s (i + records t) f (integerAt (i + records t) f) (firstInteger (toList f))
-        → FirstInteger s i (cons t f) (integerAt i (cons t f)) (firstInteger (toList (cons t f)))
-    by (integer μ z) (an-integer e b w) r =
-        record { front = []; back = toList f; mark = μ; whole = refl; others = refl; place = omega arith; number = b; range = w }
-    by (symbol μ v) q r = further s i (symbol μ v) f _ refl r
-    by (sum μ g) q r = further s i (sum μ g) f _ refl r
-    by (product μ g) q r = further s i (product μ g) f _ refl r
-    by (power μ b ξ x) q r = further s i (power μ b ξ x) f _ refl r
+    by : (t : Tree) → Seen s i t → asInteger t ≡ none
+    by (integer μ z) (an-integer e b w) = absurd (omega arith)
+    by (symbol μ v) q = refl
+    by (sum μ g) q = refl
+    by (product μ g) q = refl
+    by (power μ b ξ x) q = refl
 
-module _ {s : List ℕ} {i : ℕ} where
-  integer-here : {t : Tree} (f : Forest) → TreeIn s i t → kind s i < 1 → integerAt i (cons t f) ≡ i
-  unfolding integerAt hereOr asInteger
-  integer-here {t} f h k = by t (seen h)
-    where
-      by : (t : Tree) → Seen s i t → integerAt i (cons t f) ≡ i
-      by (integer μ z) q = refl
-      by (symbol μ v) (a-symbol e b w) = absurd (omega arith)
-      by (sum μ g) (a-sum e n c w m) = absurd (omega arith)
-      by (product μ g) (a-product e n c w m) = absurd (omega arith)
-      by (power μ b ξ x) (a-power e w m p q o y z) = absurd (omega arith)
+some-other : {A : Type 0} {t : Tree} {l : List Tree} → t ∷ l ≡ [] → A
+some-other e = let n = ap length e in absurd (omega arith)
 
-  integer-later : {t : Tree} (f : Forest) → TreeIn s i t → 1 ≤ kind s i → integerAt i (cons t f) ≡ integerAt (i + records t) f
-  unfolding integerAt hereOr asInteger
-  integer-later {t} f h k = by t (seen h)
-    where
-      by : (t : Tree) → Seen s i t → integerAt i (cons t f) ≡ integerAt (i + records t) f
-      by (integer μ z) (an-integer e b w) = absurd (omega arith)
-      by (symbol μ v) q = refl
-      by (sum μ g) q = refl
-      by (product μ g) q = refl
-      by (power μ b ξ x) q = refl
+others-most : (l : List Tree) → length (othersOf l) ≤ length l
+unfolding othersOf withOther
+others-most [] = omega arith
+others-most (t ∷ l) = go (asInteger t) (others-most l)
+  where
+    go : (o : Option ℤ) → length (othersOf l) ≤ length l → length (withOther o t (othersOf l)) ≤ length (t ∷ l)
+    go (some z) h = omega arith
+    go none h = omega arith
 
--- the members of the product f at record i from record `at` on, `left` of them: their first integer is the product's
-pub record Searched (s : List ℕ) (i at left : ℕ) (f : Forest) : Type 0 where
+-- where there are as many others as members, they are the members
+others-all : (l : List Tree) → length (othersOf l) ≡ length l → othersOf l ≡ l
+unfolding othersOf withOther
+others-all [] e = refl
+others-all (t ∷ l) e = go (asInteger t) e (others-all l)
+  where
+    go : (o : Option ℤ) → length (withOther o t (othersOf l)) ≡ length (t ∷ l) → (length (othersOf l) ≡ length l → othersOf l ≡ l)
+        → withOther o t (othersOf l) ≡ t ∷ l
+    go (some z) e ih = absurd (omega (arith, others-most l))
+    go none e ih = ap (λ (m : List Tree). t ∷ m) (ih (omega arith))
+
+-- where no other is left, the last one is the one before; a single one stands at its record
+none-later : (i last : ℕ) (f : Forest) → othersOf (toList f) ≡ [] → lastOther i last f ≡ last
+unfolding othersOf toList withOther lastOther laterOther
+none-later i last nil e = refl
+none-later i last (cons t f) e = go (asInteger t) e (none-later (i + records t) last f)
+  where
+    go : (o : Option ℤ) → withOther o t (othersOf (toList f)) ≡ [] → (othersOf (toList f) ≡ [] → lastOther (i + records t) last f ≡ last)
+        → lastOther (i + records t) (laterOther o i last) f ≡ last
+    go (some z) e ih = ih e
+    go none e ih = some-other e
+
+-- an other is no integer
+first-other : (l : List Tree) (u : Tree) (m : List Tree) → othersOf l ≡ u ∷ m → asInteger u ≡ none
+unfolding othersOf withOther
+first-other [] u m e = some-other (sym e)
+first-other (t ∷ l) u m e = go (asInteger t) refl e (first-other l u m)
+  where
+    go : (o : Option ℤ) → asInteger t ≡ o → withOther o t (othersOf l) ≡ u ∷ m → (othersOf l ≡ u ∷ m → asInteger u ≡ none) → asInteger u ≡ none
+    go (some z) p e ih = ih e
+    go none p e ih = let a : t ≡ u = cc in ap asInteger (sym a) ∙ p
+
+single-there : (s : List ℕ) (i n last : ℕ) (f : Forest) → TreesIn s i n f → (u : Tree) → othersOf (toList f) ≡ u ∷ []
+    → TreeIn s (lastOther i last f) u
+unfolding othersOf toList withOther lastOther laterOther
+single-there s i n last nil h u e = some-other (sym e)
+single-there s i n last (cons t f) h u e = go (asInteger t) e (single-there s (i + records t) (n - 1) last f (other-trees h) u)
+  where
+    go : (o : Option ℤ) → withOther o t (othersOf (toList f)) ≡ u ∷ []
+        → (othersOf (toList f) ≡ u ∷ [] → TreeIn s (lastOther (i + records t) last f) u)
+        → TreeIn s (lastOther (i + records t) (laterOther o i last) f) u
+    go (some z) e ih = ih e
+    go none e ih =
+        let a : t ≡ u = cc in
+        let b : othersOf (toList f) ≡ [] = cc in
+        subst (λ j. TreeIn s j u) (sym (none-later (i + records t) i f b)) (subst (TreeIn s i) a (first-tree h))
+
+-- ---- the product of the integers of a product, one member at a time
+abbrev multiplied : ℤ → Bool → Multiplied
+multiplied z b = record { number = z; inRange = b }
+
+-- with n, in range, for the product of the integers that were met, those of the trees from record `at` on, `left` of them, make it the
+-- product of all integers of f
+pub record Multiplying (s : List ℕ) (n at left : ℕ) (f : Forest) : Type 0 where
   pub rest : Forest
   pub stand : TreesIn s at left rest
-  pub found : integerAt at rest ≡ integerAt (i + 1) f
+  pub bits-fit : n < 2 ^ 64
+  pub same : timesEach (multiplied (signed n) true) (integersOf (toList rest)) ≡ timesEach unit (integersOf (toList f))
 
-module _ {s : List ℕ} {i : ℕ} {f : Forest} where
-  pub searched-start : {μ : ℕ} → TreeIn s i (product μ f) → Searched s i (i + 1) (countIn s i) f
-  searched-start h = record { rest = f; stand = product-trees h; found = refl }
+-- once out of range, always
+each-out : (c : Multiplied) (l : List ℤ) → c .inRange ≡ false → timesEach c l .inRange ≡ false
+unfolding timesEach timesOne
+each-out c [] e = e
+each-out c (z ∷ l) e = each-out (timesOne c z) l (ap (λ b. b && fits (c .number *ℤ z)) e)
 
-  module _ {at left : ℕ} (h : Searched s i at left f) where
-    pub searched-none : left ≡ 0 → 0 ≡ integerAt (i + 1) f
-    unfolding integerAt
-    searched-none e = ap (integerAt at) (sym (none-of (h .rest) (h .stand) e)) ∙ h .found
+pub multiplying-start : {s : List ℕ} {i μ : ℕ} {f : Forest} → TreeIn s i (product μ f) → Multiplying s 1 (i + 1) (countIn s i) f
+unfolding unit
+multiplying-start {f = f} h = record { rest = f; stand = product-trees h; bits-fit = omega arith; same = refl }
 
-    module _ (l : 0 < left) where
-      next : FirstOf s at left (h .rest)
-      next = first-of (h .rest) (h .stand) l
+module _ {s : List ℕ} {n at left : ℕ} {f : Forest} (h : Multiplying s n at left f) where
+  pub multiplied-all : left ≡ 0 → Is n ≡ coefficientOf (productTerm (toList f))
+  unfolding coefficientOf productTerm timesEach integersOf toList
+  multiplied-all e =
+      let q : multiplied (signed n) true ≡ timesEach unit (integersOf (toList f)) =
+      ap (λ r. timesEach (multiplied (signed n) true) (integersOf (toList r))) (sym (none-of (h .rest) (h .stand) e)) ∙ h .same in
+      ap Is (sym (word-signed n (h .bits-fit))) ∙ ap (λ (c : Multiplied). cond (c .inRange) (Is (word (c .number))) Out) q
 
-      pub searched-tree : SomeTree s at
-      searched-tree = record { tree = next .tree; there = next .there }
+  module _ (l : 0 < left) where
+    next : FirstOf s at left (h .rest)
+    next = first-of (h .rest) (h .stand) l
 
-      pub searched-here : kind s at < 1 → at ≡ integerAt (i + 1) f
-      searched-here k = sym (integer-here (next .others) (next .there) k) ∙ ap (integerAt at) (sym (next .whole)) ∙ h .found
+    pub multiplying-tree : SomeTree s at
+    multiplying-tree = record { tree = next .tree; there = next .there }
 
-      pub searched-later : 1 ≤ kind s at → (j : ℕ) → ((t : Tree) → TreeIn s at t → j ≡ at + records t) → Searched s i j (left - 1) f
-      searched-later k j ends =
+    -- a member that is an integer
+    module _ (k : kind s at < 1) where
+      integer-next : (z : ℤ) × (signed (bits s at) ≡ z) × (integersOf (toList (h .rest)) ≡ z ∷ integersOf (toList (next .others)))
+      unfolding integersOf toList withInteger asInteger
+      integer-next =
+          let q = seen-integer (seen (next .there)) (omega arith) in (
+            q .1,
+            ap signed (q .3) ∙ signed-word (q .1) (q .4),
+            ap (λ r. integersOf (toList r)) (next .whole) ∙ ap (λ t. withInteger (asInteger t) (integersOf (toList (next .others)))) (q .2),
+          )
+
+      pub multiplied-in : {v : ℕ} → numOf (signed n *ℤ signed (bits s at)) ≡ Is v → (j : ℕ) → ((t : Tree) → TreeIn s at t → j ≡ at + records t)
+          → Multiplying s v j (left - 1) f
+      unfolding timesEach timesOne
+      multiplied-in {v} r j ends =
+          let z = integer-next in
+          let p = numOf-is (signed n *ℤ signed (bits s at)) v r in
           let e : j ≡ at + records (next .tree) = ends (next .tree) (next .there) in
+          let one : multiplied (signed v) true ≡ timesOne (multiplied (signed n) true) (z .0) =
+          ap (λ y. multiplied y true) (p .2 ∙ ap (λ y. signed n *ℤ y) (z .1))
+          ∙ ap (multiplied (signed n *ℤ z .0)) (sym (p .0) ∙ ap (λ y. fits (signed n *ℤ y)) (z .1)) in
           rw e
           (record {
             rest = next .others;
             stand = next .after;
-            found = sym (integer-later (next .others) (next .there) k) ∙ ap (integerAt at) (sym (next .whole)) ∙ h .found;
+            bits-fit = omega (arith, p .1, word-lt (signed n *ℤ signed (bits s at)));
+            same =
+                ap (λ c. timesEach c (integersOf (toList (next .others)))) one
+                ∙ ap (timesEach (multiplied (signed n) true)) (sym (z .2)) ∙ h .same;
           })
 
--- ---- coefficient and rest
+      pub multiplied-out : numOf (signed n *ℤ signed (bits s at)) ≡ Out → Out ≡ coefficientOf (productTerm (toList f))
+      unfolding coefficientOf productTerm timesEach timesOne
+      multiplied-out r =
+          let z = integer-next in
+          let out : fits (signed n *ℤ z .0) ≡ false = ap (λ y. fits (signed n *ℤ y)) (sym (z .1)) ∙ numOf-is-out (signed n *ℤ signed (bits s at)) r in
+          let q : timesEach unit (integersOf (toList f)) .inRange ≡ false =
+          ap (λ (c : Multiplied). c .inRange) (sym (h .same) ∙ ap (timesEach (multiplied (signed n) true)) (z .2))
+          ∙ each-out (timesOne (multiplied (signed n) true) (z .0)) (integersOf (toList (next .others))) out in
+          ap (λ (b : Bool). cond b (Is (word (timesEach unit (integersOf (toList f)) .number))) Out) (sym q)
+
+    -- any other member
+    pub multiplied-by : 1 ≤ kind s at → (j : ℕ) → ((t : Tree) → TreeIn s at t → j ≡ at + records t) → Multiplying s n j (left - 1) f
+    unfolding integersOf toList withInteger
+    multiplied-by k j ends =
+        let e : j ≡ at + records (next .tree) = ends (next .tree) (next .there) in
+        let q : integersOf (toList (h .rest)) ≡ integersOf (toList (next .others)) =
+        ap (λ r. integersOf (toList r)) (next .whole)
+        ∙ ap (λ o. withInteger o (integersOf (toList (next .others)))) (no-integer (next .there) k) in
+        rw e
+        (record {
+          rest = next .others;
+          stand = next .after;
+          bits-fit = h .bits-fit;
+          same = ap (timesEach (multiplied (signed n) true)) (sym q) ∙ h .same;
+        })
+
+-- ---- the others of a product, one member at a time
+-- `many` of the members of the product f at record i were others, the last at record `last`, and `left` are left from record `at` on
+pub record Counting (s : List ℕ) (i at left many last : ℕ) (f : Forest) : Type 0 where
+  pub rest : Forest
+  pub stand : TreesIn s at left rest
+  pub total : many + length (othersOf (toList rest)) ≡ length (othersOf (toList f))
+  pub place : lastOther at last rest ≡ lastOther (i + 1) i f
+
+pub counting-start : {s : List ℕ} {i μ : ℕ} {f : Forest} → TreeIn s i (product μ f) → Counting s i (i + 1) (countIn s i) 0 i f
+counting-start {f = f} h = record { rest = f; stand = product-trees h; total = omega arith; place = refl }
+
+module _ {s : List ℕ} {i at left many last : ℕ} {f : Forest} (h : Counting s i at left many last f) where
+  pub counted-all : left ≡ 0 → (many ≡ length (othersOf (toList f))) × (last ≡ lastOther (i + 1) i f)
+  unfolding othersOf toList lastOther
+  counted-all e =
+      let z = none-of (h .rest) (h .stand) e in
+      let none : length (othersOf (toList (h .rest))) ≡ 0 = ap (λ r. length (othersOf (toList r))) z in
+      (omega (arith, h .total), ap (lastOther at last) (sym z) ∙ h .place)
+
+  module _ (l : 0 < left) where
+    member : FirstOf s at left (h .rest)
+    member = first-of (h .rest) (h .stand) l
+
+    pub counting-tree : SomeTree s at
+    counting-tree = record { tree = member .tree; there = member .there }
+
+    module _ (j : ℕ) (ends : (t : Tree) → TreeIn s at t → j ≡ at + records t) where
+      here : j ≡ at + records (member .tree)
+      here = ends (member .tree) (member .there)
+
+      pub counted-other : 1 ≤ kind s at → Counting s i j (left - 1) (many + 1) at f
+      unfolding othersOf toList withOther lastOther laterOther
+      counted-other k =
+          let o = no-integer (member .there) k in
+          let n : length (othersOf (toList (h .rest))) ≡ suc (length (othersOf (toList (member .others)))) =
+          ap (λ r. length (othersOf (toList r))) (member .whole)
+          ∙ ap (λ x. length (withOther x (member .tree) (othersOf (toList (member .others))))) o in
+          rw here
+          (record {
+            rest = member .others;
+            stand = member .after;
+            total = omega (arith, h .total);
+            place =
+                ap (λ x. lastOther (at + records (member .tree)) (laterOther x at last) (member .others)) (sym o)
+                ∙ ap (lastOther at last) (sym (member .whole)) ∙ h .place;
+          })
+
+      pub counted-integer : kind s at ≡ 0 → Counting s i j (left - 1) many last f
+      unfolding othersOf toList withOther lastOther laterOther asInteger
+      counted-integer k =
+          let q = seen-integer (seen (member .there)) k in
+          let o : asInteger (member .tree) ≡ some (q .1) = ap asInteger (q .2) in
+          let n : length (othersOf (toList (h .rest))) ≡ length (othersOf (toList (member .others))) =
+          ap (λ r. length (othersOf (toList r))) (member .whole)
+          ∙ ap (λ x. length (withOther x (member .tree) (othersOf (toList (member .others))))) o in
+          rw here
+          (record {
+            rest = member .others;
+            stand = member .after;
+            total = omega (arith, h .total);
+            place =
+                ap (λ x. lastOther (at + records (member .tree)) (laterOther x at last) (member .others)) (sym o)
+                ∙ ap (lastOther at last) (sym (member .whole)) ∙ h .place;
+          })
+
+-- ---- coefficient and rest, by the kind of the record
 module _ {s : List ℕ} {i : ℕ} where
-  pub term-integer : (t : Tree) → TreeIn s i t → kind s i < 1 → (signed (bits s i) ≡ termOf t .coefficient) × (termOf t .rest ≡ integer 0 (pos 1))
-  unfolding termOf term
+  pub term-integer : (t : Tree) → TreeIn s i t → kind s i < 1 → (Is (bits s i) ≡ coefficientOf (termOf t)) × (termOf t .rest ≡ integer 0 (pos 1))
+  unfolding coefficientOf termOf term
   term-integer t h k = by t (seen h)
     where
-      by : (t : Tree) → Seen s i t → (signed (bits s i) ≡ termOf t .coefficient) × (termOf t .rest ≡ integer 0 (pos 1))
-      by (integer μ z) (an-integer e b w) = (ap signed b ∙ signed-word z w, refl)
+      by : (t : Tree) → Seen s i t → (Is (bits s i) ≡ coefficientOf (termOf t)) × (termOf t .rest ≡ integer 0 (pos 1))
+      by (integer μ z) (an-integer e b w) = (ap Is b, refl)
       by (symbol μ v) (a-symbol e b w) = absurd (omega arith)
       by (sum μ f) (a-sum e n c w m) = absurd (omega arith)
       by (product μ f) (a-product e n c w m) = absurd (omega arith)
@@ -234,6 +360,13 @@ module _ {s : List ℕ} {i : ℕ} where
       by (sum μ f) q = refl
       by (product μ f) (a-product e c o w m) = absurd (n e)
       by (power μ b ξ x) q = refl
+
+  -- a tree that is neither an integer nor a product is its own rest
+  pub rest-itself : (t : Tree) → TreeIn s i t → 1 ≤ kind s i → (kind s i ≡ 3 → ⊥) → TreeIn s i (termOf t .rest) × (asInteger (termOf t .rest) ≡ none)
+  unfolding term
+  rest-itself t h k n =
+      let itself : termOf t .rest ≡ t = ap (λ (u : Term). u .rest) (term-other t h k n) in
+      (subst (TreeIn s i) (sym itself) h, ap asInteger itself ∙ no-integer h k)
 
   pub place-integer : (t : Tree) → TreeIn s i t → kind s i < 1 → One ≡ restAt i t
   unfolding restAt
@@ -262,136 +395,124 @@ module _ {s : List ℕ} {i : ℕ} where
       let p = seen-product (seen (h .there)) k in
       record { mark = p .0; members = p .1; there = subst (TreeIn s i) (p .2) (h .there) }
 
--- where the rest of a product stands, by its first integer's record and its count
-module _ {s : List ℕ} {i : ℕ} (t : Tree) (h : TreeIn s i t) (k : kind s i ≡ 3) (x : ℕ)
-    (found : (μ : ℕ) (f : Forest) → TreeIn s i (product μ f) → x ≡ integerAt (i + 1) f) where
-  product-place : productRest i (countIn s i) x ≡ restAt i t
+-- the coefficient of a product, by its members
+module _ {s : List ℕ} {i : ℕ} where
+  pub term-product : (t : Tree) → TreeIn s i t → kind s i ≡ 3 → {r : Num}
+      → ((μ : ℕ) (f : Forest) → TreeIn s i (product μ f) → r ≡ coefficientOf (productTerm (toList f))) → r ≡ coefficientOf (termOf t)
+  unfolding termOf
+  term-product t h k told =
+      let p = seen-product (seen h) k in
+      told (p .0) (p .1) (subst (TreeIn s i) (p .2) h) ∙ ap (λ u. coefficientOf (termOf u)) (sym (p .2))
+
+-- ---- the rest of a product, by its number of others and the record of the last
+-- two members or more make a product
+two-collapse : (l : List Tree) → 2 ≤ length l → productOf l ≡ product 0 (ofList l)
+unfolding productOf collapse
+two-collapse [] h = absurd (omega arith)
+two-collapse (t ∷ []) h = absurd (omega arith)
+two-collapse (t ∷ u ∷ l) h = refl
+
+abbrev Told : (s : List ℕ) (i m last : ℕ) → Type 0
+Told s i m last = (μ : ℕ) (f : Forest) → TreeIn s i (product μ f) → (m ≡ length (othersOf (toList f))) × (last ≡ lastOther (i + 1) i f)
+
+-- the product itself, its members being n, and what is told of its others
+record Product (s : List ℕ) (i n m last : ℕ) (t : Tree) : Type 0 where
+  mark : ℕ
+  members : Forest
+  is : t ≡ product mark members
+  there : TreeIn s i (product mark members)
+  counted : n ≡ count members
+  many : m ≡ length (othersOf (toList members))
+  place : last ≡ lastOther (i + 1) i members
+  rest : termOf t .rest ≡ productOf (othersOf (toList members))
+
+module _ {s : List ℕ} {i : ℕ} (t : Tree) (h : TreeIn s i t) (k : kind s i ≡ 3) {n m last : ℕ} (c : n ≡ countIn s i) (told : Told s i m last) where
+  is-product : Product s i n m last t
+  unfolding termOf productTerm
+  is-product =
+      let p = seen-product (seen h) k in
+      let g = subst (TreeIn s i) (p .2) h in
+      let q = told (p .0) (p .1) g in
+      record {
+        mark = p .0;
+        members = p .1;
+        is = p .2;
+        there = g;
+        counted = c ∙ p .3 .counted;
+        many = q .0;
+        place = q .1;
+        rest = ap (λ u. termOf u .rest) (p .2);
+      }
+
+  product-place : productRest i n m last ≡ restAt i t
   unfolding restAt
   product-place =
-      let p = seen-product (seen h) k in
-      let e = found (p .0) (p .1) (subst (TreeIn s i) (p .2) h) in
-      ap (λ n. productRest i n x) (p .3 .counted) ∙ ap (productRest i (count (p .1))) e ∙ ap (restAt i) (sym (p .2))
+      let p = is-product in
+      ap (λ x. productRest i x m last) (p .counted) ∙ ap (λ x. productRest i (count (p .members)) x last) (p .many)
+      ∙ ap (productRest i (count (p .members)) (length (othersOf (toList (p .members))))) (p .place) ∙ ap (restAt i) (sym (p .is))
 
-  pub place-whole : x < 1 → At i ≡ restAt i t
+  -- no integer among them
+  pub rest-whole : m ≡ n → TreeIn s i (termOf t .rest) × (asInteger (termOf t .rest) ≡ none)
+  rest-whole e =
+      let p = is-product in
+      let f = p .members in
+      let all : othersOf (toList f) ≡ toList f = others-all (toList f) (omega (arith, p .many, p .counted, count-list f)) in
+      let itself : termOf t .rest ≡ t =
+      p .rest ∙ ap productOf all ∙ two-collapse (toList f) (omega (arith, count-list f, p .there .wf .0)) ∙ ap (product 0) (of-to-list f)
+      ∙ ap (λ x. product x f) (sym (p .there .wf .2)) ∙ sym (p .is) in
+      (subst (TreeIn s i) (sym itself) h, ap asInteger itself ∙ no-integer h (omega arith))
+
+  pub place-whole : m ≡ n → At i ≡ restAt i t
   unfolding productRest
-  place-whole l = rw (lt-ltb x 1 l) at product-place
+  place-whole e = rw (eq-eqb m n e) at product-place
 
-  module _ (l : 1 ≤ x) where
-    pub place-without : 2 < countIn s i → Without i x ≡ restAt i t
+  module _ (some-out : m ≡ n → ⊥) where
+    -- integers alone
+    pub rest-one : m < 1 → termOf t .rest ≡ integer 0 (pos 1)
+    unfolding productOf collapse
+    rest-one l = let p = is-product in p .rest ∙ ap productOf (nil-of (othersOf (toList (p .members))) (omega (arith, p .many)))
+      where
+        nil-of : (l : List Tree) → length l ≡ 0 → l ≡ []
+        nil-of [] e = refl
+        nil-of (u ∷ l) e = absurd (omega arith)
+
+    pub place-one : m < 1 → One ≡ restAt i t
     unfolding productRest
-    place-without m = rw (le-ltb x 1 l, lt-ltb 2 (countIn s i) m) at product-place
+    place-one l = rw (ne-eqb m n some-out, lt-ltb m 1 l) at product-place
 
-    pub place-second : countIn s i ≤ 2 → x ≡ i + 1 → At (i + 2) ≡ restAt i t
+    -- one other
+    pub rest-single : 1 ≤ m → m < 2 → TreeIn s last (termOf t .rest) × (asInteger (termOf t .rest) ≡ none)
+    unfolding productOf collapse
+    rest-single l a = let p = is-product in by p (othersOf (toList (p .members))) refl (omega (arith, p .many))
+      where
+        by : (p : Product s i n m last t) (l : List Tree) → othersOf (toList (p .members)) ≡ l → length l ≡ 1
+            → TreeIn s last (termOf t .rest) × (asInteger (termOf t .rest) ≡ none)
+        by p [] e n = absurd (omega arith)
+        by p (u ∷ v ∷ l) e n = absurd (omega arith)
+        by p (u ∷ []) e n =
+            let there = single-there s (i + 1) (countIn s i) i (p .members) (product-trees (p .there)) u e in
+            let is : termOf t .rest ≡ u = p .rest ∙ ap productOf e in (
+              subst (TreeIn s last) (sym is) (subst (λ j. TreeIn s j u) (sym (p .place)) there),
+              ap asInteger is ∙ first-other (toList (p .members)) u [] e,
+            )
+
+    pub place-single : 1 ≤ m → m < 2 → At last ≡ restAt i t
     unfolding productRest
-    place-second m e = rw (le-ltb x 1 l, le-ltb 2 (countIn s i) m, eq-eqb x (i + 1) e) at product-place
+    place-single l a = rw (ne-eqb m n some-out, le-ltb m 1 l, lt-ltb m 2 a) at product-place
 
-    pub place-first : countIn s i ≤ 2 → (x ≡ i + 1 → ⊥) → At (i + 1) ≡ restAt i t
-    unfolding productRest
-    place-first m e = rw (le-ltb x 1 l, le-ltb 2 (countIn s i) m, ne-eqb x (i + 1) e) at product-place
-
--- the records of a list of trees with one integer in it
-listed : (l m : List Tree) (μ : ℕ) (z : ℤ) → recordses (ofList (l ++ (integer μ z ∷ m))) ≡ recordses (ofList l) + 1 + recordses (ofList m)
-unfolding ofList records
-listed [] m μ z = omega arith
-listed (t ∷ l) m μ z = omega (arith, listed l m μ z)
-
--- the product t at record i: it has no integer member, and x is 0; or its first integer stands at record x
-pub data Split (s : List ℕ) (i x : ℕ) (t : Tree) : Type 0 where
-  no-integer : x ≡ 0 → termOf t ≡ term (pos 1) t → Split s i x t
-  one-integer : (μ ν : ℕ) (z : ℤ) (front back : List Tree) → i + 1 ≤ x → x * 16 + 16 ≤ length s → signed (bits s x) ≡ z
-      → TreeIn s i (product μ (ofList (front ++ (integer ν z ∷ back)))) → x ≡ i + 1 + recordses (ofList front)
-      → termOf t ≡ term z (productOf (front ++ back)) → Split s i x t
-
-module _ {s : List ℕ} {i : ℕ} where
-  pub split-product : (t : Tree) → TreeIn s i t → kind s i ≡ 3 → (x : ℕ)
-      → ((μ : ℕ) (f : Forest) → TreeIn s i (product μ f) → x ≡ integerAt (i + 1) f) → Split s i x t
-  unfolding termOf productTerm records
-  split-product t h k x found =
-      let p = seen-product (seen h) k in
-      let g : TreeIn s i (product (p .0) (p .1)) = subst (TreeIn s i) (p .2) h in
-      let r = first-there s (i + 1) (countIn s i) (p .1) (product-trees g) in
-      let there = subst (λ y. FirstInteger s (i + 1) (p .1) y (firstInteger (toList (p .1)))) (sym (found (p .0) (p .1) g)) r in
-      subst (Split s i x) (sym (p .2)) (by (p .0) (p .1) g (firstInteger (toList (p .1))) refl there)
-    where
-      by : (μ : ℕ) (f : Forest) → TreeIn s i (product μ f) → (o : Option (ℤ × List Tree)) → firstInteger (toList f) ≡ o → FirstInteger s (i + 1) f x o
-          → Split s i x (product μ f)
-      by μ f h none e r = no-integer r (rw e)
-      by μ f h (some o) e r =
-          let w : f ≡ ofList (r .front ++ (integer (r .mark) (o .0) ∷ r .back)) = sym (of-to-list f) ∙ ap ofList (r .whole) in
-          let n : recordses f ≡ recordses (ofList (r .front)) + 1 + recordses (ofList (r .back)) = ap recordses w ∙ listed (r .front) (r .back) (r .mark) (o .0) in
-          one-integer μ (r .mark) (o .0) (r .front) (r .back) (omega (arith, r .place)) (omega (arith, r .place, tree-within h))
-          (ap signed (r .number) ∙ signed-word (o .0) (r .range)) (subst (λ u. TreeIn s i (product μ u)) w h) (r .place)
-          (rw (e, ← (r .others)))
-
--- the product of two members or more
-collapse-two : (l : List Tree) → 2 ≤ length l → productOf l ≡ product 0 (ofList l)
-unfolding productOf collapse
-collapse-two [] h = absurd (omega arith)
-collapse-two (t ∷ []) h = absurd (omega arith)
-collapse-two (t ∷ u ∷ l) h = refl
-
-module _ {s : List ℕ} {i : ℕ} where
-  -- the number of members of a product with an integer among them
-  members-of : {μ : ℕ} (ν : ℕ) (z : ℤ) (l m : List Tree) → TreeIn s i (product μ (ofList (l ++ (integer ν z ∷ m)))) → countIn s i ≡ length (l ++ m) + 1
-  members-of ν z l m h =
-      let c = product-trees h .counted in
-      omega (arith, list-count (l ++ (integer ν z ∷ m)), length-append l (integer ν z ∷ m), length-append l m)
-
-  only-second : {μ : ℕ} (ν x : ℕ) (z : ℤ) (l m : List Tree) → TreeIn s i (product μ (ofList (l ++ (integer ν z ∷ m))))
-      → x ≡ i + 1 + recordses (ofList l) → countIn s i ≤ 2 → x ≡ i + 1 → TreeIn s (i + 2) (productOf (l ++ m))
-  unfolding productOf collapse ofList records
-  only-second ν x z [] [] h p c e = absurd (omega (arith, h .wf .0, list-count (integer ν z ∷ [])))
-  only-second ν x z [] (u ∷ []) h p c e =
-      let r : i + 1 + 1 ≡ i + 2 = omega arith in
-      rw r at (first-tree (other-trees (product-trees h)))
-  only-second ν x z [] (u ∷ v ∷ m) h p c e = absurd (omega (arith, members-of ν z [] (u ∷ v ∷ m) h))
-  only-second ν x z (t ∷ l) m h p c e = absurd (omega (arith, records-pos t))
-
-  only-first : {μ : ℕ} (ν x : ℕ) (z : ℤ) (l m : List Tree) → TreeIn s i (product μ (ofList (l ++ (integer ν z ∷ m))))
-      → x ≡ i + 1 + recordses (ofList l) → countIn s i ≤ 2 → (x ≡ i + 1 → ⊥) → TreeIn s (i + 1) (productOf (l ++ m))
-  unfolding productOf collapse ofList records
-  only-first ν x z [] m h p c e = absurd (e (omega arith))
-  only-first ν x z (t ∷ []) [] h p c e = first-tree (product-trees h)
-  only-first ν x z (t ∷ []) (u ∷ m) h p c e = absurd (omega (arith, members-of ν z (t ∷ []) (u ∷ m) h))
-  only-first ν x z (t ∷ v ∷ l) m h p c e = absurd (omega (arith, members-of ν z (t ∷ v ∷ l) m h))
-
-  module _ {x : ℕ} {t : Tree} where
-    pub split-none : Split s i x t → x < 1 → termOf t ≡ term (pos 1) t
-    split-none (no-integer e r) l = r
-    split-none (one-integer μ ν z f b p w n h q r) l = absurd (omega arith)
-
-    pub split-within : Split s i x t → 1 ≤ x → x * 16 + 16 ≤ length s
-    split-within (no-integer e r) l = absurd (omega arith)
-    split-within (one-integer μ ν z f b p w n h q r) l = w
-
-    pub split-number : Split s i x t → 1 ≤ x → signed (bits s x) ≡ termOf t .coefficient
-    unfolding term
-    split-number (no-integer e r) l = absurd (omega arith)
-    split-number (one-integer μ ν z f b p w n h q r) l = n ∙ ap (λ u. u .coefficient) (sym r)
-
-    pub rest-without : Split s i x t → 1 ≤ x → 2 < countIn s i → Lessened s i x (termOf t .rest)
-    unfolding term
-    rest-without (no-integer e r) l m = absurd (omega arith)
-    rest-without (one-integer μ ν z f b p w n h q r) l m =
-        let two : 2 ≤ length (f ++ b) = omega (arith, members-of ν z f b h) in
+    -- two others or more
+    pub rest-others : 2 ≤ m → Lessened s i m (termOf t .rest)
+    rest-others l =
+        let p = is-product in
         record {
-          front = f;
-          back = b;
-          mark = μ;
-          integer-mark = ν;
-          number = z;
-          whole = h;
-          place = q;
-          left = ap (λ u. u .rest) r ∙ collapse-two (f ++ b) two;
-          two = two;
+          mark = p .mark;
+          members = p .members;
+          whole = p .there;
+          left = p .rest ∙ two-collapse (othersOf (toList (p .members))) (omega (arith, p .many));
+          many = p .many;
+          two = l;
         }
 
-    pub rest-second : Split s i x t → 1 ≤ x → countIn s i ≤ 2 → x ≡ i + 1 → TreeIn s (i + 2) (termOf t .rest)
-    unfolding term
-    rest-second (no-integer e r) l m y = absurd (omega arith)
-    rest-second (one-integer μ ν z f b p w n h q r) l m y = subst (TreeIn s (i + 2)) (ap (λ u. u .rest) (sym r)) (only-second ν x z f b h q m y)
-
-    pub rest-first : Split s i x t → 1 ≤ x → countIn s i ≤ 2 → (x ≡ i + 1 → ⊥) → TreeIn s (i + 1) (termOf t .rest)
-    unfolding term
-    rest-first (no-integer e r) l m y = absurd (omega arith)
-    rest-first (one-integer μ ν z f b p w n h q r) l m y = subst (TreeIn s (i + 1)) (ap (λ u. u .rest) (sym r)) (only-first ν x z f b h q m y)
+    pub place-others : 2 ≤ m → Others i m ≡ restAt i t
+    unfolding productRest
+    place-others l = rw (ne-eqb m n some-out, le-ltb m 1 (omega arith), le-ltb m 2 l) at product-place

@@ -1,29 +1,36 @@
--- What the splits of a member tell: which tree a rest stands for.
-use Prim.Native.Nat.{ℕ, _+_, _≤_}
+-- What the splits of a member tell: its coefficient, and which tree a rest stands for.
+use Prim.Native.Nat.{ℕ, _≤_}
 use mathlib.Core.Path.{_≡_}
-use mathlib.Core.List.{List, _∷_, _++_}
+use mathlib.Core.Bool.{cond}
+use mathlib.Core.List.{List}
+use mathlib.Core.Option.{none}
 use lib.ListN.{length}
-use lib.IntN.{ℤ, pos}
-use Rattle.paper.specs.Tree.{Tree, integer, product, recordses, ofList}
+use lib.IntN.{pos}
+use Rattle.paper.specs.Bytes.{word}
+use Rattle.paper.specs.Tree.{Tree, Forest, integer, product, toList, ofList}
+use Rattle.paper.specs.Rules.{asInteger, othersOf, Term}
+use Rattle.number.specs.declared.Num.{Num}
+use Rattle.number.specs.declared.Num.the-variants.{Is, Out}
 use Rattle.split.specs.Standing.{TreeIn}
 use Rattle.split.specs.declared.Rest.{Rest}
-use Rattle.split.specs.declared.Rest.the-variants.{One, At, Without}
+use Rattle.split.specs.declared.Rest.the-variants.{One, At, Others}
 
--- the product at record i of the table s without the integer at record x is the product t, of two members or more
-pub record Lessened (s : List ℕ) (i x : ℕ) (t : Tree) : Type 0 where
-  pub front : List Tree
-  pub back : List Tree
+-- the coefficient of a term: `Is n`, every partial product was in range, and n is its 64 bits; `Out`, one was not
+unfoldable pub coefficientOf : Term → Num
+coefficientOf x = cond (x .inRange) (Is (word (x .coefficient))) Out
+
+-- the product at record i of the table s without its integers is the product t, of n members, two or more
+pub record Lessened (s : List ℕ) (i n : ℕ) (t : Tree) : Type 0 where
   pub mark : ℕ
-  pub integer-mark : ℕ
-  pub number : ℤ
-  pub whole : TreeIn s i (product mark (ofList (front ++ (integer integer-mark number ∷ back))))
-  pub place : x ≡ i + 1 + recordses (ofList front)
-  pub left : t ≡ product 0 (ofList (front ++ back))
-  pub two : 2 ≤ length (front ++ back)
+  pub members : Forest
+  pub whole : TreeIn s i (product mark members)
+  pub left : t ≡ product 0 (ofList (othersOf (toList members)))
+  pub many : n ≡ length (othersOf (toList members))
+  pub two : 2 ≤ n
 
--- the tree that a rest, of the tree at record i, stands for: 1, which stands in no record; the tree at a record; the product at
--- record i itself without one of its members
+-- the tree that a rest, of the tree at record i, stands for: 1, which stands in no record; the tree at a record, no integer; the
+-- product at record i itself without its integers
 abbrev pub StandsFor : List ℕ → ℕ → Rest → Tree → Type 0
 StandsFor s i One t = t ≡ integer 0 (pos 1)
-StandsFor s i (At p) t = TreeIn s p t
-StandsFor s i (Without p x) t = (p ≡ i) × Lessened s p x t
+StandsFor s i (At p) t = TreeIn s p t × (asInteger t ≡ none)
+StandsFor s i (Others p n) t = (p ≡ i) × Lessened s p n t

@@ -1,19 +1,26 @@
 // The splits of a member, read off its records: coefficient and rest, base and exponent. The rest is a view: nothing is copied.
 ghost use mathlib.Core.Path.{_≡_};
 ghost use Prim.Native.Nat.{ℕ, _+_, _^_, _<_};
-ghost use Rattle.paper.specs.Bytes.{signed};
-ghost use Rattle.paper.specs.Tree.{Tree, Forest, product, records};
-ghost use Rattle.paper.specs.Rules.{termOf, factorOf};
+ghost use lib.ListN.{length};
+ghost use Rattle.paper.specs.Tree.{Tree, Forest, product, records, toList};
+ghost use Rattle.paper.specs.Rules.{othersOf, productTerm, termOf, factorOf};
 ghost use Rattle.split.specs.Standing.{TreeIn, SomeTree, SomeProduct};
-ghost use Rattle.split.specs.Place.{baseAt, integerAt, restAt};
-ghost use Rattle.split.specs.Rest.{StandsFor};
+ghost use Rattle.split.specs.Place.{baseAt, lastOther, restAt};
+ghost use Rattle.split.specs.Rest.{coefficientOf, StandsFor};
+use number::Num;
 
-// The rest of a member: 1, which stands in no record; the tree at a record; the product at the first record without its member
-// at the second, two members or more being left.
+// The rest of a member: 1, which stands in no record; the tree at a record, no integer; the product at a record without its integers,
+// so many members being left, two or more.
 pub enum Rest {
     One,
     At(usize),
-    Without(usize, usize),
+    Others(usize, usize),
+}
+
+// How many members of a product are no integers, and the record of the last of them.
+struct Counted {
+    many: usize,
+    last: usize,
 }
 
 // The record after the tree at record i: the next one after a leaf; else the trees that are owed are counted.
@@ -33,40 +40,65 @@ pub fn skip_tree(s: &[u8], i: usize) -> usize
     at
 }
 
-// The record of the first integer among the members of the product at record i; 0 where there is none.
-fn first_integer(s: &[u8], i: usize) -> usize
+// The product of the integers among the members of the product at record i, in order; `Out` as soon as a partial product leaves the range.
+fn product_coefficient(s: &[u8], i: usize) -> Num
     requires { ⌜ SomeProduct (now s) i ⌝ }
-    ensures { λ r. ⌜ ((μ : ℕ) (f : Forest) → TreeIn (now (s .entry)) i (product μ f) → r ≡ integerAt (i + 1) f) ⌝ }
+    ensures { λ r. ⌜ ((μ : ℕ) (f : Forest) → TreeIn (now (s .entry)) i (product μ f) → r ≡ coefficientOf (productTerm (toList f))) ⌝ }
 {
+    let mut n = 1;
     let mut at = i + 1;
     let mut left = record::count(s, i);
     while 0 < left {
         if record::kind(s, at) < 1 {
-            return at;
+            let product = number::mul(n, record::bits(s, at));
+            match product {
+                Num::Is(v) => n = v,
+                Num::Out => return Num::Out,
+            }
         }
         at = skip_tree(s, at);
         left -= 1;
     }
-    0
+    Num::Is(n)
 }
 
-// The coefficient of the tree at record i: an integer itself, the first integer of a product, or 1.
-pub fn coefficient(s: &[u8], i: usize) -> u64
+// The coefficient of the tree at record i: an integer itself, the product of the integers of a product, or 1.
+pub fn coefficient(s: &[u8], i: usize) -> Num
     requires { ⌜ SomeTree (now s) i ⌝ }
-    ensures { λ r. ⌜ ((t : Tree) → TreeIn (now (s .entry)) i t → signed r ≡ termOf t .coefficient) ⌝ }
+    ensures { λ r. ⌜ ((t : Tree) → TreeIn (now (s .entry)) i t → r ≡ coefficientOf (termOf t)) ⌝ }
 {
     let k = record::kind(s, i);
     if k < 1 {
-        return record::bits(s, i);
+        return Num::Is(record::bits(s, i));
     }
     if k != 3 {
-        return 1;
+        return Num::Is(1);
     }
-    let x = first_integer(s, i);
-    if x < 1 {
-        return 1;
+    product_coefficient(s, i)
+}
+
+// Counts the members of the product at record i that are no integers.
+fn count_others(s: &[u8], i: usize) -> Counted
+    requires { ⌜ SomeProduct (now s) i ⌝ }
+    ensures { λ r. ⌜ ((μ : ℕ) (f : Forest) → TreeIn (now (s .entry)) i (product μ f)
+        → (r .many ≡ length (othersOf (toList f))) × (r .last ≡ lastOther (i + 1) i f)) ⌝ }
+{
+    let mut many = 0;
+    let mut last = i;
+    let mut at = i + 1;
+    let mut left = record::count(s, i);
+    while 0 < left {
+        if 0 < record::kind(s, at) {
+            many += 1;
+            last = at;
+        }
+        at = skip_tree(s, at);
+        left -= 1;
     }
-    record::bits(s, x)
+    Counted {
+        many: many,
+        last: last,
+    }
 }
 
 // The rest of the tree at record i: what its coefficient leaves, a single other member standing for itself.
@@ -82,17 +114,17 @@ pub fn rest_of(s: &[u8], i: usize) -> Rest
     if k != 3 {
         return Rest::At(i);
     }
-    let x = first_integer(s, i);
-    if x < 1 {
+    let others = count_others(s, i);
+    if others.many == record::count(s, i) {
         return Rest::At(i);
     }
-    if 2 < record::count(s, i) {
-        return Rest::Without(i, x);
+    if others.many < 1 {
+        return Rest::One;
     }
-    if x == i + 1 {
-        return Rest::At(i + 2);
+    if others.many < 2 {
+        return Rest::At(others.last);
     }
-    Rest::At(i + 1)
+    Rest::Others(i, others.many)
 }
 
 // The record of the base of the tree at record i: a power's own, else the tree itself.

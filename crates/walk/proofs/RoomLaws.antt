@@ -8,28 +8,28 @@ use mathlib.Core.List.{List, [], _∷_}
 use mathlib.Core.Option.{Option, none, some}
 use native.Mathlib.Omega.{arith}
 use lib.Dec.{eqb}
+use lib.ListN.{length}
 use lib.IntN.{ℤ, pos, _+ℤ_, _*ℤ_}
 use borrow.Author.Tests.{eqb-true}
 use Rattle.paper.specs.Tree.{Tree, Forest, integer, symbol, sum, product, power, toList, ofList, weight, records}
 use Rattle.paper.specs.WellFormed.{WF}
 use Rattle.paper.specs.Equal.{equal, eqZ}
-use Rattle.paper.specs.Rules.{asInteger, collapse, productOf, Term, term, firstInteger, productTerm, termOf, added, times, timesUnless, fromTerm}
+use Rattle.paper.specs.Rules.{asInteger, collapse, productOf, Term, term, integersOf, othersOf, timesEach, unit, productTerm, termOf}
+use Rattle.paper.specs.Rules.{added, times, timesUnless, fromTerm}
 use Rattle.paper.specs.Rules.{Factor, factor, factorOf, bothIntegers, powerUnless, fromFactor}
 use Rattle.paper.proofs.EncodeLaws.{records-pos, records-weight, recordses-weights}
 use Rattle.paper.proofs.Value.{total, weights-list, list-weights, weight-pos}
 use Rattle.paper.proofs.Bulk.{two-members, same-integer}
-use Rattle.paper.proofs.EqualView.{same-view, taken-total}
-use Rattle.paper.proofs.LikeTerms.{TakenOut, firstInteger-taken, mergeTerms-some}
+use Rattle.paper.proofs.EqualView.{same-view}
+use Rattle.paper.proofs.LikeTerms.{mergeTerms-some}
+use Rattle.paper.proofs.LikeTermsWeight.{parted-weight}
 use Rattle.paper.proofs.MergeFactors.{timesBases, addExponents, Merged, by-bases, by-exponents, mergeFactors-some}
 use Rattle.part.specs.Like.{Like, split, merge, join}
 use Rattle.part.specs.Part.{inRange}
+use Rattle.part.proofs.PartLaws.{and-bad}
 use Rattle.write.proofs.Encoded.{longer-records}
 
 -- ---- out of range
-and-bad : (a b : Bool) → a ≡ false → a && b ≡ false
-and-bad true b e = absurd (let o : _≡_ {A = ℕ} 0 1 = cc in omega arith)
-and-bad false b e = refl
-
 added-bad : (c x : Term) → c .inRange ≡ false → added c x .inRange ≡ false
 unfolding added
 added-bad c x e = and-bad (c .inRange && x .inRange) _ (and-bad (c .inRange) (x .inRange) e)
@@ -42,19 +42,6 @@ merged-bad c x e (by-exponents p q) = and-bad (c .inRange && x .inRange) _ (and-
 pub stays-bad : (b : Bool) (c x d : Like b) → inRange b c ≡ false → merge b c x ≡ some d → inRange b d ≡ false
 stays-bad true c x d e m = subst (λ (d : Term). d .inRange ≡ false) (mergeTerms-some c x d m .1) (added-bad c x e)
 stays-bad false c x d e m = merged-bad c x e (mergeFactors-some c x d m)
-
-pub joins-bad : (b : Bool) (c : Like b) → inRange b c ≡ false → join b c .1 ≡ false
-unfolding fromTerm timesUnless fromFactor powerUnless
-joins-bad true c e = go (eqZ (c .coefficient) (pos 1))
-  where
-    go : (b : Bool) → timesUnless b c .1 ≡ false
-    go true = e
-    go false = and-bad (c .inRange) _ e
-joins-bad false c e = go (eqb (c .exponent) 1)
-  where
-    go : (b : Bool) → powerUnless b c .1 ≡ false
-    go true = e
-    go false = e
 
 -- ---- how many records a coefficient adds
 abbrev Extra : Option ℤ → ℕ → ℕ → Type 0
@@ -106,25 +93,39 @@ rest-integer (product μ f) e = refl
 rest-integer (power μ b ξ x) e = refl
 
 -- ---- a member by itself
-others-records : (b : Bool) (z : ℤ) (l : List Tree) → records (timesUnless b (term z (productOf l)) .0) ≤ 2 + total weight l
-unfolding timesUnless term productOf collapse total times records ofList
-others-records true z [] = omega arith
-others-records false z [] = omega arith
-others-records true z (t ∷ []) = omega (arith, records-weight t)
-others-records false z (t ∷ []) =
-    let e = extra-most (asInteger t) (records t) (records (times z t .0)) (records-pos t) (times-records z t) in
-    omega (arith, records-weight t)
-others-records true z (t ∷ u ∷ l) = omega (arith, records-weight t, records-weight u, recordses-weights (ofList l), list-weights l)
-others-records false z (t ∷ u ∷ l) =
-    let e = longer-records 0 (ofList (t ∷ u ∷ l)) z in
-    omega (arith, records-weight t, records-weight u, recordses-weights (ofList l), list-weights l)
+-- the product of l, and a coefficient times it
+whole-records : (l : List Tree) → records (productOf l) ≤ 1 + total weight l
+unfolding productOf collapse total records ofList
+whole-records [] = omega arith
+whole-records (t ∷ []) = omega (arith, records-weight t)
+whole-records (t ∷ u ∷ l) = omega (arith, records-weight t, records-weight u, recordses-weights (ofList l), list-weights l)
 
-product-records : (μ : ℕ) (f : Forest) (r : Option (ℤ × List Tree)) → TakenOut (toList f) r
-    → records (fromTerm (productTerm μ f r) .0) ≤ weight (product μ f)
-unfolding productTerm fromTerm term timesUnless eqZ weight
-product-records μ f none h = omega (arith, records-weight (product μ f))
-product-records μ f (some r) h =
-    omega (arith, others-records (eqZ (r .0) (pos 1)) (r .0) (r .1), taken-total weight (h .1), weights-list f)
+others-records : (b : Bool) (c : Term) (l : List Tree) → c .rest ≡ productOf l → records (timesUnless b c .0) ≤ 2 + total weight l
+unfolding timesUnless productOf collapse total times records ofList
+others-records true c l e = omega (arith, ap records e, whole-records l)
+others-records false c l e = omega (arith, ap (λ t. records (times (c .coefficient) t .0)) e, timed l)
+  where
+    timed : (l : List Tree) → records (times (c .coefficient) (productOf l) .0) ≤ 2 + total weight l
+    timed [] = omega arith
+    timed (t ∷ []) =
+        let e = extra-most (asInteger t) (records t) (records (times (c .coefficient) t .0)) (records-pos t) (times-records (c .coefficient) t) in
+        omega (arith, records-weight t)
+    timed (t ∷ u ∷ l) =
+        let e = longer-records 0 (ofList (t ∷ u ∷ l)) (c .coefficient) in
+        omega (arith, records-weight t, records-weight u, recordses-weights (ofList l), list-weights l)
+
+-- with no integer the coefficient is 1 and adds nothing; else an integer pays for it
+product-records : (l : List Tree) → records (fromTerm (productTerm l) .0) ≤ 1 + total weight l
+unfolding productTerm fromTerm timesEach unit eqZ timesUnless
+product-records l = go (integersOf l) (parted-weight l)
+  where
+    go : (is : List ℤ) → length is + total weight (othersOf l) ≡ total weight l
+        → records (timesUnless (eqZ (timesEach unit is .number) (pos 1)) (record { coefficient = timesEach unit is .number; rest = productOf (othersOf l); inRange = timesEach unit is .inRange }) .0)
+        ≤ 1 + total weight l
+    go [] h = omega (arith, whole-records (othersOf l))
+    go (z ∷ is) h =
+        let c = timesEach unit (z ∷ is) in
+        omega (arith, others-records (eqZ (c .number) (pos 1)) (record { coefficient = c .number; rest = productOf (othersOf l); inRange = c .inRange }) (othersOf l) refl)
 
 integer-term : (b : Bool) (μ : ℕ) (z : ℤ) → records (timesUnless b (term z (integer 0 (pos 1))) .0) ≤ weight (integer μ z)
 unfolding timesUnless term times records weight
@@ -132,11 +133,11 @@ integer-term true μ z = omega arith
 integer-term false μ z = omega arith
 
 term-records : (t : Tree) → records (fromTerm (termOf t) .0) ≤ weight t
-unfolding termOf fromTerm term timesUnless eqZ
+unfolding termOf fromTerm term timesUnless eqZ weight
 term-records (integer μ z) = integer-term (eqZ z (pos 1)) μ z
 term-records (symbol μ s) = records-weight (symbol μ s)
 term-records (sum μ f) = records-weight (sum μ f)
-term-records (product μ f) = product-records μ f (firstInteger (toList f)) (firstInteger-taken (toList f))
+term-records (product μ f) = omega (arith, product-records (toList f), weights-list f)
 term-records (power μ b ξ e) = records-weight (power μ b ξ e)
 
 raised-records : (b : Bool) (c : Factor) → records (powerUnless b c .0) ≤ records (c .base) + 2

@@ -178,9 +178,12 @@ shows-still true w w' p (part.Term n i) x s f h =
       bits = h .bits;
       good = h .good;
     }
+shows-still true w w' p (part.Wide i) x s f h =
+    record { member = h .member; there = tree-still w w' p s i (h .member) f (h .there); rest = h .rest; wide = h .wide }
 shows-still true w w' p (part.Power e i k) x s f h = h
 shows-still true w w' p (part.Number e v) x s f h = h
 shows-still false w w' p (part.Term n i) x s f h = h
+shows-still false w w' p (part.Wide i) x s f h = h
 shows-still false w w' p (part.Power e i k) x s f h =
     record {
       sized = record { there = tree-still w w' p s i (x .base) f (h .sized .there); size = h .sized .size };

@@ -25,7 +25,8 @@ use Rattle.walk.specs.Walked.{Walkable, combined, cameOut, CameOut}
 use Rattle.paper.proofs.WalkFuel.{lastFirst-length, map-length}
 use Rattle.walk.proofs.TurnLaws.{map-lastFirst, map-append, resumed, resumed-none, after, turn-begins}
 use Rattle.walk.proofs.TurnLaws.{passes-by, takes-up, turn-ends, walk-ends, turn-keeps}
-use Rattle.walk.proofs.RoomLaws.{stays-bad, joins-bad, join-first, join-grows}
+use Rattle.part.proofs.PartLaws.{joins-bad}
+use Rattle.walk.proofs.RoomLaws.{stays-bad, join-first, join-grows}
 use Rattle.walk.proofs.EntryLaws.{entries-snoc, swap-pending, swap-before, swap-after}
 use Rattle.walk.proofs.States.{walked, outs, idle-outcome, over-outcome, done-outcome, all-snoc, outs-many, Came, Common}
 use Rattle.walk.proofs.States.{common-marks, common-written, common-late, common-done, shows-still}

@@ -1,5 +1,5 @@
--- The member that a part becomes, by the tests that the code makes: a coefficient 1 leaves the rest, two integers multiply, a product
--- gets the coefficient last, any other rest stands after it; an exponent 1 leaves the base, any other stands after it. Each is the paper's
+-- The member that a part becomes, by the tests that the code makes: a coefficient 1 leaves the rest, a product gets the coefficient
+-- last, any other rest stands after it, and a rest 1 leaves the coefficient; an exponent 1 leaves the base, any other stands after it. Each is the paper's
 -- definition at a known tree. A member that is known has a known number of records, so room for the member is room for those
 -- records, and bytes put there are the answer that the contracts ask for. Assumes nothing.
 use Prim.Native.Nat.{ℕ, _+_, _*_, _^_, _<_, _≤_}
@@ -9,7 +9,7 @@ use mathlib.Core.List.{List, [], _∷_, _++_}
 use native.Mathlib.Omega.{arith}
 use borrow.Author.Tests.{eq-eqb, ne-eqb, lt-ltb}
 use lib.ListN.{length}
-use lib.IntN.{ℤ, pos, _*ℤ_, one, *ℤ-one}
+use lib.IntN.{ℤ, pos, one, *ℤ-one}
 use lib.Signed.{mag}
 use Rattle.paper.specs.Bytes.{signed}
 use Rattle.paper.specs.Tree.{Tree, Forest, integer, product, power, toList, ofList, records}
@@ -20,10 +20,6 @@ use Rattle.paper.specs.Rules.{fits, Term, term, termOf, times, timesUnless, fro
 use Rattle.paper.proofs.EncodeLaws.{signed-in-range}
 use Rattle.paper.proofs.Tests.{eqZ-true, not-so}
 use Rattle.paper.proofs.Seen.{Seen, an-integer, a-symbol, a-sum, a-product, a-power}
-use Rattle.number.specs.declared.Num.the-variants.{Is, Out}
-use Rattle.number.specs.Num.{numOf}
-use Rattle.number.proofs.NumLaws.{numOf-is, numOf-is-out}
-use Rattle.paper.proofs.Congruence.{word-lt}
 use Rattle.stretch.specs.Put.{put}
 use Rattle.split.specs.Standing.{TreeIn}
 use Rattle.paper.proofs.StandingLaws.{seen}
@@ -77,24 +73,12 @@ times-other s i z t h k o = go (seen h)
     go (a-product e n c w m) = absurd (o e)
     go (a-power e w b p q x y v) = refl
 
--- two integers multiply, by their bits
-times-is : (n b v : ℕ) → numOf (signed n *ℤ signed b) ≡ Is v → times (signed n) (integer 0 (signed b)) ≡ (integer 0 (signed v), true)
-unfolding times
-times-is n b v q = let z = numOf-is (signed n *ℤ signed b) v q in rw (z .0, sym (z .2)) refl
-
-times-out : (n b : ℕ) → numOf (signed n *ℤ signed b) ≡ Out → times (signed n) (integer 0 (signed b)) .1 ≡ false
-unfolding times
-times-out n b q = numOf-is-out (signed n *ℤ signed b) q
-
-pub product-bits : (n b v : ℕ) → numOf (signed n *ℤ signed b) ≡ Is v → v < 2 ^ 64
-product-bits n b v q = omega (arith, numOf-is (signed n *ℤ signed b) v q .1, word-lt (signed n *ℤ signed b))
-
 integer-records : (z : ℤ) → records (integer 0 z) ≡ 1
 unfolding records
 integer-records z = refl
 
 -- the coefficient n times the tree t of k records: t itself; or the product t with n appended, one record more; or the product of n and t,
--- two records more; or the product of two integers
+-- two records more
 module _ (n : ℕ) {t : Tree} {k : ℕ} (size : k ≡ records t) where
   pub one-becomes : n ≡ 1 → Becomes (timed n t) t k
   one-becomes e = record { is = timed-one n t e; size = size }
@@ -112,16 +96,6 @@ module _ (n : ℕ) {t : Tree} {k : ℕ} (size : k ≡ records t) where
         → Becomes (timed n t) (product 0 (ofList (integer 0 (signed n) ∷ t ∷ []))) (k + 2)
     pair-becomes s i h a o =
         record { is = timed-more n t l more ∙ times-other s i (signed n) t h a o; size = omega (arith, pair-records (signed n) t) }
-
-module _ (n b : ℕ) {t : Tree} (l : n < 2 ^ 64) (more : n ≡ 1 → ⊥) (e : t ≡ integer 0 (signed b)) where
-  both-integers : timed n t ≡ times (signed n) (integer 0 (signed b))
-  both-integers = timed-more n t l more ∙ ap (times (signed n)) e
-
-  pub integer-becomes : (v : ℕ) → numOf (signed n *ℤ signed b) ≡ Is v → Becomes (timed n t) (integer 0 (signed v)) 1
-  integer-becomes v q = record { is = both-integers ∙ times-is n b v q; size = sym (integer-records (signed v)) }
-
-  pub integer-over : numOf (signed n *ℤ signed b) ≡ Out → timed n t .1 ≡ false
-  integer-over q = ap (λ (p : Tree × Bool). p .1) both-integers ∙ times-out n b q
 
 -- ---- a term: its coefficient times its rest; where the rest is 1, the coefficient
 fits-signed : (n : ℕ) → n < 2 ^ 64 → fits (signed n) ≡ true

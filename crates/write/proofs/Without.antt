@@ -1,135 +1,147 @@
--- A product without one of its members, the integer at record x: the members before it stand from the record after the product's own up to x,
--- those after it from the record after x up to the product's end. Left out is one member, of one record: so what is left is the two
--- rows side by side behind a record that counts one member less, and it has one record less than the product. Assumes nothing.
+-- A product without its integers: its other members are copied one after the other, each behind those before it, so that all of them stand
+-- there in the end; a record that counts them in front, and the coefficient behind them where there is one, make the tree. One product
+-- stands at the record, so whatever is known of one such tree is known of every other. Assumes nothing.
 use Prim.Native.Nat.{ℕ, _+_, _-_, _*_, _^_, _<_, _≤_}
-use mathlib.Core.Path.{_≡_, sym, ap, _∙_, subst}
-use mathlib.Core.List.{List, [], _∷_, _++_}
+use mathlib.Core.Path.{_≡_, refl, sym, ap, _∙_}
+use mathlib.Core.List.{List, [], _∷_, _++_, append-assoc, append-nil}
 use native.Mathlib.Omega.{arith}
-use lib.ListN.{length, length-append}
-use lib.IntN.{ℤ}
+use lib.ListN.{length}
 use Rattle.paper.specs.Bytes.{signed}
-use Rattle.paper.specs.Tree.{Tree, integer, product, toList, ofList, records, recordses}
-use Rattle.paper.specs.Record.{countIn}
+use Rattle.paper.specs.Record.{kind, countIn}
+use Rattle.paper.specs.Tree.{Tree, Forest, integer, product, cons, toList, ofList, records, recordses}
 use Rattle.paper.specs.Table.{recordOf, encode, encodes}
-use Rattle.paper.proofs.EncodeLaws.{encode-length, encodes-length, record-length}
+use Rattle.paper.specs.Rules.{asInteger, withOther, othersOf}
+use Rattle.paper.proofs.EncodeLaws.{encode-length, encodes-length, record-length, count-records}
 use Rattle.paper.proofs.WFLaws.{list-count}
-use Rattle.paper.proofs.Stands.{Stands, stands-first, stands-next}
+use Rattle.paper.proofs.Seen.{seen-integer}
+use Rattle.paper.proofs.StandingLaws.{seen, product-trees, FirstOf, first-of, none-of, one-tree, one-product}
 use Rattle.stretch.specs.Put.{put}
-use Rattle.split.specs.Standing.{TreeIn}
+use Rattle.stretch.proofs.Laws.{put-none}
+use Rattle.split.specs.Standing.{TreeIn, TreesIn, SomeTree}
 use Rattle.split.specs.Rest.{Lessened}
-use Rattle.paper.proofs.StandingLaws.{tree-within}
-use Rattle.write.specs.Written.{Gap}
-use Rattle.write.proofs.Encoded.{encodes-append, recordses-append, two-puts}
-use Rattle.write.proofs.WriteLaws.{ProductAt, product-at, longer-written}
+use Rattle.split.proofs.SplitLaws.{no-integer}
+use Rattle.part.specs.Part.{Sized}
+use Rattle.write.proofs.Encoded.{encodes-snoc, recordses-append, recordses-snoc, two-puts}
+use Rattle.write.proofs.WriteLaws.{longer-written}
 
--- ---- the members `front` before record x and `back` after it, of the product from record i up to record e
-pub record Rows (s : List ℕ) (i x e : ℕ) (front back : List Tree) : Type 0 where
-  pub place : x ≡ i + 1 + recordses (ofList front)
-  pub end : e ≡ x + 1 + recordses (ofList back)
-  pub within : e * 16 ≤ length s
-  pub counted : countIn s i ≡ length (front ++ back) + 1
-  pub both : recordses (ofList (front ++ back)) ≡ recordses (ofList front) + recordses (ofList back)
-  pub first : Stands s (i + 1) (encodes (ofList front))
-  pub second : Stands s (x + 1) (encodes (ofList back))
+-- the members that are no integers
+abbrev pub others : Forest → List Tree
+others f = othersOf (toList f)
 
-module _ {s : List ℕ} {i x e : ℕ} {front back : List Tree} {z : ℤ} (h : Gap s i x e front back z) where
-  abbrev left-out : Tree
-  left-out = integer (h .integer-mark) z
+-- ---- the others of f, copied one after the other from record m of `out` on, so far up to record `to`; those from record `at` on are left
+pub record Copying (s out₀ : List ℕ) (m : ℕ) (f : Forest) (out : List ℕ) (to at left : ℕ) : Type 0 where
+  pub done : List Tree
+  pub rest : Forest
+  pub stand : TreesIn s at left rest
+  pub whole : others f ≡ done ++ others rest
+  pub place : to ≡ m + recordses (ofList done)
+  pub there : out ≡ put out₀ (m * 16) (encodes (ofList done))
 
-  abbrev all : List Tree
-  all = front ++ (left-out ∷ back)
+pub copying-start : {s : List ℕ} {i μ : ℕ} {f : Forest} (out : List ℕ) (m : ℕ) → TreeIn s i (product μ f)
+    → Copying s out m f out m (i + 1) (countIn s i)
+unfolding ofList records encode
+copying-start {f = f} out m h =
+    record { done = []; rest = f; stand = product-trees h; whole = refl; place = omega arith; there = sym (put-none out (m * 16)) }
 
-  at : ProductAt s i (e - i) (ofList all)
-  at = product-at s i (e - i) (ofList all) (record { there = h .whole; size = omega (arith, h .end) })
+module _ {s out₀ : List ℕ} {m : ℕ} {f : Forest} {out : List ℕ} {to at left : ℕ} (h : Copying s out₀ m f out to at left) where
+  pub copied-all : left ≡ 0 → (to ≡ m + recordses (ofList (others f))) × (out ≡ put out₀ (m * 16) (encodes (ofList (others f))))
+  unfolding othersOf toList
+  copied-all e =
+      let all : others f ≡ h .done =
+      h .whole ∙ ap (λ r. h .done ++ others r) (none-of (h .rest) (h .stand) e) ∙ append-nil (h .done) in
+      rw all (h .place, h .there)
 
-  sizes : recordses (ofList all) ≡ recordses (ofList front) + (1 + recordses (ofList back))
-  unfolding records ofList
-  sizes = recordses-append front (left-out ∷ back)
+  module _ (l : 0 < left) where
+    next : FirstOf s at left (h .rest)
+    next = first-of (h .rest) (h .stand) l
 
-  rows : Stands s (i + 1) (encodes (ofList front) ++ (encode left-out ++ encodes (ofList back)))
-  unfolding encode ofList
-  rows = subst (Stands s (i + 1)) (encodes-append front (left-out ∷ back)) (at .stand)
+    pub copying-tree : SomeTree s at
+    copying-tree = record { tree = next .tree; there = next .there }
 
-  after-front : Stands s x (encode left-out ++ encodes (ofList back))
-  after-front =
-      subst (λ k. Stands s k (encode left-out ++ encodes (ofList back))) (sym (h .place))
-      (stands-next (encodes (ofList front)) _ rows (recordses (ofList front)) (encodes-length (ofList front)))
+    -- an integer is passed over
+    pub copying-past : (e : ℕ) → ((t : Tree) → TreeIn s at t → e ≡ at + records t) → kind s at ≡ 0 → Copying s out₀ m f out to e (left - 1)
+    unfolding othersOf withOther asInteger toList
+    copying-past e ends k =
+        let q = seen-integer (seen (next .there)) k in
+        let past : others (h .rest) ≡ others (next .others) = ap others (next .whole) ∙ ap (λ t. others (cons t (next .others))) (q .2) in
+        rw (ends (next .tree) (next .there))
+        (record {
+          done = h .done;
+          rest = next .others;
+          stand = next .after;
+          whole = h .whole ∙ ap (_++_ (h .done)) past;
+          place = h .place;
+          there = h .there;
+        })
 
-  pub gap-rows : Rows s i x e front back
-  unfolding records
-  gap-rows =
-      record {
-        place = h .place;
-        end = omega (arith, h .end, h .place, sizes);
-        within = omega (arith, h .end, tree-within (h .whole));
-        counted = omega (arith, at .counted, list-count all, length-append front (left-out ∷ back), length-append front back);
-        both = recordses-append front back;
-        first = stands-first (encodes (ofList front)) (encode left-out ++ encodes (ofList back)) rows;
-        second = stands-next (encode left-out) (encodes (ofList back)) after-front 1 (encode-length left-out);
-      }
+    -- any other is copied
+    module _ (k : 1 ≤ kind s at) where
+      first : others (h .rest) ≡ next .tree ∷ others (next .others)
+      unfolding othersOf withOther toList
+      first =
+          ap others (next .whole) ∙ ap (λ o. withOther o (next .tree) (others (next .others))) (no-integer (next .there) k)
 
--- the two rows side by side
-pub rows-written : (out d₁ d₂ : List ℕ) (m a : ℕ) (front back : List Tree) → a ≡ recordses (ofList front)
-    → (m + recordses (ofList (front ++ back))) * 16 ≤ length out → d₁ ≡ put out (m * 16) (encodes (ofList front))
-    → d₂ ≡ put d₁ ((m + a) * 16) (encodes (ofList back)) → d₂ ≡ put out (m * 16) (encodes (ofList (front ++ back)))
-rows-written out d₁ d₂ m a front back e r p q =
-    let i = encodes-length (ofList front) in
-    let j = encodes-length (ofList back) in
-    let k = recordses-append front back in
-    two-puts out d₁ d₂ (encodes (ofList front)) (encodes (ofList back)) (m * 16) ((m + a) * 16) p q (omega arith) (omega arith)
-    ∙ ap (put out (m * 16)) (sym (encodes-append front back))
+      pub copying-room : (m + recordses (ofList (others f))) * 16 ≤ length out₀ → (t : Tree) → TreeIn s at t → (to + records t) * 16 ≤ length out₀
+      unfolding ofList records
+      copying-room r t g =
+          let all : recordses (ofList (others f)) ≡ recordses (ofList (h .done)) + recordses (ofList (others (h .rest))) =
+          ap (λ (l : List Tree). recordses (ofList l)) (h .whole) ∙ recordses-append (h .done) (others (h .rest)) in
+          omega (arith, h .place, ap (λ (l : List Tree). recordses (ofList l)) first, ap records (one-tree g (next .there)))
 
--- ---- the product t that is left
-pub record Left (s : List ℕ) (i x e : ℕ) (t : Tree) : Type 0 where
-  pub front : List Tree
-  pub back : List Tree
-  pub number : ℤ
-  pub gap : Gap s i x e front back number
-  pub is : t ≡ product 0 (ofList (front ++ back))
-  pub counted : countIn s i ≡ length (front ++ back) + 1
-  pub row : e ≡ i + 2 + recordses (ofList (front ++ back))
-  pub size : e - i - 1 ≡ records t
+      pub copying-more : (m + recordses (ofList (others f))) * 16 ≤ length out₀ → (out' : List ℕ) (e : ℕ)
+          → ((t : Tree) → TreeIn s at t → e ≡ at + records t) → ((t : Tree) → TreeIn s at t → out' ≡ put out (to * 16) (encode t))
+          → Copying s out₀ m f out' (to + (e - at)) e (left - 1)
+      copying-more r out' e ends told =
+          let t = next .tree in
+          let long = encodes-length (ofList (h .done)) in
+          rw (ends t (next .there))
+          (record {
+            done = h .done ++ (t ∷ []);
+            rest = next .others;
+            stand = next .after;
+            whole = h .whole ∙ ap (_++_ (h .done)) first ∙ sym (append-assoc (h .done) (t ∷ []) (others (next .others)));
+            place = omega (arith, h .place, recordses-snoc (h .done) t);
+            there =
+                two-puts out₀ out out' (encodes (ofList (h .done))) (encode t) (m * 16) (to * 16) (h .there) (told t (next .there))
+                (omega (arith, h .place)) (omega (arith, encode-length t, copying-room r t (next .there)))
+                ∙ ap (put out₀ (m * 16)) (sym (encodes-snoc (h .done) t));
+          })
 
-pub left-of : {s : List ℕ} {i x e : ℕ} {t : Tree} → Lessened s i x t → ((u : Tree) → TreeIn s i u → e ≡ i + records u) → Left s i x e t
-unfolding records
-left-of h f =
-    let gap : Gap _ _ _ _ (h .front) (h .back) (h .number) =
-    record { mark = h .mark; integer-mark = h .integer-mark; whole = h .whole; place = h .place; end = f _ (h .whole) } in
-    let rows = gap-rows gap in
-    record {
-      front = h .front;
-      back = h .back;
-      number = h .number;
-      gap = gap;
-      is = h .left;
-      counted = rows .counted;
-      row = omega (arith, rows .place, rows .end, rows .both);
-      size = omega (arith, rows .place, rows .end, rows .both, ap records (h .left));
-    }
+-- ---- the product t of what is left, `many` members
+module _ {s : List ℕ} {i many : ℕ} where
+  -- there is one
+  pub lessened-once : {t u : Tree} → Lessened s i many t → Lessened s i many u → t ≡ u
+  lessened-once h g =
+      h .left ∙ ap (λ f. product 0 (ofList (others f))) (one-product (h .whole) (g .whole)) ∙ sym (g .left)
 
-left-encoded : (l : List Tree) → encode (product 0 (ofList l)) ≡ recordOf 3 (length l) 0 ++ encodes (ofList l)
-unfolding encode
-left-encoded l = ap (λ n. recordOf 3 n 0 ++ encodes (ofList l)) (list-count l)
+  module _ {t : Tree} (h : Lessened s i many t) where
+    abbrev left : List Tree
+    left = others (h .members)
 
--- what is left, written: a record that counts one member less, and both rows; or, with the integer n after them, one that counts as many
-module _ {s : List ℕ} {i x e : ℕ} {t : Tree} (l : Left s i x e t) (out d₁ d₂ : List ℕ) (m c : ℕ) where
-  abbrev both : List Tree
-  both = l .front ++ l .back
+    pub left-records : records t ≡ 1 + recordses (ofList left)
+    unfolding records
+    left-records = ap records (h .left)
 
-  pub left-written : c + 1 ≡ countIn s i → (m + (e - i - 1)) * 16 ≤ length out
-      → d₁ ≡ put out (m * 16) (recordOf 3 c 0) → d₂ ≡ put d₁ ((m + 1) * 16) (encodes (ofList both))
-      → d₂ ≡ put out (m * 16) (encode t)
-  left-written h r p q =
-      let a = record-length 3 c 0 in
-      let k = encodes-length (ofList both) in
-      let counted : c ≡ length both = omega arith in
-      two-puts out d₁ d₂ (recordOf 3 c 0) (encodes (ofList both)) (m * 16) ((m + 1) * 16) p q (omega arith) (omega arith)
-      ∙ ap (λ c. put out (m * 16) (recordOf 3 c 0 ++ encodes (ofList both))) counted
-      ∙ ap (put out (m * 16)) (sym (left-encoded both))
-      ∙ ap (λ (u : Tree). put out (m * 16) (encode u)) (sym (l .is))
+    -- each member has a record
+    pub left-many : many + 1 ≤ records t
+    left-many = omega (arith, left-records, h .many, list-count left, count-records (ofList left))
 
-  pub left-longer-written : (d₃ : List ℕ) (n a : ℕ) → n < 2 ^ 64 → c ≡ countIn s i → a ≡ m + (e - i - 1) → (m + (e - i - 1 + 1)) * 16 ≤ length out
-      → d₁ ≡ put out (m * 16) (recordOf 3 c 0) → d₂ ≡ put d₁ ((m + 1) * 16) (encodes (ofList both)) → d₃ ≡ put d₂ (a * 16) (recordOf 0 0 n)
-      → d₃ ≡ put out (m * 16) (encode (product 0 (ofList (toList (ofList both) ++ (integer 0 (signed n) ∷ [])))))
-  left-longer-written d₃ n a b h k r =
-      longer-written out d₁ d₂ d₃ m n b (ofList both) c (e - i - 1) a (omega (arith, l .counted, list-count both)) (omega (arith, l .row)) k r
+    left-encoded : encode t ≡ recordOf 3 many 0 ++ encodes (ofList left)
+    unfolding encode
+    left-encoded = ap encode (h .left) ∙ ap (λ n. recordOf 3 n 0 ++ encodes (ofList left)) (list-count left ∙ sym (h .many))
+
+    -- written: a record that counts the members, and the members; or, with the integer n after them, one that counts one more
+    module _ (out d₁ d₂ : List ℕ) (m : ℕ) (q : d₂ ≡ put d₁ ((m + 1) * 16) (encodes (ofList left))) where
+      pub left-written : (m + records t) * 16 ≤ length out → d₁ ≡ put out (m * 16) (recordOf 3 many 0) → d₂ ≡ put out (m * 16) (encode t)
+      left-written r p =
+          let a = record-length 3 many 0 in
+          let k = encodes-length (ofList left) in
+          two-puts out d₁ d₂ (recordOf 3 many 0) (encodes (ofList left)) (m * 16) ((m + 1) * 16) p q (omega arith) (omega (arith, left-records))
+          ∙ ap (put out (m * 16)) (sym left-encoded)
+
+      pub left-longer-written : (d₃ : List ℕ) (n a : ℕ) → n < 2 ^ 64 → a ≡ m + records t → (m + (records t + 1)) * 16 ≤ length out
+          → d₁ ≡ put out (m * 16) (recordOf 3 (many + 1) 0) → d₃ ≡ put d₂ (a * 16) (recordOf 0 0 n)
+          → d₃ ≡ put out (m * 16) (encode (product 0 (ofList (toList (ofList left) ++ (integer 0 (signed n) ∷ [])))))
+      left-longer-written d₃ n a b e r p w =
+          longer-written out d₁ d₂ d₃ m n b (ofList left) (many + 1) (records t) a
+          (ap (λ c. c + 1) (h .many ∙ sym (list-count left))) left-records e r p q w

@@ -5,21 +5,24 @@ use Prim.Native.Nat.{ℕ, _+_, _*_, _^_, _<_, _≤_}
 use mathlib.Core.Path.{_≡_, refl, sym, ap, _∙_, subst}
 use mathlib.Core.Bool.{Bool, true, false}
 use mathlib.Core.List.{List, [], _∷_, _++_}
+use mathlib.Core.Option.{none}
 use native.Mathlib.Omega.{arith}
 use lib.ListN.{length}
 use Rattle.paper.specs.Bytes.{word, signed}
-use Rattle.paper.specs.Tree.{Tree, Forest, integer, product, power, toList, ofList, count, records, recordses}
+use Rattle.paper.specs.Tree.{Tree, Forest, integer, symbol, sum, product, power, toList, ofList, count, records, recordses}
 use Rattle.paper.specs.Record.{kind, countIn}
 use Rattle.paper.specs.Table.{recordOf, encode, encodes}
-use Rattle.paper.specs.Rules.{Term, fromTerm, Factor, fromFactor}
+use Rattle.paper.specs.Rules.{asInteger, Term, fromTerm, Factor, fromFactor}
 use Rattle.paper.proofs.EncodeLaws.{word-signed, encode-length, encodes-length, record-length}
 use Rattle.paper.proofs.Stands.{Stands}
-use Rattle.paper.proofs.Seen.{seen-product}
+use Rattle.paper.proofs.Seen.{Seen, seen-product, a-symbol, a-sum, a-product}
+use Rattle.paper.proofs.Seen as views
 use Rattle.stretch.specs.Put.{put}
 use Rattle.split.specs.Standing.{TreeIn}
 use Rattle.paper.proofs.StandingLaws.{seen, product-trees, tree-within}
 use Rattle.part.specs.Like.{Like, join}
 use Rattle.part.specs.Part.{Sized, Shows, ShowsTerm, ShowsPower, ShowsNumber}
+use Rattle.part.proofs.PartLaws.{joins-bad}
 use Rattle.part.specs.declared.Part.{Part}
 use Rattle.part.specs.declared.Part.the-variants as part
 use Rattle.write.specs.Written.{WrittenIs, Fitting}
@@ -47,6 +50,18 @@ pub record IsProduct (t : Tree) : Type 0 where
 
 pub is-product : (s : List ℕ) (i : ℕ) (t : Tree) → TreeIn s i t → kind s i ≡ 3 → IsProduct t
 is-product s i t h k = let q = seen-product (seen h) k in record { mark = q .0; members = q .1; is = q .2 }
+
+-- a tree that is no integer tells so by its kind
+pub kind-other : {s : List ℕ} {i : ℕ} {t : Tree} → TreeIn s i t → asInteger t ≡ none → 1 ≤ kind s i
+unfolding asInteger
+kind-other {s} {i} {t} h n = by t n (seen h)
+  where
+    by : (t : Tree) → asInteger t ≡ none → Seen s i t → 1 ≤ kind s i
+    by (integer μ z) n q = absurd (let o : _≡_ {A = ℕ} 0 1 = cc in omega arith)
+    by (symbol μ v) n (a-symbol e b w) = omega arith
+    by (sum μ f) n (a-sum e k c w m) = omega arith
+    by (product μ f) n (a-product e k c w m) = omega arith
+    by (power μ b ξ x) n (views.a-power e w m p q o y z) = omega arith
 
 -- ---- the records that are written one after the other
 integer-is : (n : ℕ) → n < 2 ^ 64 → recordOf 0 0 (word (signed n)) ≡ recordOf 0 0 n
@@ -122,6 +137,10 @@ module _ (s : List ℕ) {p : Part} where
       → (c : Term) × ShowsTerm s n i c × (join b x ≡ fromTerm c)
   a-term e true x h = (x, subst (λ (p : Part). Shows true s p x) e h, refl)
   a-term e false x h = absurd (subst (λ (p : Part). Shows false s p x) e h)
+
+  pub a-wide : {i : ℕ} → p ≡ part.Wide i → (b : Bool) (x : Like b) → Shows b s p x → join b x .1 ≡ false
+  a-wide e true x h = joins-bad true x (subst (λ (p : Part). Shows true s p x) e h .wide)
+  a-wide e false x h = absurd (subst (λ (p : Part). Shows false s p x) e h)
 
   pub a-power : {e i k : ℕ} → p ≡ part.Power e i k → (b : Bool) (x : Like b) → Shows b s p x
       → (c : Factor) × ShowsPower s e i k c × (join b x ≡ fromFactor c)

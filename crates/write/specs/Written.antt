@@ -2,16 +2,15 @@
 use Prim.Native.Nat.{ℕ, _+_, _*_, _≤_}
 use mathlib.Core.Path.{_≡_}
 use mathlib.Core.Bool.{Bool, true, false}
-use mathlib.Core.List.{List, _∷_, _++_}
+use mathlib.Core.List.{List}
 use lib.ListN.{length}
-use lib.IntN.{ℤ, pos}
+use lib.IntN.{pos}
 use Rattle.paper.specs.Bytes.{signed}
-use Rattle.paper.specs.Tree.{Tree, integer, product, ofList, records, recordses}
+use Rattle.paper.specs.Tree.{Tree, records}
 use Rattle.paper.specs.Table.{encode}
 use Rattle.paper.specs.Equal.{eqZ}
 use Rattle.paper.specs.Rules.{term, timesUnless}
 use Rattle.stretch.specs.Put.{put}
-use Rattle.split.specs.Standing.{TreeIn}
 use Rattle.write.specs.declared.Written.{Written}
 use Rattle.write.specs.declared.Written.the-variants.{To, Over}
 
@@ -28,11 +27,3 @@ Fitting x out m = (m + records (x .0)) * 16 ≤ length out
 -- "its rest if the coefficient is 1, else coefficient times rest", for the coefficient with the bits n
 unfoldable pub timed : ℕ → Tree → Tree × Bool
 timed n t = timesUnless (eqZ (signed n) (pos 1)) (term (signed n) t)
-
--- the product at record i up to record e has the integer z at record x, the members `front` before it and `back` after it
-pub record Gap (s : List ℕ) (i x e : ℕ) (front back : List Tree) (z : ℤ) : Type 0 where
-  pub mark : ℕ
-  pub integer-mark : ℕ
-  pub whole : TreeIn s i (product mark (ofList (front ++ (integer integer-mark z ∷ back))))
-  pub place : x ≡ i + 1 + recordses (ofList front)
-  pub end : e ≡ i + records (product mark (ofList (front ++ (integer integer-mark z ∷ back))))

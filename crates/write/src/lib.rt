@@ -1,20 +1,20 @@
 // The member that a part becomes when its turn is done, written to a table: a rest with its coefficient, a base with its exponent.
 ghost use mathlib.Core.Path.{_≡_};
 ghost use mathlib.Core.Bool.{Bool};
-ghost use mathlib.Core.List.{List, [], _∷_, _++_};
+ghost use mathlib.Core.List.{[], _∷_, _++_};
 ghost use Prim.Native.Nat.{ℕ, _+_, _*_, _≤_};
 ghost use lib.ListN.{length};
-ghost use lib.IntN.{ℤ};
+ghost use mathlib.Core.Option.{none};
 ghost use Rattle.paper.specs.Bytes.{signed};
 ghost use Rattle.paper.specs.Tree.{Tree, Forest, integer, product, toList, ofList, recordses};
 ghost use Rattle.paper.specs.Table.{encode, encodes};
-ghost use Rattle.paper.specs.Rules.{Term, Factor, fromTerm, fromFactor};
+ghost use Rattle.paper.specs.Rules.{asInteger, othersOf, Term, Factor, fromTerm, fromFactor};
 ghost use Rattle.stretch.specs.Put.{put};
 ghost use Rattle.split.specs.Standing.{TreeIn};
 ghost use Rattle.split.specs.Rest.{Lessened};
 ghost use Rattle.part.specs.Like.{Like, join};
 ghost use Rattle.part.specs.Part.{Sized, Shows, ShowsTerm, ShowsPower, ShowsNumber};
-ghost use Rattle.write.specs.Written.{WrittenIs, Fitting, timed, Gap};
+ghost use Rattle.write.specs.Written.{WrittenIs, Fitting, timed};
 
 // Where the member that was written ends; or that it is out of range.
 pub enum Written {
@@ -52,10 +52,10 @@ fn write_longer(out: &mut [u8], m: usize, n: u64, s: &[u8], i: usize, k: usize)
     record::write_record(out, m + k, 0, 0, n);
 }
 
-// The coefficient n times the tree at record i: two integers multiply, a product gets the coefficient appended last, any other tree
-// stands after it; 1 times the tree is the tree.
+// The coefficient n times the tree at record i, which is no integer: a product gets the coefficient appended last, any other tree stands
+// after it; 1 times the tree is the tree.
 fn write_times(out: &mut [u8], m: usize, n: u64, s: &[u8], i: usize) -> Written
-    requires { ⌜ ((t : Tree) × TreeIn (now s) i t × Fitting (timed n t) (now out) m) ⌝ }
+    requires { ⌜ ((t : Tree) × TreeIn (now s) i t × Fitting (timed n t) (now out) m × (asInteger t ≡ none)) ⌝ }
     ensures { λ r. ⌜ ((t : Tree) → TreeIn (now (s .entry)) i t → WrittenIs (timed n t) (now (out .entry)) (now (out .exit)) m r) ⌝ }
 {
     let k = split::skip_tree(s, i) - i;
@@ -63,18 +63,7 @@ fn write_times(out: &mut [u8], m: usize, n: u64, s: &[u8], i: usize) -> Written
         copy_tree(out, m, s, i, k);
         return Written::To(m + k);
     }
-    let kind = record::kind(s, i);
-    if kind < 1 {
-        let product = number::mul(n, record::bits(s, i));
-        return match product {
-            number::Num::Is(v) => {
-                record::write_record(out, m, 0, 0, v);
-                Written::To(m + 1)
-            }
-            number::Num::Out => Written::Over,
-        };
-    }
-    if kind == 3 {
+    if record::kind(s, i) == 3 {
         write_longer(out, m, n, s, i, k);
         return Written::To(m + k + 1);
     }
@@ -82,34 +71,43 @@ fn write_times(out: &mut [u8], m: usize, n: u64, s: &[u8], i: usize) -> Written
     Written::To(m + k + 2)
 }
 
-// The members of the product at record i, which ends before record e, without the one at record x.
-fn copy_others(out: &mut [u8], m: usize, s: &[u8], i: usize, x: usize, e: usize)
-    requires { ⌜ ((front : List Tree) × (back : List Tree) × (z : ℤ) × Gap (now s) i x e front back z
-        × ((m + recordses (ofList (front ++ back))) * 16 ≤ length (now out))) ⌝ }
-    ensures { λ _. ⌜ ((front back : List Tree) (z : ℤ) → Gap (now (s .entry)) i x e front back z
-        → now (out .exit) ≡ put (now (out .entry)) (m * 16) (encodes (ofList (front ++ back)))) ⌝ }
+// The members of the product at record i that are no integers, one after the other; answers the record after them.
+fn copy_others(out: &mut [u8], m: usize, s: &[u8], i: usize) -> usize
+    requires { ⌜ ((μ : ℕ) × (f : Forest) × TreeIn (now s) i (product μ f)
+        × ((m + recordses (ofList (othersOf (toList f)))) * 16 ≤ length (now out))) ⌝ }
+    ensures { λ r. ⌜ ((μ : ℕ) (f : Forest) → TreeIn (now (s .entry)) i (product μ f)
+        → (r ≡ m + recordses (ofList (othersOf (toList f))))
+        × (now (out .exit) ≡ put (now (out .entry)) (m * 16) (encodes (ofList (othersOf (toList f)))))) ⌝ }
 {
-    let a = x - (i + 1);
-    stretch::copy_bytes(out, m * 16, s, (i + 1) * 16, a * 16);
-    stretch::copy_bytes(out, (m + a) * 16, s, (x + 1) * 16, (e - (x + 1)) * 16);
+    let mut to = m;
+    let mut at = i + 1;
+    let mut left = record::count(s, i);
+    while 0 < left {
+        let e = split::skip_tree(s, at);
+        if 0 < record::kind(s, at) {
+            copy_tree(out, to, s, at, e - at);
+            to += e - at;
+        }
+        at = e;
+        left -= 1;
+    }
+    to
 }
 
-// The coefficient n times the product at record i without its member at record x: the coefficient is appended last, unless it is 1.
-fn write_without(out: &mut [u8], m: usize, n: u64, s: &[u8], i: usize, x: usize) -> Written
-    requires { ⌜ ((t : Tree) × Lessened (now s) i x t × Fitting (timed n t) (now out) m) ⌝ }
-    ensures { λ r. ⌜ ((t : Tree) → Lessened (now (s .entry)) i x t → WrittenIs (timed n t) (now (out .entry)) (now (out .exit)) m r) ⌝ }
+// The coefficient n times the product at record i without its integers, of `many` members: the coefficient is appended last, unless it
+// is 1.
+fn write_without(out: &mut [u8], m: usize, n: u64, s: &[u8], i: usize, many: usize) -> Written
+    requires { ⌜ ((t : Tree) × Lessened (now s) i many t × Fitting (timed n t) (now out) m) ⌝ }
+    ensures { λ r. ⌜ ((t : Tree) → Lessened (now (s .entry)) i many t → WrittenIs (timed n t) (now (out .entry)) (now (out .exit)) m r) ⌝ }
 {
-    let e = split::skip_tree(s, i);
-    let members = record::count(s, i);
     if n == 1 {
-        record::write_record(out, m, 3, members - 1, 0);
-        copy_others(out, m + 1, s, i, x, e);
-        return Written::To(m + (e - i) - 1);
+        record::write_record(out, m, 3, many, 0);
+        return Written::To(copy_others(out, m + 1, s, i));
     }
-    record::write_record(out, m, 3, members, 0);
-    copy_others(out, m + 1, s, i, x, e);
-    record::write_record(out, m + (e - i) - 1, 0, 0, n);
-    Written::To(m + (e - i))
+    record::write_record(out, m, 3, many + 1, 0);
+    let e = copy_others(out, m + 1, s, i);
+    record::write_record(out, e, 0, 0, n);
+    Written::To(e + 1)
 }
 
 // The coefficient n times the rest of the member at record i.
@@ -124,7 +122,7 @@ fn write_term(out: &mut [u8], m: usize, n: u64, s: &[u8], i: usize) -> Written
             Written::To(m + 1)
         }
         split::Rest::At(j) => write_times(out, m, n, s, j),
-        split::Rest::Without(j, x) => write_without(out, m, n, s, j, x),
+        split::Rest::Others(j, many) => write_without(out, m, n, s, j, many),
     }
 }
 
@@ -166,6 +164,7 @@ pub fn write_part(out: &mut [u8], m: usize, s: &[u8], c: part::Part) -> Written
 {
     match c {
         part::Part::Term(n, i) => write_term(out, m, n, s, i),
+        part::Part::Wide(_) => Written::Over,
         part::Part::Power(e, i, k) => write_power(out, m, e, s, i, k),
         part::Part::Number(e, v) => write_number(out, m, e, v),
     }

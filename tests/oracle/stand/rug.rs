@@ -1,7 +1,7 @@
 //! Stand-in for the crate `rug`, for the oracle alone. Integers have 128 bits. Two flags tell that a
 //! result was outside the signed 64-bit range, and outside 128 bits (then it is cut to the largest
-//! number, and the answer is not used). There is no float, no rational and no complex number:
-//! their types are empty.
+//! number, and the answer is not used if a rule that applied had it). There is no float, no rational
+//! and no complex number: their types are empty.
 use std::cell::Cell;
 use std::cmp::Ordering;
 use std::fmt;
@@ -9,13 +9,10 @@ use std::ops::*;
 
 thread_local!(static OUT: Cell<bool> = Cell::new(false); static BEYOND: Cell<bool> = Cell::new(false));
 
-/// Whether some result since the last `reset` was outside the signed 64-bit range.
+/// Whether some result since the last `reset` was outside the signed 64-bit range; outside 128 bits.
 pub fn out_of_range() -> bool { OUT.with(|o| o.get()) }
-pub fn reset() { OUT.with(|o| o.set(false)) }
-
-/// Whether some result since the last `begin` was outside 128 bits.
 pub fn beyond() -> bool { BEYOND.with(|o| o.get()) }
-pub fn begin() { reset(); BEYOND.with(|o| o.set(false)) }
+pub fn reset() { OUT.with(|o| o.set(false)); BEYOND.with(|o| o.set(false)) }
 
 #[derive(Clone, Copy, PartialEq, Eq, PartialOrd, Ord, Hash)]
 pub struct Integer(i128);

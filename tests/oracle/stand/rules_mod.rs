@@ -1,7 +1,7 @@
 //! Stand-in for symbolic/simplify/rules/mod.rs, cut to addition and multiplication. `all` also tells
-//! the oracle whether a rule applied and whether it left the signed 64-bit range on the way; what
-//! was computed for a rule that did not apply is not judged. The rules that are not the paper's are
-//! there for `left_out` alone, and `all` does not try them.
+//! the oracle whether a rule applied and whether it left the signed 64-bit range, or 128 bits, on the
+//! way; what was computed for a rule that did not apply is not judged. The rules that are not the
+//! paper's are there for `left_out` alone, and `all` does not try them.
 pub mod add;
 pub mod multiply;
 #[cfg(left_out)]
@@ -29,6 +29,6 @@ pub(crate) fn do_power(expr: &SymExpr, f: impl Fn(&SymExpr, &SymExpr) -> Option<
 pub fn all(expr: &SymExpr, step_collector: &mut dyn StepCollector<Step>) -> Option<SymExpr> {
     rug::reset();
     let result = add::all(expr, step_collector).or_else(|| multiply::all(expr, step_collector));
-    if result.is_some() { crate::applied(rug::out_of_range()); }
+    if result.is_some() { crate::applied(rug::out_of_range(), rug::beyond()); }
     result
 }

@@ -10,7 +10,8 @@ use Rattle.paper.specs.Rules.{factorOf}
 use Rattle.split.specs.Standing.{TreeIn}
 use Rattle.paper.proofs.StandingLaws.{record-within}
 use Rattle.part.specs.Part.{ShowsNumber}
-use Rattle.part.proofs.PartLaws.{no-integer-there, number-part, number-apart, number-times, number-times-over}
+use Rattle.split.proofs.SplitLaws.{no-integer}
+use Rattle.part.proofs.PartLaws.{number-part, number-apart, number-times, number-times-over}
 use Rattle.part.proofs.PartLaws.{number-other, number-raised, number-raised-over}
 use Rattle.part.proofs.merge_number.Statement.{statement}
 use Rattle.part.proofs.merge_number.Tie as tie
@@ -76,7 +77,7 @@ returns c =
     let found = found-of known in (
       λ x t h there.
           let base = found .base .ensures .0 t there in
-          number-apart h _ (no-integer-there _ (found .base .result) _ base (omega (arith, known .kind .ensures))),
+          number-apart h _ (no-integer base (omega (arith, known .kind .ensures))),
       λ p. tt,
     )
 

@@ -1,4 +1,4 @@
--- `part::part_of` meets its contract. Of a sum's member the coefficient is read. Of a product's member the exponent and the record of the
+-- `part::part_of` meets its contract. Of a sum's member the term is read. Of a product's member the exponent and the record of the
 -- base: where an integer stands there its bits are read; else the base is the record after a power's own, with two records fewer, or the
 -- member itself. In each case what was read shows the member's part. Assumes nothing.
 use mathlib.Core.Path.{_≡_, sym, _∙_}
@@ -8,7 +8,8 @@ use Rattle.paper.specs.Tree.{Tree}
 use Rattle.paper.specs.Rules.{asInteger, factorOf}
 use Rattle.split.specs.Standing.{TreeIn}
 use Rattle.paper.proofs.StandingLaws.{record-within}
-use Rattle.part.proofs.PartLaws.{term-part, number-part, no-integer-there, power-part, base-part, power-two}
+use Rattle.split.proofs.SplitLaws as laws
+use Rattle.part.proofs.PartLaws.{number-part, power-part, base-part, power-two}
 use Rattle.part.proofs.part_of.Statement.{statement}
 use Rattle.part.proofs.part_of.Tie as tie
 
@@ -45,18 +46,15 @@ no-integer : (c : Other) (t : Tree)
 no-integer c t there =
     let known = known-of c in
     let found = found-of known in
-    no-integer-there _ (found .base .result) _ (found .base .ensures .0 t there) (omega (arith, known .kind .ensures, c .before .if2 .left))
+    laws.no-integer (found .base .ensures .0 t there) (omega (arith, known .kind .ensures, c .before .if2 .left))
 
-coefficient-requires : tie.Need-coefficient-requires
-coefficient-requires c κs =
+term-of-requires : tie.Need-term-of-requires
+term-of-requires c κs =
     let q = c .before .before .pre in
     record { tree = q .0; there = q .1 .there }
 
 returns : tie.Need-returns
-returns c = (
-  λ t h. rw (c .before .if1 .taken) (term-part _ _ _ t (h .there) (c .coefficient .ensures t (h .there)) (c .coefficient .ok)),
-  λ p h. h,
-)
+returns c = (λ t h. rw (c .before .if1 .taken) (c .term-of .ensures .0 t (h .there)), c .term-of .ensures .1)
 
 exponent-requires : tie.Need-exponent-requires
 exponent-requires c κs =
@@ -97,13 +95,13 @@ kind-requires-2 c κs =
     let q = entry-of (found-of (c .before) .before) .pre in
     record-within (q .1 .there)
 
-add-t11 : tie.Need-add-t11
-add-t11 c =
+add-t10 : tie.Need-add-t10
+add-t10 c =
     let q = entry-of (found-of (known-of (c .before)) .before) .pre in
     record { fits = omega (arith, record-within (q .1 .there)) }
 
-sub-t12 : tie.Need-sub-t12
-sub-t12 c =
+sub-t11 : tie.Need-sub-t11
+sub-t11 c =
     let q = entry-of (found-of (known-of (c .before)) .before) .pre in
     power-two _ _ _ (q .0) (q .1) (sym (c .before .kind2 .ensures) ∙ c .if3 .taken)
 
@@ -131,7 +129,7 @@ pub part-of-spec : {M : Type 1} → statement M
 part-of-spec =
     tie.close
     (tie.spec
-    coefficient-requires
+    term-of-requires
     returns
     exponent-requires
     base-requires
@@ -139,7 +137,7 @@ part-of-spec =
     bits-requires
     returns-2
     kind-requires-2
-    add-t11
-    sub-t12
+    add-t10
+    sub-t11
     returns-3
     returns-4)

@@ -1,11 +1,12 @@
--- `split::coefficient` meets its contract: each return is one case of the split, by the record's kind and, for a product, by its
--- first integer. Assumes nothing.
+-- `split::coefficient` meets its contract: each return is one case of the split, by the record's kind. Assumes nothing.
 use mathlib.Core.Path.{sym, ap, _∙_}
 use native.Mathlib.Omega.{arith}
-use Rattle.paper.specs.Bytes.{signed}
-use Rattle.paper.specs.Rules.{Term, term}
+use Rattle.paper.specs.Bytes.{word}
+use Rattle.paper.specs.Rules.{term}
+use Rattle.number.specs.declared.Num.the-variants.{Is}
 use Rattle.paper.proofs.StandingLaws.{record-within}
-use Rattle.split.proofs.SplitLaws.{term-integer, term-other, some-product, split-product, split-none, split-within, split-number}
+use Rattle.split.specs.Rest.{coefficientOf}
+use Rattle.split.proofs.SplitLaws.{term-integer, term-other, term-product, some-product}
 use Rattle.split.proofs.coefficient.Statement.{statement}
 use Rattle.split.proofs.coefficient.Tie as tie
 
@@ -18,36 +19,22 @@ bits-requires c κs = record-within (c .before .before .before .pre .there)
 returns : tie.Need-returns
 returns c = λ t h.
     let k = c .before .before .kind .ensures in
-    ap signed (c .bits .ensures) ∙ term-integer t h (omega arith) .0
+    ap Is (c .bits .ensures) ∙ term-integer t h (omega arith) .0
 
 returns-2 : tie.Need-returns-2
-unfolding term
+unfolding coefficientOf term word
 returns-2 c = λ t h.
     let k = c .before .before .kind .ensures in
-    ap (λ (u : Term). u .coefficient) (sym (term-other t h (omega arith) (λ e. c .if2 .taken (k ∙ e))))
+    ap coefficientOf (sym (term-other t h (omega arith) (λ e. c .if2 .taken (k ∙ e))))
 
-first-integer-requires : tie.Need-first-integer-requires
-first-integer-requires c κs = some-product (c .before .before .before .before .pre) (sym (c .before .before .kind .ensures) ∙ c .if2 .left)
+product-coefficient-requires : tie.Need-product-coefficient-requires
+product-coefficient-requires c κs =
+    some-product (c .before .before .before .before .pre) (sym (c .before .before .kind .ensures) ∙ c .if2 .left)
 
 returns-3 : tie.Need-returns-3
-unfolding term
 returns-3 c = λ t h.
-    let k = sym (c .before .before .before .before .kind .ensures) ∙ c .before .before .if2 .left in
-    let x = c .before .first-integer in
-    ap (λ (u : Term). u .coefficient) (sym (split-none (split-product t h k (x .result) (x .ensures)) (c .if3 .taken)))
-
-bits-requires-2 : tie.Need-bits-requires-2
-bits-requires-2 c κs =
-    let some = c .before .before .before .before .before .before .pre in
-    let k = sym (c .before .before .before .before .kind .ensures) ∙ c .before .before .if2 .left in
-    let x = c .before .first-integer in
-    split-within (split-product (some .tree) (some .there) k (x .result) (x .ensures)) (c .if3 .left)
-
-returns-4 : tie.Need-returns-4
-returns-4 c = λ t h.
-    let k = sym (c .before .before .before .before .before .kind .ensures) ∙ c .before .before .before .if2 .left in
-    let x = c .before .before .first-integer in
-    ap signed (c .bits2 .ensures) ∙ split-number (split-product t h k (x .result) (x .ensures)) (c .before .if3 .left)
+    let k = sym (c .before .before .before .kind .ensures) ∙ c .before .if2 .left in
+    term-product t h k (c .product-coefficient .ensures)
 
 pub coefficient-spec : {M : Type 1} → statement M
 coefficient-spec =
@@ -57,7 +44,5 @@ coefficient-spec =
     bits-requires
     returns
     returns-2
-    first-integer-requires
-    returns-3
-    bits-requires-2
-    returns-4)
+    product-coefficient-requires
+    returns-3)

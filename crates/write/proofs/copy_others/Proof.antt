@@ -1,140 +1,172 @@
--- `write::copy_others` meets its contract. The members before record x fill the records from i + 1 up to x, those after it the records
--- from x + 1 up to e; each copy takes one of these rows whole, and the second is put where the first ends, so the two are the rows side by
--- side. The contract asks for room for both rows together, and both stand in the table: so every number that the code computes is
--- at most the length of a slice. Assumes nothing.
+-- `write::copy_others` meets its contract. The loop's invariant, for every product that stands there and has room: its others so far stand
+-- behind each other, those among the members left are still to come (`Copying`). An integer is passed over, any other member is copied to
+-- where those before it end. Assumes nothing.
 use Prim.Native.Nat.{ℕ, _+_, _-_, _*_, _≤_}
-use mathlib.Core.Path.{_≡_}
-use mathlib.Core.List.{List}
+use mathlib.Core.Path.{_≡_, refl, ap, _∙_, subst}
+use mathlib.Core.Logic.{⊎-elim}
 use native.Mathlib.Omega.{arith}
-use lib.ListN.{length}
-use Rattle.paper.specs.Tree.{ofList}
-use Rattle.paper.specs.Table.{encodes}
-use Rattle.paper.proofs.EncodeLaws.{encodes-length}
-use Rattle.write.proofs.Encoded.{copied}
-use Rattle.write.proofs.Without.{gap-rows, rows-written}
 use borrow.Author.Needs.{needs}
+use lib.ListN.{length}
+use Rattle.paper.specs.Record.{kind}
+use Rattle.paper.specs.Tree.{Tree, Forest, product, ofList, records, recordses}
+use Rattle.paper.proofs.StandingLaws.{record-within, one-product}
+use Rattle.split.specs.Standing.{TreeIn, SomeTree}
+use Rattle.part.proofs.PartLaws.{sized}
+use Rattle.write.proofs.Without.{others, Copying, copying-start, copied-all, copying-tree, copying-past, copying-room, copying-more}
 use Rattle.write.proofs.copy_others.Statement.{statement}
 use Rattle.write.proofs.copy_others.Tie as tie
 
--- the place of the first copy, of the second, and of the end; and from each the one before it
-abbrev First : Type 0
-First = tie.After-copy-bytes-arg
+abbrev Inv-loop : tie.InvT-loop
+Inv-loop out₀ m s i to₀ at₀ left₀ out to at left =
+    (length out ≡ length out₀)
+    × ((μ : ℕ) (f : Forest) → TreeIn s i (product μ f) → (m + recordses (ofList (others f))) * 16 ≤ length out₀ → Copying s out₀ m f out to at left)
 
-abbrev Second : Type 0
-Second = tie.After-copy-bytes-arg2
+abbrev μ-loop : tie.MeasureT-loop
+μ-loop out₀ m s i to₀ at₀ left₀ out to at left = left
 
-abbrev End : Type 0
-End = tie.After-slice-known3
+-- places on the way through the code, and from each the one before it: the entry, the head of the loop, a turn of it, and after the end of
+-- the next tree was found
+abbrev Entry : Type 0
+Entry = tie.Start Inv-loop μ-loop
 
-abbrev start-of : First → tie.Start
-start-of c = c .before .before .before
+abbrev Head : Type 0
+Head = tie.At-loop Inv-loop μ-loop
 
-abbrev first-of : Second → First
-first-of c = c .before .before .before .before
+abbrev Turn : Type 0
+Turn = tie.In-loop Inv-loop μ-loop
 
-abbrev second-of : End → Second
-second-of c = c .before .before .before
+abbrev Ended : Type 0
+Ended = tie.After-skip-tree Inv-loop μ-loop
 
--- the rows from record i + 1 up to x and from x + 1 up to e lie in the table, and there is room for both
-record Spans (out s : List ℕ) (m i x e : ℕ) : Type 0 where
-  first : i + 1 ≤ x
-  second : x + 1 ≤ e
-  within : e * 16 ≤ length s
-  room : (m + (x - (i + 1)) + (e - (x + 1))) * 16 ≤ length out
+abbrev entry-of : Head → Entry
+entry-of c = c .before .before .before .before
 
-spans : (c : tie.Start) → let g = c .args in Spans (g .out .now) (g .s .now) (g .m) (g .i) (g .x) (g .e)
-spans c =
-    let rows = gap-rows (c .pre .3) in
-    let room = c .pre .4 in
-    record { first = omega arith; second = omega arith; within = rows .within; room = omega arith }
+abbrev head-of : Turn → Head
+head-of c = c .before
 
-add-a : tie.Need-add-a
-add-a c = record { fits = omega (arith, spans (c .before .before)) }
+-- the product that the contract asks for, copied so far
+copying : (c : Head)
+    → let entry = entry-of c in
+    let a = entry .args in
+    Copying (a .s .now) (a .out .now) (a .m) (entry .pre .1) (c .loop .out) (c .loop .to) (c .loop .at) (c .loop .left)
+copying c = let q = entry-of c .pre in c .loop .inv .1 (q .0) (q .1) (q .2) (q .3)
 
-sub-a : tie.Need-sub-a
-sub-a c = spans (c .before .before) .first
+-- the next tree
+next-tree : (c : Turn) → let head = head-of c in SomeTree (entry-of head .args .s .now) (head .loop .at)
+next-tree c = copying-tree (copying (head-of c)) (c .loop-test .taken)
 
-mul-copy-bytes : tie.Need-mul-copy-bytes
-mul-copy-bytes c = record { fits = omega (arith, spans (start-of c)) }
+-- the record after it, and the room for it where it is no integer
+ends : (c : Ended) → let o = next-tree (c .before) in c .skip-tree .result ≡ head-of (c .before) .loop .at + records (o .tree)
+ends c = let o = next-tree (c .before) in c .skip-tree .ensures (o .tree) (o .there)
 
-add-copy-bytes : tie.Need-add-copy-bytes
-add-copy-bytes c = record { fits = omega (arith, spans (start-of c)) }
+room : (c : tie.Then1 Inv-loop μ-loop)
+    → let ended = c .before .before in
+    let l = head-of (ended .before) .loop in
+    (l .to + (ended .skip-tree .result - l .at)) * 16 ≤ length (l .out)
+room c =
+    let ended = c .before .before in
+    let turn = ended .before in
+    let head = head-of turn in
+    let other : 1 ≤ kind (entry-of head .args .s .now) (head .loop .at) = omega (arith, c .before .kind .ensures, c .if1 .taken) in
+    let o = next-tree turn in
+    let enough = copying-room (copying head) (turn .loop-test .taken) other (entry-of head .pre .3) (o .tree) (o .there) in
+    omega (arith, ends ended, head .loop .inv .0)
 
-mul-copy-bytes-2 : tie.Need-mul-copy-bytes-2
-mul-copy-bytes-2 c = record { fits = omega (arith, spans (start-of c)) }
+add-at : tie.Need-add-at Inv-loop μ-loop
+add-at c = record { fits = omega (arith, record-within (c .before .before .pre .2)) }
 
-mul-copy-bytes-3 : tie.Need-mul-copy-bytes-3
-mul-copy-bytes-3 c = record { fits = omega (arith, spans (start-of c)) }
+count-requires : tie.Need-count-requires Inv-loop μ-loop
+count-requires c κs = record-within (c .before .before .pre .2)
 
-copy-bytes-requires : tie.Need-copy-bytes-requires
-copy-bytes-requires c κs = let h = spans (start-of c) in (omega arith, omega arith)
+loop-holds : tie.Need-loop-holds Inv-loop μ-loop
+loop-holds c = (refl, λ μ f h r. rw (c .count .ensures .0) (copying-start _ _ h))
 
-add-copy-bytes-2 : tie.Need-add-copy-bytes-2
-add-copy-bytes-2 c = record { fits = omega (arith, spans (start-of (first-of c))) }
+skip-tree-requires : tie.Need-skip-tree-requires Inv-loop μ-loop
+skip-tree-requires c κs = next-tree c
 
-mul-copy-bytes-4 : tie.Need-mul-copy-bytes-4
-mul-copy-bytes-4 c = record { fits = omega (arith, spans (start-of (first-of c))) }
+kind-requires : tie.Need-kind-requires Inv-loop μ-loop
+kind-requires c κs = record-within (next-tree (c .before) .there)
 
-add-copy-bytes-3 : tie.Need-add-copy-bytes-3
-add-copy-bytes-3 c = record { fits = omega (arith, spans (start-of (first-of c))) }
+sub-copy-tree : tie.Need-sub-copy-tree Inv-loop μ-loop
+sub-copy-tree c = omega (arith, ends (c .before .before .before))
 
-mul-copy-bytes-5 : tie.Need-mul-copy-bytes-5
-mul-copy-bytes-5 c = record { fits = omega (arith, spans (start-of (first-of c))) }
+copy-tree-requires : tie.Need-copy-tree-requires Inv-loop μ-loop
+copy-tree-requires c κs =
+    let ended = c .before .before .before in
+    let o = next-tree (ended .before) in
+    ((o .tree, sized _ _ _ (o .tree) (o .there) (omega (arith, ends ended))), room (c .before))
 
-add-copy-bytes-4 : tie.Need-add-copy-bytes-4
-add-copy-bytes-4 c = record { fits = omega (arith, spans (start-of (first-of c))) }
+sub-to : tie.Need-sub-to Inv-loop μ-loop
+sub-to c = omega (arith, ends (c .before .before .before .before .before .before))
 
-sub-copy-bytes : tie.Need-sub-copy-bytes
-sub-copy-bytes c = spans (start-of (first-of c)) .second
+add-to : tie.Need-add-to Inv-loop μ-loop
+add-to c = record { fits = omega (arith, room (c .before .before .before .before)) }
 
-mul-copy-bytes-6 : tie.Need-mul-copy-bytes-6
-mul-copy-bytes-6 c = record { fits = omega (arith, spans (start-of (first-of c))) }
+sub-left : tie.Need-sub-left Inv-loop μ-loop
+sub-left c = let more = c .before .before .before .loop-test .taken in omega arith
 
-copy-bytes-requires-2 : tie.Need-copy-bytes-requires-2
-copy-bytes-requires-2 c κs =
-    let h = spans (start-of (first-of c)) in
-    let kept = c .before .before .before .copy-bytes .kept .0 in
-    (omega arith, omega arith)
+loop-less : tie.Need-loop-less Inv-loop μ-loop
+loop-less c = let more = c .before .before .before .loop-test .taken in omega arith
 
-same-length : tie.Need-same-length
-same-length c = search needs
+-- by the way that the turn went. The tree was copied: its test w .0, the copy w .2, the area w .5 and the record w .6 after it; or it was
+-- passed over: its test w .0, the area w .1 and the record w .2 after it
+loop-again : tie.Need-loop-again Inv-loop μ-loop
+loop-again c =
+    let kinded = c .before in
+    let ended = kinded .before in
+    let turn = ended .before in
+    let l = head-of turn .loop in
+    let more = turn .loop-test .taken in
+    let kind = kinded .kind .ensures in
+    let past = ended .skip-tree in
+    ⊎-elim
+    (λ w.
+    let copy = w .2 in
+    let size : (t : Tree) → TreeIn (entry-of (head-of turn) .args .s .now) (l .at) t → past .result - l .at ≡ records t =
+    λ t h. omega (arith, past .ensures t h) in (
+      ap length (w .5) ∙ copy .kept .0 ∙ l .inv .0,
+      λ μ f h r. rw (w .5, w .6)
+          (copying-more (l .inv .1 μ f h r) more (omega (arith, kind, w .0 .taken)) r (copy .last .0) (past .result) (past .ensures)
+          (λ t g. copy .ensures t (sized _ _ _ t g (size t g)))),
+    ))
+    (λ w. (
+      ap length (w .1) ∙ l .inv .0,
+      λ μ f h r. rw (w .1, w .2)
+          (copying-past (l .inv .1 μ f h r) more (past .result) (past .ensures) (omega (arith, kind, w .0 .left))),
+    ))
+    (c .if1 .came)
 
-returns : tie.Need-returns
-returns c front back z h =
-    let second = second-of c in
-    let start = start-of (first-of second) in
-    let g = start .args in
-    let s = g .s .now in
-    let rows = gap-rows h in
-    let room = spans start in
-    let a = g .x - (g .i + 1) in
-    let b = g .e - (g .x + 1) in
-    let front-long : length (encodes (ofList front)) ≡ a * 16 = omega (arith, encodes-length (ofList front)) in
-    let back-long : length (encodes (ofList back)) ≡ b * 16 = omega (arith, encodes-length (ofList back)) in
-    rows-written (g .out .now) _ _ (g .m) a front back (omega arith) (omega arith)
-    (copied (g .out .now) _ s (g .m * 16) (g .i + 1) (a * 16) (encodes (ofList front)) (rows .first) front-long
-    (second .before .before .before .copy-bytes .ensures))
-    (copied _ _ s ((g .m + a) * 16) (g .x + 1) (b * 16) (encodes (ofList back)) (rows .second) back-long
-    (c .before .before .copy-bytes2 .ensures))
+same-length : tie.Need-same-length Inv-loop μ-loop
+same-length c = c .before .loop .inv .0
+
+-- one product stands there, so the room for one is the room for any
+returns : tie.Need-returns Inv-loop μ-loop
+returns c =
+    let head = c .before in
+    let entry = entry-of head in
+    let a = entry .args in
+    λ μ f h.
+    let same = one-product (entry .pre .2) h in
+    let fit = subst (λ g. (a .m + recordses (ofList (others g))) * 16 ≤ length (a .out .now)) same (entry .pre .3) in
+    copied-all (head .loop .inv .1 μ f h fit) (omega arith)
 
 pub copy-others-spec : {M : Type 1} → statement M
 copy-others-spec =
     tie.close
     (tie.spec
-    add-a
-    sub-a
-    mul-copy-bytes
-    add-copy-bytes
-    mul-copy-bytes-2
-    mul-copy-bytes-3
-    copy-bytes-requires
-    add-copy-bytes-2
-    mul-copy-bytes-4
-    add-copy-bytes-3
-    mul-copy-bytes-5
-    add-copy-bytes-4
-    sub-copy-bytes
-    mul-copy-bytes-6
-    copy-bytes-requires-2
+    Inv-loop
+    μ-loop
+    add-at
+    count-requires
+    loop-holds
+    skip-tree-requires
+    kind-requires
+    sub-copy-tree
+    copy-tree-requires
+    sub-to
+    add-to
+    sub-left
+    loop-less
+    loop-again
     same-length
     returns)

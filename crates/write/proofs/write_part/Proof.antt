@@ -1,15 +1,15 @@
 -- `write::write_part` meets its contract: each form of a part has its own function, and a part of that form is a term or a factor, whose member
--- is the part's member. So the room that the contract asks for is the room that the function asks for, and the function's answer is
+-- is the part's member; a term out of range becomes none. So the room that the contract asks for is the room that the function asks for, and the function's answer is
 -- the answer. Assumes nothing.
 use Prim.Native.Nat.{ℕ}
-use mathlib.Core.Path.{_≡_, sym, subst}
+use mathlib.Core.Path.{_≡_, refl, sym, subst}
 use mathlib.Core.Bool.{Bool}
 use mathlib.Core.List.{List}
 use Rattle.paper.specs.Tree.{Tree}
 use Rattle.part.specs.Like.{Like, join}
 use Rattle.write.specs.declared.Written.{Written}
 use Rattle.write.specs.Written.{WrittenIs, Fitting}
-use Rattle.write.proofs.WriteLaws.{a-term, a-power, a-number}
+use Rattle.write.proofs.WriteLaws.{a-term, a-wide, a-power, a-number}
 use borrow.Author.Needs.{needs}
 use Rattle.write.proofs.write_part.Statement.{statement}
 use Rattle.write.proofs.write_part.Tie as tie
@@ -47,6 +47,9 @@ write-term-requires c κs =
     let t = a-term (start .args .s .now) (form .c .given .1) (q .0) (q .1) (q .2) in
     (t .0, t .1, fitting start _ (t .2))
 
+enum-told : tie.Need-enum-told
+enum-told c = search needs
+
 enum-known-c-2 : tie.Need-enum-known-c-2
 enum-known-c-2 c = search needs
 
@@ -80,11 +83,15 @@ returns c b x h =
     let t = a-term (start .args .s .now) (form .c .given .1) b x h in
     answered start b x (w .last .0) (w .result) _ (t .2) (w .ensures (t .0) (t .1))
 
+-- a term out of range
+returns-2 : tie.Need-returns-2
+returns-2 c b x h = (a-wide (c .before .before .before .before .args .s .now) (c .enum-told .given .1) b x h, refl)
+
 same-length-2 : tie.Need-same-length-2
 same-length-2 c = search needs
 
-returns-2 : tie.Need-returns-2
-returns-2 c b x h =
+returns-3 : tie.Need-returns-3
+returns-3 c b x h =
     let form = power-of c .before .before in
     let start = start-of (form .before .before) in
     let w = c .before .before .write-power in
@@ -94,8 +101,8 @@ returns-2 c b x h =
 same-length-3 : tie.Need-same-length-3
 same-length-3 c = search needs
 
-returns-3 : tie.Need-returns-3
-returns-3 c b x h =
+returns-4 : tie.Need-returns-4
+returns-4 c b x h =
     let form = number-of c .before .before in
     let start = start-of (form .before .before) in
     let w = c .before .before .write-number in
@@ -108,13 +115,15 @@ write-part-spec =
     (tie.spec
     enum-known-c
     write-term-requires
+    enum-told
     enum-known-c-2
     write-power-requires
     enum-known-c-3
     write-number-requires
     same-length
     returns
-    same-length-2
     returns-2
+    same-length-2
+    returns-3
     same-length-3
-    returns-3)
+    returns-4)

@@ -86,7 +86,8 @@ write-times-requires : tie.Need-write-times-requires
 write-times-requires c κs =
     let answer = c .before .before in
     let known = answer .before .before in
-    (rest known (asked known), stands-for known (asked known) _ (answer .rest .given .1), fitting known)
+    let stands = stands-for known (asked known) _ (answer .rest .given .1) in
+    (rest known (asked known), stands .0, fitting known, stands .1)
 
 -- ---- the rest is a product without one of its members
 enum-known-rest-2 : tie.Need-enum-known-rest-2
@@ -118,7 +119,7 @@ returns-2 c x h =
     let answer = at-of c .before .before in
     let known = answer .before .before in
     let w = c .before .before .write-times in
-    answered known h (w .last .0) (w .result) (w .ensures (rest known h) (stands-for known h _ (answer .rest .given .1)))
+    answered known h (w .last .0) (w .result) (w .ensures (rest known h) (stands-for known h _ (answer .rest .given .1) .0))
 
 same-length-3 : tie.Need-same-length-3
 same-length-3 c = search needs

@@ -1,6 +1,5 @@
--- `write::write_times` meets its contract. By the tests that the code makes, the coefficient n times the tree of k records is one of four
--- members: with n = 1 the tree itself; for an integer the product of the two, if that is in range; for a product the same with n after
--- its members, one record more; for any other tree the product of n and the tree, two records more (the laws of Becomes). The contract
+-- `write::write_times` meets its contract. By the tests that the code makes, the coefficient n times the tree of k records is one of three
+-- members: with n = 1 the tree itself; for a product the same with n after its members, one record more; for any other tree the product of n and the tree, two records more (the laws of Becomes). The contract
 -- asks for room for that member, so there is room for the records that are written; and the function that is called puts that member
 -- there. Assumes nothing.
 use Prim.Native.Nat.{ℕ, _+_, _-_, _*_, _≤_}
@@ -14,11 +13,10 @@ use Rattle.paper.proofs.EncodeLaws.{records-pos}
 use Rattle.split.specs.Standing.{TreeIn}
 use Rattle.paper.proofs.StandingLaws.{record-within}
 use Rattle.part.specs.Part.{Sized}
-use Rattle.part.proofs.PartLaws.{sized, integer-there}
+use Rattle.part.proofs.PartLaws.{sized}
 use Rattle.write.specs.Written.{timed}
 use Rattle.write.proofs.Becomes.{Becomes, room, written, one-becomes, longer-becomes, pair-becomes}
-use Rattle.write.proofs.Becomes.{integer-becomes, integer-over, product-bits}
-use Rattle.write.proofs.WriteLaws.{IsProduct, is-product, integer-written}
+use Rattle.write.proofs.WriteLaws.{IsProduct, is-product, kind-other}
 use borrow.Author.Needs.{needs}
 use Rattle.write.proofs.write_times.Statement.{statement}
 use Rattle.write.proofs.write_times.Tie as tie
@@ -40,13 +38,10 @@ known-of c = c .before .before
 abbrev one-of : tie.After-slice-known2 → tie.Then1
 one-of c = c .before .before .before .before
 
-abbrev mul-of : tie.After-product → tie.After-mul
-mul-of c = c .before .before
-
-abbrev product-of : tie.After-slice-known4 → tie.Then3
+abbrev product-of : tie.After-slice-known3 → tie.Then2
 product-of c = c .before .before .before .before
 
-abbrev other-of : tie.After-slice-known5 → tie.Else3
+abbrev other-of : tie.After-slice-known4 → tie.Else2
 other-of c = c .before .before .before .before
 
 -- ---- any tree t that stands at record i has k records; and where the tree that the contract asks for becomes a member of r records, there
@@ -93,8 +88,8 @@ module _ (c : tie.Then1) where
 copy-tree-requires : tie.Need-copy-tree-requires
 copy-tree-requires c κs = let known = c .before .before in ((asked known, stands known (asked known) (there known)), one-room (c .before))
 
-add-t15 : tie.Need-add-t15
-add-t15 c = record { fits = omega (arith, one-room (one-of c)) }
+add-t12 : tie.Need-add-t12
+add-t12 c = record { fits = omega (arith, one-room (one-of c)) }
 
 same-length : tie.Need-same-length
 same-length c = search needs
@@ -105,74 +100,18 @@ returns c t h =
     let g = start-of known .args in
     written (one (one-of c) t h) (g .out .now) (g .m) _ _ refl (c .before .before .copy-tree .ensures t (stands known t h))
 
--- ---- for an integer, the product of the two
-module _ (c : tie.After-mul) where
-  abbrev bits : ℕ
-  bits = c .before .bits .result
-
-  an-integer : (t : Tree) → At (known-of (c .before .before .before)) t → t ≡ integer 0 (signed bits)
-  an-integer t h =
-      let kind = c .before .before .before in
-      let g = start-of (known-of kind) .args in
-      let z = integer-there (g .s .now) (g .i) t h (omega (arith, kind .kind .ensures, c .before .before .if2 .taken)) in
-      z .0 ∙ ap (λ b. integer 0 (signed b)) (sym (c .before .bits .ensures))
-
 kind-requires : tie.Need-kind-requires
 kind-requires c κs = record-within (there (c .before))
 
-bits-requires : tie.Need-bits-requires
-bits-requires c κs = record-within (there (known-of (c .before)))
-
-mul-requires : tie.Need-mul-requires
-mul-requires c κs = search needs
-
-enum-known-product : tie.Need-enum-known-product
-enum-known-product c = search needs
-
--- any member has a record
-write-record-requires : tie.Need-write-record-requires
-write-record-requires c κs =
-    let start = start-of (known-of (mul-of (c .before .before) .before .before .before)) in
-    omega (arith, records-pos (timed (start .args .n) (start .pre .0) .0), start .pre .2)
-
-add-t21 : tie.Need-add-t21
-add-t21 c = search needs
-
-enum-told : tie.Need-enum-told
-enum-told c = search needs
-
-same-length-2 : tie.Need-same-length-2
-same-length-2 c = search needs
-
-returns-2 : tie.Need-returns-2
-returns-2 c t h =
-    let is = c .before .before .before .before .before in
-    let mul = mul-of is in
-    let kind = mul .before .before .before in
-    let start = start-of (known-of kind) in
-    let g = start .args in
-    let answer = sym (mul .mul .ensures) ∙ is .product .given .1 in
-    let becomes = integer-becomes (g .n) (bits mul) (start .fits .n .fits) (kind .before .if1 .left) (an-integer mul t h) _ answer in
-    written becomes (g .out .now) (g .m) _ _ refl
-    (integer-written (g .out .now) _ (g .m * 16) _ (product-bits (g .n) (bits mul) _ answer) (c .before .before .write-record .ensures))
-
-returns-3 : tie.Need-returns-3
-returns-3 c t h =
-    let mul = c .before .before in
-    let kind = mul .before .before .before in
-    let start = start-of (known-of kind) in
-    let answer = sym (mul .mul .ensures) ∙ c .enum-told .given .1 in
-    (integer-over (start .args .n) (bits mul) (start .fits .n .fits) (kind .before .if1 .left) (an-integer mul t h) answer, refl)
-
 -- ---- for a product, the same with n after its members
-module _ (c : tie.Then3) where
+module _ (c : tie.Then2) where
   abbrev product-known : Known
-  product-known = known-of (c .before .before)
+  product-known = known-of (c .before)
 
   a-product : (t : Tree) → At product-known t → IsProduct t
   a-product t h =
       let g = start-of product-known .args in
-      is-product (g .s .now) (g .i) t h (sym (c .before .before .kind .ensures) ∙ c .if3 .taken)
+      is-product (g .s .now) (g .i) t h (sym (c .before .kind .ensures) ∙ c .if2 .taken)
 
   product-stands : (t : Tree) (h : At product-known t)
       → let g = start-of product-known .args in Sized (g .s .now) (g .i) (k product-known) (product (a-product t h .mark) (a-product t h .members))
@@ -182,7 +121,7 @@ module _ (c : tie.Then3) where
       → let g = start-of product-known .args in
       Becomes (timed (g .n) t) (product 0 (ofList (toList (a-product t h .members) ++ (integer 0 (signed (g .n)) ∷ [])))) (k product-known + 1)
   longer t h =
-      longer-becomes _ (size product-known t h) (start-of product-known .fits .n .fits) (c .before .before .before .if1 .left)
+      longer-becomes _ (size product-known t h) (start-of product-known .fits .n .fits) (c .before .before .if1 .left)
       (a-product t h .is)
 
   longer-room : Room product-known (k product-known + 1)
@@ -193,35 +132,35 @@ write-longer-requires c κs =
     let known = product-known (c .before) in
     ((_, _, product-stands (c .before) (asked known) (there known)), longer-room (c .before))
 
-add-t25 : tie.Need-add-t25
-add-t25 c = record { fits = omega (arith, longer-room (product-of c)) }
+add-t17 : tie.Need-add-t17
+add-t17 c = record { fits = omega (arith, longer-room (product-of c)) }
 
-add-t26 : tie.Need-add-t26
-add-t26 c = record { fits = omega (arith, longer-room (product-of c)) }
+add-t18 : tie.Need-add-t18
+add-t18 c = record { fits = omega (arith, longer-room (product-of c)) }
 
-same-length-3 : tie.Need-same-length-3
-same-length-3 c = search needs
+same-length-2 : tie.Need-same-length-2
+same-length-2 c = search needs
 
-returns-4 : tie.Need-returns-4
-returns-4 c t h =
+returns-2 : tie.Need-returns-2
+returns-2 c t h =
     let test = product-of c in
     let g = start-of (product-known test) .args in
     written (longer test t h) (g .out .now) (g .m) _ _ (omega arith)
     (c .before .before .write-longer .ensures _ _ (product-stands test t h))
 
 -- ---- for any other tree, the product of n and the tree
-module _ (c : tie.Else3) where
+module _ (c : tie.Else2) where
   abbrev other-known : Known
-  other-known = known-of (c .before .before)
+  other-known = known-of (c .before)
 
   pair : (t : Tree) → At other-known t
       → let g = start-of other-known .args in
       Becomes (timed (g .n) t) (product 0 (ofList (integer 0 (signed (g .n)) ∷ t ∷ []))) (k other-known + 2)
   pair t h =
-      let kind = c .before .before in
+      let kind = c .before in
       let start = start-of other-known in
       pair-becomes _ (size other-known t h) (start .fits .n .fits) (kind .before .if1 .left) (start .args .s .now) (start .args .i) h
-      (omega (arith, kind .kind .ensures)) (λ e. c .if3 .left (kind .kind .ensures ∙ e))
+      (kind-other (start .pre .1) (start .pre .3)) (λ e. c .if2 .left (kind .kind .ensures ∙ e))
 
   pair-room : Room other-known (k other-known + 2)
   pair-room = fitting other-known (pair (asked other-known) (there other-known))
@@ -231,17 +170,17 @@ write-pair-requires c κs =
     let known = other-known (c .before) in
     ((asked known, stands known (asked known) (there known)), pair-room (c .before))
 
-add-t10 : tie.Need-add-t10
-add-t10 c = record { fits = omega (arith, pair-room (other-of c)) }
+add-t7 : tie.Need-add-t7
+add-t7 c = record { fits = omega (arith, pair-room (other-of c)) }
 
-add-t30 : tie.Need-add-t30
-add-t30 c = record { fits = omega (arith, pair-room (other-of c)) }
+add-t22 : tie.Need-add-t22
+add-t22 c = record { fits = omega (arith, pair-room (other-of c)) }
 
-same-length-4 : tie.Need-same-length-4
-same-length-4 c = search needs
+same-length-3 : tie.Need-same-length-3
+same-length-3 c = search needs
 
-returns-5 : tie.Need-returns-5
-returns-5 c t h =
+returns-3 : tie.Need-returns-3
+returns-3 c t h =
     let test = other-of c in
     let known = other-known test in
     let g = start-of known .args in
@@ -254,26 +193,17 @@ write-times-spec =
     skip-tree-requires
     sub-k
     copy-tree-requires
-    add-t15
+    add-t12
     same-length
     returns
     kind-requires
-    bits-requires
-    mul-requires
-    enum-known-product
-    write-record-requires
-    add-t21
-    enum-told
+    write-longer-requires
+    add-t17
+    add-t18
     same-length-2
     returns-2
-    returns-3
-    write-longer-requires
-    add-t25
-    add-t26
-    same-length-3
-    returns-4
     write-pair-requires
-    add-t10
-    add-t30
-    same-length-4
-    returns-5)
+    add-t7
+    add-t22
+    same-length-3
+    returns-3)

@@ -2,7 +2,7 @@
 -- whole does (`Matched`). A turn passes the member that is left out, or takes an equal one away; where there is none to take, the trees
 -- differ. The loop's measure is the number of trees left. Assumes nothing.
 use Prim.Native.Nat.{ℕ, _+_, _≤_}
-use mathlib.Core.Path.{_≡_, refl, ap, _∙_, subst}
+use mathlib.Core.Path.{_≡_, refl, sym, ap, _∙_, subst}
 use mathlib.Core.Logic.{⊎-elim}
 use native.Mathlib.Omega.{arith}
 use borrow.Author.Needs.{needs}
@@ -18,21 +18,21 @@ use Rattle.equal.proofs.MatchLaws.{Matched, matched-start, matched-done
 use Rattle.equal.proofs.MatchLaws.{matched-out, matched-none, matched-more}
 use Rattle.equal.proofs.same_members.Reads as reads
 use Rattle.equal.proofs.take_equal.Reads as take
-use Rattle.split.proofs.skip_tree.Reads as skip-tree-reads
+use Rattle.equal.proofs.is_passed.Reads as passed-reads
 use Rattle.equal.proofs.+same_members+same_tree+take_equal.Lts-same_members as lts
 use Rattle.equal.proofs.+same_members+same_tree+take_equal.Proof.Cycle.{members-at, take-below}
 
 abbrev pub claims : ℕ → lts.Claims
-claims t = (skip-tree-reads.Asked, skip-tree-reads.Learnt, take-below t, take.Post)
+claims t = (passed-reads.Asked, passed-reads.Learnt, take-below t, take.Post)
 
 abbrev pub Inv : lts.InvT-loop
-Inv a i n x b j m marks₀ at₀ left₀ marks at left =
+Inv a i n skip b j m marks₀ at₀ left₀ marks at left =
     (i ≤ at) × (length marks ≡ length marks₀)
-    × ((f g : Forest) → TreesIn a i n f → TreesIn b j m g → length (without i x f) ≡ length (unmarked marks₀ 0 g)
-    → Matched a i x marks₀ marks f g at left)
+    × ((f g : Forest) → TreesIn a i n f → TreesIn b j m g → length (without skip f) ≡ length (unmarked marks₀ 0 g)
+    → Matched a i skip marks₀ marks f g at left)
 
 abbrev pub μ : lts.MeasureT-loop
-μ a i n x b j m marks₀ at₀ left₀ marks at left = left
+μ a i n skip b j m marks₀ at₀ left₀ marks at left = left
 
 module _ (t : ℕ) where
   -- places on the way through the code, and from each the one before it: the entry, the head of the loop, a turn of it, and after the
@@ -56,14 +56,14 @@ module _ (t : ℕ) where
   head-of c = c .before
 
   abbrev turn-of : Called → Turn
-  turn-of c = c .before .before .before
+  turn-of c = c .before .before .before .before
 
   -- the trees that the contract says stand there, matched so far
   matched : (c : Head)
       → let entry = entry-of c in
       let g = entry .args in
       let some = entry .pre .1 in
-      Matched (g .a .now) (g .i) (g .x) (g .marks .now) (c .loop .marks) (some .ones) (some .others) (c .loop .at) (c .loop .left)
+      Matched (g .a .now) (g .i) (g .skip) (g .marks .now) (c .loop .marks) (some .ones) (some .others) (c .loop .at) (c .loop .left)
   matched c =
       let some = entry-of c .pre .1 in
       c .loop .inv .2 (some .ones) (some .others) (some .ones-there) (some .others-there) (some .as-many)
@@ -83,12 +83,15 @@ module _ (t : ℕ) where
   pub loop-holds : lts.Need-loop-holds (claims t) (members-at t) reads.Post Inv μ
   loop-holds c = (omega arith, refl, λ f g h q l. matched-start _ h l)
 
-  pub skip-tree-requires : lts.Need-skip-tree-requires (claims t) (members-at t) reads.Post Inv μ
-  skip-tree-requires c κs = next (c .before)
+  pub is-passed-requires : lts.Need-is-passed-requires (claims t) (members-at t) reads.Post Inv μ
+  is-passed-requires c κs = next c
+
+  pub add-at : lts.Need-add-at (claims t) (members-at t) reads.Post Inv μ
+  add-at c = omega (arith, record-within (next (c .before .before) .there))
 
   pub take-equal-requires : lts.Need-take-equal-requires (claims t) (members-at t) reads.Post Inv μ
   take-equal-requires c κs =
-      let turn = c .before .before in
+      let turn = c .before .before .before in
       let head = head-of turn in
       let l = head .loop in
       let some = entry-of head .pre .1 in (
@@ -106,7 +109,8 @@ module _ (t : ℕ) where
   returns c =
       let called = c .before .before .before .before in
       let turn = turn-of called in
-      let other = called .before .before .if1 .left in
+      let tested = called .before .before in
+      let other = sym (tested .before .is-passed .ensures) ∙ tested .if1 .left in
       λ f g h q l.
       is-different _
       (matched-none (head-of turn .loop .inv .2 f g h q l) (turn .loop-test .taken) other
@@ -121,32 +125,33 @@ module _ (t : ℕ) where
   pub loop-less : lts.Need-loop-less (claims t) (members-at t) reads.Post Inv μ
   loop-less c = omega arith
 
-  -- by the way that the turn went. The tree that is left out was passed: its test w .0, the call w .1, the marks w .2 and the record w .3
-  -- after it; or an equal one was taken: the test w .0, the search w .2 and its answer w .6, the marks w .8 and the record w .9 after it
+  -- by the way that the turn went. An integer was passed over: its test w .0, the marks w .1 and the record w .2 after it; or an equal one
+  -- was taken: the test w .0, the search w .2 and its answer w .6, the marks w .8 and the record w .9 after it
   pub loop-again : lts.Need-loop-again (claims t) (members-at t) reads.Post Inv μ
   loop-again c =
-      let turn = c .before in
+      let tested = c .before in
+      let turn = tested .before in
       let head = head-of turn in
       let some = entry-of head .pre .1 in
       let l = head .loop in
       let more = turn .loop-test .taken in
       let o = next turn in
+      let passed = sym (tested .is-passed .ensures) in
       ⊎-elim
-      (λ w.
-      let past = w .1 .ensures (o .tree) (o .there) in (
-        omega (arith, w .3, l .inv .0),
-        ap length (w .2) ∙ l .inv .1,
-        λ f g h q n. rw (w .2, w .3) (matched-out (l .inv .2 f g h q n) more (w .0 .taken) (w .1 .result) (w .1 .ensures)),
+      (λ w. (
+        omega (arith, w .2, l .inv .0),
+        ap length (w .1) ∙ l .inv .1,
+        λ f g h q n. rw (w .1, w .2) (matched-out (l .inv .2 f g h q n) more (passed ∙ w .0 .taken)),
       ))
       (λ w.
-      let called : Called = record { before = record { before = record { before = turn; if1 = w .0 }; take-equal-arg = w .1 }; take-equal = w .2 } in
+      let called : Called = record { before = record { before = record { before = tested; if1 = w .0 }; take-equal-arg = w .1 }; take-equal = w .2 } in
       let e = w .6 .given .0 .0 in
       let says = took called (Ends e) (w .6 .given .1) in
       let past = says (o .tree) (some .others) (o .there) (some .others-there) .0 in (
         omega (arith, w .9, past, l .inv .0),
         ap length (w .8) ∙ w .2 .kept .1 .1 .1 .1 .1 .0 ∙ l .inv .1,
         λ f g h q n. rw (w .8, w .9)
-            (matched-more (l .inv .2 f g h q n) more (w .0 .left) (w .2 .last .1 .1 .1 .1 .1 .0) e (λ x v. says x g v q)),
+            (matched-more (l .inv .2 f g h q n) more (passed ∙ w .0 .left) (w .2 .last .1 .1 .1 .1 .1 .0) e (λ x v. says x g v q)),
       ))
       (c .if1 .came)
 
