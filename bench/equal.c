@@ -6,7 +6,7 @@
 
 enum { RECORD = 16, DEPTH = 1535, BYTES = RECORD * (2 * DEPTH + 1) };
 
-static uint8_t one[BYTES], other[BYTES], answer[32];
+static uint8_t one[BYTES], other[BYTES], answer[SIMMERGATE_EQUAL_BYTES];
 
 static uint8_t *put(uint8_t *r, unsigned kind, unsigned number) {
     memset(r, 0, RECORD);

@@ -7,7 +7,7 @@
 #include "../tests/c/text.h"
 #include <time.h>
 
-static uint8_t store[64 << 20], out[49152], steps[3072], work[65536], answer[56];
+static uint8_t store[64 << 20], out[49152], steps[3072], work[65536], answer[SIMMERGATE_SIMPLIFY_BYTES];
 static struct { uint8_t *bytes; size_t length; } tables[4096];
 static size_t table_count, used;
 

@@ -27,17 +27,26 @@ static uint64_t number(const uint8_t *answer, int i) {
 
 /* ---- Words for a person ---- */
 
-static int refused(const char *file, size_t length, uint32_t why, uint64_t place) {
-    unsigned long long at = place;
+/* What a refusal says, by the numbers of the answer, of which the last two, `wrong`, say what is wrong with a record. */
+static int refused(const char *file, size_t length, uint32_t why, uint64_t place, const uint8_t *wrong) {
+    unsigned long long at = place, what = number(wrong, 0), byte = number(wrong, 1);
     fflush(stdout);
-    fprintf(stderr, "loader: %s: refused %u at %llu: ", file, why, at);
+    fprintf(stderr, "loader: %s: refused %u at %llu", file, why, at);
+    if (what == 1) fprintf(stderr, " kind");
+    if (what == 2) fprintf(stderr, " byte %llu", byte);
+    if (what == 3) fprintf(stderr, " count");
+    fprintf(stderr, ": ");
     switch (why) {
     case 1:
         if (length == 0) fprintf(stderr, "the file is empty\n");
         else if (length % 16 != 0 && length <= MOST_BYTES) fprintf(stderr, "%zu bytes are no whole number of records of 16 bytes\n", length);
         else fprintf(stderr, "it is longer than %d bytes\n", MOST_BYTES);
         break;
-    case 2: fprintf(stderr, "record %llu has an unknown kind, a byte that must be zero, or fewer than two members\n", at); break;
+    case 2:
+        if (what == 1) fprintf(stderr, "record %llu has the unknown kind %u\n", at, table[16 * place]);
+        else if (what == 2) fprintf(stderr, "byte %llu of record %llu is %u and must be zero\n", byte, at, table[16 * place + byte]);
+        else fprintf(stderr, "record %llu has fewer than two members\n", at);
+        break;
     case 3: fprintf(stderr, "its weight is over 3,072\n"); break;
     case 4:
         if (place == length / 16) fprintf(stderr, "the records end before the formula does\n");
@@ -139,7 +148,7 @@ static int set_register(const char *text) {
 }
 
 int main(int argc, char **argv) {
-    uint8_t answer[56], before[24], after[24];
+    uint8_t answer[SIMMERGATE_SIMPLIFY_BYTES], before[SIMMERGATE_VALUE_BYTES], after[SIMMERGATE_VALUE_BYTES];
     if (argc < 2) {
         fprintf(stderr, "usage: loader FILE [SYMBOL=NUMBER ...]\n");
         return 2;
@@ -152,13 +161,13 @@ int main(int argc, char **argv) {
     size_t n = (size_t)length;
 
     uint32_t why = simmergate_value(table, n, registers, sizeof registers, before, sizeof before);
-    if (why != 0) return refused(argv[1], n, why, number(before, 1));
+    if (why != 0) return refused(argv[1], n, why, number(before, 1), before + sizeof before - 16);
     fputs("formula    ", stdout);
     print_formula(table, 0);
     putchar('\n');
 
     why = simmergate_simplify(table, n, out, sizeof out, steps, sizeof steps, work, sizeof work, answer, sizeof answer);
-    if (why != 0) return refused(argv[1], n, why, number(answer, 1));
+    if (why != 0) return refused(argv[1], n, why, number(answer, 1), answer + sizeof answer - 16);
     size_t shortened = 16 * (size_t)number(answer, 2);
     fputs("shortened  ", stdout);
     print_formula(out, 0);
@@ -167,7 +176,7 @@ int main(int argc, char **argv) {
     for (uint64_t i = 0; i < number(answer, 3); i++) printf("step %-5llu %s\n", (unsigned long long)i + 1, step_name(steps[i]));
 
     why = simmergate_value(out, shortened, registers, sizeof registers, after, sizeof after);
-    if (why != 0) return refused(argv[1], n, why, number(after, 1));
+    if (why != 0) return refused(argv[1], n, why, number(after, 1), after + sizeof after - 16);
     printf("value      %lld\n", (long long)number(after, 2));
     if (number(before, 2) != number(after, 2)) {
         fprintf(stderr, "loader: %s: the shortened formula has another value: %lld before\n", argv[1], (long long)number(before, 2));

@@ -6,8 +6,8 @@
 
    Every call returns the refusal number, 0 where nothing is refused, and writes the numbers of its answer to `answer`, 8 bytes each,
    little-endian, in the order named at the call. The first two are always the refusal number and its place, as the table below says (records
-   count from 0); after a refusal all other numbers are 0, but for the one of simmergate_equal that says which table is refused. The lowest number wins; of two
-   tables, the first is judged by 1 to 5 before the second:
+   count from 0); after a refusal all other numbers are 0, but for the one of simmergate_equal that says which table is refused and, after 2,
+   the last two. The lowest number wins; of two tables, the first is judged by 1 to 5 before the second:
 
      number   given exactly when                                                               place
      1        the table's length is zero, no multiple of 16, or over 49,152 bytes              0
@@ -21,6 +21,10 @@
               the weight of the table, `out` is under 16 x W bytes, `steps` under W, or
               `work` under 65,536
      7        simplifying meets an integer outside the signed 64-bit range                     steps completed before it
+
+   The last two numbers, WHAT and BYTE, say after 2 what is wrong with the record at that place: WHAT is 1 for its kind, 2 for a byte other than
+   zero that must be zero, 3 for its count, the lowest of these that is so; BYTE is the lowest such byte, from 1 to 15, where WHAT is 2. Else
+   both are 0.
 
    Where `answer` is too short for the numbers, a call returns 6 before all else and changes nothing. Bytes of `answer` past the numbers never
    change. Refusals 1 to 6 change no byte of any other area; only simmergate_simplify writes to others at all.
@@ -38,25 +42,32 @@
    541,768 in simmergate_equal and 489,880 in simmergate_simplify. */
 #define SIMMERGATE_STACK 557056
 
-/* Judges a table. The answer, 16 bytes: refusal number, place. */
+/* Bytes of `answer` that each call needs. */
+#define SIMMERGATE_CHECK_BYTES 32
+#define SIMMERGATE_WEIGHT_BYTES 40
+#define SIMMERGATE_VALUE_BYTES 40
+#define SIMMERGATE_EQUAL_BYTES 48
+#define SIMMERGATE_SIMPLIFY_BYTES 72
+
+/* Judges a table. The answer: refusal number, place, WHAT, BYTE. */
 uint32_t simmergate_check(const uint8_t *table, size_t table_bytes, uint8_t *answer, size_t answer_bytes);
 
-/* Weighs a table: its number of records, and 2 for each symbol record. The answer, 24 bytes: refusal number, place, weight. */
+/* Weighs a table: its number of records, and 2 for each symbol record. The answer: refusal number, place, weight, WHAT, BYTE. */
 uint32_t simmergate_weight(const uint8_t *table, size_t table_bytes, uint8_t *answer, size_t answer_bytes);
 
 /* Evaluates a table modulo 2^64. `registers` is 256 numbers of 8 bytes, symbol 0 first: 2,048 bytes, any other length being refused by 6 after
-   1 to 5. The answer, 24 bytes: refusal number, place, value. */
+   1 to 5. The answer: refusal number, place, value, WHAT, BYTE. */
 uint32_t simmergate_value(const uint8_t *table, size_t table_bytes, const uint8_t *registers, size_t registers_bytes, uint8_t *answer, size_t answer_bytes);
 
 /* Compares the trees of two tables: integers and symbols by number, powers by base and exponent, sums and products by their members in any order,
-   each as often in the one as in the other; nothing is opened first. The first table is judged before the second. The answer, 32 bytes: refusal
-   number, place, which table is refused (1, 2, or 0 for neither), yes 1 or no 0; no after a refusal. */
+   each as often in the one as in the other; nothing is opened first. The first table is judged before the second. The answer: refusal number, place,
+   which table is refused (1, 2, or 0 for neither), yes 1 or no 0 (no after a refusal), WHAT, BYTE. */
 uint32_t simmergate_equal(const uint8_t *a, size_t a_bytes, const uint8_t *b, size_t b_bytes, uint8_t *answer, size_t answer_bytes);
 
 /* Simplifies a table. Where it is accepted, the result's records go to `out` and the numbers of its steps, one byte each, to `steps`, with
    zeros up to 16 x W and W bytes; after 7 these two stretches are zeros throughout; in both cases the first 65,536 bytes of `work` are zero.
-   Bytes past the stretches never change. Steps: 1 add-zero, 2 like-terms, 3 multiply-zero, 4 multiply-one, 6 like-factors. The answer, 56
-   bytes: refusal number, place, records written, steps, openings, weight of the table, weight of the result. */
+   Bytes past the stretches never change. Steps: 1 add-zero, 2 like-terms, 3 multiply-zero, 4 multiply-one, 6 like-factors. The answer:
+   refusal number, place, records written, steps, openings, weight of the table, weight of the result, WHAT, BYTE. */
 uint32_t simmergate_simplify(const uint8_t *table, size_t table_bytes, uint8_t *out, size_t out_bytes, uint8_t *steps, size_t steps_bytes,
                              uint8_t *work, size_t work_bytes, uint8_t *answer, size_t answer_bytes);
 

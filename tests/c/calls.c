@@ -1,11 +1,12 @@
-/* calls LINES: the entry points against the stored answers and against the plain reading in own.c: every line of standard input, lengths
+/* calls LINES: the five entry points against the stored answers and against the plain reading in own.c: every line of standard input, lengths
    around the edges, each kind with each byte set, tables of 3,072 records, and random trees, whole and damaged. Every lent area has canary
-   bytes on both sides and a length of its own. */
+   bytes on both sides and a length of its own. Equality is asked of a table and itself, and of a small good table and it; the simplifier is
+   lent areas of no byte, so that it judges alone, and for each kind with each byte areas that are large enough. */
 #include "../../include/simmergate.h"
 #include "own.h"
 #include "text.h"
 
-enum { GUARD = 64, LONGEST = MOST_BYTES + 4 * RECORD, REGISTER_BYTES = 8 * REGISTERS };
+enum { GUARD = 64, WORK = 65536, LONGEST = WORK + 4 * RECORD, REGISTER_BYTES = 8 * REGISTERS, MOST_NUMBERS = 9 };
 
 /* An area that is lent to a call: canary bytes, the area, canary bytes; and what the area held before. */
 struct room {
@@ -13,7 +14,7 @@ struct room {
     size_t bytes;
 };
 
-static struct room table, registers, answer;
+static struct room table, copy, small, registers, out, steps, work, answer;
 static uint64_t held[REGISTERS];
 static const char *now;
 static unsigned long calls, turn;
@@ -45,50 +46,121 @@ static void kept(const char *call, const char *what, const struct room *r, size_
     }
 }
 
-/* A call whose answer has so many numbers, with `room` bytes for it, must return and write these; 6, and nothing, where they do not fit. */
-static void call(int entry, size_t room, struct verdict v, uint64_t result) {
-    static const char *const names[] = {"simmergate_check", "simmergate_weight", "simmergate_value"};
+/* The calls, EQUAL being of a table and itself, SECOND of a small good table and it; and how many numbers their answers have. */
+enum entry { CHECK, WEIGHT, VALUE, EQUAL, SECOND, SIMPLIFY, ENTRIES };
+static const char *const names[] = {"simmergate_check", "simmergate_weight", "simmergate_value", "simmergate_equal of it and itself",
+                                    "simmergate_equal of a good table and it", "simmergate_simplify"};
+static const size_t enough[] = {SIMMERGATE_CHECK_BYTES, SIMMERGATE_WEIGHT_BYTES, SIMMERGATE_VALUE_BYTES, SIMMERGATE_EQUAL_BYTES,
+                                SIMMERGATE_EQUAL_BYTES, SIMMERGATE_SIMPLIFY_BYTES};
+
+static uint32_t make(enum entry entry) {
+    switch (entry) {
+    case CHECK: return simmergate_check(table.start, table.bytes, answer.start, answer.bytes);
+    case WEIGHT: return simmergate_weight(table.start, table.bytes, answer.start, answer.bytes);
+    case VALUE: return simmergate_value(table.start, table.bytes, registers.start, registers.bytes, answer.start, answer.bytes);
+    case EQUAL: return simmergate_equal(table.start, table.bytes, copy.start, copy.bytes, answer.start, answer.bytes);
+    case SECOND: return simmergate_equal(small.start, small.bytes, table.start, table.bytes, answer.start, answer.bytes);
+    default:
+        return simmergate_simplify(table.start, table.bytes, out.start, out.bytes, steps.start, steps.bytes, work.start, work.bytes, answer.start,
+                                   answer.bytes);
+    }
+}
+
+/* The numbers that a call must answer: a table is refused by v, or it has this result. The last two are what is wrong with a record. */
+static void answers(enum entry entry, struct verdict v, uint64_t result, uint64_t *numbers) {
+    size_t n = enough[entry] / 8;
+    memset(numbers, 0, MOST_NUMBERS * sizeof *numbers);
+    numbers[0] = v.number, numbers[1] = v.place, numbers[n - 2] = v.what, numbers[n - 1] = v.byte;
+    if (entry == WEIGHT || entry == VALUE) numbers[2] = v.number ? 0 : result;
+    if (entry == EQUAL || entry == SECOND) numbers[2] = v.number ? (entry == EQUAL ? 1 : 2) : 0, numbers[3] = v.number ? 0 : result;
+}
+
+/* A call with `room` bytes for its answer must return and write these numbers; 6, and nothing, where they do not fit. */
+static void call(enum entry entry, size_t room, const uint64_t *numbers) {
     const char *name = names[entry];
-    size_t numbers = entry == 0 ? 2 : 3, written = room < 8 * numbers ? 0 : 8 * numbers;
-    uint64_t expected[3] = {v.number, v.place, v.number ? 0 : result};
-    uint32_t r;
+    size_t written = room < enough[entry] ? 0 : enough[entry];
     lend(&answer, NULL, room);
-    if (entry == 0)
-        r = simmergate_check(table.start, table.bytes, answer.start, answer.bytes);
-    else if (entry == 1)
-        r = simmergate_weight(table.start, table.bytes, answer.start, answer.bytes);
-    else
-        r = simmergate_value(table.start, table.bytes, registers.start, registers.bytes, answer.start, answer.bytes);
-    if (r != (written ? v.number : 6)) fail(name, "the return", written ? v.number : 6, r);
+    uint32_t r = make(entry);
+    if (r != (written ? numbers[0] : 6)) fail(name, "the return", written ? numbers[0] : 6, r);
     for (size_t i = 0; i < written / 8; i++) {
         uint64_t got = own_number(answer.start + 8 * i);
-        if (got != expected[i]) fail(name, i == 0 ? "the number" : i == 1 ? "the place" : "the result", expected[i], got);
+        size_t left = written / 8 - i;
+        const char *what = i == 0 ? "the number" : i == 1 ? "the place" : left == 2 ? "what is wrong" : left == 1 ? "which byte" : "a result";
+        if (got != numbers[i]) fail(name, what, numbers[i], got);
     }
     kept(name, "a byte past the answer", &answer, written);
     kept(name, "a byte of the table", &table, 0);
+    kept(name, "a byte of the table's copy", &copy, 0);
+    kept(name, "a byte of the small table", &small, 0);
     kept(name, "a byte of the registers", &registers, 0);
     calls++;
 }
 
-/* All three calls on a table: with room to spare, with just enough, with too little; and with registers of another length. */
-static void all(const char *name, const uint8_t *t, size_t bytes, struct verdict v) {
-    static const size_t lengths[] = {0, 1, 8, 16, 2040, 2047, 2049, 2056, 4096};
+/* Lends a table and what the calls on it take besides; the simplifier has no byte to write to. */
+static void lend_all(const char *name, const uint8_t *t, size_t bytes) {
+    static const uint8_t zero[RECORD];
     uint8_t numbers[REGISTER_BYTES];
-    uint64_t weight = v.number ? 0 : own_weight(t, bytes), value = v.number ? 0 : own_value(t, held);
     now = name;
     turn++;
     for (int k = 0; k < REGISTERS; k++) own_bytes(numbers + 8 * k, held[k]);
     lend(&table, t, bytes);
+    lend(&copy, t, bytes);
+    lend(&small, zero, RECORD);
     lend(&registers, numbers, REGISTER_BYTES);
-    for (int entry = 0; entry < 3; entry++) {
-        uint64_t result = entry == 1 ? weight : value;
-        size_t enough = entry == 0 ? 16 : 24;
-        call(entry, enough, v, result);
-        call(entry, enough + 1 + turn % 41, v, result);
-        call(entry, turn % enough, v, result);
+    lend(&out, NULL, 0), lend(&steps, NULL, 0), lend(&work, NULL, 0);
+}
+
+/* What a call on the table that is lent must say of it, its verdict being v. */
+static void led_to(enum entry entry, const uint8_t *t, size_t bytes, struct verdict v, uint64_t *numbers) {
+    static const uint8_t zero[RECORD];
+    uint64_t result = 0;
+    if (v.number == 0) {
+        if (entry == WEIGHT) result = own_weight(t, bytes);
+        if (entry == VALUE) result = own_value(t, held);
+        if (entry == EQUAL) result = 1;
+        if (entry == SECOND) result = bytes == RECORD && memcmp(t, zero, RECORD) == 0;
+        if (entry == SIMPLIFY) v = (struct verdict){6, 0, 0, 0};
+    }
+    answers(entry, v, result, numbers);
+}
+
+/* All calls on a table: with room to spare, with just enough, with too little; and with registers of another length. */
+static void all(const char *name, const uint8_t *t, size_t bytes, struct verdict v) {
+    static const size_t lengths[] = {0, 1, 8, 16, 2040, 2047, 2049, 2056, 4096};
+    uint64_t numbers[MOST_NUMBERS];
+    lend_all(name, t, bytes);
+    for (enum entry entry = 0; entry < ENTRIES; entry++) {
+        led_to(entry, t, bytes, v, numbers);
+        call(entry, enough[entry], numbers);
+        call(entry, enough[entry] + 1 + turn % 41, numbers);
+        call(entry, turn % enough[entry], numbers);
     }
     lend(&registers, NULL, lengths[turn % (sizeof lengths / sizeof *lengths)]);
-    call(2, 24 + turn % 5, v.number ? v : (struct verdict){6, 0}, 0);
+    answers(VALUE, v.number ? v : (struct verdict){6, 0, 0, 0}, 0, numbers);
+    call(VALUE, enough[VALUE] + turn % 5, numbers);
+}
+
+/* The simplifier on a table with areas that are large enough: it says of the table what v says, and of one that is good no more than that
+   nothing is wrong. */
+static void simplified(const uint8_t *t, size_t bytes, struct verdict v) {
+    uint64_t numbers[MOST_NUMBERS];
+    lend(&out, NULL, MOST_BYTES), lend(&steps, NULL, MOST_WEIGHT), lend(&work, NULL, WORK);
+    if (v.number) {
+        answers(SIMPLIFY, v, 0, numbers);
+        call(SIMPLIFY, enough[SIMPLIFY], numbers);
+        kept("simmergate_simplify", "a byte of out", &out, 0), kept("simmergate_simplify", "a byte of steps", &steps, 0);
+        kept("simmergate_simplify", "a byte of work", &work, 0);
+        return;
+    }
+    lend(&answer, NULL, enough[SIMPLIFY]);
+    uint32_t r = make(SIMPLIFY);
+    if (r != 0 && r != 7) fail("simmergate_simplify", "the return", 0, r);
+    if (own_number(answer.start) != r) fail("simmergate_simplify", "the number", r, own_number(answer.start));
+    if (r == 0 && own_number(answer.start + 40) != own_weight(t, bytes))
+        fail("simmergate_simplify", "the weight", own_weight(t, bytes), own_number(answer.start + 40));
+    for (int i = 7; i < 9; i++)
+        if (own_number(answer.start + 8 * i) != 0) fail("simmergate_simplify", "what is wrong with a good table", 0, own_number(answer.start + 8 * i));
+    calls++;
 }
 
 static uint8_t t[LONGEST];
@@ -102,20 +174,28 @@ static void record(size_t i, unsigned kind, unsigned count, uint64_t number) {
     own_bytes(r + 8, number);
 }
 
-static unsigned long lines, by_number[6];
+static uint64_t seed = 0x243f6a8885a308d3;
+
+static uint64_t dice(uint64_t n) {
+    seed ^= seed << 13, seed ^= seed >> 7, seed ^= seed << 17;
+    return seed % n;
+}
+
+static unsigned long lines, by_number[6], by_flaw[4];
 
 /* The stored answers: name, table, verdict, steps, result, value. */
 static void stored(void) {
     while (next_line()) {
         char *parts[6], *end;
-        uint64_t numbers[7];
+        uint64_t numbers[MOST_NUMBERS];
         now = line;
         if (cut(line, parts, 6) != 6 || !read_verdict(parts[2], numbers)) fail("the stored line", "not six parts with a verdict", 1, 0);
         size_t n = unhex(parts[1], t, sizeof t);
-        struct verdict v = {numbers[0], numbers[1]};
-        if (v.number == 7) v = (struct verdict){0, 0};
+        struct verdict v = {numbers[0], numbers[1], 0, 0};
+        if (v.number == 7) v = (struct verdict){0, 0, 0, 0};
         struct verdict own = own_check(t, n);
         if (own.number != v.number || own.place != v.place) fail("the test's own reading", "the refusal", v.number, own.number);
+        v = own;
         if (numbers[0] == 0) {
             uint64_t x = strtoull(parts[5], &end, 16);
             if (end == parts[5] || *end != 0) fail("the stored line", "no value", 1, 0);
@@ -132,14 +212,32 @@ static unsigned long lengths(void) {
     memset(t, 0, sizeof t);
     for (size_t bytes = 0; bytes <= 3 * RECORD; bytes++, n++) all("a length near 0 and 16", t, bytes, own_check(t, bytes));
     for (size_t bytes = MOST_BYTES - 33; bytes <= MOST_BYTES + 33; bytes++, n++) all("a length near 49,152 and 49,168", t, bytes, own_check(t, bytes));
-    uint8_t room[24];
+    uint8_t room[SIMMERGATE_VALUE_BYTES];
     now = "areas of no byte, at no address";
     if (simmergate_check(NULL, 0, NULL, 0) != 6 || simmergate_weight(NULL, 0, NULL, 0) != 6 || simmergate_value(NULL, 0, NULL, 0, NULL, 0) != 6)
         fail("a call without an answer slice", "the return", 6, 0);
-    if (simmergate_check(NULL, 0, room, 24) != 1 || simmergate_weight(NULL, 0, room, 24) != 1 || simmergate_value(NULL, 0, NULL, 0, room, 24) != 1)
+    if (simmergate_check(NULL, 0, room, sizeof room) != 1 || simmergate_weight(NULL, 0, room, sizeof room) != 1
+        || simmergate_value(NULL, 0, NULL, 0, room, sizeof room) != 1)
         fail("a call without a table", "the return", 1, 0);
-    if (simmergate_value(t, RECORD, NULL, 0, room, 24) != 6) fail("a call without registers", "the return", 6, 0);
+    if (simmergate_value(t, RECORD, NULL, 0, room, sizeof room) != 6) fail("a call without registers", "the return", 6, 0);
     calls += 7;
+    return n;
+}
+
+/* Answer slices of every length that is too short, those among them that were enough before what is wrong was said, on a good table and on
+   one that is refused by 2: 6, and no byte changed. */
+static unsigned long short_slices(void) {
+    unsigned long n = 0;
+    for (unsigned kind = 0; kind <= 5; kind += 5) {
+        record(0, kind, 0, 5);
+        lend_all("an answer slice that is too short", t, RECORD);
+        for (enum entry entry = 0; entry < ENTRIES; entry++) {
+            uint64_t numbers[MOST_NUMBERS];
+            led_to(entry, t, RECORD, own_check(t, RECORD), numbers);
+            for (size_t room = 0; room < enough[entry]; room++, n++) call(entry, room, numbers);
+            call(entry, enough[entry], numbers);
+        }
+    }
     return n;
 }
 
@@ -155,11 +253,29 @@ static unsigned long kinds(void) {
                 record(i++, kind, kind == 2 || kind == 3 ? 2 : 0, kind == 0 ? 9 : kind == 1 ? 7 : 0);
                 if (kind >= 2) record(i++, 1, 0, 200), record(i++, 0, 0, 3);
                 t[RECORD * 2 + j] = values[x];
-                all("a kind with a byte set", t, RECORD * i, own_check(t, RECORD * i));
+                struct verdict own = own_check(t, RECORD * i);
+                all("a kind with a byte set", t, RECORD * i, own);
+                simplified(t, RECORD * i, own);
+                by_flaw[own.what]++;
                 record(i, kind, kind == 2 || kind == 3 ? 2 : 0, 0);
                 t[RECORD * i + j] = values[x];
                 all("a record too many, with a byte set", t, RECORD * (i + 1), own_check(t, RECORD * (i + 1)));
             }
+    return n;
+}
+
+/* Records with several things wrong: the kind comes before a byte, the lowest byte before the others, a byte before the count, and the first
+   bad record before the next. */
+static unsigned long several(void) {
+    unsigned long n = 0;
+    for (unsigned kind = 0; kind <= 6; kind++)
+        for (int j = 1; j < RECORD; j++)
+            for (int k = j; k < RECORD; k++)
+                for (int second = 0; second < 2; second++, n++) {
+                    record(0, 2, 2, 0), record(1, 0, 0, 5), record(2, kind, 1, 0), record(3, second ? 9 : 0, 0, 0);
+                    t[RECORD * 2 + j] = (uint8_t)(1 + dice(255)), t[RECORD * 2 + k] = (uint8_t)(1 + dice(255));
+                    all("a record with two bytes set", t, RECORD * 4, own_check(t, RECORD * 4));
+                }
     return n;
 }
 
@@ -205,13 +321,6 @@ static unsigned long large(void) {
     record(1536, 0, 0, 0);
     expect("and at the innermost", 3071, 5, 1536), n++;
     return n;
-}
-
-static uint64_t seed = 0x243f6a8885a308d3;
-
-static uint64_t dice(uint64_t n) {
-    seed ^= seed << 13, seed ^= seed >> 7, seed ^= seed << 17;
-    return seed % n;
 }
 
 /* A random tree from record i on; gives the record after it. */
@@ -263,10 +372,14 @@ int main(int argc, char **argv) {
     printf("calls: %lu stored lines agree (%lu accepted, refused 1: %lu, 2: %lu, 3: %lu, 4: %lu, 5: %lu)\n", lines, by_number[0], by_number[1], by_number[2],
            by_number[3], by_number[4], by_number[5]);
     if (argc != 2 || lines != decimal(argv[1])) { printf("calls: not as many stored lines as there should be\n"); return 1; }
-    unsigned long by_length = lengths(), by_kind = kinds(), by_size = large(), by_chance = random_trees();
+    unsigned long by_length = lengths(), too_short = short_slices(), by_kind = kinds(), by_two = several(), by_size = large();
+    unsigned long by_chance = random_trees();
     const unsigned long *d = damaged_and_whole;
-    printf("calls: %lu lengths, %lu kinds with a byte set, %lu large tables and %lu random ones (%lu accepted, refused 1: %lu, 2: %lu, 4: %lu, "
-           "5: %lu) agree; %lu calls\n",
-           by_length, by_kind, by_size, by_chance, d[0], d[1], d[2], d[4], d[5], calls);
+    if (!by_flaw[1] || !by_flaw[2] || !by_flaw[3]) { printf("calls: not everything that can be wrong with a record was\n"); return 1; }
+    printf("calls: %lu answer slices too short; %lu kinds with a byte set (wrong by kind %lu, by a byte %lu, by the count %lu) and %lu with two, through "
+           "all five calls\n",
+           too_short, by_kind, by_flaw[1], by_flaw[2], by_flaw[3], by_two);
+    printf("calls: %lu lengths, %lu large tables and %lu random ones (%lu accepted, refused 1: %lu, 2: %lu, 4: %lu, 5: %lu) agree; %lu calls\n",
+           by_length, by_size, by_chance, d[0], d[1], d[2], d[4], d[5], calls);
     return 0;
 }

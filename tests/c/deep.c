@@ -15,7 +15,7 @@ enum { PAGE = 4096, STACK = 1 << 20, PAINT = 0xe5, DEPTH = 1535 };
 static uint8_t area[PAGE + STACK] __attribute__((aligned(PAGE)));
 static uint8_t *const stack = area + PAGE;
 
-static uint8_t table[MOST_BYTES], second[MOST_BYTES], registers[8 * REGISTERS], answer[56];
+static uint8_t table[MOST_BYTES], second[MOST_BYTES], registers[8 * REGISTERS], answer[SIMMERGATE_SIMPLIFY_BYTES];
 static uint8_t out[MOST_BYTES], steps[MOST_BYTES / RECORD], work[65536];
 static size_t bytes, second_bytes;
 static uint32_t returned;

@@ -5,7 +5,7 @@
 #include "own.h"
 #include "text.h"
 
-enum { GUARD = 64, LONGEST = MOST_BYTES + 4 * RECORD, ANSWER = 32, DEPTH = 1535, MOST_MEMBERS = 3071, LEVELS = 10, LEAVES = 1 << LEVELS };
+enum { GUARD = 64, LONGEST = MOST_BYTES + 4 * RECORD, ANSWER = SIMMERGATE_EQUAL_BYTES, NUMBERS = ANSWER / 8, DEPTH = 1535, MOST_MEMBERS = 3071, LEVELS = 10, LEAVES = 1 << LEVELS };
 
 /* An area that is lent to a call: canary bytes, the area, canary bytes; and what the area held before. */
 struct room {
@@ -46,14 +46,14 @@ static void kept(const char *what, const struct room *r, size_t from) {
     }
 }
 
-/* The four numbers of an answer. */
+/* The numbers of an answer; the last two say what is wrong with a record. */
 struct numbers {
-    uint64_t is[4];
+    uint64_t is[NUMBERS];
 };
 
 /* The call with `room` bytes for the answer must return and write these numbers; 6, and nothing, where they do not fit. */
 static void call(size_t room, struct numbers expected) {
-    static const char *const names[] = {"the number", "the place", "the table refused", "yes or no"};
+    static const char *const names[] = {"the number", "the place", "the table refused", "yes or no", "what is wrong", "which byte"};
     size_t written = room < ANSWER ? 0 : ANSWER;
     lend(&answer, NULL, room, turn / 3);
     uint32_t r = simmergate_equal(first.start, first.bytes, second.start, second.bytes, answer.start, answer.bytes);
@@ -71,9 +71,9 @@ static void call(size_t room, struct numbers expected) {
 /* The answer that the test's own reading of two tables leads to, trees that are not refused being equal or not. */
 static struct numbers led_to(const uint8_t *a, size_t a_bytes, const uint8_t *b, size_t b_bytes, uint64_t yes) {
     struct verdict v = own_check(a, a_bytes), w = own_check(b, b_bytes);
-    if (v.number) return (struct numbers){{v.number, v.place, 1, 0}};
-    if (w.number) return (struct numbers){{w.number, w.place, 2, 0}};
-    return (struct numbers){{0, 0, 0, yes}};
+    if (v.number) return (struct numbers){{v.number, v.place, 1, 0, v.what, v.byte}};
+    if (w.number) return (struct numbers){{w.number, w.place, 2, 0, w.what, w.byte}};
+    return (struct numbers){{0, 0, 0, yes, 0, 0}};
 }
 
 static void lend_both(const uint8_t *a, size_t a_bytes, const uint8_t *b, size_t b_bytes) {
@@ -90,7 +90,7 @@ static void pair(const uint8_t *a, size_t a_bytes, const uint8_t *b, size_t b_by
     if (turn % 4 == 0) call(ANSWER + 1 + turn % 41, expected);
 }
 
-/* A pair and the pair exchanged. */
+/* A pair, whose first four numbers are these, and the pair exchanged; what is wrong with a record is as own.c says. */
 static void pairs(const char *name, const uint8_t *a, size_t a_bytes, const uint8_t *b, size_t b_bytes, struct numbers expected) {
     uint64_t yes = expected.is[3];
     struct numbers own = led_to(a, a_bytes, b, b_bytes, yes);
@@ -98,7 +98,7 @@ static void pairs(const char *name, const uint8_t *a, size_t a_bytes, const uint
     lend_both(a, a_bytes, b, b_bytes);
     for (int i = 0; i < 4; i++)
         if (own.is[i] != expected.is[i]) fail("a number by the test's own reading", expected.is[i], own.is[i]);
-    pair(a, a_bytes, b, b_bytes, expected);
+    pair(a, a_bytes, b, b_bytes, own);
     pair(b, b_bytes, a, a_bytes, led_to(b, b_bytes, a, a_bytes, yes));
 }
 
@@ -112,7 +112,7 @@ static unsigned long lines, yes_lines, by_number[6];
 static void stored(void) {
     while (next_line()) {
         char *parts[4], *end;
-        struct numbers expected = {{0, 0, 0, 0}};
+        struct numbers expected = {{0, 0, 0, 0, 0, 0}};
         now = line;
         if (cut(line, parts, 4) != 4) fail("the parts of the stored line", 4, 0);
         for (int w = 0; w < 2; w++) bytes[w] = unhex(parts[1 + w], t[w], sizeof t[w]);
@@ -156,8 +156,8 @@ static unsigned long yes_built, no_built;
 static void built(const char *name, const char *difference) {
     uint64_t yes = *difference == 0;
     but = difference;
-    pairs(name, t[0], bytes[0], t[1], bytes[1], (struct numbers){{0, 0, 0, yes}});
-    for (size_t room = 0; room < ANSWER; room++) call(room, (struct numbers){{0, 0, 0, 0}});
+    pairs(name, t[0], bytes[0], t[1], bytes[1], (struct numbers){{0, 0, 0, yes, 0, 0}});
+    for (size_t room = 0; room < ANSWER; room++) call(room, (struct numbers){{0, 0, 0, 0, 0, 0}});
     *(yes ? &yes_built : &no_built) += 1;
     but = "";
 }
@@ -277,11 +277,11 @@ static void lengths(void) {
     static const size_t wrong[] = {0, 1, 15, 17, 31, MOST_BYTES - 1, MOST_BYTES + 1, MOST_BYTES + RECORD};
     memset(t, 0, sizeof t);
     for (size_t i = 0; i < sizeof wrong / sizeof *wrong; i++) {
-        pairs("a length that is refused, first", t[0], wrong[i], t[1], RECORD, (struct numbers){{1, 0, 1, 0}});
-        pairs("a length that is refused, second", t[0], RECORD, t[1], wrong[i], (struct numbers){{1, 0, 2, 0}});
+        pairs("a length that is refused, first", t[0], wrong[i], t[1], RECORD, (struct numbers){{1, 0, 1, 0, 0, 0}});
+        pairs("a length that is refused, second", t[0], RECORD, t[1], wrong[i], (struct numbers){{1, 0, 2, 0, 0, 0}});
     }
-    pairs("a record too many, and a length that is refused", t[0], 2 * RECORD, t[1], 1, (struct numbers){{4, 1, 1, 0}});
-    pairs("one record, and 3,072 of them", t[0], RECORD, t[1], MOST_BYTES, (struct numbers){{4, 1, 2, 0}});
+    pairs("a record too many, and a length that is refused", t[0], 2 * RECORD, t[1], 1, (struct numbers){{4, 1, 1, 0, 0, 0}});
+    pairs("one record, and 3,072 of them", t[0], RECORD, t[1], MOST_BYTES, (struct numbers){{4, 1, 2, 0, 0, 0}});
     now = "areas of no byte, at no address";
     if (simmergate_equal(NULL, 0, NULL, 0, NULL, 0) != 6) fail("the return without an answer slice", 6, 0);
     lend(&answer, NULL, ANSWER, 0);

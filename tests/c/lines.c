@@ -10,7 +10,7 @@ static uint64_t number(const uint8_t *answer, int i) {
 }
 
 int main(void) {
-    static uint8_t table[65536], out[49152], steps[3072], work[65536], answer[56];
+    static uint8_t table[65536], out[49152], steps[3072], work[65536], answer[SIMMERGATE_SIMPLIFY_BYTES];
     while (next_line()) {
         size_t n = unhex(line, table, sizeof table);
         uint32_t r = simmergate_simplify(table, n, out, sizeof out, steps, sizeof steps, work, sizeof work, answer, sizeof answer);

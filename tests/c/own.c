@@ -25,12 +25,14 @@ static int may_be_other_than_zero(unsigned k, int j) {
     return 0;
 }
 
-static int flawed(const uint8_t *table, size_t i) {
+/* "kind, a byte that must be zero (the lowest), or the count, in that order when several are": what is wrong with record i. */
+static struct verdict wrong(const uint8_t *table, size_t i) {
     unsigned k = kind(table, i);
-    if (k > 4) return 1;
+    if (k > 4) return (struct verdict){2, i, 1, 0};
     for (int j = 0; j < RECORD; j++)
-        if (table[RECORD * i + j] && !may_be_other_than_zero(k, j)) return 1;
-    return (k == 2 || k == 3) && count(table, i) < 2;
+        if (table[RECORD * i + j] && !may_be_other_than_zero(k, j)) return (struct verdict){2, i, 2, (uint64_t)j};
+    if ((k == 2 || k == 3) && count(table, i) < 2) return (struct verdict){2, i, 3, 0};
+    return (struct verdict){0, 0, 0, 0};
 }
 
 uint64_t own_weight(const uint8_t *table, size_t bytes) {
@@ -51,14 +53,16 @@ static size_t after(const uint8_t *table, size_t n, size_t i) {
 }
 
 struct verdict own_check(const uint8_t *table, size_t bytes) {
-    if (bytes == 0 || bytes % RECORD != 0 || bytes > MOST_BYTES) return (struct verdict){1, 0};
+    if (bytes == 0 || bytes % RECORD != 0 || bytes > MOST_BYTES) return (struct verdict){1, 0, 0, 0};
     size_t n = bytes / RECORD, end;
-    for (size_t i = 0; i < n; i++)
-        if (flawed(table, i)) return (struct verdict){2, i};
-    if (own_weight(table, bytes) > MOST_WEIGHT) return (struct verdict){3, 0};
+    for (size_t i = 0; i < n; i++) {
+        struct verdict v = wrong(table, i);
+        if (v.number) return v;
+    }
+    if (own_weight(table, bytes) > MOST_WEIGHT) return (struct verdict){3, 0, 0, 0};
     end = after(table, n, 0);
-    if (end > n) return (struct verdict){4, n};
-    if (end < n) return (struct verdict){4, end};
+    if (end > n) return (struct verdict){4, n, 0, 0};
+    if (end < n) return (struct verdict){4, end, 0, 0};
     size_t first = n;
     for (size_t i = 0; i < n; i++) {
         if (kind(table, i) != 4) continue;
@@ -66,7 +70,7 @@ struct verdict own_check(const uint8_t *table, size_t bytes) {
         if (kind(table, e) == 0 && number(table, e) >= 1 && number(table, e) < (uint64_t)1 << 63) continue;
         if (e < first) first = e;
     }
-    return first < n ? (struct verdict){5, first} : (struct verdict){0, 0};
+    return first < n ? (struct verdict){5, first, 0, 0} : (struct verdict){0, 0, 0, 0};
 }
 
 static uint64_t raised(uint64_t base, uint64_t exponent) {

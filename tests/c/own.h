@@ -6,11 +6,12 @@
 
 enum { RECORD = 16, MOST_BYTES = 49152, MOST_WEIGHT = 3072, REGISTERS = 256 };
 
+/* A refusal's number and place, and after 2 what is wrong with the record: 1 its kind, 2 a byte, 3 its count; and which byte. */
 struct verdict {
-    uint64_t number, place;
+    uint64_t number, place, what, byte;
 };
 
-/* Refusals 1 to 5 of a table; 0, 0 where there is none. */
+/* Refusals 1 to 5 of a table; all 0 where there is none. */
 struct verdict own_check(const uint8_t *table, size_t bytes);
 
 /* The weight of the records of a table. */

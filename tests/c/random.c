@@ -12,11 +12,11 @@
 
 /* ---- Judged by the plain readings of own.c and rules.c, and equality in plain C. ---- */
 
-struct judged { uint64_t number, place, weight; };
+struct judged { uint64_t number, place, what, byte, weight; };
 
 static struct judged judge(const uint8_t *t, size_t bytes) {
     struct verdict v = own_check(t, bytes);
-    return (struct judged){v.number, v.place, v.number == 0 ? own_weight(t, bytes) : 0};
+    return (struct judged){v.number, v.place, v.what, v.byte, v.number == 0 ? own_weight(t, bytes) : 0};
 }
 
 /* How many members a record has. */
@@ -125,7 +125,7 @@ static void damage(uint8_t *t, size_t *n) {
 
 static struct lent lent_table = {.name = "table"}, lent_other = {.name = "other table"}, lent_registers = {.name = "registers"},
                    lent_out = {.name = "out"}, lent_steps = {.name = "steps"}, lent_work = {.name = "work"}, lent_answer = {.name = "answer"};
-static uint64_t counts[8], steps_seen, openings_seen, equal_seen, unequal_seen, calls;
+static uint64_t counts[8], flaws[4], steps_seen, openings_seen, equal_seen, unequal_seen, calls;
 
 /* A size for an area that must have `need` bytes: mostly that, at times more, at times too few. */
 static size_t some_size(size_t need) { return chance(100) && need > 0 ? (size_t)below(need) : chance(3) ? need + (size_t)below(300) : need; }
@@ -142,12 +142,13 @@ static void answered(uint32_t number, const uint64_t *wanted, size_t count, cons
 static const uint8_t *lend_bytes(struct lent *area, const uint8_t *bytes, size_t n) { return memcpy(lend(area, n), bytes, n); }
 
 static void try_check_and_weight(struct judged v) {
-    size_t n = some_size(16);
+    size_t n = some_size(SIMMERGATE_CHECK_BYTES);
     uint8_t *a = lend(&lent_answer, n);
-    answered(simmergate_check(lend_bytes(&lent_table, table, length), length, a, n), (uint64_t[]){v.number, v.place}, 2, "check");
-    n = some_size(24);
+    answered(simmergate_check(lend_bytes(&lent_table, table, length), length, a, n), (uint64_t[]){v.number, v.place, v.what, v.byte}, 4, "check");
+    n = some_size(SIMMERGATE_WEIGHT_BYTES);
     a = lend(&lent_answer, n);
-    answered(simmergate_weight(lend_bytes(&lent_table, table, length), length, a, n), (uint64_t[]){v.number, v.place, v.weight}, 3, "weight");
+    answered(simmergate_weight(lend_bytes(&lent_table, table, length), length, a, n), (uint64_t[]){v.number, v.place, v.weight, v.what, v.byte}, 5,
+             "weight");
     if (!holds(&lent_table, table, length, length)) fail("check or weight: the table changed");
 }
 
@@ -161,36 +162,37 @@ static void try_value(struct judged v, const uint8_t *t, size_t n) {
     static uint8_t bytes[4096];
     random_registers(registers);
     for (size_t i = 0; i < 2048; i++) bytes[i] = (uint8_t)(registers[i / 8] >> 8 * (i % 8));
-    size_t lent = chance(15) ? (size_t)below(4096) : 2048, room = some_size(24);
-    uint64_t wanted[3] = {v.number, v.place, 0};
+    size_t lent = chance(15) ? (size_t)below(4096) : 2048, room = some_size(SIMMERGATE_VALUE_BYTES);
+    uint64_t wanted[5] = {v.number, v.place, 0, v.what, v.byte};
     if (v.number == 0 && lent != 2048) wanted[0] = 6;
     if (wanted[0] == 0) wanted[2] = own_value(t, registers);
     uint8_t *a = lend(&lent_answer, room);
     const uint8_t *r = lend_bytes(&lent_registers, bytes, lent), *lent_t = lend_bytes(&lent_table, t, n);
-    answered(simmergate_value(lent_t, n, r, lent, a, room), wanted, 3, "value");
+    answered(simmergate_value(lent_t, n, r, lent, a, room), wanted, 5, "value");
     if (!holds(&lent_table, t, n, n) || !holds(&lent_registers, bytes, lent, lent)) fail("value: the table or the registers changed");
 }
 
 static void try_equal(struct judged v) {
     struct judged w = judge(other, other_length);
-    uint64_t wanted[4] = {0, 0, 0, 0};
-    if (v.number != 0) { wanted[0] = v.number; wanted[1] = v.place; wanted[2] = 1; }
-    else if (w.number != 0) { wanted[0] = w.number; wanted[1] = w.place; wanted[2] = 2; }
-    else {
+    uint64_t wanted[6] = {0, 0, 0, 0, 0, 0};
+    if (v.number != 0 || w.number != 0) {
+        struct judged bad = v.number != 0 ? v : w;
+        wanted[0] = bad.number, wanted[1] = bad.place, wanted[2] = v.number != 0 ? 1 : 2, wanted[4] = bad.what, wanted[5] = bad.byte;
+    } else {
         wanted[3] = (uint64_t)equal_trees(table, other);
         if (wanted[3] == 1) equal_seen++;
         else unequal_seen++;
     }
-    size_t room = some_size(32);
+    size_t room = some_size(SIMMERGATE_EQUAL_BYTES);
     uint8_t *a = lend(&lent_answer, room);
     const uint8_t *s = lend_bytes(&lent_table, table, length), *t = lend_bytes(&lent_other, other, other_length);
-    answered(simmergate_equal(s, length, t, other_length, a, room), wanted, 4, "equal");
+    answered(simmergate_equal(s, length, t, other_length, a, room), wanted, 6, "equal");
     if (!holds(&lent_table, table, length, length) || !holds(&lent_other, other, other_length, other_length)) fail("equal: a table changed");
 }
 
 /* What an accepted call left: the records and steps that the plain C has, and zeros. */
 static void try_result(struct judged v, const uint64_t *said, struct simplified own, const uint8_t *own_out, const uint8_t *own_steps) {
-    static uint8_t result[49152], again[49152], again_steps[3072], again_work[65536], again_answer[56];
+    static uint8_t result[49152], again[49152], again_steps[3072], again_work[65536], again_answer[SIMMERGATE_SIMPLIFY_BYTES];
     uint64_t records = said[2], given = said[3], opened = said[4];
     if (said[1] != 0 || records != own.records || given != own.steps || opened != own.openings) fail("simplify: other counts than the plain C's");
     memcpy(result, own_out, 16 * records);
@@ -209,31 +211,33 @@ static void try_result(struct judged v, const uint64_t *said, struct simplified 
     uint32_t r = simmergate_simplify(result, 16 * records, again, sizeof again, again_steps, sizeof again_steps, again_work, sizeof again_work,
                                      again_answer, sizeof again_answer);
     calls++;
-    uint64_t wanted[7] = {0, 0, records, 0, 0, after.weight, after.weight};
-    if (r != 0 || memcmp(again_answer, numbers(wanted, 7), 56) != 0 || memcmp(again, result, 16 * records) != 0)
+    uint64_t wanted[9] = {0, 0, records, 0, 0, after.weight, after.weight, 0, 0};
+    if (r != 0 || memcmp(again_answer, numbers(wanted, 9), sizeof again_answer) != 0 || memcmp(again, result, 16 * records) != 0)
         fail("simplify: the result simplified again is not itself");
     steps_seen += given;
     openings_seen += opened;
 }
 
 static void try_simplify(struct judged v) {
-    size_t w = v.number == 0 ? (size_t)v.weight : (size_t)below(50), room = some_size(56);
+    size_t w = v.number == 0 ? (size_t)v.weight : (size_t)below(50), room = some_size(SIMMERGATE_SIMPLIFY_BYTES);
     size_t out_size = some_size(16 * w), steps_size = some_size(w), work_size = some_size(65536);
     const uint8_t *t = lend_bytes(&lent_table, table, length);
     uint8_t *o = lend(&lent_out, out_size), *s = lend(&lent_steps, steps_size), *k = lend(&lent_work, work_size), *a = lend(&lent_answer, room);
     uint32_t number = simmergate_simplify(t, length, o, out_size, s, steps_size, k, work_size, a, room);
     if (!holds(&lent_table, table, length, length)) fail("simplify: the table changed");
     if (v.number == 0 && (out_size < 16 * w || steps_size < w || work_size < 65536)) v.number = 6;
-    if (v.number != 0 || room < 56) {
-        answered(number, (uint64_t[]){v.number, v.place, 0, 0, 0, 0, 0}, 7, "simplify");
+    if (v.number != 0 || room < SIMMERGATE_SIMPLIFY_BYTES) {
+        answered(number, (uint64_t[]){v.number, v.place, 0, 0, 0, 0, 0, v.what, v.byte}, 9, "simplify");
         if (!untouched(&lent_out) || !untouched(&lent_steps) || !untouched(&lent_work)) fail("simplify: refused, and a lent byte changed");
-        counts[room < 56 ? 6 : v.number]++;
+        flaws[room < SIMMERGATE_SIMPLIFY_BYTES ? 0 : v.what]++;
+        counts[room < SIMMERGATE_SIMPLIFY_BYTES ? 6 : v.number]++;
         return;
     }
     calls++;
-    uint64_t said[7];
-    for (int i = 0; i < 7; i++) said[i] = own_number(a + 8 * i);
-    if (!holds(&lent_answer, a, 56, 56)) fail("simplify: changed past the answer");
+    uint64_t said[9];
+    for (int i = 0; i < 9; i++) said[i] = own_number(a + 8 * i);
+    if (!holds(&lent_answer, a, SIMMERGATE_SIMPLIFY_BYTES, SIMMERGATE_SIMPLIFY_BYTES)) fail("simplify: changed past the answer");
+    if (said[7] != 0 || said[8] != 0) fail("simplify: a good table, and something is wrong with a record");
     if (said[0] != number || (number != 0 && number != 7)) fail("simplify: a good table refused by another number than 7");
     if (!holds(&lent_work, lent_zeros, 0, 65536)) fail("simplify: work is not zero, or changed past its stretch");
     counts[number]++;
@@ -271,12 +275,16 @@ int main(int argc, char **argv) {
         for (int i = 0; i < 8; i++) {
             if (counts[i] == 0) { printf("random: no table of seed %llu was answered %d: nothing is shown of it\n", (unsigned long long)seed, i); return 1; }
         }
+        for (int i = 1; i < 4; i++) {
+            if (flaws[i] == 0) { printf("random: no table of seed %llu has what is wrong %d: nothing is shown of it\n", (unsigned long long)seed, i); return 1; }
+        }
         if (equal_seen == 0 || unequal_seen == 0) { printf("random: no equal or no unequal tables\n"); return 1; }
     }
     printf("random tables beside plain C: %llu (seed %llu), %llu calls; simplified %llu (%llu steps, %llu openings, all bytes equal, values equal), refused 1 to 7:",
            (unsigned long long)count, (unsigned long long)seed, (unsigned long long)calls, (unsigned long long)counts[0],
            (unsigned long long)steps_seen, (unsigned long long)openings_seen);
     for (int i = 1; i < 8; i++) printf(" %llu", (unsigned long long)counts[i]);
-    printf("; equal %llu, unequal %llu\n", (unsigned long long)equal_seen, (unsigned long long)unequal_seen);
+    printf("; of 2 by kind %llu, byte %llu, count %llu; equal %llu, unequal %llu\n", (unsigned long long)flaws[1], (unsigned long long)flaws[2],
+           (unsigned long long)flaws[3], (unsigned long long)equal_seen, (unsigned long long)unequal_seen);
     return 0;
 }

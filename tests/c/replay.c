@@ -1,8 +1,10 @@
 /* replay FILE LINES: replays a file of stored answers (on standard input, so many lines; see tests/answers/README.md) through
-   simmergate_simplify. On every table: the returned number, the seven numbers of the answer, every byte of out, steps and work, and the
-   bytes around them, with areas exactly as large as they must be, larger ones, and each of them one byte too short. */
+   simmergate_simplify. On every table: the returned number, the nine numbers of the answer, every byte of out, steps and work, and the
+   bytes around them, with areas exactly as large as they must be, larger ones, and each of them one byte too short. What is wrong with a
+   record is as own.c says, and as the line says where it does. */
 #include "../../include/simmergate.h"
 #include "lent.h"
+#include "own.h"
 #include "text.h"
 
 static struct lent table = {.name = "table"}, out = {.name = "out"}, steps = {.name = "steps"}, work = {.name = "work"},
@@ -10,6 +12,7 @@ static struct lent table = {.name = "table"}, out = {.name = "out"}, steps = {.n
 static uint8_t given[65536], wanted_out[49152], wanted_steps[3072];
 static const char *name;
 static long calls;
+enum { ANSWER = SIMMERGATE_SIMPLIFY_BYTES };
 
 static void fail(const char *what) {
     printf("replay: line `%s`: %s (out %zu, steps %zu, work %zu, answer %zu bytes lent)\n", name, what, out.length, steps.length, work.length,
@@ -18,19 +21,19 @@ static void fail(const char *what) {
 }
 
 /* What the call must say on areas that are large enough. */
-static struct { size_t length; uint64_t weight, numbers[7]; } wanted;
+static struct { size_t length; uint64_t weight, numbers[9]; } wanted;
 
 /* One call on areas of these sizes. */
 static void call(size_t out_length, size_t steps_length, size_t work_length, size_t answer_length) {
     uint8_t *t = lend(&table, wanted.length);
-    uint64_t expected[7];
+    uint64_t expected[9];
     uint64_t records = wanted.numbers[2], count = wanted.numbers[3];
     memcpy(t, given, wanted.length);
     uint8_t *o = lend(&out, out_length), *s = lend(&steps, steps_length), *w = lend(&work, work_length), *a = lend(&answer, answer_length);
     uint32_t number = simmergate_simplify(t, wanted.length, o, out_length, s, steps_length, w, work_length, a, answer_length);
     calls++;
     if (!holds(&table, given, wanted.length, wanted.length)) fail("the table or what is around it changed");
-    if (answer_length < 56) {
+    if (answer_length < ANSWER) {
         if (number != 6) fail("the answer is too short, and the call does not return 6");
         if (!untouched(&answer) || !untouched(&out) || !untouched(&steps) || !untouched(&work)) fail("the answer is too short, and a byte changed");
         return;
@@ -42,7 +45,7 @@ static void call(size_t out_length, size_t steps_length, size_t work_length, siz
         expected[0] = 6;
     }
     if (number != expected[0]) fail("the returned number is another one");
-    if (!holds(&answer, numbers(expected, 7), 56, 56)) fail("the answer or what is around it is another one");
+    if (!holds(&answer, numbers(expected, 9), ANSWER, ANSWER)) fail("the answer or what is around it is another one");
     if (number != 0 && number != 7) {
         if (!untouched(&out) || !untouched(&steps) || !untouched(&work)) fail("refused, and a lent byte changed");
         return;
@@ -54,7 +57,7 @@ static void call(size_t out_length, size_t steps_length, size_t work_length, siz
 }
 
 int main(int argc, char **argv) {
-    long lines = 0, accepted = 0, left_range = 0;
+    long lines = 0, accepted = 0, left_range = 0, named = 0;
     lent_begin();
     while (next_line()) {
         char *parts[6];
@@ -62,7 +65,12 @@ int main(int argc, char **argv) {
         if (cut(line, parts, 6) != 6) fail("not six parts");
         wanted.length = unhex(parts[1], given, sizeof given);
         if (!read_verdict(parts[2], wanted.numbers)) fail("no verdict");
-        uint64_t number = wanted.numbers[0];
+        uint64_t number = wanted.numbers[0], *field = wanted.numbers + 7;
+        struct verdict own = own_check(given, wanted.length);
+        if (own.number != (number == 7 ? 0 : number)) fail("the test's own reading is refused otherwise");
+        if (field[0] != 0 && (field[0] != own.what || field[1] != own.byte)) fail("the test's own reading finds something else wrong with the record");
+        named += field[0] != 0;
+        field[0] = own.what, field[1] = own.byte;
         size_t count = strlen(parts[3]);
         if (count != wanted.numbers[3] || count > sizeof wanted_steps) fail("the steps are not as many as the verdict says");
         for (size_t i = 0; i < count; i++) wanted_steps[i] = (uint8_t)(parts[3][i] - '0');
@@ -71,23 +79,24 @@ int main(int argc, char **argv) {
         for (size_t i = 0; i + 16 <= wanted.length; i += 16) wanted.weight += given[i] == 1 ? 2 : 0;
         if (number == 0 && wanted.weight != wanted.numbers[5]) fail("the weight is not the one that the verdict says");
         size_t w = wanted.weight > 3072 ? 3072 : (size_t)wanted.weight;
-        call(16 * w, w, 65536, 56);
-        call(16 * w + 1, w + 1, 65537, 57);
-        call(16 * w + 4096, w + 1000, 65536 + 4096, 64);
+        call(16 * w, w, 65536, ANSWER);
+        call(16 * w + 1, w + 1, 65537, ANSWER + 1);
+        call(16 * w + 4096, w + 1000, 65536 + 4096, ANSWER + 8);
         if (w > 0) {
-            call(16 * w - 1, w, 65536, 56);
-            call(16 * w, w - 1, 65536, 56);
+            call(16 * w - 1, w, 65536, ANSWER);
+            call(16 * w, w - 1, 65536, ANSWER);
         }
-        call(16 * w, w, 65535, 56);
-        call(16 * w, w, 65536, 55);
-        call(0, 0, 0, 56);
+        call(16 * w, w, 65535, ANSWER);
+        call(16 * w, w, 65536, ANSWER - 1);
+        call(0, 0, 0, ANSWER);
+        call(16 * w, w, 65536, ANSWER - 16);
         call(16 * w, w, 65536, 0);
         lines++;
         accepted += number == 0;
         left_range += number == 7;
     }
     if (argc != 3 || (uint64_t)lines != decimal(argv[2])) { printf("replay: %ld stored answers on standard input, not as many as they should be\n", lines); return 1; }
-    printf("stored answers of %s: %ld tables (%ld accepted, %ld out of range, %ld refused otherwise), %ld calls, all bytes as stored\n", argv[1], lines,
-           accepted, left_range, lines - accepted - left_range, calls);
+    printf("stored answers of %s: %ld tables (%ld accepted, %ld out of range, %ld refused otherwise, %ld with what is wrong), %ld calls, all bytes as stored\n", argv[1], lines,
+           accepted, left_range, lines - accepted - left_range, named, calls);
     return 0;
 }

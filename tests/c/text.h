@@ -70,15 +70,18 @@ static inline size_t cut(char *text, char **parts, size_t most) {
     return n;
 }
 
-/* The seven numbers of an answer that `refused NUMBER at PLACE` or `ok RECORDS STEPS OPENINGS WEIGHT-IN WEIGHT-OUT` says; 0 where it is
-   neither. */
+/* The nine numbers of an answer that `refused NUMBER at PLACE`, with ` kind`, ` byte N` or ` count` where it says what is wrong with the
+   record, or `ok RECORDS STEPS OPENINGS WEIGHT-IN WEIGHT-OUT` says; 0 where it is neither. */
 static inline int read_verdict(const char *text, uint64_t *numbers) {
     char *end = NULL;
-    memset(numbers, 0, 7 * sizeof *numbers);
+    memset(numbers, 0, 9 * sizeof *numbers);
     if (strncmp(text, "refused ", 8) == 0) {
         numbers[0] = strtoull(text + 8, &end, 10);
         if (strncmp(end, " at ", 4) != 0) return 0;
         numbers[1] = strtoull(end + 4, &end, 10);
+        if (strcmp(end, " kind") == 0) numbers[7] = 1, end += 5;
+        else if (strncmp(end, " byte ", 6) == 0) numbers[7] = 2, numbers[8] = strtoull(end + 6, &end, 10);
+        else if (strcmp(end, " count") == 0) numbers[7] = 3, end += 6;
     } else if (strncmp(text, "ok ", 3) == 0) {
         end = (char *)text + 2;
         for (int i = 2; i < 7; i++) numbers[i] = strtoull(end, &end, 10);

@@ -4,6 +4,8 @@
 use mathlib.Core.Path.{_≡_, sym, ap, _∙_}
 use Rattle.paper.specs.Answers as paper
 use Rattle.paper.specs.Once.{Once}
+use Rattle.record.specs.declared.Flaw.{Flaw}
+use Rattle.record.proofs.Unique.{codeOf, code-of}
 use Rattle.equal.specs.Compared.{says}
 use Rattle.equal.specs.declared.Compared.{Compared}
 use Rattle.equal.proofs.equal.Reads as reads
@@ -15,9 +17,17 @@ use Rattle.equal.proofs.same.Kinds as same-kinds
 use Rattle.equal.proofs.same_rest.Reads as same-rest
 use Rattle.equal.proofs.same_rest.Kinds as same-rest-kinds
 
+-- the answer that has these numbers and this flaw
+comparedOf : paper.Compared → Compared
+comparedOf m = record { number = m .number; place = m .place; flaw = codeOf (m .flaw); which = m .which; yes = m .yes }
+
+compared-of : (r : Compared) → comparedOf (says r) ≡ r
+unfolding comparedOf
+compared-of r =
+    ap (λ (f : Flaw). record { number = r .number; place = r .place; flaw = f; which = r .which; yes = r .yes }) (code-of (r .flaw))
+
 says-once : (r r′ : Compared) → says r ≡ says r′ → r ≡ r′
-says-once r r′ e =
-    ap (λ (m : paper.Compared). record { number = m .number; place = m .place; which = m .which; yes = m .yes }) e
+says-once r r′ e = sym (compared-of r) ∙ ap comparedOf e ∙ compared-of r′
 
 pub equal-once : Once 2 kinds.ps kinds.r reads.Pre reads.Post
 equal-once κs a v v' x x' q p p' = says-once v v' (p ∙ sym p')

@@ -16,8 +16,8 @@ module _ (f : Simplifier) (alike : (s : List ℕ) → Bytes s → (l : Lent) →
   alike-meets =
       let d = simplified-meets in
       record {
-        refuses = λ s b l k p h g. rw (alike s b l) (d .refuses s b l k p h g);
-        leaves-alone = λ s b l k p h g e. rw (alike s b l) (d .leaves-alone s b l k p h g (rw (alike s b l) at e));
+        refuses = λ s b l v h g. rw (alike s b l) (d .refuses s b l v h g);
+        leaves-alone = λ s b l v h g e. rw (alike s b l) (d .leaves-alone s b l v h g (rw (alike s b l) at e));
         clears = λ s b l p e. rw (alike s b l) (d .clears s b l p (rw (alike s b l) at e));
         runs-over = λ s b l p. rw (alike s b l) (d .runs-over s b l p);
         follows = λ s b l j t u ks o r e. rw (alike s b l) (d .follows s b l j t u ks o r e);

@@ -15,13 +15,13 @@ use Rattle.paper.specs.Limits.{maxWeight}
 use Rattle.paper.specs.Bytes.{Bytes, stretch}
 use Rattle.paper.specs.Tree.{Tree, weight, records}
 use Rattle.paper.specs.Table.{encode}
-use Rattle.paper.specs.Record.{weightFrom}
-use Rattle.paper.specs.Verdict.{Verdict, accepted, refused, isAccepted, badLength, firstFlawed, tableWeight, treeEnd}
+use Rattle.paper.specs.Record.{weightFrom, Flaw, sound, flaw}
+use Rattle.paper.specs.Verdict.{Verdict, accepted, told, refused, isAccepted, badLength, firstFlawed, tableWeight, treeEnd}
 use Rattle.paper.specs.Verdict.{firstBadExponent}
 use Rattle.paper.specs.Verdict.{recordsIn, judgeRecords, verdict}
 use Rattle.paper.specs.Driver.{Ran}
 use Rattle.paper.specs.Answers.{Lent, Answer, Given, turned-down, ran, cramped, judgement, runOn, outcomeOf}
-use Rattle.paper.specs.Answers.{refusal, ranAnswer, answerOf, outAfter, stepsAfter, workAfter, lentAfter, simplifiedBy}
+use Rattle.paper.specs.Answers.{refusedBy, ranAnswer, answerOf, outAfter, stepsAfter, workAfter, lentAfter, simplifiedBy}
 use Rattle.paper.specs.Demands.{result}
 use Rattle.paper.proofs.EncodeLaws.{encode-length}
 use Rattle.paper.proofs.AcceptedLaws.{Holds, accepted-holds}
@@ -31,9 +31,9 @@ use Rattle.paper.proofs.AcceptedLaws.{Holds, accepted-holds}
 abbrev Plain : ℕ → Verdict → Type 0
 Plain k v = (isAccepted v ≡ true → v ≡ accepted) × (v .number ≤ k)
 
-refused-plain : {k : ℕ} (j p : ℕ) → 1 ≤ j → j ≤ k → Plain k (refused j p)
+told-plain : {k : ℕ} (j p : ℕ) (f : Flaw) → 1 ≤ j → j ≤ k → Plain k (told j p f)
 unfolding isAccepted
-refused-plain j p h g = (λ e. absurd (let z : j ≡ 0 = eqb-true j 0 e in omega arith), g)
+told-plain j p f h g = (λ e. absurd (let z : j ≡ 0 = eqb-true j 0 e in omega arith), g)
 
 accepted-plain : (k : ℕ) → Plain k accepted
 accepted-plain k = (λ e. refl, omega arith)
@@ -46,26 +46,26 @@ verdict-plain : (s : List ℕ) → Plain 6 (verdict s)
 unfolding verdict judgeRecords
 verdict-plain s =
     let n = recordsIn s in
-    cond-plain (badLength (length s)) _ _ (refused-plain 1 0 (omega arith) (omega arith))
-    (cond-plain (ltb (firstFlawed s 0 n) n) _ _ (refused-plain 2 (firstFlawed s 0 n) (omega arith) (omega arith))
-    (cond-plain (ltb maxWeight (weightFrom s 0 n)) _ _ (refused-plain 3 0 (omega arith) (omega arith))
-    (cond-plain (not (eqb (treeEnd s n 0) n)) _ _ (refused-plain 4 (min (treeEnd s n 0) n) (omega arith) (omega arith))
-    (cond-plain (ltb (firstBadExponent s n 0 n) n) _ _ (refused-plain 5 (firstBadExponent s n 0 n) (omega arith) (omega arith))
+    cond-plain (badLength (length s)) _ _ (told-plain 1 0 sound (omega arith) (omega arith))
+    (cond-plain (ltb (firstFlawed s 0 n) n) _ _ (told-plain 2 (firstFlawed s 0 n) (flaw s (firstFlawed s 0 n)) (omega arith) (omega arith))
+    (cond-plain (ltb maxWeight (weightFrom s 0 n)) _ _ (told-plain 3 0 sound (omega arith) (omega arith))
+    (cond-plain (not (eqb (treeEnd s n 0) n)) _ _ (told-plain 4 (min (treeEnd s n 0) n) sound (omega arith) (omega arith))
+    (cond-plain (ltb (firstBadExponent s n 0 n) n) _ _ (told-plain 5 (firstBadExponent s n 0 n) sound (omega arith) (omega arith))
     (accepted-plain 6)))))
 
 judgement-plain : (s : List ℕ) (l : Lent) → Plain 6 (judgement s l)
 unfolding judgement
 judgement-plain s l =
     cond-plain (isAccepted (verdict s)) _ _
-    (cond-plain (cramped (tableWeight s) l) _ _ (refused-plain 6 0 (omega arith) (omega arith)) (accepted-plain 6)) (verdict-plain s)
+    (cond-plain (cramped (tableWeight s) l) _ _ (told-plain 6 0 sound (omega arith) (omega arith)) (accepted-plain 6)) (verdict-plain s)
 
 pub verdict-accepted : (s : List ℕ) → isAccepted (verdict s) ≡ true → verdict s ≡ accepted
 verdict-accepted s e = verdict-plain s .0 e
 
 -- a checker's answer with number 0 accepts
-pub told-accepted : (s : List ℕ) (k p : ℕ) → refused k p ≡ verdict s → k ≤ 0 → verdict s ≡ accepted
+pub told-accepted : (s : List ℕ) (k p : ℕ) (f : Flaw) → told k p f ≡ verdict s → k ≤ 0 → verdict s ≡ accepted
 unfolding isAccepted
-told-accepted s k p e h = verdict-accepted s (rw (← e, eq-eqb k 0 (omega arith)))
+told-accepted s k p f e h = verdict-accepted s (rw (← e, eq-eqb k 0 (omega arith)))
 
 -- a judgement is accepted only where the verdict is, and there is room
 pub judgement-accepted : (s : List ℕ) (l : Lent) → judgement s l ≡ accepted → (verdict s ≡ accepted) × (cramped (tableWeight s) l ≡ false)
@@ -87,7 +87,7 @@ accepted-judgement s l e h = rw (e, h)
 pub record TurnedDown (run : Tree → Ran) (s : List ℕ) (l : Lent) : Type 0 where
   pub number : 1 ≤ judgement s l .number
   pub within : judgement s l .number ≤ 6
-  pub answer : simplifiedBy run s l .answer ≡ refusal (judgement s l .number) (judgement s l .place)
+  pub answer : simplifiedBy run s l .answer ≡ refusedBy (judgement s l)
   pub lent : simplifiedBy run s l .lent ≡ l
 
 -- or run on the tree of the table
@@ -136,13 +136,9 @@ module _ (run : Tree → Ran) (s : List ℕ) (l : Lent) where
           some-number (suc n) p q = omega arith
 
 -- ---- what a refusal's answer tells
-pub refusal-number : (k p j q : ℕ) → refusal k p ≡ refusal j q → k ≡ j
-unfolding refusal
-refusal-number k p j q e = ap (λ (a : Answer). a .number) e
-
-pub refusal-place : (k p j q : ℕ) → refusal k p ≡ refusal j q → p ≡ q
-unfolding refusal
-refusal-place k p j q e = ap (λ (a : Answer). a .place) e
+pub refusal-tells : (v w : Verdict) → refusedBy v ≡ refusedBy w → v ≡ w
+unfolding refusedBy
+refusal-tells v w e = ap (λ (a : Answer). told (a .number) (a .place) (a .flaw)) e
 
 -- the bytes of the result are those of the tree written
 pub result-written : (g : Given) (w : ℕ) (u : Tree) (old : List ℕ) → g .answer .records-written ≡ records u → g .lent .out ≡ stretch (16 * w) (encode u) old

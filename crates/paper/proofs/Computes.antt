@@ -17,7 +17,7 @@ use Rattle.paper.specs.Rules.{powerUnless, fromFactor, combineLikeFactor
 use Rattle.paper.specs.Driver.{ask, after, andThen, each, members, asSum, asProduct, openOne, opened, baseFrom, gather}
 use Rattle.paper.specs.Driver.{settle, gathered, visit, run, simplify}
 use Rattle.paper.specs.Answers.{measured, weighed, register, treeValue, registersVerdict, valued, cramped, judgement, runOn, outcomeOf}
-use Rattle.paper.specs.Answers.{refusal, ranAnswer, answerOf, written, noted, outAfter, stepsAfter, workAfter, lentAfter, simplifiedBy, simplified}
+use Rattle.paper.specs.Answers.{refusedBy, ranAnswer, answerOf, written, noted, outAfter, stepsAfter, workAfter, lentAfter, simplifiedBy, simplified}
 
 unfoldable pub trees-compute : Unit {0}
 unfolding toList ofList count records weight value word
@@ -58,5 +58,5 @@ driver-computes = tt
 unfoldable pub answers-compute : Unit {0}
 unfolding
     verdict-computes table-computes driver-computes stretch measured weighed register treeValue registersVerdict valued cramped
-    judgement runOn outcomeOf refusal ranAnswer answerOf written noted outAfter stepsAfter workAfter lentAfter simplifiedBy simplified
+    judgement runOn outcomeOf refusedBy ranAnswer answerOf written noted outAfter stepsAfter workAfter lentAfter simplifiedBy simplified
 answers-compute = tt

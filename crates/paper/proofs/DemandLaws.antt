@@ -11,46 +11,44 @@ use Rattle.paper.specs.Limits.{workBytes}
 use Rattle.paper.specs.Bytes.{Bytes, stretch}
 use Rattle.paper.specs.Tree.{Tree, weight, value}
 use Rattle.paper.specs.Table.{encode, treeOf}
-use Rattle.paper.specs.Verdict.{accepted, refused}
+use Rattle.paper.specs.Verdict.{Verdict, accepted, refused}
 use Rattle.paper.specs.Rules.{editionOne}
 use Rattle.paper.specs.Driver.{Ran, done, over, simplify}
-use Rattle.paper.specs.Answers.{Lent, Answer, Given, ran, judgement, refusal, ranAnswer, written, noted, outAfter, stepsAfter}
+use Rattle.paper.specs.Answers.{Lent, Answer, Given, ran, judgement, refusedBy, refusal, ranAnswer, written, noted, outAfter, stepsAfter}
 use Rattle.paper.specs.Answers.{workAfter}
 use Rattle.paper.specs.Answers.{lentAfter, simplifiedBy, simplified}
 use Rattle.paper.specs.Demands.{Simplifier, result, Refuses, LeavesAlone, Clears, RunsOver, Follows, Demands}
 use Rattle.paper.proofs.ReadLaws.{tree-of-written}
 use Rattle.paper.proofs.AcceptedLaws.{Holds}
-use Rattle.paper.proofs.CallLaws.{RunOn, Call, is-turned-down, is-run, call, refusal-number, refusal-place, result-written}
+use Rattle.paper.proofs.CallLaws.{RunOn, Call, is-turned-down, is-run, call, refusal-tells, result-written}
 use Rattle.paper.proofs.CallLaws.{same-tree}
 use Rattle.paper.proofs.Simplified.{Finished, simplify-finished}
 
 -- ---- the judging half holds around any run
 module _ (run : Tree → Ran) where
   -- a run's answer is no refusal 1 to 6
-  no-refusal : {A : Type 0} (w k p : ℕ) (r : Ran) → 1 ≤ k → k ≤ 6 → ranAnswer w r ≡ refusal k p → A
-  unfolding ranAnswer refusal
-  no-refusal w k p (done u ks o) h g e = absurd (let z : 0 ≡ k = ap (λ (a : Answer). a .number) e in omega arith)
-  no-refusal w k p (over j) h g e = absurd (let z : 7 ≡ k = refusal-number 7 j k p e in omega arith)
+  no-refusal : {A : Type 0} (w : ℕ) (v : Verdict) (r : Ran) → 1 ≤ v .number → v .number ≤ 6 → ranAnswer w r ≡ refusedBy v → A
+  unfolding ranAnswer refusedBy
+  no-refusal w v (done u ks o) h g e = absurd (let z : 0 ≡ v .number = ap (λ (a : Answer). a .number) e in omega arith)
+  no-refusal w v (over j) h g e = absurd (let z : 7 ≡ v .number = ap (λ (a : Answer). a .number) e in omega arith)
 
   judges : Refuses (simplifiedBy run)
-  judges s b l k p h g = (there (call run s l b), back (call run s l b))
+  judges s b l v h g = (there (call run s l b), back (call run s l b))
     where
-      there : Call run s l → simplifiedBy run s l .answer ≡ refusal k p → judgement s l ≡ refused k p
-      there (is-turned-down d) e =
-          let x = sym (d .answer) ∙ e in
-          ap (λ n. refused n (judgement s l .place)) (refusal-number _ _ k p x) ∙ ap (refused k) (refusal-place _ _ k p x)
-      there (is-run r) e = no-refusal _ k p _ h g (sym (r .answer) ∙ e)
+      there : Call run s l → simplifiedBy run s l .answer ≡ refusedBy v → judgement s l ≡ v
+      there (is-turned-down d) e = refusal-tells (judgement s l) v (sym (d .answer) ∙ e)
+      there (is-run r) e = no-refusal _ v _ h g (sym (r .answer) ∙ e)
 
-      back : Call run s l → judgement s l ≡ refused k p → simplifiedBy run s l .answer ≡ refusal k p
-      back (is-turned-down d) e = d .answer ∙ ap (λ v. refusal (v .number) (v .place)) e
-      back (is-run r) e = absurd (let z : 0 ≡ k = ap (λ v. v .number) (sym (r .accepts) ∙ e) in omega arith)
+      back : Call run s l → judgement s l ≡ v → simplifiedBy run s l .answer ≡ refusedBy v
+      back (is-turned-down d) e = d .answer ∙ ap refusedBy e
+      back (is-run r) e = absurd (let z : 0 ≡ v .number = ap (λ v. v .number) (sym (r .accepts) ∙ e) in omega arith)
 
   leaves : LeavesAlone (simplifiedBy run)
-  leaves s b l k p h g e = go (call run s l b)
+  leaves s b l v h g e = go (call run s l b)
     where
       go : Call run s l → simplifiedBy run s l .lent ≡ l
       go (is-turned-down d) = d .lent
-      go (is-run r) = no-refusal _ k p _ h g (sym (r .answer) ∙ e)
+      go (is-run r) = no-refusal _ v _ h g (sym (r .answer) ∙ e)
 
   -- after 7: the call was accepted, and the run went over
   pub record WentOver (s : List ℕ) (l : Lent) (p : ℕ) : Type 0 where
@@ -58,16 +56,16 @@ module _ (run : Tree → Ran) where
     pub at : run (on .holds .tree) ≡ over p
 
   ran-over : (w p : ℕ) (r : Ran) → ranAnswer w r ≡ refusal 7 p → r ≡ over p
-  unfolding ranAnswer refusal
+  unfolding ranAnswer refusedBy
   ran-over w p (done u ks o) e = absurd (let z : _≡_ {A = ℕ} 0 7 = ap (λ (a : Answer). a .number) e in omega arith)
-  ran-over w p (over j) e = ap over (refusal-place 7 j 7 p e)
+  ran-over w p (over j) e = ap over (ap (λ (v : Verdict). v .place) (refusal-tells (refused 7 j) (refused 7 p) e))
 
   went-over : (s : List ℕ) → Bytes s → (l : Lent) (p : ℕ) → simplifiedBy run s l .answer ≡ refusal 7 p → WentOver s l p
   went-over s b l p e = go (call run s l b)
     where
       go : Call run s l → WentOver s l p
       go (is-turned-down d) =
-          absurd (let z : judgement s l .number ≡ 7 = refusal-number _ _ 7 p (sym (d .answer) ∙ e) in omega (arith, d .within))
+          absurd (let z : judgement s l .number ≡ 7 = ap (λ (v : Verdict). v .number) (refusal-tells (judgement s l) (refused 7 p) (sym (d .answer) ∙ e)) in omega (arith, d .within))
       go (is-run r) = record { on = r; at = ran-over _ p _ (sym (r .answer) ∙ e) }
 
   clearing : Clears (simplifiedBy run)
@@ -123,7 +121,7 @@ pub record Done (s : List ℕ) (l : Lent) : Type 0 where
   pub read-back : treeOf (result (simplified s l)) ≡ some tree-out
 
 pub call-done : (s : List ℕ) → Bytes s → (l : Lent) → simplified s l .answer .number ≡ 0 → Done s l
-unfolding simplified ranAnswer refusal lentAfter outAfter written
+unfolding simplified ranAnswer refusedBy lentAfter outAfter written
 call-done s b l e = go (call (simplify editionOne) s l b)
   where
     by-run : (r : RunOn (simplify editionOne) s l) (x : Ran) → simplify editionOne (r .holds .tree) ≡ x → Done s l
@@ -201,10 +199,9 @@ demands-once f g p q s b l = alike f p ∙ sym (alike g q)
 
     by-call : (h : Simplifier) → Demands h → Call (simplify editionOne) s l → h s l ≡ simplified s l
     by-call h d (is-turned-down t) =
-        let k = judgement s l .number in
-        let n = judgement s l .place in
-        let x = d .refuses s b l k n (t .number) (t .within) .1 refl in
-        both h (x ∙ sym (t .answer)) (d .leaves-alone s b l k n (t .number) (t .within) x ∙ sym (t .lent))
+        let v = judgement s l in
+        let x = d .refuses s b l v (t .number) (t .within) .1 refl in
+        both h (x ∙ sym (t .answer)) (d .leaves-alone s b l v (t .number) (t .within) x ∙ sym (t .lent))
     by-call h d (is-run r) = by-run h d r (simplify editionOne (r .holds .tree)) refl
 
     alike : (h : Simplifier) → Demands h → h s l ≡ simplified s l

@@ -1,7 +1,7 @@
 -- Refusals 1 to 6 of a call are given exactly as the paper's table of refusals says, the lowest number winning. 1 to 5 are those of
 -- the table (Refusals); the test of 6 is its words; and it is made only where none of 1 to 5 applies. Assumes nothing.
 use Prim.Native.Nat.{ℕ, _*_, _≤_, _<_}
-use mathlib.Core.Path.{_≡_, refl, ap}
+use mathlib.Core.Path.{_≡_, refl, sym, ap, subst}
 use mathlib.Core.Bool.{Bool, true, false, cond, _||_}
 use mathlib.Core.List.{List}
 use mathlib.Core.Logic.{_⊎_, inl, inr, _↔_}
@@ -11,14 +11,15 @@ use lib.Dec.{ltb, lit≤}
 use borrow.Author.Tests.{ne-eqb, lt-ltb, ltb-true}
 use Rattle.paper.specs.Limits.{workBytes}
 use Rattle.paper.specs.Bytes.{Bytes}
-use Rattle.paper.specs.Verdict.{Verdict, accepted, refused, isAccepted, tableWeight, verdict}
-use Rattle.paper.specs.Answers.{Lent, cramped, judgement, refusal}
-use Rattle.paper.specs.Refusals.{Applies, refusal-1, refusal-2, refusal-3, refusal-4, refusal-5}
+use Rattle.paper.specs.Record.{Flaw}
+use Rattle.paper.specs.Verdict.{Verdict, accepted, told, refused, isAccepted, tableWeight, verdict}
+use Rattle.paper.specs.Answers.{Lent, cramped, judgement, refusedBy}
+use Rattle.paper.specs.Refusals.{Tells, Applies, refusal-1, refusal-2, refusal-3, refusal-4, refusal-5}
 use Rattle.paper.specs.Refusals.{Under, out-under, steps-under, work-under, AppliesToCall, of-table, refusal-6, Lowest}
 use Rattle.paper.specs.Demands.{Simplifier, Refuses}
 use Rattle.paper.specs.Takeover.{Room}
 use Rattle.paper.proofs.Tests.{true-not-false, not-so, or-either, or-left, or-right}
-use Rattle.paper.proofs.Refusals.{refusal-exactly, accepted-exactly}
+use Rattle.paper.proofs.Refusals.{verdict-exactly, accepted-exactly}
 use Rattle.paper.proofs.CallLaws.{verdict-accepted, judgement-accepted, accepted-judgement}
 
 -- 6: areas are cramped as the paper says
@@ -81,31 +82,33 @@ module _ (s : List ℕ) (l : Lent) where
       none u (of-table x) = h .lowest _ _ u x
       none u (refusal-6 x) = omega (arith, applies-within (h .applies) .1)
 
-  -- a refusal is given exactly when the paper's table says so, and at the place that it says
-  pub judgement-exactly : (k p : ℕ) → 0 < k → (judgement s l ≡ refused k p) ↔ Lowest (AppliesToCall s l) k p
+  -- a refusal is given exactly when the paper's table says so, at the place that it says, and tells what is wrong with the record
+  pub judgement-exactly : (v : Verdict) → 0 < v .number → (judgement s l ≡ v) ↔ (Lowest (AppliesToCall s l) (v .number) (v .place) × Tells s v)
   unfolding judgement isAccepted
-  judgement-exactly k p z = (λ e. down (isAccepted (verdict s)) refl (cramped (tableWeight s) l) refl e, λ h. up (h .applies) (h .lowest))
+  judgement-exactly v z =
+      (λ e. down (isAccepted (verdict s)) refl (cramped (tableWeight s) l) refl e, λ h. up (v .flaw) (h .0 .applies) (h .0 .lowest) (h .1))
     where
       down : (a : Bool) → isAccepted (verdict s) ≡ a → (c : Bool) → cramped (tableWeight s) l ≡ c
-          → cond a (cond c (refused 6 0) accepted) (verdict s) ≡ refused k p → Lowest (AppliesToCall s l) k p
+          → cond a (cond c (refused 6 0) accepted) (verdict s) ≡ v → Lowest (AppliesToCall s l) (v .number) (v .place) × Tells s v
       down true a true c e =
-          let n : 6 ≡ k = ap (λ (v : Verdict). v .number) e in
-          let q : 0 ≡ p = ap (λ (v : Verdict). v .place) e in
-          record {
-            applies = rw (← n, ← q) (refusal-6 (cramped-words (tableWeight s) l c));
-            lowest = λ j i u x. none-lower (verdict-accepted s a) (omega arith) x;
-          }
-      down true a false c e = absurd (let n : 0 ≡ k = ap (λ (v : Verdict). v .number) e in omega arith)
-      down false a c i e = still-lowest (refusal-exactly s k p z .0 e)
+          subst (λ (w : Verdict). Lowest (AppliesToCall s l) (w .number) (w .place) × Tells s w) e (
+            record {
+              applies = refusal-6 (cramped-words (tableWeight s) l c);
+              lowest = λ j i u x. none-lower (verdict-accepted s a) u x;
+            },
+            (λ e. absurd (omega arith), λ e. refl),
+          )
+      down true a false c e = absurd (let n : 0 ≡ v .number = ap (λ (w : Verdict). w .number) e in omega arith)
+      down false a c i e = let h = verdict-exactly s v z .0 e in (still-lowest (h .0), h .1)
 
-      up : {k p : ℕ} → AppliesToCall s l k p → ((j q : ℕ) → j < k → ¬ AppliesToCall s l j q) → judgement s l ≡ refused k p
-      up {k} {p} (of-table x) h =
-          let v : verdict s ≡ refused k p =
-          refusal-exactly s k p (applies-within x .0) .1 (record { applies = x; lowest = λ j q u y. h j q u (of-table y) }) in
+      up : {k p : ℕ} (f : Flaw) → AppliesToCall s l k p → ((j q : ℕ) → j < k → ¬ AppliesToCall s l j q) → Tells s (told k p f) → judgement s l ≡ told k p f
+      up {k} {p} f (of-table x) h w =
+          let v : verdict s ≡ told k p f =
+          verdict-exactly s (told k p f) (applies-within x .0) .1 (record { applies = x; lowest = λ j q u y. h j q u (of-table y) }, w) in
           rw (v, ne-eqb k 0 (λ e. omega (arith, applies-within x .0)))
-      up (refusal-6 x) h =
+      up f (refusal-6 x) h w =
           let v : verdict s ≡ accepted = accepted-exactly s .1 (λ j q y. h j q (omega (arith, applies-within y .1)) (of-table y)) in
-          rw (v, words-cramped (tableWeight s) l x)
+          rw (v, words-cramped (tableWeight s) l x) (ap (told 6 0) (sym (w .1 (λ e. omega arith))))
 
   -- and none is given exactly when none applies
   pub judgement-accepted-exactly : (judgement s l ≡ accepted) ↔ ((k p : ℕ) → ¬ AppliesToCall s l k p)
@@ -121,9 +124,9 @@ module _ (s : List ℕ) (l : Lent) where
           (not-so (cramped (tableWeight s) l) (λ e. h 6 0 (refusal-6 (cramped-words (tableWeight s) l e))))
 
 -- so demand 1 speaks of the paper's words
-pub refuses-in-words : (f : Simplifier) → Refuses f → (s : List ℕ) → Bytes s → (l : Lent) (k p : ℕ) → 1 ≤ k → k ≤ 6
-    → (f s l .answer ≡ refusal k p) ↔ Lowest (AppliesToCall s l) k p
-refuses-in-words f r s b l k p h g =
-    let d = r s b l k p h g in
-    let w = judgement-exactly s l k p h in
+pub refuses-in-words : (f : Simplifier) → Refuses f → (s : List ℕ) → Bytes s → (l : Lent) (v : Verdict) → 1 ≤ v .number → v .number ≤ 6
+    → (f s l .answer ≡ refusedBy v) ↔ (Lowest (AppliesToCall s l) (v .number) (v .place) × Tells s v)
+refuses-in-words f r s b l v h g =
+    let d = r s b l v h g in
+    let w = judgement-exactly s l v h in
     (λ e. w .0 (d .0 e), λ x. d .1 (w .1 x))

@@ -8,7 +8,7 @@ use mathlib.Core.List.{List}
 use mathlib.Core.Logic.{_⊎_, inl, inr, _↔_}
 use native.Mathlib.Nat.{eq-or-lt-of-le}
 use native.Mathlib.Omega.{arith}
-use borrow.Author.Tests.{eq-eqb, ne-eqb, lt-ltb, eqb-true, eqb-false, ltb-true, ltb-false, not-true}
+use borrow.Author.Tests.{eq-eqb, ne-eqb, lt-ltb, le-ltb, eqb-true, eqb-false, ltb-true, ltb-false, not-true}
 use lib.Dec.{eqb, ltb, leb→le, le→leb, lit<}
 use lib.ListN.{length, getD}
 use lib.IntN.{pos, negsuc}
@@ -16,11 +16,11 @@ use lib.Signed.{_≤ℤ_}
 use mir.Syntax.{w64}
 use mir.Facts.{toZ-pos}
 use Rattle.paper.specs.Limits.{maxWeight, maxBytes}
-use Rattle.paper.specs.Record.{kind, countIn, bits, mayBe, stray, isNode, flaw, isFlawed}
-use Rattle.paper.specs.Verdict.{Verdict, refused, accepted, recordsIn, badLength, firstFlawed, tableWeight, treeEnd, isPositive}
+use Rattle.paper.specs.Record.{kind, countIn, bits, mayBe, stray, isNode, Flaw, sound, bad-kind, bad-byte, bad-count, flaw, isFlawed}
+use Rattle.paper.specs.Verdict.{Verdict, told, flawed, accepted, recordsIn, badLength, firstFlawed, tableWeight, treeEnd, isPositive}
 use Rattle.paper.specs.Verdict.{badExponent, firstBadExponent, judgeRecords, verdict}
 use Rattle.paper.specs.Refusals.{First, BadLength, is-zero, no-multiple, is-over, Flawed, kind-over, byte-other, count-under}
-use Rattle.paper.specs.Refusals.{BadShape, records-end, tree-ends, Exponent, after-base, AtLeastOne}
+use Rattle.paper.specs.Refusals.{Stray, Names, names-kind, names-byte, names-count, Tells, BadShape, records-end, tree-ends, Exponent, after-base, AtLeastOne}
 use Rattle.paper.specs.Refusals.{Applies, refusal-1, refusal-2, refusal-3, refusal-4, refusal-5, Lowest}
 use Rattle.paper.proofs.Tests.{true-not-false, not-so, and-both, or-either, or-left, or-right}
 use Rattle.paper.proofs.EncodeLaws.{signed-negative}
@@ -71,16 +71,36 @@ module _ (s : List ℕ) (i : ℕ) where
   unfolding flaw over under at-byte
   three-tests = flawed-tests over (ltb at-byte 16) under at-byte
 
+  -- the test of a byte
+  stray-of : (j : ℕ) → j < 16 → isStray s i (kind s i) j ≡ true → Stray s i j
+  unfolding isStray
+  stray-of j l t =
+      let p = and-both (not (eqb (getD s (i * 16 + j) 0) 0)) (eqb (mayBe (kind s i) j) 0) t in (
+        l,
+        eqb-false (getD s (i * 16 + j) 0) 0 (not-true (eqb (getD s (i * 16 + j) 0) 0) (p .0)),
+        eqb-true (mayBe (kind s i) j) 0 (p .1),
+      )
+
   -- the first stray byte is one, and comes no later than any
-  stray-words : at-byte < 16 → Flawed s i
-  unfolding at-byte isStray
-  stray-words l =
+  stray-at : at-byte < 16 → Stray s i at-byte
+  unfolding at-byte
+  stray-at l =
       let q : at-byte ≡ first (isStray s i (kind s i)) 0 16 = first-stray s i (kind s i) 0 16 in
-      let t : isStray s i (kind s i) at-byte ≡ true = rw q (first-true (isStray s i (kind s i)) 0 16 (omega arith)) in
-      let p = and-both (not (eqb (getD s (i * 16 + at-byte) 0) 0)) (eqb (mayBe (kind s i) at-byte) 0) t in
-      byte-other at-byte l
-      (eqb-false (getD s (i * 16 + at-byte) 0) 0 (not-true (eqb (getD s (i * 16 + at-byte) 0) 0) (p .0)))
-      (eqb-true (mayBe (kind s i) at-byte) 0 (p .1))
+      stray-of at-byte l (rw q (first-true (isStray s i (kind s i)) 0 16 (omega arith)))
+
+  stray-words : at-byte < 16 → Flawed s i
+  stray-words l = let x = stray-at l in byte-other at-byte l (x .1) (x .2)
+
+  is-stray : (j : ℕ) → Stray s i j → isStray s i (kind s i) j ≡ true
+  unfolding isStray
+  is-stray j x = rw (ne-eqb (getD s (i * 16 + j) 0) 0 (x .1), eq-eqb (mayBe (kind s i) j) 0 (x .2))
+
+  none-before : (j : ℕ) → j < at-byte → ¬ Stray s i j
+  unfolding at-byte
+  none-before j u x =
+      let p = isStray s i (kind s i) in
+      let q : at-byte ≡ first p 0 16 = first-stray s i (kind s i) 0 16 in
+      true-not-false (is-stray j x) (first-before p 0 16 j (omega arith) (omega arith))
 
   words-stray : (j : ℕ) → j < 16 → ¬ (getD s (i * 16 + j) 0 ≡ 0) → mayBe (kind s i) j ≡ 0 → at-byte < 16
   unfolding at-byte isStray
@@ -133,6 +153,41 @@ module _ (s : List ℕ) (i : ℕ) where
       three-tests ∙ or-left (over || ltb at-byte 16) under (or-right over (ltb at-byte 16) (lt-ltb at-byte 16 (words-stray j l x m)))
   words-flaw (count-under k l) =
       three-tests ∙ or-right (over || ltb at-byte 16) under (rw (words-node k, lt-ltb (countIn s i) 2 l))
+
+  -- what is wrong with a flawed record is what the paper names
+  flaw-names : isFlawed (flaw s i) ≡ true → Names s i (flaw s i)
+  unfolding flaw over under at-byte isFlawed
+  flaw-names h = go over refl (ltb at-byte 16) refl under refl h
+    where
+      go : (a : Bool) → over ≡ a → (b : Bool) → ltb at-byte 16 ≡ b → (c : Bool) → under ≡ c
+          → isFlawed (cond a bad-kind (cond b (bad-byte at-byte) (cond c bad-count sound))) ≡ true
+          → Names s i (cond a bad-kind (cond b (bad-byte at-byte) (cond c bad-count sound)))
+      go true x b y c z h = names-kind (ltb-true 4 (kind s i) x)
+      go false x true y c z h = names-byte (ltb-false 4 (kind s i) x) (stray-at (ltb-true at-byte 16 y), none-before)
+      go false x false y true z h =
+          let p = and-both (isNode (kind s i)) (ltb (countIn s i) 2) z in
+          names-count (ltb-false 4 (kind s i) x) (λ j w. omega (arith, ltb-false at-byte 16 y, words-stray j (w .0) (w .1) (w .2)))
+          (node-words (p .0)) (ltb-true (countIn s i) 2 (p .1))
+      go false x false y false z h = absurd (true-not-false h refl)
+
+  -- and nothing else is named
+  names-flaw : {f : Flaw} → Names s i f → flaw s i ≡ f
+  unfolding flaw over under at-byte
+  names-flaw (names-kind l) = rw (lt-ltb 4 (kind s i) l)
+  names-flaw (names-byte {j} k h) =
+      let p = isStray s i (kind s i) in
+      let q : at-byte ≡ j =
+      first-stray s i (kind s i) 0 16
+      ∙ first-is p 0 16 j (omega arith) (omega (arith, h .0 .0))
+      (λ m u v. not-so (p m) (λ e. h .1 m v (stray-of m (omega (arith, h .0 .0)) e))) (λ l. is-stray j (h .0)) in
+      rw (le-ltb 4 (kind s i) k, q, lt-ltb j 16 (h .0 .0))
+  names-flaw (names-count k h n c) =
+      rw (
+        le-ltb 4 (kind s i) k,
+        not-so (ltb at-byte 16) (λ e. h at-byte (stray-at (ltb-true at-byte 16 e))),
+        words-node n,
+        lt-ltb (countIn s i) 2 c,
+      )
 
 -- and the first flawed record is the first such
 flawed-words : (s : List ℕ) (n p : ℕ) → firstFlawed s 0 n < n → firstFlawed s 0 n ≡ p → First (λ i. (i < n) × Flawed s i) p
@@ -254,7 +309,7 @@ words-exponents s n p h = (small, go (eq-or-lt-of-le none-before))
     go (inl e) = e
     go (inr l) = absurd (h .1 q l (exponents-words s n q small refl .0))
 
--- the checker's five tests and places, by number
+-- the checker's five tests and places, by number, and what they say of a record
 test : List ℕ → ℕ → Bool
 test s zero = false
 test s (suc zero) = badLength (length s)
@@ -272,6 +327,12 @@ place s (suc (suc (suc zero))) = 0
 place s (suc (suc (suc (suc zero)))) = min (treeEnd s (recordsIn s) 0) (recordsIn s)
 place s (suc (suc (suc (suc (suc zero))))) = firstBadExponent s (recordsIn s) 0 (recordsIn s)
 place s (suc (suc (suc (suc (suc (suc k)))))) = 0
+
+what : List ℕ → ℕ → Flaw
+what s zero = sound
+what s (suc zero) = sound
+what s (suc (suc zero)) = flaw s (firstFlawed s 0 (recordsIn s))
+what s (suc (suc (suc k))) = sound
 
 -- the test of number k holds exactly when refusal k applies, at its place
 test-words : (s : List ℕ) (k : ℕ) → test s k ≡ true → Applies s k (place s k)
@@ -306,35 +367,39 @@ words-test s k p (refusal-5 {p = q} h) =
     let e = words-exponents s n q h in
     (lt-ltb (firstBadExponent s n 0 n) n (e .0), e .1, lit< tt, lit< tt)
 
--- tests in order: the first that holds gives its number and its place
-module _ (t : ℕ → Bool) (at : ℕ → ℕ) where
+-- tests in order: the first that holds gives its number, its place, and what it says
+module _ (t : ℕ → Bool) (at : ℕ → ℕ) (of : ℕ → Flaw) where
   ladder : ℕ → ℕ → Verdict
   ladder zero i = accepted
-  ladder (suc f) i = cond (t i) (refused i (at i)) (ladder f (i + 1))
+  ladder (suc f) i = cond (t i) (told i (at i) (of i)) (ladder f (i + 1))
 
-  ladder-down : (f i k p : ℕ) → 0 < k → ladder f i ≡ refused k p → (t k ≡ true) × (at k ≡ p) × All (λ j. t j ≡ false) i k
+  abbrev Rung : ℕ → ℕ → ℕ → Flaw → Type 0
+  Rung i k p g = (t k ≡ true) × (at k ≡ p) × All (λ j. t j ≡ false) i k × (of k ≡ g)
+
+  ladder-down : (f i k p : ℕ) (g : Flaw) → 0 < k → ladder f i ≡ told k p g → Rung i k p g
   unfolding ladder
-  ladder-down zero i k p l e = absurd (omega (arith, ap (λ (v : Verdict). v .number) e))
-  ladder-down (suc f) i k p l e = go (t i) refl (ladder-down f (i + 1) k p l) e
+  ladder-down zero i k p g l e = absurd (omega (arith, ap (λ (v : Verdict). v .number) e))
+  ladder-down (suc f) i k p g l e = go (t i) refl (ladder-down f (i + 1) k p g l) e
     where
-      go : (b : Bool) → t i ≡ b → (ladder f (i + 1) ≡ refused k p → (t k ≡ true) × (at k ≡ p) × All (λ j. t j ≡ false) (i + 1) k)
-          → cond b (refused i (at i)) (ladder f (i + 1)) ≡ refused k p → (t k ≡ true) × (at k ≡ p) × All (λ j. t j ≡ false) i k
+      go : (b : Bool) → t i ≡ b → (ladder f (i + 1) ≡ told k p g → Rung (i + 1) k p g)
+          → cond b (told i (at i) (of i)) (ladder f (i + 1)) ≡ told k p g → Rung i k p g
       go true b ih e =
           let n : i ≡ k = ap (λ (v : Verdict). v .number) e in
           let q : at i ≡ p = ap (λ (v : Verdict). v .place) e in
-          (subst (λ (x : ℕ). t x ≡ true) n b, subst (λ (x : ℕ). at x ≡ p) n q, λ j u v. absurd (omega arith))
+          let w : of i ≡ g = ap (λ (v : Verdict). v .flaw) e in
+          (subst (λ (x : ℕ). t x ≡ true) n b, subst (λ (x : ℕ). at x ≡ p) n q, λ j u v. absurd (omega arith), subst (λ (x : ℕ). of x ≡ g) n w)
       go false b ih e =
           let r = ih e in
-          (r .0, r .1, all-both (λ j. t j ≡ false) i (i + 1) k (all-one (λ j. t j ≡ false) i b) (r .2))
+          (r .0, r .1, all-both (λ j. t j ≡ false) i (i + 1) k (all-one (λ j. t j ≡ false) i b) (r .2), r .3)
 
-  ladder-up : (f i k : ℕ) → i ≤ k → k < i + f → t k ≡ true → All (λ j. t j ≡ false) i k → ladder f i ≡ refused k (at k)
+  ladder-up : (f i k : ℕ) → i ≤ k → k < i + f → t k ≡ true → All (λ j. t j ≡ false) i k → ladder f i ≡ told k (at k) (of k)
   unfolding ladder
   ladder-up zero i k u v h a = absurd (omega arith)
   ladder-up (suc f) i k u v h a = go (t i) refl (eq-or-lt-of-le u) (λ l. ladder-up f (i + 1) k l (omega arith) h (λ j x y. a j (omega arith) y))
     where
-      go : (b : Bool) → t i ≡ b → (i ≡ k) ⊎ (i < k) → (i + 1 ≤ k → ladder f (i + 1) ≡ refused k (at k))
-          → cond b (refused i (at i)) (ladder f (i + 1)) ≡ refused k (at k)
-      go true e (inl q) ih = ap (λ (x : ℕ). refused x (at x)) q
+      go : (b : Bool) → t i ≡ b → (i ≡ k) ⊎ (i < k) → (i + 1 ≤ k → ladder f (i + 1) ≡ told k (at k) (of k))
+          → cond b (told i (at i) (of i)) (ladder f (i + 1)) ≡ told k (at k) (of k)
+      go true e (inl q) ih = ap (λ (x : ℕ). told x (at x) (of x)) q
       go true e (inr l) ih = absurd (true-not-false e (a i (omega arith) l))
       go false e (inl q) ih = absurd (true-not-false h (subst (λ (x : ℕ). t x ≡ false) q e))
       go false e (inr l) ih = ih (omega arith)
@@ -345,7 +410,7 @@ module _ (t : ℕ → Bool) (at : ℕ → ℕ) where
   none-holds (suc f) i l e = go (t i) refl (none-holds f (i + 1) (omega arith)) e
     where
       go : (b : Bool) → t i ≡ b → (ladder f (i + 1) ≡ accepted → All (λ j. t j ≡ false) (i + 1) (i + 1 + f))
-          → cond b (refused i (at i)) (ladder f (i + 1)) ≡ accepted → All (λ j. t j ≡ false) i (i + suc f)
+          → cond b (told i (at i) (of i)) (ladder f (i + 1)) ≡ accepted → All (λ j. t j ≡ false) i (i + suc f)
       go true b ih e = absurd (omega (arith, ap (λ (v : Verdict). v .number) e))
       go false b ih e =
           let q : i + suc f ≡ i + 1 + f = omega arith in
@@ -357,34 +422,86 @@ module _ (t : ℕ → Bool) (at : ℕ → ℕ) where
   holds-none (suc f) i a = rw (a i (omega arith) (omega arith)) (holds-none f (i + 1) (λ j u v. a j (omega arith) (omega arith)))
 
 -- the checker is these five tests in order
-verdict-ladder : (s : List ℕ) → verdict s ≡ ladder (test s) (place s) 5 1
-unfolding verdict judgeRecords tableWeight ladder test place
+verdict-ladder : (s : List ℕ) → verdict s ≡ ladder (test s) (place s) (what s) 5 1
+unfolding verdict judgeRecords tableWeight ladder test place what
 verdict-ladder s = refl
 
--- a refusal is given exactly when the paper's table says so, and at the place that it says
-pub refusal-exactly : (s : List ℕ) (k p : ℕ) → 0 < k → (verdict s ≡ refused k p) ↔ Lowest (Applies s) k p
-refusal-exactly s k p l = (down, up)
-  where
-    down : verdict s ≡ refused k p → Lowest (Applies s) k p
-    down h =
-        let r = ladder-down (test s) (place s) 5 1 k p l (sym (verdict-ladder s) ∙ h) in
-        record {
-          applies = subst (λ (q : ℕ). Applies s k q) (r .1) (test-words s k (r .0));
-          lowest = λ j q u x. let y = words-test s j q x in true-not-false (y .0) (r .2 j (y .2) u);
-        }
+-- what the test of number k says of a record
+tells-what : (s : List ℕ) (k : ℕ) → test s k ≡ true → Tells s (told k (place s k) (what s k))
+unfolding test place what
+tells-what s zero h = absurd (true-not-false h refl)
+tells-what s (suc zero) h = (λ e. absurd (omega arith), λ n. refl)
+tells-what s (suc (suc zero)) h =
+    let n = recordsIn s in
+    let t : ℕ → Bool = λ j. isFlawed (flaw s j) in
+    let q : first t 0 n ≡ firstFlawed s 0 n = sym (first-flawed s 0 n) in
+    let l = ltb-true (firstFlawed s 0 n) n h in
+    (λ e. flaw-names s (firstFlawed s 0 n) (rw q at (first-true t 0 n (omega arith))), λ n. absurd (n refl))
+tells-what s (suc (suc (suc k))) h = (λ e. absurd (omega arith), λ n. refl)
 
-    up : Lowest (Applies s) k p → verdict s ≡ refused k p
-    up h =
+-- and nothing else is told
+what-told : (s : List ℕ) (k p : ℕ) (f : Flaw) → place s k ≡ p → Tells s (told k p f) → what s k ≡ f
+unfolding place what
+what-told s zero p f e h = sym (h .1 (λ e. omega arith))
+what-told s (suc zero) p f e h = sym (h .1 (λ e. omega arith))
+what-told s (suc (suc zero)) p f e h = ap (flaw s) e ∙ names-flaw s p (h .0 refl)
+what-told s (suc (suc (suc k))) p f e h = sym (h .1 (λ e. omega arith))
+
+-- the checker refuses exactly as the paper's table says, at the place that it says, and tells what is wrong with the record
+pub verdict-exactly : (s : List ℕ) (v : Verdict) → 0 < v .number → (verdict s ≡ v) ↔ (Lowest (Applies s) (v .number) (v .place) × Tells s v)
+verdict-exactly s v l = (down, λ h. up (h .0) (h .1))
+  where
+    k : ℕ
+    k = v .number
+
+    p : ℕ
+    p = v .place
+
+    down : verdict s ≡ v → Lowest (Applies s) k p × Tells s v
+    down h =
+        let r = ladder-down (test s) (place s) (what s) 5 1 k p (v .flaw) l (sym (verdict-ladder s) ∙ h) in (
+          record {
+            applies = subst (λ (q : ℕ). Applies s k q) (r .1) (test-words s k (r .0));
+            lowest = λ j q u x. let y = words-test s j q x in true-not-false (y .0) (r .2 j (y .2) u);
+          },
+          rw (r .1, r .3) at (tells-what s k (r .0)),
+        )
+
+    up : Lowest (Applies s) k p → Tells s v → verdict s ≡ v
+    up h w =
         let y = words-test s k p (h .applies) in
         verdict-ladder s
-        ∙ ladder-up (test s) (place s) 5 1 k (y .2) (y .3) (y .0)
+        ∙ ladder-up (test s) (place s) (what s) 5 1 k (y .2) (y .3) (y .0)
         (λ j u v. not-so (test s j) (λ e. h .lowest j (place s j) v (test-words s j e)))
-        ∙ ap (refused k) (y .1)
+        ∙ ap (λ (q : ℕ). told k q (what s k)) (y .1)
+        ∙ ap (told k p) (what-told s k p (v .flaw) (y .1) w)
+
+-- a refusal's number and place by themselves
+pub refusal-exactly : (s : List ℕ) (k p : ℕ) → 0 < k → ((verdict s .number ≡ k) × (verdict s .place ≡ p)) ↔ Lowest (Applies s) k p
+refusal-exactly s k p l = (down, up)
+  where
+    down : (verdict s .number ≡ k) × (verdict s .place ≡ p) → Lowest (Applies s) k p
+    down h = rw (h .0, h .1) at (verdict-exactly s (verdict s) (omega (arith, h .0)) .0 refl .0)
+
+    up : Lowest (Applies s) k p → (verdict s .number ≡ k) × (verdict s .place ≡ p)
+    up h =
+        let y = words-test s k p (h .applies) in
+        let e : verdict s ≡ told k p (what s k) =
+        verdict-exactly s (told k p (what s k)) l .1 (h, rw (y .1) at (tells-what s k (y .0))) in
+        (ap (λ (v : Verdict). v .number) e, ap (λ (v : Verdict). v .place) e)
+
+-- "The judgement of a single record should name what is wrong"
+pub flaw-exactly : (s : List ℕ) (p : ℕ) (f : Flaw) → (verdict s ≡ flawed p f) ↔ (Lowest (Applies s) 2 p × Names s p f)
+flaw-exactly s p f =
+    let w = verdict-exactly s (flawed p f) (lit< tt) in (
+      λ e. let x = w .0 e in (x .0, x .1 .0 refl),
+      λ h. w .1 (h .0, (λ e. h .1, λ n. absurd (n refl))),
+    )
 
 -- and none is given exactly when none applies
 pub accepted-exactly : (s : List ℕ) → (verdict s ≡ accepted) ↔ ((k p : ℕ) → ¬ Applies s k p)
 accepted-exactly s = (
   λ h k p x. let y = words-test s k p x in
-      true-not-false (y .0) (none-holds (test s) (place s) 5 1 (lit< tt) (sym (verdict-ladder s) ∙ h) k (y .2) (y .3)),
-  λ h. verdict-ladder s ∙ holds-none (test s) (place s) 5 1 (λ j u v. not-so (test s j) (λ e. h j (place s j) (test-words s j e))),
+      true-not-false (y .0) (none-holds (test s) (place s) (what s) 5 1 (lit< tt) (sym (verdict-ladder s) ∙ h) k (y .2) (y .3)),
+  λ h. verdict-ladder s ∙ holds-none (test s) (place s) (what s) 5 1 (λ j u v. not-so (test s j) (λ e. h j (place s j) (test-words s j e))),
 )

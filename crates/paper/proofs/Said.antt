@@ -2,12 +2,14 @@
 use mathlib.Core.Path.{_≡_, refl}
 use lib.ListN.{replicate}
 use Rattle.paper.specs.Sayings.{Sayings}
-use Rattle.paper.specs.Answers.{turnedDown, equalTrees, compared}
-use Rattle.paper.specs.Calls.{verdictNumbers, measuredNumbers, comparedNumbers, answerNumbers, eights, tooShort, returned, answered, weightReturns, weightAnswers}
+use Rattle.paper.specs.Record.{flawNumbers}
+use Rattle.paper.specs.Equal.{one}
+use Rattle.paper.specs.Answers.{turnedDown, equalTrees, compared, refusedBy}
+use Rattle.paper.specs.Calls.{verdictNumbers, measuredNumbers, comparedNumbers, answerNumbers, eights, tooShort, returned, answered, checkAnswers, weightReturns, weightAnswers, valueAnswers, equalAnswers}
 use Rattle.paper.proofs.Computes.{answers-compute}
 
 pub said : Sayings
-unfolding answers-compute turnedDown equalTrees compared verdictNumbers measuredNumbers comparedNumbers answerNumbers eights tooShort returned answered weightReturns weightAnswers
+unfolding answers-compute turnedDown equalTrees compared verdictNumbers measuredNumbers comparedNumbers answerNumbers eights tooShort returned answered checkAnswers weightReturns weightAnswers valueAnswers equalAnswers flawNumbers refusedBy one
 said = record {
   lengths = (refl, refl, refl, refl);
   zero-exponent = refl;
@@ -24,4 +26,15 @@ said = record {
   numbers-refused = refl;
   slice-short = (refl, refl);
   slice = (refl, refl);
+  kind-first = refl;
+  lowest-byte = refl;
+  byte-before-count = refl;
+  power-byte = refl;
+  count-last = refl;
+  first-record = refl;
+  check-says = refl;
+  weight-says = refl;
+  value-says = refl;
+  equal-says = refl;
+  simplify-says = refl;
 }

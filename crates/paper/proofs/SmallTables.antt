@@ -1,6 +1,7 @@
 -- The paper's words on small tables hold, by computation. Assumes nothing.
 use mathlib.Core.Path.{_≡_, refl}
 use lib.ListN.{replicate}
+use Rattle.paper.specs.Record.{flawNumbers}
 use Rattle.paper.specs.Equal.{one}
 use Rattle.paper.specs.Answers.{turnedDown, equalTrees, compared}
 use Rattle.paper.specs.Calls.{verdictNumbers, measuredNumbers, comparedNumbers, eights, tooShort, answered}
@@ -9,7 +10,7 @@ use Rattle.paper.specs.SmallTables.{Verdicts, Flaws, Values, Compares}
 use Rattle.paper.proofs.Computes.{verdict-computes, table-computes, answers-compute}
 
 pub verdicts : Verdicts
-unfolding verdict-computes table-computes verdictNumbers eights tooShort answered checkAnswers
+unfolding verdict-computes table-computes verdictNumbers eights tooShort answered checkAnswers flawNumbers
 verdicts = record {
   empty = refl;
   fifteen = refl;
@@ -44,7 +45,7 @@ flaws = record {
 }
 
 pub values : Values
-unfolding answers-compute measuredNumbers eights tooShort answered valueAnswers
+unfolding answers-compute measuredNumbers eights tooShort answered valueAnswers flawNumbers
 values = record {
   first-last = refl;
   second = refl;
@@ -59,7 +60,7 @@ values = record {
 }
 
 pub compares : Compares
-unfolding answers-compute turnedDown equalTrees compared one comparedNumbers eights tooShort answered equalAnswers
+unfolding answers-compute turnedDown equalTrees compared one comparedNumbers eights tooShort answered equalAnswers flawNumbers
 compares = record {
   any-order = refl;
   any-order-inside = refl;

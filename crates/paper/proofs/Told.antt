@@ -2,7 +2,7 @@
 -- of steps; steps, openings and weights are at most the weight of the table. Assumes nothing.
 use Prim.Native.Nat.{ℕ, zero, suc, _+_, _*_, _^_, _≤_, _<_, min}
 use mathlib.Core.Path.{_≡_, refl, sym, ap, _∙_, subst}
-use mathlib.Core.Bool.{Bool, true, false, cond, not}
+use mathlib.Core.Bool.{Bool, true, false, cond, not, _&&_}
 use mathlib.Core.List.{List, [], _∷_, _++_, append-assoc}
 use native.Mathlib.Omega.{arith}
 use lib.ListN.{length, getD}
@@ -12,14 +12,15 @@ use Rattle.paper.specs.Limits.{maxWeight}
 use Rattle.paper.specs.Bytes.{Bytes, bytes, le, le8}
 use Rattle.paper.specs.Tree.{Tree, weight}
 use Rattle.paper.specs.WellFormed.{WF}
-use Rattle.paper.specs.Record.{weightFrom}
-use Rattle.paper.specs.Verdict.{Verdict, accepted, refused, isAccepted, recordsIn, badLength, firstFlawed, tableWeight, treeEnd}
+use Rattle.paper.specs.Record.{kind, countIn, isNode, stray, Flaw, sound, bad-kind, bad-byte, bad-count, flaw, flawNumbers, weightFrom}
+use Rattle.paper.specs.Verdict.{Verdict, accepted, refused, flawed, isAccepted, recordsIn, badLength, firstFlawed, tableWeight, treeEnd}
 use Rattle.paper.specs.Verdict.{firstBadExponent, judgeRecords, verdict}
 use Rattle.paper.specs.Rules.{editionOne}
 use Rattle.paper.specs.Driver.{Ran, done, over, simplify}
-use Rattle.paper.specs.Answers.{Lent, Answer, cramped, judgement, refusal, ranAnswer, simplified}
+use Rattle.paper.specs.Answers.{Lent, Answer, cramped, judgement, refusedBy, ranAnswer, simplified}
 use Rattle.paper.specs.Calls.{answerNumbers, eights}
-use Rattle.paper.specs.Told.{answerIn, FitEight}
+use Rattle.paper.specs.Told.{flawFrom, answerIn, FitEight}
+use Rattle.paper.proofs.Slices.{answer-count}
 use Rattle.paper.proofs.BytesLaws.{le-bytes, length-bytes, le8-append, le8-append-add}
 use Rattle.paper.proofs.EncodeLaws.{records-weight}
 use Rattle.paper.proofs.VerdictLaws.{length-good}
@@ -28,13 +29,39 @@ use Rattle.paper.proofs.PlaceOfSeven.{Within, run-within}
 use Rattle.paper.proofs.Simplified.{simplify-finished}
 use Rattle.paper.proofs.CallLaws.{RunOn, Call, is-turned-down, is-run, call}
 
--- ---- places
+-- ---- places, and what is wrong with a record
 record PlaceIn (n : ℕ) (v : Verdict) : Type 0 where
   most : v .place ≤ n
+  fits : FitEight (flawNumbers (v .flaw))
 
-either : (n : ℕ) (b : Bool) (w v : Verdict) → (b ≡ true → w .place ≤ n) → PlaceIn n v → PlaceIn n (cond b w v)
-either n true w v h k = record { most = h refl }
+either : (n : ℕ) (b : Bool) (w v : Verdict) → (b ≡ true → PlaceIn n w) → PlaceIn n v → PlaceIn n (cond b w v)
+either n true w v h k = h refl
 either n false w v h k = k
+
+-- a refusal that says nothing of a record
+plain : (n k p : ℕ) → p ≤ n → PlaceIn n (refused k p)
+unfolding flawNumbers
+plain n k p h = record { most = h; fits = (omega arith, (omega arith, tt)) }
+
+-- a byte of a record is one of sixteen
+flaw-fits : (s : List ℕ) (i : ℕ) → FitEight (flawNumbers (flaw s i))
+unfolding flaw flawNumbers
+flaw-fits s i = kinds (ltb 4 (kind s i))
+  where
+    j : ℕ
+    j = stray s i (kind s i) 0 16
+
+    counts : (b : Bool) → FitEight (flawNumbers (cond b bad-count sound))
+    counts true = (omega arith, (omega arith, tt))
+    counts false = (omega arith, (omega arith, tt))
+
+    bytes-fit : (b : Bool) → ltb j 16 ≡ b → (r : Flaw) → FitEight (flawNumbers r) → FitEight (flawNumbers (cond b (bad-byte j) r))
+    bytes-fit true e r h = let l = ltb-true j 16 e in (omega arith, (omega arith, tt))
+    bytes-fit false e r h = h
+
+    kinds : (b : Bool) → FitEight (flawNumbers (cond b bad-kind (cond (ltb j 16) (bad-byte j) (cond (isNode (kind s i) && ltb (countIn s i) 2) bad-count sound))))
+    kinds true = (omega arith, (omega arith, tt))
+    kinds false = bytes-fit (ltb j 16) refl _ (counts (isNode (kind s i) && ltb (countIn s i) 2))
 
 under : (m n : ℕ) → ltb m n ≡ true → m ≤ n
 under m n e = let l = ltb-true m n e in omega arith
@@ -44,48 +71,54 @@ unfolding judgeRecords
 records-place s n =
     let z : 0 ≤ n = omega arith in
     let m : min (treeEnd s n 0) n ≤ n = omega arith in
-    either n (ltb (firstFlawed s 0 n) n) (refused 2 (firstFlawed s 0 n)) _ (under (firstFlawed s 0 n) n)
-    (either n (ltb maxWeight (weightFrom s 0 n)) (refused 3 0) _ (λ e. z)
-    (either n (not (eqb (treeEnd s n 0) n)) (refused 4 (min (treeEnd s n 0) n)) _ (λ e. m)
-    (either n (ltb (firstBadExponent s n 0 n) n) (refused 5 (firstBadExponent s n 0 n)) accepted (under (firstBadExponent s n 0 n) n)
-    (record { most = z }))))
+    let i = firstFlawed s 0 n in
+    let e = firstBadExponent s n 0 n in
+    either n (ltb i n) (flawed i (flaw s i)) _ (λ h. record { most = under i n h; fits = flaw-fits s i })
+    (either n (ltb maxWeight (weightFrom s 0 n)) (refused 3 0) _ (λ h. plain n 3 0 z)
+    (either n (not (eqb (treeEnd s n 0) n)) (refused 4 (min (treeEnd s n 0) n)) _ (λ h. plain n 4 _ m)
+    (either n (ltb e n) (refused 5 e) accepted (λ h. plain n 5 e (under e n h))
+    (plain n 0 0 z))))
 
 verdict-place : (s : List ℕ) → PlaceIn maxWeight (verdict s)
 unfolding verdict recordsIn
 verdict-place s = go (badLength (length s)) refl
   where
     go : (b : Bool) → badLength (length s) ≡ b → PlaceIn maxWeight (cond b (refused 1 0) (judgeRecords s (recordsIn s)))
-    go true e = record { most = omega arith }
-    go false e = record { most = omega (arith, records-place s (recordsIn s) .most, length-good (length s) e .short) }
+    go true e = plain maxWeight 1 0 (omega arith)
+    go false e =
+        let p = records-place s (recordsIn s) in
+        record { most = omega (arith, p .most, length-good (length s) e .short); fits = p .fits }
 
 judgement-place : (s : List ℕ) (l : Lent) → PlaceIn maxWeight (judgement s l)
 unfolding judgement
 judgement-place s l = go (isAccepted (verdict s))
   where
     go : (b : Bool) → PlaceIn maxWeight (cond b (cond (cramped (tableWeight s) l) (refused 6 0) accepted) (verdict s))
-    go true = let z : 0 ≤ maxWeight = omega arith in either maxWeight (cramped (tableWeight s) l) (refused 6 0) accepted (λ e. z) (record { most = z })
+    go true =
+        let z : 0 ≤ maxWeight = omega arith in
+        either maxWeight (cramped (tableWeight s) l) (refused 6 0) accepted (λ e. plain maxWeight 6 0 z) (plain maxWeight 0 0 z)
     go false = verdict-place s
 
 -- ---- all numbers of an answer
 run-fit : (t : Tree) → WF t → weight t ≤ maxWeight → (x : Ran) → simplify editionOne t ≡ x → FitEight (answerNumbers (ranAnswer (weight t) x))
-unfolding answerNumbers ranAnswer refusal simplify
+unfolding answerNumbers ranAnswer refusedBy flawNumbers simplify
 run-fit t w h (done u ks o) e =
     let f = simplify-finished t u ks o w e .lightens in
     let r = records-weight u in
-    (omega arith, (omega arith, (omega arith, (omega arith, (omega arith, (omega arith, (omega arith, tt)))))))
+    (omega arith, (omega arith, (omega arith, (omega arith, (omega arith, (omega arith, (omega arith, (omega arith, (omega arith, tt)))))))))
 run-fit t w h (over k) e =
     let x : Within t (over k) = subst (Within t) e (run-within edition-one-good (weight t) t w) in
-    (omega arith, (omega arith, (omega arith, (omega arith, (omega arith, (omega arith, (omega arith, tt)))))))
+    (omega arith, (omega arith, (omega arith, (omega arith, (omega arith, (omega arith, (omega arith, (omega arith, (omega arith, tt)))))))))
 
 pub numbers-fit : (s : List ℕ) → Bytes s → (l : Lent) → FitEight (answerNumbers (simplified s l .answer))
-unfolding simplified answerNumbers refusal
+unfolding simplified answerNumbers refusedBy
 numbers-fit s b l = go (call (simplify editionOne) s l b)
   where
-    small : (k p : ℕ) → k ≤ 6 → p ≤ maxWeight → FitEight (answerNumbers (refusal k p))
-    small k p h m = (omega arith, (omega arith, (omega arith, (omega arith, (omega arith, (omega arith, (omega arith, tt)))))))
+    small : (v : Verdict) → v .number ≤ 6 → PlaceIn maxWeight v → FitEight (answerNumbers (refusedBy v))
+    small v h p = let m = p .most in (omega arith, (omega arith, (omega arith, (omega arith, (omega arith, (omega arith, (omega arith, p .fits)))))))
 
     go : Call (simplify editionOne) s l → FitEight (answerNumbers (simplified s l .answer))
-    go (is-turned-down d) = subst (λ a. FitEight (answerNumbers a)) (sym (d .answer)) (small _ _ (d .within) (judgement-place s l .most))
+    go (is-turned-down d) = subst (λ a. FitEight (answerNumbers a)) (sym (d .answer)) (small (judgement s l) (d .within) (judgement-place s l))
     go (is-run r) =
         subst (λ a. FitEight (answerNumbers a)) (sym (r .answer)) (run-fit (r .holds .tree) (r .holds .wf) (r .holds .light) _ refl)
 
@@ -104,18 +137,38 @@ number-at (n ∷ ns) rest (suc i) h f =
     ap (λ x. le8 x (8 * suc i)) (append-assoc (bytes 8 n) (eights ns) rest) ∙ ap (le8 (bytes 8 n ++ (eights ns ++ rest))) e
     ∙ le8-append-add (bytes 8 n) (eights ns ++ rest) (8 * i) ∙ number-at ns rest i (omega arith) (f .1)
 
+-- what is wrong with a record is told by its two numbers
+flaw-told : (f : Flaw) → flawFrom (getD (flawNumbers f) 0 0) (getD (flawNumbers f) 1 0) ≡ f
+unfolding flawFrom flawNumbers
+flaw-told sound = refl
+flaw-told bad-kind = refl
+flaw-told (bad-byte j) = refl
+flaw-told bad-count = refl
+
 -- a slice that begins with the numbers of an answer tells that answer
 pub told-answer : (a : Answer) (rest : List ℕ) → FitEight (answerNumbers a) → answerIn (eights (answerNumbers a) ++ rest) ≡ a
 unfolding answerIn answerNumbers
 told-answer a rest f =
-    let n = number-at (answerNumbers a) rest in
-    let seven : (i : ℕ) → i < 7 → le8 (eights (answerNumbers a) ++ rest) (8 * i) ≡ getD (answerNumbers a) i 0 = λ i h. n i h f in
+    let ns = answerNumbers a in
+    let nine : length ns ≡ 9 = answer-count a in
+    let read : (i : ℕ) → i < 9 → le8 (eights ns ++ rest) (8 * i) ≡ getD ns i 0 = λ i h. number-at ns rest i (omega arith) f in
     rw (
-      seven 0 (lit< tt),
-      seven 1 (lit< tt),
-      seven 2 (lit< tt),
-      seven 3 (lit< tt),
-      seven 4 (lit< tt),
-      seven 5 (lit< tt),
-      seven 6 (lit< tt),
-    ) refl
+      read 0 (lit< tt),
+      read 1 (lit< tt),
+      read 2 (lit< tt),
+      read 3 (lit< tt),
+      read 4 (lit< tt),
+      read 5 (lit< tt),
+      read 6 (lit< tt),
+      read 7 (lit< tt),
+      read 8 (lit< tt),
+    ) (ap (λ w. record {
+      number = a .number;
+      place = a .place;
+      flaw = w;
+      records-written = a .records-written;
+      steps-taken = a .steps-taken;
+      openings = a .openings;
+      weight-in = a .weight-in;
+      weight-out = a .weight-out;
+    }) (flaw-told (a .flaw)))

@@ -12,7 +12,7 @@ use lib.Dec.{eqb, ltb, lit<}
 use lib.ListN.{length}
 use Rattle.paper.specs.Limits.{maxWeight, maxBytes}
 use Rattle.paper.specs.Record.{sound, flaw, isFlawed, weightFrom}
-use Rattle.paper.specs.Verdict.{Verdict, refused, accepted, recordsIn, badLength, firstFlawed, tableWeight, treeEnd}
+use Rattle.paper.specs.Verdict.{Verdict, refused, flawed, accepted, recordsIn, badLength, firstFlawed, tableWeight, treeEnd}
 use Rattle.paper.specs.Verdict.{badExponent, firstBadExponent, judgeRecords, verdict}
 use Rattle.paper.proofs.Tests.{or-neither}
 use Rattle.paper.proofs.FirstLaws.{All, first, first-flawed, first-before, bad-exponent-le, bad-exponent-first, no-flaw, no-bad-exponent}
@@ -76,19 +76,19 @@ all-exponents : (s : List ℕ) (n : ℕ) → n ≤ firstBadExponent s n 0 n → 
 all-exponents s n l j a b = le-antisymm (bad-exponent-le s n j) (le-trans l (bad-exponent-first s n 0 n j a (omega arith)))
 
 -- one test of the chain that did not answer
-passed : (b : Bool) (k p : ℕ) (v : Verdict) → 0 < k → cond b (refused k p) v ≡ accepted → (b ≡ false) × (v ≡ accepted)
-passed true k p v l e = absurd (omega (arith, ap (λ (x : Verdict). x .number) e))
-passed false k p v l e = (refl, e)
+passed : (b : Bool) (w v : Verdict) → 0 < w .number → cond b w v ≡ accepted → (b ≡ false) × (v ≡ accepted)
+passed true w v l e = absurd (omega (arith, ap (λ (x : Verdict). x .number) e))
+passed false w v l e = (refl, e)
 
 pub accepted-passes : (s : List ℕ) → verdict s ≡ accepted → Passes s
 unfolding verdict judgeRecords tableWeight
 accepted-passes s h =
     let n = recordsIn s in
-    let p1 = passed (badLength (length s)) 1 0 _ (lit< tt) h in
-    let p2 = passed (ltb (firstFlawed s 0 n) n) 2 (firstFlawed s 0 n) _ (lit< tt) (p1 .1) in
-    let p3 = passed (ltb maxWeight (weightFrom s 0 n)) 3 0 _ (lit< tt) (p2 .1) in
-    let p4 = passed (not (eqb (treeEnd s n 0) n)) 4 (min (treeEnd s n 0) n) _ (lit< tt) (p3 .1) in
-    let p5 = passed (ltb (firstBadExponent s n 0 n) n) 5 (firstBadExponent s n 0 n) accepted (lit< tt) (p4 .1) in
+    let p1 = passed (badLength (length s)) (refused 1 0) _ (lit< tt) h in
+    let p2 = passed (ltb (firstFlawed s 0 n) n) (flawed (firstFlawed s 0 n) (flaw s (firstFlawed s 0 n))) _ (lit< tt) (p1 .1) in
+    let p3 = passed (ltb maxWeight (weightFrom s 0 n)) (refused 3 0) _ (lit< tt) (p2 .1) in
+    let p4 = passed (not (eqb (treeEnd s n 0) n)) (refused 4 (min (treeEnd s n 0) n)) _ (lit< tt) (p3 .1) in
+    let p5 = passed (ltb (firstBadExponent s n 0 n) n) (refused 5 (firstBadExponent s n 0 n)) accepted (lit< tt) (p4 .1) in
     let sounds = all-sound s n (ltb-false (firstFlawed s 0 n) n (p2 .0)) in
     let exponents = all-exponents s n (ltb-false (firstBadExponent s n 0 n) n (p5 .0)) in
     record {

@@ -16,11 +16,11 @@ use Rattle.paper.specs.Bytes.{Bytes}
 use Rattle.paper.specs.Tree.{Tree, integer, symbol, sum, product, power, nil, cons, weight, value}
 use Rattle.paper.specs.WellFormed.{WF}
 use Rattle.paper.specs.Table.{encode, treeOf}
-use Rattle.paper.specs.Verdict.{accepted}
+use Rattle.paper.specs.Verdict.{Verdict, accepted, refused}
 use Rattle.paper.specs.Rules.{editionOne}
 use Rattle.paper.specs.Driver.{Ran, done, over, no-rule, step, ask, members, simplify}
 use Rattle.paper.specs.Admits.{AdmitsNone, admits-none, AllAdmitNone, and-more}
-use Rattle.paper.specs.Answers.{Lent, ran, judgement, cramped, refusal, ranAnswer, written, outAfter, lentAfter, simplifiedBy}
+use Rattle.paper.specs.Answers.{Lent, ran, judgement, cramped, refusedBy, refusal, ranAnswer, written, outAfter, lentAfter, simplifiedBy}
 use Rattle.paper.specs.Demands.{Simplifier, result, Refuses, RunsOver, Follows, Lightens, Finishes, KeepsValue, Accepted}
 use Rattle.paper.specs.Takeover.{Room}
 use Rattle.paper.specs.Worthless.{RefusesEverything, refusesAll, returnsZero, returnsInput, firstPass, passesOnce, rootOnly, staysAtRoot, oneStepMore}
@@ -111,16 +111,16 @@ once = product 0 (cons (integer 0 (pos 0)) (cons (symbol 0 0) nil))
 -- ---- "One that refuses everything: by the exact conditions of 1 to 6 in demand 1 and of 7 in demand 2." The table 1 is accepted, and
 -- its run meets no integer outside the range.
 module _ (f : Simplifier) where
-  abbrev Refused : ℕ → ℕ → Type 0
-  Refused k p = f (encode one) (areas (weight one)) .answer ≡ refusal k p
+  abbrev Refused : Verdict → Type 0
+  Refused v = f (encode one) (areas (weight one)) .answer ≡ refusedBy v
 
-  not-by-1-to-6 : (k p : ℕ) → 1 ≤ k → k ≤ 6 → Refused k p → ¬ Refuses f
-  not-by-1-to-6 k p h g e r =
-      let j = r (encode one) (encode-bytes one) (areas (weight one)) k p h g .0 e in
-      let z : 0 ≡ k = ap (λ v. v .number) (sym (tree-accepted one one-wf one-light) ∙ j) in
+  not-by-1-to-6 : (v : Verdict) → 1 ≤ v .number → v .number ≤ 6 → Refused v → ¬ Refuses f
+  not-by-1-to-6 v h g e r =
+      let j = r (encode one) (encode-bytes one) (areas (weight one)) v h g .0 e in
+      let z : 0 ≡ v .number = ap (λ v. v .number) (sym (tree-accepted one one-wf one-light) ∙ j) in
       omega arith
 
-  not-by-7 : (p : ℕ) → Refused 7 p → ¬ RunsOver f
+  not-by-7 : (p : ℕ) → Refused (refused 7 p) → ¬ RunsOver f
   unfolding one driver-computes
   not-by-7 p e r =
       let x = r (encode one) (encode-bytes one) (areas (weight one)) p .0 e in
@@ -131,21 +131,25 @@ module _ (f : Simplifier) where
       no e = let z : _≡_ {A = ℕ} 0 1 = cc in omega arith
 
   pub refusing-is-refused : RefusesEverything f → (¬ Refuses f) ⊎ (¬ RunsOver f)
-  refusing-is-refused h =
-      let x = h (encode one) (encode-bytes one) (areas (weight one)) in go (x .0) (x .1) (x .2) (eq-or-lt-of-le (x .3)) (x .4)
+  refusing-is-refused h = go (h (encode one) (encode-bytes one) (areas (weight one)))
     where
-      go : (k p : ℕ) → 1 ≤ k → (k ≡ 7) ⊎ (k < 7) → Refused k p → (¬ Refuses f) ⊎ (¬ RunsOver f)
-      go k p u (inl e) q = inr (not-by-7 p (q ∙ ap (λ n. refusal n p) e))
-      go k p u (inr l) q = inl (not-by-1-to-6 k p u (omega arith) q)
+      go : ((v : Verdict) × (1 ≤ v .number) × (v .number ≤ 6) × Refused v) ⊎ ((p : ℕ) × Refused (refused 7 p)) → (¬ Refuses f) ⊎ (¬ RunsOver f)
+      go (inl x) = inl (not-by-1-to-6 (x .0) (x .1) (x .2) (x .3))
+      go (inr x) = inr (not-by-7 (x .0) (x .1))
 
 -- always the same refusal: it refuses everything, and falls to demand 1 for 1 to 6, to demand 2 for 7
 pub always-refuses : (k : ℕ) → 1 ≤ k → k ≤ 7 → RefusesEverything (refusesAll k)
 unfolding refusesAll
-always-refuses k h g s b l = (k, 0, h, g, refl)
+always-refuses k h g s b l = go (eq-or-lt-of-le g)
+  where
+    go : (k ≡ 7) ⊎ (k < 7)
+        → ((v : Verdict) × (1 ≤ v .number) × (v .number ≤ 6) × (refusal k 0 ≡ refusedBy v)) ⊎ ((p : ℕ) × (refusal k 0 ≡ refusal 7 p))
+    go (inl e) = inr (0, ap (λ n. refusal n 0) e)
+    go (inr u) = inl (refused k 0, h, omega arith, refl)
 
 pub always-k-is-refused : (k : ℕ) → 1 ≤ k → k ≤ 6 → ¬ Refuses (refusesAll k)
 unfolding refusesAll
-always-k-is-refused k h g = not-by-1-to-6 (refusesAll k) k 0 h g refl
+always-k-is-refused k h g = not-by-1-to-6 (refusesAll k) (refused k 0) h g refl
 
 pub always-7-is-refused : ¬ RunsOver (refusesAll 7)
 unfolding refusesAll

@@ -1,12 +1,13 @@
 -- The whole answer of each public function, and every lent byte afterwards, as functions of the bytes handed in.
-use Prim.Native.Nat.{ℕ, zero, suc, _+_, _*_}
-use mathlib.Core.Bool.{Bool, true, false, cond, _||_, not}
-use mathlib.Core.List.{List, [], _∷_}
+use Prim.Native.Nat.{ℕ, _*_}
+use mathlib.Core.Bool.{Bool, false, cond, _||_}
+use mathlib.Core.List.{List, []}
 use mathlib.Core.Option.{Option, none, some}
 use lib.ListN.{length}
 use lib.Dec.{eqb, ltb}
 use Rattle.paper.specs.Limits.{workBytes, registerBytes}
 use Rattle.paper.specs.Bytes.{le8, stretch}
+use Rattle.paper.specs.Record.{Flaw, sound}
 use Rattle.paper.specs.Tree.{Tree, weight, records, value}
 use Rattle.paper.specs.Equal.{equal}
 use Rattle.paper.specs.Table.{encode, treeOf}
@@ -16,14 +17,15 @@ use Rattle.paper.specs.Driver.{Ran, done, over, simplify}
 
 -- ---- the checker of tables answers `verdict`
 
--- ---- weight and value: "answer 1 to 5 alike (weight and value 0 when refused)"
+-- ---- weight and value: "answer 1 to 5 alike (weight and value 0 when refused)", and pass on what is wrong with the record after 2
 pub record Measured : Type 0 where
   pub number : ℕ
   pub place : ℕ
+  pub flaw : Flaw
   pub result : ℕ
 
 unfoldable pub measured : Verdict → ℕ → Measured
-measured v n = record { number = v .number; place = v .place; result = cond (isAccepted v) n 0 }
+measured v n = record { number = v .number; place = v .place; flaw = v .flaw; result = cond (isAccepted v) n 0 }
 
 unfoldable pub weighed : List ℕ → Measured
 weighed s = measured (verdict s) (tableWeight s)
@@ -48,11 +50,12 @@ valued s regs = measured (registersVerdict s regs) (treeValue (treeOf s) (regist
 pub record Compared : Type 0 where
   pub number : ℕ
   pub place : ℕ
+  pub flaw : Flaw
   pub which : ℕ
   pub yes : Bool
 
 unfoldable pub turnedDown : Verdict → ℕ → Compared
-turnedDown v k = record { number = v .number; place = v .place; which = k; yes = false }
+turnedDown v k = record { number = v .number; place = v .place; flaw = v .flaw; which = k; yes = false }
 
 unfoldable pub equalTrees : Option Tree → Option Tree → Bool
 equalTrees none u = false
@@ -63,7 +66,7 @@ unfoldable pub compared : List ℕ → List ℕ → Compared
 compared a b =
     cond (isAccepted (verdict a))
     (cond (isAccepted (verdict b))
-    (record { number = 0; place = 0; which = 0; yes = equalTrees (treeOf a) (treeOf b) })
+    (record { number = 0; place = 0; flaw = sound; which = 0; yes = equalTrees (treeOf a) (treeOf b) })
     (turnedDown (verdict b) 2))
     (turnedDown (verdict a) 1)
 
@@ -77,6 +80,7 @@ pub record Lent : Type 0 where
 pub record Answer : Type 0 where
   pub number : ℕ
   pub place : ℕ
+  pub flaw : Flaw
   pub records-written : ℕ
   pub steps-taken : ℕ
   pub openings : ℕ
@@ -104,12 +108,13 @@ runOn run w (some t) = ran w (run t)
 unfoldable pub outcomeOf : (Tree → Ran) → List ℕ → Lent → Outcome
 outcomeOf run s l = cond (isAccepted (judgement s l)) (runOn run (tableWeight s) (treeOf s)) (turned-down (judgement s l))
 
--- "A refusal returns number and place, all other numbers zero."
-unfoldable pub refusal : ℕ → ℕ → Answer
-refusal k p =
+-- "A refusal returns number and place, all other numbers zero", and after 2 what is wrong with the record
+unfoldable pub refusedBy : Verdict → Answer
+refusedBy v =
     record {
-      number = k;
-      place = p;
+      number = v .number;
+      place = v .place;
+      flaw = v .flaw;
       records-written = 0;
       steps-taken = 0;
       openings = 0;
@@ -117,12 +122,17 @@ refusal k p =
       weight-out = 0;
     }
 
+-- one that says nothing of a record
+abbrev pub refusal : ℕ → ℕ → Answer
+refusal k p = refusedBy (refused k p)
+
 -- "An accepted call returns 0, place 0, the records written, the steps, the openings, and both weights."
 unfoldable pub ranAnswer : ℕ → Ran → Answer
 ranAnswer w (done u ks o) =
     record {
       number = 0;
       place = 0;
+      flaw = sound;
       records-written = records u;
       steps-taken = length ks;
       openings = o;
@@ -132,7 +142,7 @@ ranAnswer w (done u ks o) =
 ranAnswer w (over k) = refusal 7 k
 
 unfoldable pub answerOf : Outcome → Answer
-answerOf (turned-down v) = refusal (v .number) (v .place)
+answerOf (turned-down v) = refusedBy v
 answerOf (ran w r) = ranAnswer w r
 
 -- "It writes the tree to `out` and the step numbers, one byte each, to `steps`, and zeros up to 16 x W and W bytes. After 7 these

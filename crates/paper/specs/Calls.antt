@@ -7,23 +7,25 @@ use mathlib.Core.List.{List, [], _∷_, _++_}
 use lib.ListN.{length, drop}
 use lib.Dec.{ltb}
 use Rattle.paper.specs.Bytes.{bytes}
+use Rattle.paper.specs.Record.{flawNumbers}
 use Rattle.paper.specs.Verdict.{Verdict, verdict}
 use Rattle.paper.specs.Equal.{one}
 use Rattle.paper.specs.Answers.{Measured, weighed, valued, Compared, compared, Lent, Answer, Given, simplified}
 
--- the numbers of an answer, in the order that the paper names them
+-- the numbers of an answer, in the order that the paper names them; last, so that no other number moves, what is wrong with the record
 unfoldable pub verdictNumbers : Verdict → List ℕ
-verdictNumbers v = v .number ∷ v .place ∷ []
+verdictNumbers v = v .number ∷ v .place ∷ flawNumbers (v .flaw)
 
 unfoldable pub measuredNumbers : Measured → List ℕ
-measuredNumbers m = m .number ∷ m .place ∷ m .result ∷ []
+measuredNumbers m = m .number ∷ m .place ∷ m .result ∷ flawNumbers (m .flaw)
 
 unfoldable pub comparedNumbers : Compared → List ℕ
-comparedNumbers c = c .number ∷ c .place ∷ c .which ∷ one (c .yes) ∷ []
+comparedNumbers c = c .number ∷ c .place ∷ c .which ∷ one (c .yes) ∷ flawNumbers (c .flaw)
 
 unfoldable pub answerNumbers : Answer → List ℕ
 answerNumbers a =
-    a .number ∷ a .place ∷ a .records-written ∷ a .steps-taken ∷ a .openings ∷ a .weight-in ∷ a .weight-out ∷ []
+    a .number ∷ a .place ∷ a .records-written ∷ a .steps-taken ∷ a .openings ∷ a .weight-in ∷ a .weight-out
+    ∷ flawNumbers (a .flaw)
 
 -- 8 bytes each, little-endian
 unfoldable pub eights : List ℕ → List ℕ

@@ -8,13 +8,14 @@ use mathlib.Core.Option.{some}
 use lib.ListN.{length, take}
 use Rattle.paper.specs.Limits.{workBytes}
 use Rattle.paper.specs.Bytes.{Bytes, stretch}
+use Rattle.paper.specs.Record.{sound}
 use Rattle.paper.specs.Tree.{Tree, weight, value, records}
 use Rattle.paper.specs.Table.{encode, treeOf}
-use Rattle.paper.specs.Verdict.{accepted, refused, tableWeight}
+use Rattle.paper.specs.Verdict.{Verdict, accepted, tableWeight}
 use Rattle.paper.specs.Rules.{editionOne}
 use Rattle.paper.specs.Driver.{done, over, simplify}
 use Rattle.paper.specs.Admits.{AdmitsNone}
-use Rattle.paper.specs.Answers.{Lent, refusal, Given, judgement}
+use Rattle.paper.specs.Answers.{Lent, refusedBy, refusal, Given, judgement}
 
 abbrev pub Simplifier : Type 0
 Simplifier = List ℕ → Lent → Given
@@ -24,16 +25,17 @@ unfoldable pub result : Given → List ℕ
 result g = take (16 * g .answer .records-written) (g .lent .out)
 
 module _ (f : Simplifier) where
-  -- ---- demand 1: "gives each refusal exactly when the paper says so": k from 1 to 6, at place p
+  -- ---- demand 1: "gives each refusal exactly when the paper says so": 1 to 6, with its place, and after 2 what is wrong
   abbrev pub Refuses : Type 0
   Refuses =
-      (s : List ℕ) → Bytes s → (l : Lent) (k p : ℕ) → 1 ≤ k → k ≤ 6
-      → (f s l .answer ≡ refusal k p) ↔ (judgement s l ≡ refused k p)
+      (s : List ℕ) → Bytes s → (l : Lent) (v : Verdict) → 1 ≤ v .number → v .number ≤ 6
+      → (f s l .answer ≡ refusedBy v) ↔ (judgement s l ≡ v)
 
   -- "refusals 1 to 6 change no lent byte"
   abbrev pub LeavesAlone : Type 0
   LeavesAlone =
-      (s : List ℕ) → Bytes s → (l : Lent) (k p : ℕ) → 1 ≤ k → k ≤ 6 → f s l .answer ≡ refusal k p → f s l .lent ≡ l
+      (s : List ℕ) → Bytes s → (l : Lent) (v : Verdict) → 1 ≤ v .number → v .number ≤ 6 → f s l .answer ≡ refusedBy v
+      → f s l .lent ≡ l
 
   -- "7 leaves the stated zeros", and bytes past the stretches as they were
   abbrev pub Clears : Type 0
@@ -61,6 +63,7 @@ module _ (f : Simplifier) where
       ≡ record {
         number = 0;
         place = 0;
+        flaw = sound;
         records-written = records u;
         steps-taken = length ks;
         openings = o;

@@ -50,7 +50,7 @@ stray s i k j zero = j
 stray s i k j (suc n) =
     cond (eqb (getD s (i * 16 + j) 0) 0 || not (eqb (mayBe k j) 0)) (stray s i k (j + 1) n) j
 
--- what is wrong with a record, in this order when several things are
+-- what is wrong with a record: "kind, a byte that must be zero (the lowest), or the count, in that order when several are"
 pub data Flaw : Type 0 where
   sound : Flaw
   bad-kind : Flaw
@@ -70,6 +70,13 @@ isFlawed sound = false
 isFlawed bad-kind = true
 isFlawed (bad-byte j) = true
 isFlawed bad-count = true
+
+-- what is wrong as two numbers: 0 nothing, 1 the kind, 2 a byte, 3 the count; and which byte, 0 where it is none
+unfoldable pub flawNumbers : Flaw → List ℕ
+flawNumbers sound = 0 ∷ 0 ∷ []
+flawNumbers bad-kind = 1 ∷ 0 ∷ []
+flawNumbers (bad-byte j) = 2 ∷ j ∷ []
+flawNumbers bad-count = 3 ∷ 0 ∷ []
 
 -- the number of members of record i, a power having two whatever its exponent is
 unfoldable pub arity : List ℕ → ℕ → ℕ

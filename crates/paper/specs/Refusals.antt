@@ -1,6 +1,6 @@
 -- "What is refused, and in which order": refusals 1 to 5 of a table, and 6 of the simplifier, in the paper's words, without the
 -- functions that find them.
-use Prim.Native.Nat.{ℕ, suc, _+_, _*_, _<_}
+use Prim.Native.Nat.{ℕ, suc, _+_, _*_, _<_, _≤_}
 use mathlib.Core.Path.{_≡_}
 use mathlib.Core.List.{List}
 use mathlib.Core.Logic.{_⊎_}
@@ -9,8 +9,8 @@ use lib.IntN.{pos}
 use lib.Signed.{_≤ℤ_}
 use Rattle.paper.specs.Limits.{maxWeight, maxBytes, workBytes}
 use Rattle.paper.specs.Bytes.{signed}
-use Rattle.paper.specs.Record.{kind, countIn, bits, mayBe, arity}
-use Rattle.paper.specs.Verdict.{recordsIn, tableWeight}
+use Rattle.paper.specs.Record.{kind, countIn, bits, mayBe, Flaw, sound, bad-kind, bad-byte, bad-count, arity}
+use Rattle.paper.specs.Verdict.{Verdict, recordsIn, tableWeight}
 use Rattle.paper.specs.Answers.{Lent}
 
 -- "first such": P holds at p and nowhere before it
@@ -28,6 +28,20 @@ pub data Flawed (s : List ℕ) (i : ℕ) : Type 0 where
   kind-over : 4 < kind s i → Flawed s i
   byte-other : (j : ℕ) → j < 16 → ¬ (getD s (i * 16 + j) 0 ≡ 0) → mayBe (kind s i) j ≡ 0 → Flawed s i
   count-under : (kind s i ≡ 2) ⊎ (kind s i ≡ 3) → countIn s i < 2 → Flawed s i
+
+-- byte j of record i is "a byte other than zero that must be zero"
+abbrev pub Stray : List ℕ → ℕ → ℕ → Type 0
+Stray s i j = (j < 16) × (¬ (getD s (i * 16 + j) 0 ≡ 0)) × (mayBe (kind s i) j ≡ 0)
+
+-- what is wrong with record i: "kind, a byte that must be zero (the lowest), or the count, in that order when several are"
+pub data Names (s : List ℕ) (i : ℕ) : Flaw → Type 0 where
+  names-kind : 4 < kind s i → Names s i bad-kind
+  names-byte : {j : ℕ} → kind s i ≤ 4 → First (Stray s i) j → Names s i (bad-byte j)
+  names-count : kind s i ≤ 4 → ((j : ℕ) → ¬ Stray s i j) → (kind s i ≡ 2) ⊎ (kind s i ≡ 3) → countIn s i < 2 → Names s i bad-count
+
+-- after 2 a refusal says what is wrong with the record at its place, after any other number nothing
+abbrev pub Tells : List ℕ → Verdict → Type 0
+Tells s v = (v .number ≡ 2 → Names s (v .place) (v .flaw)) × (¬ (v .number ≡ 2) → v .flaw ≡ sound)
 
 -- of n records, those from i up to e are k trees one after the other: no tree takes no record; a tree is its first record and then
 -- as many trees as that record has members

@@ -5,20 +5,21 @@ use mathlib.Core.List.{List, [], _∷_, _++_}
 use mathlib.Core.Path.{_≡_}
 use lib.ListN.{replicate}
 use lib.IntN.{pos}
-use Rattle.paper.specs.Limits.{maxWeight, maxBytes, registerBytes, workBytes}
+use Rattle.paper.specs.Limits.{maxWeight, maxBytes, registerBytes}
 use Rattle.paper.specs.Bytes.{stretch}
-use Rattle.paper.specs.Tree.{Tree, integer, symbol, sum, power, nil, cons}
+use Rattle.paper.specs.Tree.{integer, symbol, sum, power, nil, cons}
+use Rattle.paper.specs.Record.{sound, bad-kind, bad-byte, bad-count}
 use Rattle.paper.specs.Table.{encode}
-use Rattle.paper.specs.Verdict.{Verdict, accepted, refused, badLength, verdict}
+use Rattle.paper.specs.Verdict.{refused, flawed, badLength, verdict}
 use Rattle.paper.specs.Driver.{done, over}
-use Rattle.paper.specs.Answers.{Measured, Compared, weighed, valued, compared, refusal, ranAnswer}
-use Rattle.paper.specs.Calls.{answerNumbers, weightReturns, weightAnswers}
+use Rattle.paper.specs.Answers.{Measured, Compared, weighed, valued, compared, refusedBy, ranAnswer}
+use Rattle.paper.specs.Calls.{answerNumbers, eights, checkAnswers, weightReturns, weightAnswers, valueAnswers, equalAnswers}
 
 abbrev measures : ℕ → ℕ → ℕ → Measured
-measures n p r = record { number = n; place = p; result = r }
+measures n p r = record { number = n; place = p; flaw = sound; result = r }
 
 abbrev compares : ℕ → ℕ → ℕ → Bool → Compared
-compares n p w y = record { number = n; place = p; which = w; yes = y }
+compares n p w y = record { number = n; place = p; flaw = sound; which = w; yes = y }
 
 -- a + b; two trees, 1 and 1, where one is due; b^0
 abbrev a+b : List ℕ
@@ -34,6 +35,13 @@ b^0 = encode (power 0 (symbol 0 1) 0 0)
 abbrev regs : List ℕ
 regs = 5 ∷ replicate 7 0 ++ (0 ∷ 1 ∷ replicate 2038 0)
 
+-- a symbol with bytes 3, 7 and 9 other than zero; a product of one member
+abbrev badByte : List ℕ
+badByte = 1 ∷ 0 ∷ 0 ∷ 1 ∷ 0 ∷ 0 ∷ 0 ∷ 1 ∷ 0 ∷ 1 ∷ replicate 6 0
+
+abbrev badCount : List ℕ
+badCount = 3 ∷ 0 ∷ 1 ∷ replicate 13 0
+
 pub record Sayings : Type 0 where
   pub lengths : (badLength 49152 ≡ false) × (badLength 49168 ≡ true) × (maxBytes ≡ 16 * maxWeight) × (registerBytes ≡ 256 * 8)
   pub zero-exponent : verdict b^0 ≡ refused 5 2
@@ -46,8 +54,21 @@ pub record Sayings : Type 0 where
   pub equal-second : compared a+b b^0 ≡ compares 5 2 2 false
   pub equal-yes : compared a+b a+b ≡ compares 0 0 0 true
   pub zeros-and-past : stretch 4 (1 ∷ 2 ∷ []) (9 ∷ 9 ∷ 9 ∷ 9 ∷ 9 ∷ []) ≡ 1 ∷ 2 ∷ 0 ∷ 0 ∷ 9 ∷ []
-  pub numbers : answerNumbers (ranAnswer 15 (done (symbol 0 0) (2 ∷ 6 ∷ []) 4)) ≡ 0 ∷ 0 ∷ 1 ∷ 2 ∷ 4 ∷ 15 ∷ 3 ∷ []
-  pub numbers-refused : answerNumbers (ranAnswer 15 (over 3)) ≡ 7 ∷ 3 ∷ 0 ∷ 0 ∷ 0 ∷ 0 ∷ 0 ∷ []
-  pub slice-short : (weightReturns a+b (replicate 23 9) ≡ 6) × (weightAnswers a+b (replicate 23 9) ≡ replicate 23 9)
-  pub slice : (weightReturns cut (replicate 25 9) ≡ 4)
-      × (weightAnswers a+b (replicate 25 9) ≡ replicate 16 0 ++ (7 ∷ replicate 7 0 ++ (9 ∷ [])))
+  pub numbers : answerNumbers (ranAnswer 15 (done (symbol 0 0) (2 ∷ 6 ∷ []) 4)) ≡ 0 ∷ 0 ∷ 1 ∷ 2 ∷ 4 ∷ 15 ∷ 3 ∷ 0 ∷ 0 ∷ []
+  pub numbers-refused : answerNumbers (ranAnswer 15 (over 3)) ≡ 7 ∷ 3 ∷ 0 ∷ 0 ∷ 0 ∷ 0 ∷ 0 ∷ 0 ∷ 0 ∷ []
+  pub slice-short : (weightReturns a+b (replicate 39 9) ≡ 6) × (weightAnswers a+b (replicate 39 9) ≡ replicate 39 9)
+  pub slice : (weightReturns cut (replicate 41 9) ≡ 4)
+      × (weightAnswers a+b (replicate 41 9) ≡ replicate 16 0 ++ (7 ∷ replicate 23 0 ++ (9 ∷ [])))
+  -- what is wrong with a record: the kind before a byte, the lowest byte, a byte before the count; the first such record
+  pub kind-first : verdict (5 ∷ 1 ∷ replicate 14 0) ≡ flawed 0 bad-kind
+  pub lowest-byte : verdict badByte ≡ flawed 0 (bad-byte 3)
+  pub byte-before-count : verdict (2 ∷ 0 ∷ 1 ∷ 0 ∷ 0 ∷ 0 ∷ 9 ∷ replicate 9 0) ≡ flawed 0 (bad-byte 6)
+  pub power-byte : verdict (4 ∷ 0 ∷ 2 ∷ replicate 13 0) ≡ flawed 0 (bad-byte 2)
+  pub count-last : verdict badCount ≡ flawed 0 bad-count
+  pub first-record : verdict (encode (symbol 0 0) ++ (badCount ++ badByte)) ≡ flawed 1 bad-count
+  -- each call passes it on; its numbers come last
+  pub check-says : checkAnswers badByte (replicate 32 9) ≡ eights (2 ∷ 0 ∷ 2 ∷ 3 ∷ [])
+  pub weight-says : weightAnswers badCount (replicate 40 9) ≡ eights (2 ∷ 0 ∷ 0 ∷ 3 ∷ 0 ∷ [])
+  pub value-says : valueAnswers badByte [] (replicate 40 9) ≡ eights (2 ∷ 0 ∷ 0 ∷ 2 ∷ 3 ∷ [])
+  pub equal-says : equalAnswers a+b badByte (replicate 48 9) ≡ eights (2 ∷ 0 ∷ 2 ∷ 0 ∷ 2 ∷ 3 ∷ [])
+  pub simplify-says : answerNumbers (refusedBy (flawed 4 bad-kind)) ≡ 2 ∷ 4 ∷ 0 ∷ 0 ∷ 0 ∷ 0 ∷ 0 ∷ 1 ∷ 0 ∷ []

@@ -10,6 +10,19 @@ use Rattle.paper.specs.Calls.{verdictNumbers, measuredNumbers, comparedN
 use Rattle.paper.specs.Calls.{checkReturns, checkAnswers, weightReturns, weightAnswers, valueReturns, valueAnswers}
 use Rattle.paper.specs.Calls.{equalReturns, equalAnswers, simplifyReturns, simplifyAnswers, simplifyLeaves}
 
+-- the bytes of an answer: four numbers, five, six, and nine
+abbrev pub checkBytes : ℕ
+checkBytes = 32
+
+abbrev pub measureBytes : ℕ
+measureBytes = 40
+
+abbrev pub equalBytes : ℕ
+equalBytes = 48
+
+abbrev pub simplifyBytes : ℕ
+simplifyBytes = 72
+
 -- of a call that has a number and all numbers ns to tell, what it returns and what its slice is afterwards, n bytes being room enough
 abbrev pub TellsIn : ℕ → ℕ → List ℕ → (List ℕ → ℕ) → (List ℕ → List ℕ) → Type 0
 TellsIn n number ns returns answers =
@@ -18,14 +31,14 @@ TellsIn n number ns returns answers =
     × (n ≤ length slice → (returns slice ≡ number) × (answers slice ≡ eights ns ++ drop n slice))
 
 pub record Slices : Type 0 where
-  pub check : (s : List ℕ) → TellsIn 16 (verdict s .number) (verdictNumbers (verdict s)) (checkReturns s) (checkAnswers s)
-  pub weight : (s : List ℕ) → TellsIn 24 (weighed s .number) (measuredNumbers (weighed s)) (weightReturns s) (weightAnswers s)
+  pub check : (s : List ℕ) → TellsIn checkBytes (verdict s .number) (verdictNumbers (verdict s)) (checkReturns s) (checkAnswers s)
+  pub weight : (s : List ℕ) → TellsIn measureBytes (weighed s .number) (measuredNumbers (weighed s)) (weightReturns s) (weightAnswers s)
   pub value : (s regs : List ℕ)
-      → TellsIn 24 (valued s regs .number) (measuredNumbers (valued s regs)) (valueReturns s regs) (valueAnswers s regs)
+      → TellsIn measureBytes (valued s regs .number) (measuredNumbers (valued s regs)) (valueReturns s regs) (valueAnswers s regs)
   pub equal : (s t : List ℕ)
-      → TellsIn 32 (compared s t .number) (comparedNumbers (compared s t)) (equalReturns s t) (equalAnswers s t)
+      → TellsIn equalBytes (compared s t .number) (comparedNumbers (compared s t)) (equalReturns s t) (equalAnswers s t)
   pub simplify : (s : List ℕ) (l : Lent)
-      → TellsIn 56 (simplified s l .answer .number) (answerNumbers (simplified s l .answer)) (simplifyReturns s l) (simplifyAnswers s l)
+      → TellsIn simplifyBytes (simplified s l .answer .number) (answerNumbers (simplified s l .answer)) (simplifyReturns s l) (simplifyAnswers s l)
   -- and the three areas
   pub areas : (s : List ℕ) (l : Lent) (slice : List ℕ)
-      → (length slice < 56 → simplifyLeaves s l slice ≡ l) × (56 ≤ length slice → simplifyLeaves s l slice ≡ simplified s l .lent)
+      → (length slice < simplifyBytes → simplifyLeaves s l slice ≡ l) × (simplifyBytes ≤ length slice → simplifyLeaves s l slice ≡ simplified s l .lent)

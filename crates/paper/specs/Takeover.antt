@@ -6,6 +6,7 @@ use mathlib.Core.List.{List}
 use lib.ListN.{length}
 use Rattle.paper.specs.Limits.{workBytes}
 use Rattle.paper.specs.Bytes.{Bytes}
+use Rattle.paper.specs.Record.{sound}
 use Rattle.paper.specs.Answers.{Lent, Answer, Given}
 use Rattle.paper.specs.Demands.{Simplifier, result}
 
@@ -21,6 +22,7 @@ again a =
     record {
       number = 0;
       place = 0;
+      flaw = sound;
       records-written = a .records-written;
       steps-taken = 0;
       openings = 0;

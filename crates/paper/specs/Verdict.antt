@@ -5,15 +5,23 @@ use mathlib.Core.List.{List}
 use lib.ListN.{length}
 use lib.Dec.{eqb, ltb}
 use Rattle.paper.specs.Limits.{maxWeight, maxBytes}
-use Rattle.paper.specs.Record.{kind, bits, flaw, isFlawed, arity, weightFrom}
+use Rattle.paper.specs.Record.{kind, bits, Flaw, sound, flaw, isFlawed, arity, weightFrom}
 
--- a refusal's number and place; number 0, place 0 where there is none
+-- a refusal's number and place, and after 2 what is wrong with the record; number 0, place 0 where there is none
 pub record Verdict : Type 0 where
   pub number : ℕ
   pub place : ℕ
+  pub flaw : Flaw
+
+abbrev pub told : ℕ → ℕ → Flaw → Verdict
+told k p f = record { number = k; place = p; flaw = f }
 
 abbrev pub refused : ℕ → ℕ → Verdict
-refused k p = record { number = k; place = p }
+refused k p = told k p sound
+
+-- "The judgement of a single record should name what is wrong"
+abbrev pub flawed : ℕ → Flaw → Verdict
+flawed p f = told 2 p f
 
 abbrev pub accepted : Verdict
 accepted = refused 0 0
@@ -67,7 +75,7 @@ firstBadExponent s n i (suc f) = min (badExponent s n i) (firstBadExponent s n (
 -- 2 to 5 of a table of n records: "The lowest number wins."
 unfoldable pub judgeRecords : List ℕ → ℕ → Verdict
 judgeRecords s n =
-    cond (ltb (firstFlawed s 0 n) n) (refused 2 (firstFlawed s 0 n))
+    cond (ltb (firstFlawed s 0 n) n) (flawed (firstFlawed s 0 n) (flaw s (firstFlawed s 0 n)))
     (cond (ltb maxWeight (weightFrom s 0 n)) (refused 3 0)
     (cond (not (eqb (treeEnd s n 0) n)) (refused 4 (min (treeEnd s n 0) n))
     (cond (ltb (firstBadExponent s n 0 n) n) (refused 5 (firstBadExponent s n 0 n))

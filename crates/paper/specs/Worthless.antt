@@ -2,20 +2,23 @@
 -- refuted at the field that the paper names for it (proofs/WorthlessLaws).
 use Prim.Native.Nat.{ℕ, zero, suc, _+_, _≤_}
 use mathlib.Core.Path.{_≡_}
+use mathlib.Core.Logic.{_⊎_}
 use mathlib.Core.List.{List, [], _∷_}
 use lib.IntN.{pos}
 use Rattle.paper.specs.Bytes.{Bytes}
 use Rattle.paper.specs.Tree.{Tree, integer, weight}
+use Rattle.paper.specs.Verdict.{Verdict}
 use Rattle.paper.specs.Rules.{Rule, editionOne}
 use Rattle.paper.specs.Driver.{Ran, done, over, Rans, dones, overs, ask, step, out-of-range, no-rule, after, each, members, gather}
 use Rattle.paper.specs.Driver.{simplify}
-use Rattle.paper.specs.Answers.{Lent, refusal, simplifiedBy}
+use Rattle.paper.specs.Answers.{Lent, refusedBy, refusal, simplifiedBy}
 use Rattle.paper.specs.Demands.{Simplifier}
 
--- one that refuses everything: each call, with one of the refusals 1 to 7 at some place
+-- one that refuses everything: each call, with one of the refusals 1 to 6, whatever it says, or with 7 at some place
 abbrev pub RefusesEverything : Simplifier → Type 0
 RefusesEverything f =
-    (s : List ℕ) → Bytes s → (l : Lent) → (k : ℕ) × (p : ℕ) × (1 ≤ k) × (k ≤ 7) × (f s l .answer ≡ refusal k p)
+    (s : List ℕ) → Bytes s → (l : Lent)
+    → ((v : Verdict) × (1 ≤ v .number) × (v .number ≤ 6) × (f s l .answer ≡ refusedBy v)) ⊎ ((p : ℕ) × (f s l .answer ≡ refusal 7 p))
 
 -- the plainest of these: always k, at place 0
 unfoldable pub refusesAll : ℕ → Simplifier

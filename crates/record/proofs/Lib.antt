@@ -1,3 +1,4 @@
+pub mod FlawLaws
 pub mod KindLaws
 pub mod StrayLaws
 pub mod TidyLaws

@@ -4,10 +4,12 @@
 use Prim.Native.Nat.{ℕ}
 use mathlib.Core.Path.{_≡_, refl, sym, ap, _∙_}
 use mathlib.Core.List.{List}
+use lib.ListN.{getD}
 use Rattle.paper.specs.Record as paper
 use Rattle.paper.specs.Once.{Once, OnceLeft}
-use Rattle.record.specs.Flaw.{flawOf}
+use Rattle.record.specs.Flaw.{flawOf, bothNumbers}
 use Rattle.record.specs.declared.Flaw.{Flaw}
+use Rattle.record.specs.declared.FlawNumbers.{FlawNumbers}
 use Rattle.record.specs.declared.Flaw.the-variants.{Sound, Kind, Byte, Count}
 use Rattle.record.proofs.kind.Reads as kind
 use Rattle.record.proofs.kind.Kinds as kind-kinds
@@ -25,6 +27,8 @@ use Rattle.record.proofs.judge_record.Reads as judge-record
 use Rattle.record.proofs.judge_record.Kinds as judge-record-kinds
 use Rattle.record.proofs.is_flawed.Reads as is-flawed
 use Rattle.record.proofs.is_flawed.Kinds as is-flawed-kinds
+use Rattle.record.proofs.flaw_numbers.Reads as flaw-numbers
+use Rattle.record.proofs.flaw_numbers.Kinds as flaw-numbers-kinds
 use Rattle.record.proofs.write_record.Reads as write-record
 use Rattle.record.proofs.write_record.Kinds as write-record-kinds
 
@@ -49,22 +53,40 @@ is-positive-once κs a v v' x x' q p p' = p ∙ sym p'
 pub is-flawed-once : Once 0 is-flawed-kinds.ps is-flawed-kinds.r is-flawed.Pre is-flawed.Post
 is-flawed-once κs a v v' x x' q p p' = p ∙ sym p'
 
+-- the two numbers tell the answer that has them
+numbers-once : (v v' : FlawNumbers) → bothNumbers v ≡ bothNumbers v' → v ≡ v'
+numbers-once v v' e = ap (λ (l : List ℕ). record { what = getD l 0 0; byte = getD l 1 0 }) e
+
+pub flaw-numbers-once : Once 0 flaw-numbers-kinds.ps flaw-numbers-kinds.r flaw-numbers.Pre flaw-numbers.Post
+flaw-numbers-once κs a v v' x x' q p p' = numbers-once v v' (p ∙ sym p')
+
 -- the code's answer that has this value
-codeOf : paper.Flaw → Flaw
+pub codeOf : paper.Flaw → Flaw
 codeOf paper.sound = Sound
 codeOf paper.bad-kind = Kind
 codeOf (paper.bad-byte j) = Byte j
 codeOf paper.bad-count = Count
 
-code-of : (f : Flaw) → codeOf (flawOf f) ≡ f
+pub code-of : (f : Flaw) → codeOf (flawOf f) ≡ f
 unfolding codeOf
 code-of Sound = refl
 code-of Kind = refl
 code-of (Byte j) = refl
 code-of Count = refl
 
+pub flaw-of : (f : paper.Flaw) → flawOf (codeOf f) ≡ f
+unfolding codeOf
+flaw-of paper.sound = refl
+flaw-of paper.bad-kind = refl
+flaw-of (paper.bad-byte j) = refl
+flaw-of paper.bad-count = refl
+
+-- the paper's value tells the code's answer
+pub flaw-once : (f g : Flaw) → flawOf f ≡ flawOf g → f ≡ g
+flaw-once f g e = sym (code-of f) ∙ ap codeOf e ∙ code-of g
+
 pub judge-record-once : Once 1 judge-record-kinds.ps judge-record-kinds.r judge-record.Pre judge-record.Post
-judge-record-once κs a v v' x x' q p p' = sym (code-of v) ∙ ap codeOf (p ∙ sym p') ∙ code-of v'
+judge-record-once κs a v v' x x' q p p' = flaw-once v v' (p ∙ sym p')
 
 pub write-record-once : OnceLeft 1 write-record-kinds.ps write-record-kinds.r write-record.Pre write-record.Post (List ℕ) (λ κs x. x .0 .now)
 write-record-once κs a v v' x x' q p p' = (refl, p ∙ sym p')

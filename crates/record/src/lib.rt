@@ -2,11 +2,11 @@
 ghost use mathlib.Core.Path.{_≡_};
 ghost use Prim.Native.Nat.{_+_, _*_, _<_, _≤_};
 ghost use lib.ListN.{length};
-ghost use Rattle.paper.specs.Record.{kind, countIn, bits, symbolIn, stray, flaw, arity, isFlawed};
+ghost use Rattle.paper.specs.Record.{kind, countIn, bits, symbolIn, stray, flaw, arity, isFlawed, flawNumbers};
 ghost use Rattle.paper.specs.Verdict.{isPositive};
 ghost use Rattle.paper.specs.Table.{recordOf};
 ghost use Rattle.stretch.specs.Put.{put};
-ghost use Rattle.record.specs.Flaw.{flawOf};
+ghost use Rattle.record.specs.Flaw.{flawOf, bothNumbers, byteFlaw, countFlaw, firstOf};
 ghost use Rattle.record.specs.Tidy.{front, isTidy};
 
 // Which bytes of a record may be other than zero (1), by kind and byte.
@@ -24,6 +24,13 @@ pub enum Flaw {
     Kind,
     Byte(usize),
     Count,
+}
+
+// What is wrong with a record, as the numbers of an answer: 0 nothing, 1 the kind, 2 a byte, 3 the count; and which byte, 0 where it is
+// none.
+pub struct FlawNumbers {
+    pub what: u64,
+    pub byte: u64,
 }
 
 // The kind of record i.
@@ -139,19 +146,23 @@ fn stray(s: &[u8], i: usize, k: usize) -> usize
     j
 }
 
-// What is wrong with record i.
-pub fn judge_record(s: &[u8], i: usize) -> Flaw
-    requires { ⌜ i * 16 + 16 ≤ length (now s) ⌝ }
-    ensures { λ r. ⌜ flawOf r ≡ flaw (now (s .entry)) i ⌝ }
+// What is wrong with the bytes of record i, of kind k.
+fn judge_bytes(s: &[u8], i: usize, k: usize) -> Flaw
+    requires { ⌜ (i * 16 + 16 ≤ length (now s)) × (k < 5) ⌝ }
+    ensures { λ r. ⌜ flawOf r ≡ byteFlaw (now (s .entry)) i k ⌝ }
 {
-    let k = kind(s, i) as usize;
-    if 4 < k {
-        return Flaw::Kind;
-    }
     let j = stray(s, i, k);
     if j < 16 {
         return Flaw::Byte(j);
     }
+    Flaw::Sound
+}
+
+// What is wrong with the count of record i, of kind k.
+fn judge_count(s: &[u8], i: usize, k: usize) -> Flaw
+    requires { ⌜ (i * 16 + 16 ≤ length (now s)) × (k < 5) ⌝ }
+    ensures { λ r. ⌜ flawOf r ≡ countFlaw (now (s .entry)) i k ⌝ }
+{
     if k < 2 {
         return Flaw::Sound;
     }
@@ -162,6 +173,42 @@ pub fn judge_record(s: &[u8], i: usize) -> Flaw
         return Flaw::Count;
     }
     Flaw::Sound
+}
+
+// Something is wrong with the record.
+pub fn is_flawed(f: Flaw) -> bool
+    ensures { λ r. ⌜ r ≡ isFlawed (flawOf f) ⌝ }
+{
+    match f {
+        Flaw::Sound => false,
+        Flaw::Kind => true,
+        Flaw::Byte(_) => true,
+        Flaw::Count => true,
+    }
+}
+
+// The first of two judgements that finds something wrong; else nothing is.
+fn first_of(f: Flaw, g: Flaw) -> Flaw
+    ensures { λ r. ⌜ flawOf r ≡ firstOf (flawOf f) (flawOf g) ⌝ }
+{
+    if is_flawed(f) {
+        return f;
+    }
+    g
+}
+
+// What is wrong with record i: its kind, a byte, or its count, in this order.
+pub fn judge_record(s: &[u8], i: usize) -> Flaw
+    requires { ⌜ i * 16 + 16 ≤ length (now s) ⌝ }
+    ensures { λ r. ⌜ flawOf r ≡ flaw (now (s .entry)) i ⌝ }
+{
+    let k = kind(s, i) as usize;
+    if 4 < k {
+        return Flaw::Kind;
+    }
+    let bytes = judge_bytes(s, i, k);
+    let members = judge_count(s, i, k);
+    first_of(bytes, members)
 }
 
 // Record i anew: its kind, its number of members, and the number in its bytes 8-15; all other bytes of d stay.
@@ -193,14 +240,17 @@ pub fn write_record(d: &mut [u8], i: usize, kind: u8, count: usize, bits: u64)
     stretch::copy_bytes(d, i * 16, &r, 0, 16);
 }
 
-// Something is wrong with the record.
-pub fn is_flawed(f: Flaw) -> bool
-    ensures { λ r. ⌜ r ≡ isFlawed (flawOf f) ⌝ }
+// What is wrong with the record, as numbers.
+pub fn flaw_numbers(f: Flaw) -> FlawNumbers
+    ensures { λ r. ⌜ bothNumbers r ≡ flawNumbers (flawOf f) ⌝ }
 {
     match f {
-        Flaw::Sound => false,
-        Flaw::Kind => true,
-        Flaw::Byte(_) => true,
-        Flaw::Count => true,
+        Flaw::Sound => FlawNumbers { what: 0, byte: 0 },
+        Flaw::Kind => FlawNumbers { what: 1, byte: 0 },
+        Flaw::Byte(j) => FlawNumbers {
+            what: 2,
+            byte: j as u64,
+        },
+        Flaw::Count => FlawNumbers { what: 3, byte: 0 },
     }
 }

@@ -1,5 +1,6 @@
 // The listing of a table: whether it was accepted, its steps and openings, both weights, and the steps by name.
 use libc::STDOUT_FILENO;
+use record::Flaw;
 
 // Writes a word and a number.
 fn say(word: &[u8], number: usize) {
@@ -37,11 +38,27 @@ fn names(steps: &[u8], n: usize) {
     }
 }
 
+// Writes what is wrong with a record; nothing where nothing is.
+fn say_flaw(f: Flaw) {
+    match f {
+        Flaw::Sound => {}
+        Flaw::Kind => {
+            io::write_all(STDOUT_FILENO, b" kind");
+        }
+        Flaw::Byte(j) => say(b" byte ", j),
+        Flaw::Count => {
+            io::write_all(STDOUT_FILENO, b" count");
+        }
+    }
+}
+
 // Writes a refusal, or what an accepted table was shortened by.
 fn list(a: simplify::Answer, steps: &[u8]) {
+    let flaw = a.flaw;
     if 0 < a.number {
         say(b"refused ", a.number as usize);
         say(b" at ", a.place);
+        say_flaw(flaw);
         io::write_all(STDOUT_FILENO, b"\n");
         return;
     }

@@ -13,6 +13,7 @@ use denote.Triple.Clauses.{AtExit}
 use Rattle.paper.specs.Bytes.{Bytes}
 use Rattle.paper.specs.Answers.{Lent, Given, simplified}
 use Rattle.paper.specs.Calls.{simplifyReturns, simplifyAnswers, simplifyLeaves}
+use Rattle.paper.specs.Slices.{simplifyBytes}
 use Rattle.paper.specs.Told.{answerIn}
 use Rattle.paper.specs.Demands.{Simplifier, Demands, result}
 use Rattle.paper.specs.Takeover.{Room, Repeats, TakesOver, TakesOverInPlace}
@@ -51,26 +52,26 @@ given c =
     }
 
 -- it is the simplifier's, where the table is bytes and the slice has room; and the return is its number
-tells : (s : List ℕ) → Bytes s → (l : Lent) (before after : List ℕ) → 56 ≤ length before → after ≡ simplifyAnswers s l before
+tells : (s : List ℕ) → Bytes s → (l : Lent) (before after : List ℕ) → simplifyBytes ≤ length before → after ≡ simplifyAnswers s l before
     → answerIn after ≡ simplified s l .answer
 tells s b l before after room e =
-    ap answerIn (e ∙ slices .simplify s l before .1 room .1) ∙ told-answer (simplified s l .answer) (drop 56 before) (numbers-fit s b l)
+    ap answerIn (e ∙ slices .simplify s l before .1 room .1) ∙ told-answer (simplified s l .answer) (drop simplifyBytes before) (numbers-fit s b l)
 
 given-by : (g h : Given) → g .answer ≡ h .answer → g .lent ≡ h .lent → g ≡ h
 given-by g h x y = ap (λ a. record { answer = a; lent = g .lent }) x ∙ ap (λ a. record { answer = h .answer; lent = a }) y
 
-pub call-gives : (c : CCall) → Bytes (table c) → 56 ≤ length (slice c) → given c ≡ simplified (table c) (areas c)
+pub call-gives : (c : CCall) → Bytes (table c) → simplifyBytes ≤ length (slice c) → given c ≡ simplified (table c) (areas c)
 call-gives c b room =
     given-by (given c) (simplified (table c) (areas c)) (tells (table c) b (areas c) (slice c) _ room (c .promised .1 .0))
     (c .promised .1 .1 ∙ slices .areas (table c) (areas c) (slice c) .1 room)
 
-pub call-returns : (c : CCall) → Bytes (table c) → 56 ≤ length (slice c) → c .returned ≡ given c .answer .number
+pub call-returns : (c : CCall) → Bytes (table c) → simplifyBytes ≤ length (slice c) → c .returned ≡ given c .answer .number
 call-returns c b room =
     c .promised .0 ∙ slices .simplify (table c) (areas c) (slice c) .1 room .0 ∙ sym (ap (λ g. g .answer .number) (call-gives c b room))
 
 -- f says of every such call what the contract lets it give
 abbrev pub Describes : Simplifier → Type 0
-Describes f = (c : CCall) → Bytes (table c) → 56 ≤ length (slice c) → f (table c) (areas c) ≡ given c
+Describes f = (c : CCall) → Bytes (table c) → simplifyBytes ≤ length (slice c) → f (table c) (areas c) ≡ given c
 
 pub simplified-describes : Describes simplified
 simplified-describes c b room = sym (call-gives c b room)
@@ -84,9 +85,9 @@ at s = record { ptr = (0, 0); name = 0; now = s }
 
 -- any table and any areas may be handed in, with a slice that has room
 blank : List ℕ
-blank = replicate 56 0
+blank = replicate simplifyBytes 0
 
-blank-room : 56 ≤ length blank
+blank-room : simplifyBytes ≤ length blank
 unfolding blank
 blank-room = lit≤ tt
 
@@ -119,13 +120,13 @@ pub c-takes-over-in-place : (f : Simplifier) → Describes f → TakesOverInPlac
 c-takes-over-in-place f h = alike-takes-over-in-place f (described f h)
 
 -- the same of any two calls, the second of which is handed the result of the first: lent any areas with room for it
-pub c-takeover : (c d : CCall) → Bytes (table c) → Bytes (table d) → 56 ≤ length (slice c) → 56 ≤ length (slice d)
+pub c-takeover : (c d : CCall) → Bytes (table c) → Bytes (table d) → simplifyBytes ≤ length (slice c) → simplifyBytes ≤ length (slice d)
     → given c .answer .number ≡ 0 → table d ≡ result (given c) → Room (given c .answer .weight-out) (areas d) → Repeats (given c) (given d)
 c-takeover c d b b′ r r′ =
     of-calls (table c) (areas c) (given c) (call-gives c b r) (table d) (areas d) (given d) (call-gives d b′ r′) b
 
 -- or lent the areas as the first one left them
-pub c-takeover-in-place : (c d : CCall) → Bytes (table c) → Bytes (table d) → 56 ≤ length (slice c) → 56 ≤ length (slice d)
+pub c-takeover-in-place : (c d : CCall) → Bytes (table c) → Bytes (table d) → simplifyBytes ≤ length (slice c) → simplifyBytes ≤ length (slice d)
     → given c .answer .number ≡ 0 → table d ≡ result (given c) → areas d ≡ given c .lent → Repeats (given c) (given d)
 c-takeover-in-place c d b b′ r r′ =
     in-place (table c) (areas c) (given c) (call-gives c b r) (table d) (areas d) (given d) (call-gives d b′ r′) b

@@ -9,8 +9,10 @@ use lib.ListN.{length, take, drop, getD, length-append}
 use lib.Seq.{length-take-le, take-suc, take-all}
 use Rattle.paper.specs.Bytes.{bytes}
 use Rattle.paper.specs.Answers.{Lent, Given, simplified}
-use Rattle.paper.specs.Calls.{eights, tooShort, returned, answered, answerNumbers, simplifyReturns, simplifyAnswers, simplifyLeaves}
+use Rattle.paper.specs.Calls.{answerNumbers, eights, tooShort, returned, answered}
+use Rattle.paper.specs.Calls.{simplifyReturns, simplifyAnswers, simplifyLeaves}
 use Rattle.paper.proofs.BytesLaws.{length-bytes}
+pub use Rattle.paper.proofs.Slices.{verdict-count, measured-count, compared-count, answer-count}
 use Rattle.stretch.specs.Put.{put}
 use Rattle.stretch.proofs.Laws.{put-put, put-none, length-put}
 
@@ -61,31 +63,40 @@ module _ (d ns : List ℕ) (room : 8 * length ns ≤ length d) where
       let long : 0 + length (eights ns) ≡ 8 * length ns = omega (arith, eights-length ns) in
       rw (all, long)
 
--- ---- a call's return and its slice afterwards: too short, or with room for the numbers
-module _ (ns slice : List ℕ) (number : ℕ) where
-  pub no-room : length slice < 8 * length ns → (6 ≡ returned ns number slice) × (slice ≡ answered ns slice)
+-- ---- a call's return and its slice afterwards, its numbers being n: too short, or with room for them
+module _ (ns slice : List ℕ) (number n : ℕ) (count : length ns ≡ n) where
+  pub no-room : length slice < 8 * n → (6 ≡ returned ns number slice) × (slice ≡ answered ns slice)
   unfolding returned answered tooShort
-  no-room h = let t = lt-ltb (length slice) (8 * length ns) h in (rw t, rw t)
+  no-room h = let t = lt-ltb (length slice) (8 * length ns) (omega arith) in (rw t, rw t)
 
-  pub room : 8 * length ns ≤ length slice → (after : List ℕ) → after ≡ eights ns ++ drop (8 * length ns) slice
+  pub room : 8 * n ≤ length slice → (after : List ℕ) → after ≡ eights ns ++ drop (8 * n) slice
       → (number ≡ returned ns number slice) × (after ≡ answered ns slice)
   unfolding returned answered tooShort
-  room h after e = let t = le-ltb (length slice) (8 * length ns) h in (rw t, rw t e)
+  room h after e =
+      let t = le-ltb (length slice) (8 * length ns) (omega arith) in
+      (rw t, rw t (e ∙ ap (λ (k : ℕ). eights ns ++ drop (8 * k) slice) (sym count)))
+
+-- the numbers before are written, and then those that say what is wrong
+pub with-flaw : (before rest : List ℕ) {both flaw after : List ℕ} → both ≡ flaw → after ≡ eights (before ++ both) ++ rest
+    → after ≡ eights (before ++ flaw) ++ rest
+with-flaw before rest e w = w ∙ ap (λ (l : List ℕ). eights (before ++ l) ++ rest) e
 
 -- ---- the simplifier's call: its areas, too, are as they were where the slice is too short
 module _ (s slice : List ℕ) (l : Lent) where
-  pub simplify-no-room : length slice < 56
+  pub simplify-no-room : length slice < 72
       → (6 ≡ simplifyReturns s l slice) × ((slice ≡ simplifyAnswers s l slice) × (l ≡ simplifyLeaves s l slice))
-  unfolding simplifyReturns simplifyAnswers simplifyLeaves answerNumbers tooShort
+  unfolding simplifyReturns simplifyAnswers simplifyLeaves tooShort
   simplify-no-room h =
       let a = simplified s l .answer in
-      let q = no-room (answerNumbers a) slice (a .number) h in
-      (q .0, (q .1, rw (lt-ltb (length slice) 56 h)))
+      let count = answer-count a in
+      let q = no-room (answerNumbers a) slice (a .number) 9 count h in
+      (q .0, (q .1, rw (lt-ltb (length slice) (8 * length (answerNumbers a)) (omega arith))))
 
-  pub simplify-room : (g : Given) → g ≡ simplified s l → 56 ≤ length slice
-      → (after : List ℕ) → after ≡ eights (answerNumbers (g .answer)) ++ drop 56 slice
+  pub simplify-room : (g : Given) → g ≡ simplified s l → 72 ≤ length slice
+      → (after : List ℕ) → after ≡ eights (answerNumbers (g .answer)) ++ drop 72 slice
       → (g .answer .number ≡ simplifyReturns s l slice) × ((after ≡ simplifyAnswers s l slice) × (g .lent ≡ simplifyLeaves s l slice))
-  unfolding simplifyReturns simplifyAnswers simplifyLeaves answerNumbers tooShort
+  unfolding simplifyReturns simplifyAnswers simplifyLeaves tooShort
   simplify-room g e h after w =
-      let q = room (answerNumbers (g .answer)) slice (g .answer .number) h after w in
-      rw (← e) (q .0, (q .1, rw (le-ltb (length slice) 56 h)))
+      let count = answer-count (g .answer) in
+      let q = room (answerNumbers (g .answer)) slice (g .answer .number) 9 count h after w in
+      rw (← e) (q .0, (q .1, rw (le-ltb (length slice) (8 * length (answerNumbers (g .answer))) (omega arith))))

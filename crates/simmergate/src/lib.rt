@@ -27,68 +27,97 @@ fn number_of(yes: bool) -> u64
     if yes { 1 } else { 0 }
 }
 
-// Judges a table. The answer: number, place.
+// Judges a table. The answer: number, place, what is wrong with the record, which byte.
 #[no_mangle]
 pub extern "C" fn simmergate_check(table: &[u8], answer: &mut [u8]) -> u32
     ensures { λ r. ⌜ r ≡ checkReturns (now (table .entry)) (now (answer .entry)) ⌝ }
     ensures { λ _. ⌜ now (answer .exit) ≡ checkAnswers (now (table .entry)) (now (answer .entry)) ⌝ }
 {
-    if answer.len() < 16 {
+    if answer.len() < 32 {
         return 6;
     }
     let f = table::fault_of(table::check(table));
-    let numbers = [f.number as u64, f.place as u64];
+    let flaw = f.flaw;
+    let wrong = record::flaw_numbers(flaw);
+    let numbers = [f.number as u64, f.place as u64, wrong.what, wrong.byte];
     write_numbers(answer, &numbers);
     f.number
 }
 
-// Weighs a table. The answer: number, place, weight.
+// Weighs a table. The answer: number, place, weight, what is wrong with the record, which byte.
 #[no_mangle]
 pub extern "C" fn simmergate_weight(table: &[u8], answer: &mut [u8]) -> u32
     ensures { λ r. ⌜ r ≡ weightReturns (now (table .entry)) (now (answer .entry)) ⌝ }
     ensures { λ _. ⌜ now (answer .exit) ≡ weightAnswers (now (table .entry)) (now (answer .entry)) ⌝ }
 {
-    if answer.len() < 24 {
+    if answer.len() < 40 {
         return 6;
     }
     let w = table::weight(table);
-    let numbers = [w.number as u64, w.place as u64, w.result];
+    let flaw = w.flaw;
+    let wrong = record::flaw_numbers(flaw);
+    let numbers = [
+        w.number as u64,
+        w.place as u64,
+        w.result,
+        wrong.what,
+        wrong.byte,
+    ];
     write_numbers(answer, &numbers);
     w.number
 }
 
-// Evaluates a table under registers. The answer: number, place, value.
+// Evaluates a table under registers. The answer: number, place, value, what is wrong with the record, which byte.
 #[no_mangle]
 pub extern "C" fn simmergate_value(table: &[u8], registers: &[u8], answer: &mut [u8]) -> u32
     ensures { λ r. ⌜ r ≡ valueReturns (now (table .entry)) (now (registers .entry)) (now (answer .entry)) ⌝ }
     ensures { λ _. ⌜ now (answer .exit) ≡ valueAnswers (now (table .entry)) (now (registers .entry)) (now (answer .entry)) ⌝ }
 {
-    if answer.len() < 24 {
+    if answer.len() < 40 {
         return 6;
     }
     let v = value::value(table, registers);
-    let numbers = [v.number as u64, v.place as u64, v.result];
+    let flaw = v.flaw;
+    let wrong = record::flaw_numbers(flaw);
+    let numbers = [
+        v.number as u64,
+        v.place as u64,
+        v.result,
+        wrong.what,
+        wrong.byte,
+    ];
     write_numbers(answer, &numbers);
     v.number
 }
 
-// Compares the trees of two tables. The answer: number, place, which table is refused, yes (1) or no (0).
+// Compares the trees of two tables. The answer: number, place, which table is refused, yes (1) or no (0), what is wrong with the record,
+// which byte.
 #[no_mangle]
 pub extern "C" fn simmergate_equal(a: &[u8], b: &[u8], answer: &mut [u8]) -> u32
     ensures { λ r. ⌜ r ≡ equalReturns (now (a .entry)) (now (b .entry)) (now (answer .entry)) ⌝ }
     ensures { λ _. ⌜ now (answer .exit) ≡ equalAnswers (now (a .entry)) (now (b .entry)) (now (answer .entry)) ⌝ }
 {
-    if answer.len() < 32 {
+    if answer.len() < 48 {
         return 6;
     }
     let c = equal::equal(a, b);
     let yes = number_of(c.yes);
-    let numbers = [c.number as u64, c.place as u64, c.which as u64, yes];
+    let flaw = c.flaw;
+    let wrong = record::flaw_numbers(flaw);
+    let numbers = [
+        c.number as u64,
+        c.place as u64,
+        c.which as u64,
+        yes,
+        wrong.what,
+        wrong.byte,
+    ];
     write_numbers(answer, &numbers);
     c.number
 }
 
-// Simplifies a table in lent memory. The answer: number, place, records written, steps, openings, weight in, weight out.
+// Simplifies a table in lent memory. The answer: number, place, records written, steps, openings, weight in, weight out, what is wrong
+// with the record, which byte.
 #[no_mangle]
 pub extern "C" fn simmergate_simplify(
     table: &[u8],
@@ -102,10 +131,12 @@ pub extern "C" fn simmergate_simplify(
     ensures { λ _. ⌜ lent (now (out .exit)) (now (steps .exit)) (now (work .exit))
         ≡ simplifyLeaves (now (table .entry)) (lent (now (out .entry)) (now (steps .entry)) (now (work .entry))) (now (answer .entry)) ⌝ }
 {
-    if answer.len() < 56 {
+    if answer.len() < 72 {
         return 6;
     }
     let a = simplify::simplify(table, out, steps, work);
+    let flaw = a.flaw;
+    let wrong = record::flaw_numbers(flaw);
     let numbers = [
         a.number as u64,
         a.place as u64,
@@ -114,6 +145,8 @@ pub extern "C" fn simmergate_simplify(
         a.openings as u64,
         a.weight_in as u64,
         a.weight_out as u64,
+        wrong.what,
+        wrong.byte,
     ];
     write_numbers(answer, &numbers);
     a.number

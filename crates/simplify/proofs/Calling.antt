@@ -13,11 +13,12 @@ use borrow.Rule.Slice.PartMut.{putMid, mid-len}
 use Rattle.paper.specs.Limits.{maxWeight}
 use Rattle.paper.specs.Bytes.{Bytes, stretch}
 use Rattle.paper.specs.Tree.{Tree, weight}
-use Rattle.paper.specs.Verdict.{accepted, isAccepted, tableWeight, verdict}
+use Rattle.paper.specs.Verdict.{accepted, told, isAccepted, tableWeight, verdict}
 use Rattle.paper.specs.Answers as paper
 use Rattle.paper.specs.Answers.{simplifiedBy, outcomeOf, judgement, answerOf, lentAfter, outAfter, stepsAfter, workAfter}
 use Rattle.paper.proofs.AcceptedLaws.{Holds, accepted-holds}
 use Rattle.paper.proofs.CallLaws.{verdict-accepted, accepted-judgement, Call, is-turned-down, is-run, RunOn, call}
+use Rattle.record.specs.Flaw.{flawOf}
 use Rattle.table.specs.declared.Measured.{Measured}
 use Rattle.table.specs.Measured as table
 use Rattle.simplify.specs.declared.Answer.{Answer}
@@ -59,19 +60,17 @@ module _ (s : List ℕ) (m : Measured) (e : table.says m ≡ paper.weighed s) wh
   unfolding paper.weighed paper.measured
   number-is = ap (λ x. x .number) e
 
-  place-is : m .place ≡ verdict s .place
+  verdict-is : told (m .number) (m .place) (flawOf (m .flaw)) ≡ verdict s
   unfolding paper.weighed paper.measured
-  place-is = ap (λ x. x .place) e
+  verdict-is = ap (λ x. told (x .number) (x .place) (x .flaw)) e
 
   -- refusals 1 to 5
-  pub turned-down : (a : Answer) (out steps work : List ℕ) → 0 < m .number → says a ≡ paper.refusal (m .number) (m .place)
+  pub turned-down : (a : Answer) (out steps work : List ℕ) → 0 < m .number → says a ≡ paper.refusedBy (told (m .number) (m .place) (flawOf (m .flaw)))
       → gives a out steps work ≡ paper.simplified s (lent out steps work)
   unfolding paper.simplified simplifiedBy outcomeOf judgement answerOf lentAfter outAfter stepsAfter workAfter isAccepted
   turned-down a out steps work h q =
       let n : eqb (verdict s .number) 0 ≡ false = ne-eqb (verdict s .number) 0 (λ z. omega (arith, number-is)) in
-      let r : says a ≡ paper.refusal (verdict s .number) (verdict s .place)
-      = q ∙ ap (λ i. paper.refusal i (m .place)) number-is ∙ ap (paper.refusal (verdict s .number)) place-is in
-      rw (n, n) (same-given r refl)
+      rw (n, n) (same-given (q ∙ ap paper.refusedBy verdict-is) refl)
 
   module _ (h : m .number ≤ 0) where
     pub fine : verdict s ≡ accepted

@@ -2,13 +2,14 @@
 -- function give, as the check reads that contract from the source. Such a one is the paper's, since any table and any areas may be
 -- handed in. Assumes nothing.
 use Prim.Native.Nat.{ℕ}
-use mathlib.Core.Path.{_≡_, refl, sym, subst, fun-ext}
+use mathlib.Core.Path.{_≡_, sym, ap, _∙_, subst, fun-ext}
 use mathlib.Core.List.{List, []}
 use denote.Ref.{RefT}
 use borrow.Fn.Kinds.{Dens, endedOf}
 use contract.Lifetimes.{Lfts}
 use denote.Triple.Clauses.{AtExit}
 use Rattle.paper.specs.Bytes.{Bytes}
+use Rattle.paper.specs.Answers as paper
 use Rattle.paper.specs.Answers.{Lent, Given, simplified}
 use Rattle.paper.specs.Demands.{Simplifier, Demands, result}
 use Rattle.paper.specs.Takeover.{Room, Repeats, TakesOver, TakesOverInPlace}
@@ -16,7 +17,7 @@ use Rattle.paper.proofs.DemandLaws.{simplified-meets}
 use Rattle.paper.proofs.Takeover.{takeover, takeover-in-place}
 use Rattle.simplify.specs.declared.Answer.{Answer}
 use Rattle.simplify.specs.Answer.{lent, gives}
-use Rattle.simplify.proofs.Unique.{answerOf}
+use Rattle.simplify.proofs.Unique.{answerOf, says-answer}
 use Rattle.simplify.proofs.simplify.Reads as reads
 use Rattle.simplify.proofs.simplify.Kinds as kinds
 
@@ -62,6 +63,10 @@ at s = record { ptr = (0, 0); name = 0; now = s }
 κ : Lfts 4
 κ = ([], ([], ([], ([], tt))))
 
+-- what the paper gives, told back by the code's answer
+as-given : (s : List ℕ) (l : Lent) → let g = simplified s l in gives (answerOf (g .answer)) (g .lent .out) (g .lent .steps) (g .lent .work) ≡ g
+as-given s l = let g = simplified s l in ap (λ (a : paper.Answer). record { answer = a; lent = g .lent }) (says-answer (g .answer))
+
 called : List ℕ → Lent → CodeCall
 unfolding at κ
 called s l =
@@ -71,13 +76,13 @@ called s l =
       answer = answerOf (simplified s l .answer);
       left =
           (at s, (at (simplified s l .lent .out), (at (simplified s l .lent .steps), (at (simplified s l .lent .work), tt))));
-      promised = refl;
+      promised = as-given s l;
     }
 
 -- so a simplifier that describes the code is the paper's
 pub described : (f : Simplifier) → Describes f → (s : List ℕ) (l : Lent) → f s l ≡ simplified s l
 unfolding at κ called
-described f h s l = h (called s l)
+described f h s l = h (called s l) ∙ as-given s l
 
 pub described-is : (f : Simplifier) → Describes f → simplified ≡ f
 described-is f h = sym (fun-ext (λ s. fun-ext (λ l. described f h s l)))

@@ -14,6 +14,7 @@ use Rattle.paper.proofs.EncodeLaws.{encode-length, records-weight}
 use Rattle.paper.proofs.TableLaws.{weight-there}
 use Rattle.stretch.specs.Put.{part, put}
 use Rattle.stretch.proofs.Laws.{drop-put-at, part-whole}
+use Rattle.record.specs.declared.Flaw.the-variants.{Sound}
 use Rattle.simplify.specs.declared.Answer.{Answer}
 use Rattle.simplify.specs.Answer.{says, filled, Lending, Leaves}
 use Rattle.driver.specs.Driven.{Set, Drove}
@@ -119,7 +120,7 @@ module _ {table out steps work : List ℕ} {w : ℕ} {t : Tree} (h : Lending tab
         → out'' ≡ put out' (e * 16) (replicate (length out' - e * 16) 0) → steps'' ≡ put steps' n (replicate (length steps' - n) 0)
         → work'' ≡ put work' 0 (replicate (length work') 0) → x ≡ weightFrom out'' 0 e
         → Leaves (drives t) w
-        (record { number = 0; place = 0; records = e; steps = n; openings = o; «weight_in» = w; «weight_out» = x }) out out'' steps steps'' work work''
+        (record { number = 0; place = 0; flaw = Sound; records = e; steps = n; openings = o; «weight_in» = w; «weight_out» = x }) out out'' steps steps'' work work''
     unfolding paper.ranAnswer paper.written paper.noted
     left-done out'' steps'' work'' x co cz cw cx =
         let z : e ≡ records (a .to) = omega (arith, a .end) in

@@ -4,19 +4,23 @@ use mathlib.Core.Path.{_≡_, sym, ap, _∙_}
 use borrow.Fn.Kinds.{endedOf}
 use contract.Lifetimes.{Lfts}
 use denote.Triple.Clauses.{AtExit}
+use Rattle.paper.specs.Record as paper-record
 use Rattle.paper.specs.Answers as paper
 use Rattle.paper.specs.Once.{OnceLeft}
+use Rattle.record.specs.declared.Flaw.{Flaw}
+use Rattle.record.proofs.Unique.{codeOf, code-of, flaw-of}
 use Rattle.simplify.specs.declared.Answer.{Answer}
 use Rattle.simplify.specs.Answer.{says, lent}
 use Rattle.simplify.proofs.simplify.Reads as reads
 use Rattle.simplify.proofs.simplify.Kinds as kinds
 
--- the seven numbers of the paper's answer, as the code's
+-- the paper's answer, as the code's
 abbrev pub answerOf : paper.Answer → Answer
 answerOf a =
     record {
       number = a .number;
       place = a .place;
+      flaw = codeOf (a .flaw);
       records = a .records-written;
       steps = a .steps-taken;
       openings = a .openings;
@@ -24,8 +28,38 @@ answerOf a =
       «weight_out» = a .weight-out;
     }
 
+answer-of : (r : Answer) → answerOf (says r) ≡ r
+answer-of r =
+    ap
+    (λ (f : Flaw). record {
+      number = r .number;
+      place = r .place;
+      flaw = f;
+      records = r .records;
+      steps = r .steps;
+      openings = r .openings;
+      «weight_in» = r .«weight_in»;
+      «weight_out» = r .«weight_out»;
+    })
+    (code-of (r .flaw))
+
+pub says-answer : (a : paper.Answer) → says (answerOf a) ≡ a
+says-answer a =
+    ap
+    (λ (f : paper-record.Flaw). record {
+      number = a .number;
+      place = a .place;
+      flaw = f;
+      records-written = a .records-written;
+      steps-taken = a .steps-taken;
+      openings = a .openings;
+      weight-in = a .weight-in;
+      weight-out = a .weight-out;
+    })
+    (flaw-of (a .flaw))
+
 says-once : (r r′ : Answer) → says r ≡ says r′ → r ≡ r′
-says-once r r′ e = ap answerOf e
+says-once r r′ e = sym (answer-of r) ∙ ap answerOf e ∙ answer-of r′
 
 -- the three areas at exit
 abbrev pub areasLeft : (κs : Lfts 4) → AtExit (endedOf 4 kinds.ps kinds.r) κs → paper.Lent

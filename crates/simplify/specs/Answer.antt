@@ -8,14 +8,16 @@ use Rattle.paper.specs.WellFormed.{WF}
 use Rattle.paper.specs.Table.{encode}
 use Rattle.paper.specs.Driver.{Ran}
 use Rattle.paper.specs.Answers as paper
+use Rattle.record.specs.Flaw.{flawOf}
 use Rattle.simplify.specs.declared.Answer.{Answer}
 
--- the seven numbers, field by field
+-- the seven numbers and what is wrong with the record, field by field
 abbrev pub says : Answer → paper.Answer
 says a =
     record {
       number = a .number;
       place = a .place;
+      flaw = flawOf (a .flaw);
       records-written = a .records;
       steps-taken = a .steps;
       openings = a .openings;

@@ -1,17 +1,22 @@
 // The simplifier: it judges a table, lends exact stretches to a run of the driver, and clears what the run leaves.
+use record::Flaw;
 ghost use mathlib.Core.Path.{_≡_};
 ghost use mathlib.Core.List.{List};
 ghost use Prim.Native.Nat.{ℕ};
 ghost use Rattle.paper.specs.Tree.{Tree};
 ghost use Rattle.paper.specs.Rules.{editionOne};
 ghost use Rattle.paper.specs.Driver.{simplify};
-ghost use Rattle.paper.specs.Answers.{refusal, simplified};
+ghost use Rattle.paper.specs.Verdict.{told};
+ghost use Rattle.paper.specs.Answers.{refusedBy, simplified};
+ghost use Rattle.record.specs.Flaw.{flawOf};
 ghost use Rattle.simplify.specs.Answer.{says, lent, gives, Lending, Leaves};
 
-// A refusal's number and place, or 0 and 0; the records written, the steps, the openings, and the weights of the table and of the result.
+// A refusal's number and place, or 0 and 0; after 2 what is wrong with the record; the records written, the steps, the openings, and the
+// weights of the table and of the result.
 pub struct Answer {
     pub number: u32,
     pub place: usize,
+    pub flaw: Flaw,
     pub records: usize,
     pub steps: usize,
     pub openings: usize,
@@ -19,13 +24,14 @@ pub struct Answer {
     pub weight_out: usize,
 }
 
-// A refusal: its number and place, and zeros.
-fn refusal(number: u32, place: usize) -> Answer
-    ensures { λ r. ⌜ says r ≡ refusal number place ⌝ }
+// A refusal: its number and place, what is wrong with the record, and zeros.
+fn refusal(number: u32, place: usize, flaw: Flaw) -> Answer
+    ensures { λ r. ⌜ says r ≡ refusedBy (told number place (flawOf flaw)) ⌝ }
 {
     Answer {
         number,
         place,
+        flaw,
         records: 0,
         steps: 0,
         openings: 0,
@@ -50,7 +56,7 @@ fn run(table: &[u8], out: &mut [u8], steps: &mut [u8], work: &mut [u8], w: usize
         driver::Driven::Over(k) => {
             stretch::clear(out, 0, out.len());
             stretch::clear(steps, 0, steps.len());
-            refusal(7, k)
+            refusal(7, k, Flaw::Sound)
         }
         driver::Driven::Done(e, q, n, o) => {
             stretch::clear(out, e * 16, out.len() - e * 16);
@@ -58,6 +64,7 @@ fn run(table: &[u8], out: &mut [u8], steps: &mut [u8], work: &mut [u8], w: usize
             Answer {
                 number: 0,
                 place: 0,
+                flaw: Flaw::Sound,
                 records: e,
                 steps: n,
                 openings: o,
@@ -75,19 +82,20 @@ pub fn simplify(table: &[u8], out: &mut [u8], steps: &mut [u8], work: &mut [u8])
         ≡ simplified (now (table .entry)) (lent (now (out .entry)) (now (steps .entry)) (now (work .entry))) ⌝ }
 {
     let m = table::weight(table);
+    let flaw = m.flaw;
     if 0 < m.number {
-        return refusal(m.number, m.place);
+        return refusal(m.number, m.place, flaw);
     }
     let w = m.result as usize;
     let room = out.len();
     if room < 16 * w {
-        return refusal(6, 0);
+        return refusal(6, 0, Flaw::Sound);
     }
     if steps.len() < w {
-        return refusal(6, 0);
+        return refusal(6, 0, Flaw::Sound);
     }
     if work.len() < 65536 {
-        return refusal(6, 0);
+        return refusal(6, 0, Flaw::Sound);
     }
     let end = 16 * w;
     run(

@@ -7,8 +7,8 @@ use native.Mathlib.Omega.{arith}
 use borrow.Author.Tests.{eq-eqb, ne-eqb, lt-ltb, le-ltb}
 use lib.ListN.{length}
 use Rattle.paper.specs.Limits.{maxWeight, maxBytes}
-use Rattle.paper.specs.Record.{weightFrom}
-use Rattle.paper.specs.Verdict.{accepted, refused, recordsIn, badLength, firstFlawed, treeEnd, judgeRecords, verdict}
+use Rattle.paper.specs.Record.{Flaw, flaw, weightFrom}
+use Rattle.paper.specs.Verdict.{accepted, refused, flawed, recordsIn, badLength, firstFlawed, treeEnd, judgeRecords, verdict}
 use Rattle.table.specs.Walked.{walked}
 use Rattle.table.specs.declared.Walked.the-variants.{Bad, Ends}
 use Rattle.table.proofs.WalkLaws.{table-bad, table-ends}
@@ -41,9 +41,9 @@ module _ (s : List ℕ) where
 
 -- refusals 2 to 5, of n records
 module _ (s : List ℕ) (n f : ℕ) (first : f ≡ firstFlawed s 0 n) where
-  pub flawed : f < n → judgeRecords s n ≡ refused 2 f
+  pub flawed-there : f < n → (x : Flaw) → x ≡ flaw s f → judgeRecords s n ≡ flawed f x
   unfolding judgeRecords
-  flawed h = rw (← first, lt-ltb f n h)
+  flawed-there h x e = rw (← first, lt-ltb f n h, e)
 
   module _ (sound : n ≤ f) (w : ℕ) (weight : w ≡ weightFrom s 0 n) where
     pub heavy : maxWeight < w → judgeRecords s n ≡ refused 3 0

@@ -2,9 +2,12 @@
 -- the same: the paper's numbers tell every answer of the code from every other, and the weight is one number. Assumes nothing.
 use Prim.Native.Nat.{ℕ, zero, suc}
 use mathlib.Core.Path.{_≡_, refl, sym, ap, _∙_}
+use Rattle.paper.specs.Record as paper-record
 use Rattle.paper.specs.Verdict.{Verdict}
 use Rattle.paper.specs.Answers as paper
 use Rattle.paper.specs.Once.{Once}
+use Rattle.record.specs.declared.Flaw.{Flaw}
+use Rattle.record.proofs.Unique.{codeOf, code-of}
 use Rattle.table.specs.Judged.{standsFor, verdictOf}
 use Rattle.table.specs.Measured.{says}
 use Rattle.table.specs.declared.Judged.{Judged}
@@ -20,32 +23,47 @@ use Rattle.table.proofs.fault_of.Kinds as fault-of-kinds
 use Rattle.table.proofs.weight_of.Reads as weight-of-reads
 use Rattle.table.proofs.weight_of.Kinds as weight-of-kinds
 
--- the answer that has this number, at this place
-answer : ℕ → ℕ → Judged
-answer zero p = Fine
-answer (suc zero) p = Length
-answer (suc (suc zero)) p = Record p
-answer (suc (suc (suc zero))) p = Heavy
-answer (suc (suc (suc (suc zero)))) p = Shape p
-answer (suc (suc (suc (suc (suc k))))) p = Exponent p
+-- the answer that has this number, at this place, with this flaw
+answer : ℕ → ℕ → paper-record.Flaw → Judged
+answer zero p f = Fine
+answer (suc zero) p f = Length
+answer (suc (suc zero)) p f = Record p (codeOf f)
+answer (suc (suc (suc zero))) p f = Heavy
+answer (suc (suc (suc (suc zero)))) p f = Shape p
+answer (suc (suc (suc (suc (suc k))))) p f = Exponent p
 
-answer-stands : (r : Judged) → answer (standsFor r .number) (standsFor r .place) ≡ r
+answer-stands : (r : Judged) → answer (standsFor r .number) (standsFor r .place) (standsFor r .flaw) ≡ r
 unfolding answer
 answer-stands Fine = refl
 answer-stands Length = refl
-answer-stands (Record p) = refl
+answer-stands (Record p f) = ap (Record p) (code-of f)
 answer-stands Heavy = refl
 answer-stands (Shape p) = refl
 answer-stands (Exponent p) = refl
 
 stands-once : (r r′ : Judged) → standsFor r ≡ standsFor r′ → r ≡ r′
-stands-once r r′ e = sym (answer-stands r) ∙ ap (λ (v : Verdict). answer (v .number) (v .place)) e ∙ answer-stands r′
+stands-once r r′ e = sym (answer-stands r) ∙ ap (λ (v : Verdict). answer (v .number) (v .place) (v .flaw)) e ∙ answer-stands r′
+
+-- a fault, and a weight, that have these numbers and this flaw
+faultOf : Verdict → Fault
+faultOf v = record { number = v .number; place = v .place; flaw = codeOf (v .flaw) }
+
+fault-of : (r : Fault) → faultOf (verdictOf r) ≡ r
+unfolding faultOf
+fault-of r = ap (λ (f : Flaw). record { number = r .number; place = r .place; flaw = f }) (code-of (r .flaw))
 
 fault-once : (r r′ : Fault) → verdictOf r ≡ verdictOf r′ → r ≡ r′
-fault-once r r′ e = ap (λ (v : Verdict). record { number = v .number; place = v .place }) e
+fault-once r r′ e = sym (fault-of r) ∙ ap faultOf e ∙ fault-of r′
+
+measuredOf : paper.Measured → Measured
+measuredOf m = record { number = m .number; place = m .place; flaw = codeOf (m .flaw); result = m .result }
+
+measured-of : (r : Measured) → measuredOf (says r) ≡ r
+unfolding measuredOf
+measured-of r = ap (λ (f : Flaw). record { number = r .number; place = r .place; flaw = f; result = r .result }) (code-of (r .flaw))
 
 pub says-once : (r r′ : Measured) → says r ≡ says r′ → r ≡ r′
-says-once r r′ e = ap (λ (m : paper.Measured). record { number = m .number; place = m .place; result = m .result }) e
+says-once r r′ e = sym (measured-of r) ∙ ap measuredOf e ∙ measured-of r′
 
 pub check-once : Once 1 check-kinds.ps check-kinds.r check-reads.Pre check-reads.Post
 check-once κs a v v' x x' q p p' = stands-once v v' (p ∙ sym p')

@@ -1,5 +1,6 @@
--- The checker's answers in the paper's terms: for each answer the number of the refusal and its place.
-use Rattle.paper.specs.Verdict.{Verdict, accepted, refused}
+-- The checker's answers in the paper's terms: for each answer the number of the refusal and its place, and what is wrong with the record.
+use Rattle.paper.specs.Verdict.{Verdict, accepted, told, refused, flawed}
+use Rattle.record.specs.Flaw.{flawOf}
 use Rattle.table.specs.declared.Judged.{Judged}
 use Rattle.table.specs.declared.Judged.the-variants.{Fine, Length, Record, Heavy, Shape, Exponent}
 use Rattle.table.specs.declared.Fault.{Fault}
@@ -7,11 +8,11 @@ use Rattle.table.specs.declared.Fault.{Fault}
 abbrev pub standsFor : Judged → Verdict
 standsFor Fine = accepted
 standsFor Length = refused 1 0
-standsFor (Record p) = refused 2 p
+standsFor (Record p f) = flawed p (flawOf f)
 standsFor Heavy = refused 3 0
 standsFor (Shape p) = refused 4 p
 standsFor (Exponent p) = refused 5 p
 
--- a number and a place as the paper's
+-- a number, a place and a flaw as the paper's
 abbrev pub verdictOf : Fault → Verdict
-verdictOf f = refused (f .number) (f .place)
+verdictOf f = told (f .number) (f .place) (flawOf (f .flaw))

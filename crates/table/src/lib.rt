@@ -1,4 +1,5 @@
 // The checker of tables, which judges refusals 1 to 5, and the weight of a table.
+use record::Flaw;
 ghost use mathlib.Core.Path.{_≡_};
 ghost use Prim.Native.Nat.{_+_, _*_, _≤_};
 ghost use lib.ListN.{length};
@@ -9,26 +10,28 @@ ghost use Rattle.table.specs.Judged.{standsFor, verdictOf};
 ghost use Rattle.table.specs.Measured.{says};
 ghost use Rattle.table.specs.Walked.{walked};
 
-// The checker's answer: nothing is refused, or which refusal it is, with the record where it has one.
+// The checker's answer: nothing is refused, or which refusal it is, with the record where it has one, and what is wrong with it.
 pub enum Judged {
     Fine,
     Length,
-    Record(usize),
+    Record(usize, Flaw),
     Heavy,
     Shape(usize),
     Exponent(usize),
 }
 
-// The paper's number and place of a refusal; 0 and 0 where nothing is refused.
+// The paper's number and place of a refusal, and after 2 what is wrong with the record; 0 and 0 where nothing is refused.
 pub struct Fault {
     pub number: u32,
     pub place: usize,
+    pub flaw: Flaw,
 }
 
 // The weight of a table, and what was refused.
 pub struct Measured {
     pub number: u32,
     pub place: usize,
+    pub flaw: Flaw,
     pub result: u64,
 }
 
@@ -137,7 +140,7 @@ fn judge_records(s: &[u8], n: usize) -> Judged
 {
     let f = first_flawed(s, n);
     if f < n {
-        return Judged::Record(f);
+        return Judged::Record(f, record::judge_record(s, f));
     }
     if 3072 < weight_of(s, n) {
         return Judged::Heavy;
@@ -171,7 +174,7 @@ pub fn check(s: &[u8]) -> Judged
     judge_records(s, s.len() / 16)
 }
 
-// The paper's number and place of the checker's answer.
+// The paper's number and place of the checker's answer, and what is wrong with the record.
 pub fn fault_of(j: Judged) -> Fault
     ensures { λ r. ⌜ verdictOf r ≡ standsFor j ⌝ }
 {
@@ -179,26 +182,32 @@ pub fn fault_of(j: Judged) -> Fault
         Judged::Fine => Fault {
             number: 0,
             place: 0,
+            flaw: Flaw::Sound,
         },
         Judged::Length => Fault {
             number: 1,
             place: 0,
+            flaw: Flaw::Sound,
         },
-        Judged::Record(p) => Fault {
+        Judged::Record(p, f) => Fault {
             number: 2,
             place: p,
+            flaw: f,
         },
         Judged::Heavy => Fault {
             number: 3,
             place: 0,
+            flaw: Flaw::Sound,
         },
         Judged::Shape(p) => Fault {
             number: 4,
             place: p,
+            flaw: Flaw::Sound,
         },
         Judged::Exponent(p) => Fault {
             number: 5,
             place: p,
+            flaw: Flaw::Sound,
         },
     }
 }
@@ -208,16 +217,19 @@ pub fn weight(s: &[u8]) -> Measured
     ensures { λ r. ⌜ says r ≡ weighed (now (s .entry)) ⌝ }
 {
     let f = fault_of(check(s));
+    let flaw = f.flaw;
     if 0 < f.number {
         return Measured {
             number: f.number,
             place: f.place,
+            flaw: flaw,
             result: 0,
         };
     }
     Measured {
         number: f.number,
         place: f.place,
+        flaw: flaw,
         result: weight_of(s, s.len() / 16) as u64,
     }
 }

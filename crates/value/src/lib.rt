@@ -1,4 +1,5 @@
 // The value of a table under 256 registers of 64 bits, modulo 2^64.
+use record::Flaw;
 use table::Measured;
 ghost use mathlib.Core.Path.{_≡_};
 ghost use Prim.Native.Nat.{ℕ, _<_};
@@ -116,10 +117,12 @@ pub fn value(s: &[u8], registers: &[u8]) -> Measured
     ensures { λ r. ⌜ says r ≡ valued (now (s .entry)) (now (registers .entry)) ⌝ }
 {
     let f = table::fault_of(table::check(s));
+    let flaw = f.flaw;
     if 0 < f.number {
         return Measured {
             number: f.number,
             place: f.place,
+            flaw: flaw,
             result: 0,
         };
     }
@@ -127,6 +130,7 @@ pub fn value(s: &[u8], registers: &[u8]) -> Measured
         return Measured {
             number: 6,
             place: 0,
+            flaw: Flaw::Sound,
             result: 0,
         };
     }
@@ -135,6 +139,7 @@ pub fn value(s: &[u8], registers: &[u8]) -> Measured
     Measured {
         number: 0,
         place: 0,
+        flaw: Flaw::Sound,
         result: v.value,
     }
 }

@@ -1,10 +1,12 @@
--- `simmergate::simmergate_check` meets its contract: the two numbers are the verdict's, told by the checker. Assumes nothing.
+-- `simmergate::simmergate_check` meets its contract: the numbers are the verdict's, told by the checker, and those of what is wrong. Assumes nothing.
 use mathlib.Core.Path.{_∙_}
 use mathlib.Core.List.{[], _∷_}
 use native.Mathlib.Omega.{arith}
+use lib.ListN.{drop}
 use Rattle.paper.specs.Verdict.{verdict}
 use Rattle.paper.specs.Calls.{verdictNumbers, checkReturns, checkAnswers}
-use Rattle.simmergate.proofs.NumbersLaws.{no-room, room}
+use Rattle.table.specs.Judged.{verdictOf}
+use Rattle.simmergate.proofs.NumbersLaws.{verdict-count, no-room, room, with-flaw}
 use borrow.Author.Needs.{needs}
 use Rattle.simmergate.proofs.simmergate_check.Statement.{statement}
 use Rattle.simmergate.proofs.simmergate_check.Tie as tie
@@ -14,7 +16,7 @@ unfolding checkReturns checkAnswers verdictNumbers
 returns c =
     let a = c .before .before .before .args in
     let v = verdict (a .table .now) in
-    no-room (verdictNumbers v) (a .answer .now) (v .number) (c .if1 .taken)
+    no-room (verdictNumbers v) (a .answer .now) (v .number) 4 (verdict-count v) (c .if1 .taken)
 
 check-requires : tie.Need-check-requires
 check-requires c κs = search needs
@@ -22,8 +24,11 @@ check-requires c κs = search needs
 fault-of-requires : tie.Need-fault-of-requires
 fault-of-requires c κs = search needs
 
-cast-t8 : tie.Need-cast-t8
-cast-t8 c = search needs
+flaw-numbers-requires : tie.Need-flaw-numbers-requires
+flaw-numbers-requires c κs = search needs
+
+cast-t10 : tie.Need-cast-t10
+cast-t10 c = search needs
 
 slice-aggregate-write-numbers : tie.Need-slice-aggregate-write-numbers
 slice-aggregate-write-numbers c = search needs
@@ -37,12 +42,15 @@ same-length c = search needs
 returns-2 : tie.Need-returns-2
 unfolding checkReturns checkAnswers verdictNumbers
 returns-2 c =
-    let a = c .before .before .before .before .before .before .before .before .before .before .before .args in
-    let fault = c .before .before .before .before .before .before .fault-of in
+    let a = c .before .before .before .before .before .before .before .before .before .before .before .before .args in
+    let fault = c .before .before .before .before .before .before .before .fault-of in
+    let wrong = c .before .before .before .before .before .before .flaw-numbers in
     let r = fault .result in
-    let told = fault .ensures ∙ c .before .before .before .before .before .before .before .check .ensures in
+    let told = fault .ensures ∙ c .before .before .before .before .before .before .before .before .check .ensures in
     let written = c .before .before .write-numbers in
-    rw (← told) (room (r .number ∷ r .place ∷ []) (a .answer .now) (r .number) (omega arith) (written .last .0) (written .ensures))
+    let after = with-flaw (r .number ∷ r .place ∷ []) (drop 32 (a .answer .now)) (wrong .ensures) (written .ensures) in
+    rw (← told)
+    (room (verdictNumbers (verdictOf r)) (a .answer .now) (r .number) 4 (verdict-count (verdictOf r)) (omega arith) (written .last .0) after)
 
 pub simmergate-check-spec : {M : Type 1} → statement M
 simmergate-check-spec =
@@ -51,7 +59,8 @@ simmergate-check-spec =
     returns
     check-requires
     fault-of-requires
-    cast-t8
+    flaw-numbers-requires
+    cast-t10
     slice-aggregate-write-numbers
     write-numbers-requires
     same-length

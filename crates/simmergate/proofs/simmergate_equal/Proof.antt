@@ -1,10 +1,12 @@
--- `simmergate::simmergate_equal` meets its contract: the four numbers are those that `equal` tells. Assumes nothing.
+-- `simmergate::simmergate_equal` meets its contract: the numbers are those that `equal` tells, and those of what is wrong. Assumes nothing.
 use mathlib.Core.List.{[], _∷_}
 use native.Mathlib.Omega.{arith}
+use lib.ListN.{drop}
 use Rattle.paper.specs.Equal.{one}
 use Rattle.paper.specs.Answers.{compared}
 use Rattle.paper.specs.Calls.{comparedNumbers, equalReturns, equalAnswers}
-use Rattle.simmergate.proofs.NumbersLaws.{no-room, room}
+use Rattle.equal.specs.Compared.{says}
+use Rattle.simmergate.proofs.NumbersLaws.{compared-count, no-room, room, with-flaw}
 use borrow.Author.Needs.{needs}
 use Rattle.simmergate.proofs.simmergate_equal.Statement.{statement}
 use Rattle.simmergate.proofs.simmergate_equal.Tie as tie
@@ -14,7 +16,7 @@ unfolding equalReturns equalAnswers comparedNumbers
 returns c =
     let g = c .before .before .before .before .args in
     let v = compared (g .a .now) (g .b .now) in
-    no-room (comparedNumbers v) (g .answer .now) (v .number) (c .if1 .taken)
+    no-room (comparedNumbers v) (g .answer .now) (v .number) 6 (compared-count v) (c .if1 .taken)
 
 equal-requires : tie.Need-equal-requires
 equal-requires c κs = search needs
@@ -22,11 +24,14 @@ equal-requires c κs = search needs
 number-of-requires : tie.Need-number-of-requires
 number-of-requires c κs = search needs
 
-cast-t9 : tie.Need-cast-t9
-cast-t9 c = search needs
+flaw-numbers-requires : tie.Need-flaw-numbers-requires
+flaw-numbers-requires c κs = search needs
 
 cast-t11 : tie.Need-cast-t11
 cast-t11 c = search needs
+
+cast-t13 : tie.Need-cast-t13
+cast-t13 c = search needs
 
 slice-aggregate-write-numbers : tie.Need-slice-aggregate-write-numbers
 slice-aggregate-write-numbers c = search needs
@@ -40,14 +45,16 @@ same-length c = search needs
 returns-2 : tie.Need-returns-2
 unfolding equalReturns equalAnswers comparedNumbers
 returns-2 c =
-    let g = c .before .before .before .before .before .before .before .before .before .before .before .before .before .args in
-    let r = c .before .before .before .before .before .before .before .before .equal .result in
-    let told = c .before .before .before .before .before .before .before .before .equal .ensures in
-    let yes = c .before .before .before .before .before .before .before .number-of in
+    let g = c .before .before .before .before .before .before .before .before .before .before .before .before .before .before .args in
+    let compared = c .before .before .before .before .before .before .before .before .before .equal in
+    let yes = c .before .before .before .before .before .before .before .before .number-of in
+    let wrong = c .before .before .before .before .before .before .before .flaw-numbers in
+    let r = compared .result in
     let written = c .before .before .write-numbers in
-    rw (← told)
-    (room (r .number ∷ r .place ∷ r .which ∷ one (r .yes) ∷ []) (g .answer .now) (r .number) (omega arith) (written .last .0)
-    (rw (yes .ensures) at (written .ensures)))
+    let before = r .number ∷ r .place ∷ r .which ∷ one (r .yes) ∷ [] in
+    let after = with-flaw before (drop 48 (g .answer .now)) (wrong .ensures) (rw (yes .ensures) at (written .ensures)) in
+    rw (← (compared .ensures))
+    (room (comparedNumbers (says r)) (g .answer .now) (r .number) 6 (compared-count (says r)) (omega arith) (written .last .0) after)
 
 pub simmergate-equal-spec : {M : Type 1} → statement M
 simmergate-equal-spec =
@@ -56,8 +63,9 @@ simmergate-equal-spec =
     returns
     equal-requires
     number-of-requires
-    cast-t9
+    flaw-numbers-requires
     cast-t11
+    cast-t13
     slice-aggregate-write-numbers
     write-numbers-requires
     same-length

@@ -1,10 +1,12 @@
--- `simmergate::simmergate_simplify` meets its contract: the seven numbers are those that `simplify` tells, and the areas are as it
--- leaves them. Assumes nothing.
+-- `simmergate::simmergate_simplify` meets its contract: the numbers are those that `simplify` tells and those of what is wrong, and
+-- the areas are as it leaves them. Assumes nothing.
 use borrow.Author.Needs.{needs}
 use native.Mathlib.Omega.{arith}
+use lib.ListN.{drop}
+use mathlib.Core.List.{[], _∷_}
 use Rattle.paper.specs.Calls.{answerNumbers}
 use Rattle.simplify.specs.Answer.{lent, gives}
-use Rattle.simmergate.proofs.NumbersLaws.{simplify-no-room, simplify-room}
+use Rattle.simmergate.proofs.NumbersLaws.{with-flaw, simplify-no-room, simplify-room}
 use Rattle.simmergate.proofs.simmergate_simplify.Statement.{statement}
 use Rattle.simmergate.proofs.simmergate_simplify.Tie as tie
 
@@ -16,8 +18,11 @@ returns c =
 simplify-requires : tie.Need-simplify-requires
 simplify-requires c κs = search needs
 
-cast-t16 : tie.Need-cast-t16
-cast-t16 c = search needs
+flaw-numbers-requires : tie.Need-flaw-numbers-requires
+flaw-numbers-requires c κs = search needs
+
+cast-t18 : tie.Need-cast-t18
+cast-t18 c = search needs
 
 slice-aggregate-write-numbers : tie.Need-slice-aggregate-write-numbers
 slice-aggregate-write-numbers c = search needs
@@ -40,13 +45,16 @@ same-length-4 c = search needs
 returns-2 : tie.Need-returns-2
 unfolding answerNumbers
 returns-2 c =
-    let called = c .before .before .before .before .before .before .before .before .before .before .before .before in
+    let wrong = c .before .before .before .before .before .before .flaw-numbers in
+    let called = c .before .before .before .before .before .before .before .before .before .before .before .before .before in
     let g = called .before .before .before .before .before .before .before .before .before .before .args in
     let run = called .simplify in
+    let r = run .result in
     let written = c .before .before .write-numbers in
+    let before = r .number ∷ r .place ∷ r .records ∷ r .steps ∷ r .openings ∷ r .«weight_in» ∷ r .«weight_out» ∷ [] in
+    let after = with-flaw before (drop 72 (g .answer .now)) (wrong .ensures) (written .ensures) in
     simplify-room (g .table .now) (g .answer .now) (lent (g .out .now) (g .steps .now) (g .work .now))
-    (gives (run .result) (run .last .1 .0) (run .last .1 .1 .0) (run .last .1 .1 .1 .0)) (run .ensures) (omega arith)
-    (written .last .0) (written .ensures)
+    (gives r (run .last .1 .0) (run .last .1 .1 .0) (run .last .1 .1 .1 .0)) (run .ensures) (omega arith) (written .last .0) after
 
 pub simmergate-simplify-spec : {M : Type 1} → statement M
 simmergate-simplify-spec =
@@ -54,7 +62,8 @@ simmergate-simplify-spec =
     (tie.spec
     returns
     simplify-requires
-    cast-t16
+    flaw-numbers-requires
+    cast-t18
     slice-aggregate-write-numbers
     write-numbers-requires
     same-length

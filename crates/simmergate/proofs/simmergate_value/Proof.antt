@@ -1,9 +1,11 @@
--- `simmergate::simmergate_value` meets its contract: the three numbers are those that `value` tells. Assumes nothing.
+-- `simmergate::simmergate_value` meets its contract: the numbers are those that `value` tells, and those of what is wrong. Assumes nothing.
 use mathlib.Core.List.{[], _∷_}
 use native.Mathlib.Omega.{arith}
+use lib.ListN.{drop}
 use Rattle.paper.specs.Answers.{valued}
 use Rattle.paper.specs.Calls.{measuredNumbers, valueReturns, valueAnswers}
-use Rattle.simmergate.proofs.NumbersLaws.{no-room, room}
+use Rattle.table.specs.Measured.{says}
+use Rattle.simmergate.proofs.NumbersLaws.{measured-count, no-room, room, with-flaw}
 use borrow.Author.Needs.{needs}
 use Rattle.simmergate.proofs.simmergate_value.Statement.{statement}
 use Rattle.simmergate.proofs.simmergate_value.Tie as tie
@@ -13,13 +15,16 @@ unfolding valueReturns valueAnswers measuredNumbers
 returns c =
     let a = c .before .before .before .before .args in
     let v = valued (a .table .now) (a .registers .now) in
-    no-room (measuredNumbers v) (a .answer .now) (v .number) (c .if1 .taken)
+    no-room (measuredNumbers v) (a .answer .now) (v .number) 5 (measured-count v) (c .if1 .taken)
 
 value-requires : tie.Need-value-requires
 value-requires c κs = search needs
 
-cast-t8 : tie.Need-cast-t8
-cast-t8 c = search needs
+flaw-numbers-requires : tie.Need-flaw-numbers-requires
+flaw-numbers-requires c κs = search needs
+
+cast-t10 : tie.Need-cast-t10
+cast-t10 c = search needs
 
 slice-aggregate-write-numbers : tie.Need-slice-aggregate-write-numbers
 slice-aggregate-write-numbers c = search needs
@@ -33,11 +38,14 @@ same-length c = search needs
 returns-2 : tie.Need-returns-2
 unfolding valueReturns valueAnswers measuredNumbers
 returns-2 c =
-    let a = c .before .before .before .before .before .before .before .before .before .before .before .args in
-    let r = c .before .before .before .before .before .before .value .result in
-    let told = c .before .before .before .before .before .before .value .ensures in
+    let a = c .before .before .before .before .before .before .before .before .before .before .before .before .args in
+    let measured = c .before .before .before .before .before .before .before .value in
+    let wrong = c .before .before .before .before .before .before .flaw-numbers in
+    let r = measured .result in
     let written = c .before .before .write-numbers in
-    rw (← told) (room (r .number ∷ r .place ∷ r .result ∷ []) (a .answer .now) (r .number) (omega arith) (written .last .0) (written .ensures))
+    let after = with-flaw (r .number ∷ r .place ∷ r .result ∷ []) (drop 40 (a .answer .now)) (wrong .ensures) (written .ensures) in
+    rw (← (measured .ensures))
+    (room (measuredNumbers (says r)) (a .answer .now) (r .number) 5 (measured-count (says r)) (omega arith) (written .last .0) after)
 
 pub simmergate-value-spec : {M : Type 1} → statement M
 simmergate-value-spec =
@@ -45,7 +53,8 @@ simmergate-value-spec =
     (tie.spec
     returns
     value-requires
-    cast-t8
+    flaw-numbers-requires
+    cast-t10
     slice-aggregate-write-numbers
     write-numbers-requires
     same-length

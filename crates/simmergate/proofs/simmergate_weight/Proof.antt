@@ -1,9 +1,11 @@
--- `simmergate::simmergate_weight` meets its contract: the three numbers are those that `weight` tells. Assumes nothing.
+-- `simmergate::simmergate_weight` meets its contract: the numbers are those that `weight` tells, and those of what is wrong. Assumes nothing.
 use mathlib.Core.List.{[], _∷_}
 use native.Mathlib.Omega.{arith}
+use lib.ListN.{drop}
 use Rattle.paper.specs.Answers.{weighed}
 use Rattle.paper.specs.Calls.{measuredNumbers, weightReturns, weightAnswers}
-use Rattle.simmergate.proofs.NumbersLaws.{no-room, room}
+use Rattle.table.specs.Measured.{says}
+use Rattle.simmergate.proofs.NumbersLaws.{measured-count, no-room, room, with-flaw}
 use borrow.Author.Needs.{needs}
 use Rattle.simmergate.proofs.simmergate_weight.Statement.{statement}
 use Rattle.simmergate.proofs.simmergate_weight.Tie as tie
@@ -13,13 +15,16 @@ unfolding weightReturns weightAnswers measuredNumbers
 returns c =
     let a = c .before .before .before .args in
     let w = weighed (a .table .now) in
-    no-room (measuredNumbers w) (a .answer .now) (w .number) (c .if1 .taken)
+    no-room (measuredNumbers w) (a .answer .now) (w .number) 5 (measured-count w) (c .if1 .taken)
 
 weight-requires : tie.Need-weight-requires
 weight-requires c κs = search needs
 
-cast-t7 : tie.Need-cast-t7
-cast-t7 c = search needs
+flaw-numbers-requires : tie.Need-flaw-numbers-requires
+flaw-numbers-requires c κs = search needs
+
+cast-t9 : tie.Need-cast-t9
+cast-t9 c = search needs
 
 slice-aggregate-write-numbers : tie.Need-slice-aggregate-write-numbers
 slice-aggregate-write-numbers c = search needs
@@ -33,11 +38,14 @@ same-length c = search needs
 returns-2 : tie.Need-returns-2
 unfolding weightReturns weightAnswers measuredNumbers
 returns-2 c =
-    let a = c .before .before .before .before .before .before .before .before .before .before .args in
-    let r = c .before .before .before .before .before .before .weight .result in
-    let told = c .before .before .before .before .before .before .weight .ensures in
+    let a = c .before .before .before .before .before .before .before .before .before .before .before .args in
+    let measured = c .before .before .before .before .before .before .before .weight in
+    let wrong = c .before .before .before .before .before .before .flaw-numbers in
+    let r = measured .result in
     let written = c .before .before .write-numbers in
-    rw (← told) (room (r .number ∷ r .place ∷ r .result ∷ []) (a .answer .now) (r .number) (omega arith) (written .last .0) (written .ensures))
+    let after = with-flaw (r .number ∷ r .place ∷ r .result ∷ []) (drop 40 (a .answer .now)) (wrong .ensures) (written .ensures) in
+    rw (← (measured .ensures))
+    (room (measuredNumbers (says r)) (a .answer .now) (r .number) 5 (measured-count (says r)) (omega arith) (written .last .0) after)
 
 pub simmergate-weight-spec : {M : Type 1} → statement M
 simmergate-weight-spec =
@@ -45,7 +53,8 @@ simmergate-weight-spec =
     (tie.spec
     returns
     weight-requires
-    cast-t7
+    flaw-numbers-requires
+    cast-t9
     slice-aggregate-write-numbers
     write-numbers-requires
     same-length

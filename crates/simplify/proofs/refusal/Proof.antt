@@ -1,11 +1,11 @@
 -- `simplify::refusal` meets its contract: by computation. Assumes nothing.
 use mathlib.Core.Path.{refl}
-use Rattle.paper.specs.Answers.{refusal}
+use Rattle.paper.specs.Answers.{refusedBy}
 use Rattle.simplify.proofs.refusal.Statement.{statement}
 use Rattle.simplify.proofs.refusal.Tie as tie
 
 returns : tie.Need-returns
-unfolding refusal
+unfolding refusedBy
 returns c = refl
 
 pub refusal-spec : {M : Type 1} → statement M

@@ -6,6 +6,7 @@ use mathlib.Core.List.{[]}
 use native.Mathlib.Omega.{arith}
 use lib.ListN.{length}
 use borrow.Author.Needs.{needs}
+use Rattle.record.specs.declared.Flaw.the-variants.{Sound}
 use Rattle.driver.specs.declared.Driven.{Driven as Answer}
 use Rattle.driver.specs.declared.Driven.the-variants as driven-as
 use Rattle.simplify.specs.Answer.{Leaves}
@@ -175,7 +176,11 @@ same-length-2 : tie.Need-same-length-2
 same-length-2 c = search needs
 
 same-length-3 : tie.Need-same-length-3
-same-length-3 c = search needs
+same-length-3 c =
+    let cleared = c .before .before .before .before .before .before .before .before .before .before .before .before .before .before in
+    let called = called-of (driven-of cleared) in
+    let moved = moved-of (copied-of called) in
+    cleared .clear .kept .0 ∙ called .drive .kept .1 .0 ∙ moved .copy-bytes .kept .0
 
 returns : tie.Need-returns
 returns c =
@@ -223,7 +228,7 @@ returns-2 c =
     let x = c .weight-of .result in
     for-every (entry .pre .1)
     (λ u. Leaves (drives u) (g .w)
-    (record { number = 0; place = 0; records = n .0; steps = n .1 .1 .0; openings = n .1 .1 .1 .0; «weight_in» = g .w; «weight_out» = x })
+    (record { number = 0; place = 0; flaw = Sound; records = n .0; steps = n .1 .1 .0; openings = n .1 .1 .1 .0; «weight_in» = g .w; «weight_out» = x })
     (g .out .now) (out .last .0) (g .steps .now) (steps .last .0) (g .work .now) (work .last .0))
     (left-done (entry .pre .1) (drove finished) (r .kept .0) (r .kept .1 .1 .0) long (out .last .0) (steps .last .0) (work .last .0) x
     (out .ensures) (steps .ensures) (work .ensures) (c .weight-of .ensures))

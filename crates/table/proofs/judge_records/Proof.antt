@@ -6,18 +6,25 @@ use native.Mathlib.Omega.{arith}
 use borrow.Author.Needs.{needs}
 use Rattle.paper.specs.Verdict.{refused, treeEnd}
 use Rattle.table.specs.declared.Walked.the-variants.{Bad, Ends}
-use Rattle.table.proofs.JudgeLaws.{records-within, flawed, heavy, shapeless, exponent, fine}
+use Rattle.table.proofs.JudgeLaws.{records-within, flawed-there, heavy, shapeless, exponent, fine}
 use Rattle.table.proofs.judge_records.Statement.{statement}
 use Rattle.table.proofs.judge_records.Tie as tie
 
 first-flawed-requires : tie.Need-first-flawed-requires
 first-flawed-requires c κs = let a = c .before in records-within (a .args .s .now) (a .args .n) (a .pre .0)
 
+judge-record-requires : tie.Need-judge-record-requires
+judge-record-requires c κs =
+    let a = c .before .before .before in
+    let within = records-within (a .args .s .now) (a .args .n) (a .pre .0) in
+    omega (arith, within, c .if1 .taken)
+
 returns : tie.Need-returns
 returns c =
-    let first = c .before .first-flawed in
-    let a = c .before .before .before .args in
-    sym (flawed (a .s .now) (a .n) (first .result) (first .ensures) (c .if1 .taken))
+    let first = c .before .before .first-flawed in
+    let a = c .before .before .before .before .args in
+    let judged = c .judge-record in
+    sym (flawed-there (a .s .now) (a .n) (first .result) (first .ensures) (c .before .if1 .taken) _ (judged .ensures))
 
 weight-of-requires : tie.Need-weight-of-requires
 weight-of-requires c κs = let a = c .before .before .before in records-within (a .args .s .now) (a .args .n) (a .pre .0)
@@ -113,6 +120,7 @@ judge-records-spec =
     tie.close
     (tie.spec
     first-flawed-requires
+    judge-record-requires
     returns
     weight-of-requires
     returns-2

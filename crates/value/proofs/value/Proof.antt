@@ -23,14 +23,14 @@ returns c =
     let fault = c .before .before .fault-of in
     let a = c .before .before .before .before .before .before .args in
     let told = fault .ensures ∙ c .before .before .before .check .ensures in
-    refused-table (a .s .now) (a .registers .now) (fault .result .number) (fault .result .place) told (omega arith)
+    refused-table (a .s .now) (a .registers .now) (fault .result .number) (fault .result .place) _ told (omega arith)
 
 returns-2 : tie.Need-returns-2
 returns-2 c =
     let fault = c .before .before .before .fault-of in
     let a = c .before .before .before .before .before .before .before .args in
     let told = fault .ensures ∙ c .before .before .before .before .check .ensures in
-    let fine = told-accepted (a .s .now) (fault .result .number) (fault .result .place) told (omega arith) in
+    let fine = told-accepted (a .s .now) (fault .result .number) (fault .result .place) _ told (omega arith) in
     refused-registers (a .s .now) (a .registers .now) fine (c .if2 .taken)
 
 fill-requires : tie.Need-fill-requires
@@ -42,7 +42,7 @@ value-at-requires c κs =
     let known = c .before .before .before .before .before .before .before .before in
     let s = known .before .args .s .now in
     let told = fault .ensures ∙ c .before .before .before .before .before .before .check .ensures in
-    let fine = told-accepted s (fault .result .number) (fault .result .place) told (omega arith) in
+    let fine = told-accepted s (fault .result .number) (fault .result .place) _ told (omega arith) in
     let h = accepted-holds s (are-bytes s (known .shared-slice-known .given)) fine in
     record { tree = h .tree; there = holds-tree s h }
 
@@ -53,7 +53,7 @@ returns-3 c =
     let s = known .before .args .s .now in
     let registers = known .before .args .registers .now in
     let told = fault .ensures ∙ c .before .before .before .before .before .before .before .check .ensures in
-    let fine = told-accepted s (fault .result .number) (fault .result .place) told (omega arith) in
+    let fine = told-accepted s (fault .result .number) (fault .result .place) _ told (omega arith) in
     let h = accepted-holds s (are-bytes s (known .shared-slice-known .given)) fine in
     let v = c .value-at .ensures (h .tree) (holds-tree s h) .value in
     let regs = c .before .before .fill in

@@ -1,0 +1,20 @@
+-- `record::first_of` meets its contract: by what `is_flawed` says of the first. Assumes nothing.
+use borrow.Author.Needs.{needs}
+use mathlib.Core.Path.{sym}
+use Rattle.record.specs.Flaw.{firstOf}
+use Rattle.record.proofs.first_of.Statement.{statement}
+use Rattle.record.proofs.first_of.Tie as tie
+
+is-flawed-requires : tie.Need-is-flawed-requires
+is-flawed-requires c κs = search needs
+
+returns : tie.Need-returns
+unfolding firstOf
+returns c = simp (sym (c .before .is-flawed .ensures), c .if1 .taken)
+
+returns-2 : tie.Need-returns-2
+unfolding firstOf
+returns-2 c = simp (sym (c .before .is-flawed .ensures), c .if1 .left)
+
+pub first-of-spec : {M : Type 1} → statement M
+first-of-spec = tie.close (tie.spec is-flawed-requires returns returns-2)
