@@ -27,7 +27,7 @@
    both are 0.
 
    Where `answer` is too short for the numbers, a call returns 6 before all else and changes nothing. Bytes of `answer` past the numbers never
-   change. Refusals 1 to 6 change no byte of any other area; only simmergate_simplify writes to others at all.
+   change. Refusals 1 to 6 change no byte of any other area; of the calls on tables only simmergate_simplify writes to others at all.
 
    All lengths are in bytes. The areas of one call must not overlap; a pointer may be anything where its length is 0, and needs no alignment.
    Nothing is allocated, nothing is kept between calls, and calls on different areas may run at the same time. */
@@ -70,5 +70,55 @@ uint32_t simmergate_equal(const uint8_t *a, size_t a_bytes, const uint8_t *b, si
    refusal number, place, records written, steps, openings, weight of the table, weight of the result, WHAT, BYTE. */
 uint32_t simmergate_simplify(const uint8_t *table, size_t table_bytes, uint8_t *out, size_t out_bytes, uint8_t *steps, size_t steps_bytes,
                              uint8_t *work, size_t work_bytes, uint8_t *answer, size_t answer_bytes);
+
+/* ---- Settings that survive an upgrade ----
+
+   An area of slots of 32 bytes, no header; numbers are little-endian. A free slot is all zero, and free slots come last:
+
+     byte     version 1   version 2   free
+     0        1           2           0
+     1        0           0           0
+     2-3      key         key         0
+     4-5      0           unit        0
+     6-7      0           0           0
+     8-15     setting     setting     0
+     16-31    0           0           0
+
+   A setting is the 64 bits of a signed number: hand in (uint64_t)x for an int64_t x, and read (int64_t) back. Key 0, setting 0 and unit 0 are like
+   any other. An area of zeros is one of free slots; it needs no other preparation. Every call looks over the whole area first and answers
+
+     number   given exactly when
+     10       byte 0 of a whole record is over the newest version that the release knows: 2 for simmergate_settings_store, _fetch and _remove,
+              1 for simmergate_settings_fetch_1
+     11       a record is malformed (a byte other than zero that must be zero), a key is there twice, a record follows a free slot, or the
+              length is no multiple of 32
+     12       the key is absent, for a fetch and a remove
+     13       the key is new and no slot is free, for a store
+
+   The lowest number wins, and its place is 0. A refusal changes no byte of the area; 10 says that the area was written by a newer release.
+   From free slots, any sequence of calls answers as a plain map from key to setting and unit does. A fetch has an answer as the calls above have; a
+   store and a remove have none, since the number that they return is all that they have to say.
+
+   What a call costs: judging compares the key of each record with those of all later ones, n x (n - 1) / 2 comparisons for n records (1,000
+   settings: half a million), at every call.
+
+   Settings in flash memory: copy the area to RAM, hand the copy to the call, and after 0 write it back whole. A store or a remove changes the lent
+   bytes one after the other; it is not safe against a loss of power, and does not claim it: where power may fail, write back to a second
+   place, and give up the first only when the second is written. */
+
+/* Stores a setting with its unit. A known key's record is replaced, and becomes one of version 2; a new one goes into the first free slot; all
+   other records stay as they are. */
+uint32_t simmergate_settings_store(uint8_t *area, size_t area_bytes, uint16_t key, uint64_t setting, uint16_t unit);
+
+/* Shows the setting of a key, a record of version 1 with unit 0. The answer, 32 bytes: refusal number, place (0), setting, unit; after a refusal
+   setting and unit are 0. Where `answer` is too short, 6 before all else. */
+uint32_t simmergate_settings_fetch(const uint8_t *area, size_t area_bytes, uint16_t key, uint8_t *answer, size_t answer_bytes);
+
+/* The reader of the old release, which knows version 1 only: what a standby with the old release answers on this area. The answer, 24 bytes:
+   refusal number, place (0), setting. Where `answer` is too short, 6 before all else. */
+uint32_t simmergate_settings_fetch_1(const uint8_t *area, size_t area_bytes, uint16_t key, uint8_t *answer, size_t answer_bytes);
+
+/* Removes the record of a key: the later ones move up, byte for byte, and the last slot becomes free. */
+uint32_t simmergate_settings_remove(uint8_t *area, size_t area_bytes, uint16_t key);
 
 #endif

@@ -18,7 +18,10 @@ int fflush(FILE *);
 int ferror(FILE *);
 FILE *fopen(const char *, const char *);
 size_t fread(void *, size_t, size_t, FILE *);
+size_t fwrite(const void *, size_t, size_t, FILE *);
 int fseek(FILE *, long, int);
 long ftell(FILE *);
 int fclose(FILE *);
+int remove(const char *);
+int rename(const char *, const char *);
 #endif

@@ -369,14 +369,14 @@ words-test s k p (refusal-5 {p = q} h) =
 
 -- tests in order: the first that holds gives its number, its place, and what it says
 module _ (t : ℕ → Bool) (at : ℕ → ℕ) (of : ℕ → Flaw) where
-  ladder : ℕ → ℕ → Verdict
+  unfoldable pub ladder : ℕ → ℕ → Verdict
   ladder zero i = accepted
   ladder (suc f) i = cond (t i) (told i (at i) (of i)) (ladder f (i + 1))
 
-  abbrev Rung : ℕ → ℕ → ℕ → Flaw → Type 0
+  abbrev pub Rung : ℕ → ℕ → ℕ → Flaw → Type 0
   Rung i k p g = (t k ≡ true) × (at k ≡ p) × All (λ j. t j ≡ false) i k × (of k ≡ g)
 
-  ladder-down : (f i k p : ℕ) (g : Flaw) → 0 < k → ladder f i ≡ told k p g → Rung i k p g
+  pub ladder-down : (f i k p : ℕ) (g : Flaw) → 0 < k → ladder f i ≡ told k p g → Rung i k p g
   unfolding ladder
   ladder-down zero i k p g l e = absurd (omega (arith, ap (λ (v : Verdict). v .number) e))
   ladder-down (suc f) i k p g l e = go (t i) refl (ladder-down f (i + 1) k p g l) e
@@ -392,7 +392,7 @@ module _ (t : ℕ → Bool) (at : ℕ → ℕ) (of : ℕ → Flaw) where
           let r = ih e in
           (r .0, r .1, all-both (λ j. t j ≡ false) i (i + 1) k (all-one (λ j. t j ≡ false) i b) (r .2), r .3)
 
-  ladder-up : (f i k : ℕ) → i ≤ k → k < i + f → t k ≡ true → All (λ j. t j ≡ false) i k → ladder f i ≡ told k (at k) (of k)
+  pub ladder-up : (f i k : ℕ) → i ≤ k → k < i + f → t k ≡ true → All (λ j. t j ≡ false) i k → ladder f i ≡ told k (at k) (of k)
   unfolding ladder
   ladder-up zero i k u v h a = absurd (omega arith)
   ladder-up (suc f) i k u v h a = go (t i) refl (eq-or-lt-of-le u) (λ l. ladder-up f (i + 1) k l (omega arith) h (λ j x y. a j (omega arith) y))
@@ -404,7 +404,7 @@ module _ (t : ℕ → Bool) (at : ℕ → ℕ) (of : ℕ → Flaw) where
       go false e (inl q) ih = absurd (true-not-false h (subst (λ (x : ℕ). t x ≡ false) q e))
       go false e (inr l) ih = ih (omega arith)
 
-  none-holds : (f i : ℕ) → 0 < i → ladder f i ≡ accepted → All (λ j. t j ≡ false) i (i + f)
+  pub none-holds : (f i : ℕ) → 0 < i → ladder f i ≡ accepted → All (λ j. t j ≡ false) i (i + f)
   unfolding ladder
   none-holds zero i l e = λ j u v. absurd (omega arith)
   none-holds (suc f) i l e = go (t i) refl (none-holds f (i + 1) (omega arith)) e
@@ -416,7 +416,7 @@ module _ (t : ℕ → Bool) (at : ℕ → ℕ) (of : ℕ → Flaw) where
           let q : i + suc f ≡ i + 1 + f = omega arith in
           rw q (all-both (λ j. t j ≡ false) i (i + 1) (i + 1 + f) (all-one (λ j. t j ≡ false) i b) (ih e))
 
-  holds-none : (f i : ℕ) → All (λ j. t j ≡ false) i (i + f) → ladder f i ≡ accepted
+  pub holds-none : (f i : ℕ) → All (λ j. t j ≡ false) i (i + f) → ladder f i ≡ accepted
   unfolding ladder
   holds-none zero i a = refl
   holds-none (suc f) i a = rw (a i (omega arith) (omega arith)) (holds-none f (i + 1) (λ j u v. a j (omega arith) (omega arith)))

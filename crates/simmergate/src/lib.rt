@@ -1,4 +1,6 @@
 // The entry points for C. Each call returns the refusal number and writes the numbers of its answer to a lent slice.
+mod settings_calls;
+
 ghost use mathlib.Core.Path.{_≡_};
 ghost use mathlib.Core.List.{_++_};
 ghost use Prim.Native.Nat.{_*_, _≤_};

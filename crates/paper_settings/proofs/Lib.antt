@@ -1,0 +1,5 @@
+pub mod SlotLaws
+pub mod SettingsLaws
+pub mod SettingsUpgrade
+pub mod SettingsRefusals
+pub mod Computed

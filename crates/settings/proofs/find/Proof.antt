@@ -1,0 +1,63 @@
+-- `settings::find` meets its contract. The loop's invariant: what is left to search from slot i on gives what the whole gives. Assumes nothing.
+use Prim.Native.Nat.{_-_, _≤_}
+use mathlib.Core.Path.{_≡_, refl, sym, _∙_}
+use native.Mathlib.Omega.{arith}
+use Rattle.paper_settings.specs.Settings.{holds}
+use Rattle.settings.specs.Slots.{rest, firstIn}
+use Rattle.settings.proofs.StepLaws.{first-here, first-later, first-done}
+use borrow.Author.Needs.{needs}
+use Rattle.settings.proofs.find.Statement.{statement}
+use Rattle.settings.proofs.find.Tie as tie
+
+abbrev Inv-loop : tie.InvT-loop
+Inv-loop area from key n i₀ i = (i ≤ n) × (firstIn (holds key) from (rest area from) ≡ firstIn (holds key) i (rest area i))
+
+abbrev μ-loop : tie.MeasureT-loop
+μ-loop area from key n i₀ i = n - i
+
+loop-holds : tie.Need-loop-holds Inv-loop μ-loop
+loop-holds c = (omega arith, refl)
+
+holds-requires : tie.Need-holds-requires Inv-loop μ-loop
+holds-requires c κs = search needs
+
+returns : tie.Need-returns Inv-loop μ-loop
+returns c =
+    let at = c .before .before .before in
+    let a = at .before .before .args in
+    let i = at .loop .i in
+    let test = c .before .before .loop-test .taken in
+    (sym (at .loop .inv .1 ∙ first-here (a .area .now) i (holds (a .key)) test (sym (c .before .holds .ensures) ∙ c .if1 .taken)), omega arith)
+
+add-i : tie.Need-add-i Inv-loop μ-loop
+add-i c = search needs
+
+loop-less : tie.Need-loop-less Inv-loop μ-loop
+loop-less c = search needs
+
+loop-again : tie.Need-loop-again Inv-loop μ-loop
+loop-again c =
+    let at = c .before .before .before in
+    let a = at .before .before .args in
+    let i = at .loop .i in
+    let test = c .before .before .loop-test .taken in
+    (omega arith, at .loop .inv .1 ∙ first-later (a .area .now) i (holds (a .key)) test (sym (c .before .holds .ensures) ∙ c .if1 .left))
+
+returns-2 : tie.Need-returns-2 Inv-loop μ-loop
+returns-2 c =
+    let a = c .before .before .before .args in
+    (sym (c .before .loop .inv .1 ∙ first-done (a .area .now) (c .before .loop .i) (holds (a .key)) (c .loop-test .left)), omega arith)
+
+pub find-spec : {M : Type 1} → statement M
+find-spec =
+    tie.close
+    (tie.spec
+    Inv-loop
+    μ-loop
+    loop-holds
+    holds-requires
+    returns
+    add-i
+    loop-less
+    loop-again
+    returns-2)

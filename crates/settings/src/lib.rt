@@ -1,0 +1,355 @@
+// Settings that survive an upgrade: an area of slots of 32 bytes, judged whole at every call; store, fetch and remove of the new release,
+// and the reader of the old one.
+ghost use mathlib.Core.Path.{_≡_};
+ghost use Prim.Native.Nat.{_+_, _*_, _/_, _≤_};
+ghost use lib.ListN.{length};
+ghost use Rattle.paper_settings.specs.Settings.{version, keyIn, isMalformed, isFree, holds, slotsOf, slotOf, anyNewer, allFree, inOrder, areaVerdict};
+ghost use Rattle.paper_settings.specs.Settings.{to-store, to-remove, called, fetched, fetchedOld};
+ghost use Rattle.stretch.specs.Put.{put};
+ghost use Rattle.settings.specs.Slots.{slotAt, rest, firstIn, takes, closedUp};
+ghost use Rattle.settings.specs.Shown.{says, says-1, stores};
+
+// The newest version that the new release knows, and the one that it writes; and the newest that the old release knows.
+const NEW: u8 = 2;
+
+const OLD: u8 = 1;
+
+// Which bytes of a record may be other than zero (1), by version and byte; past byte 15 none may.
+const MAY: [[u8; 16]; 3] = [
+    [0, 0, 0, 0, 0, 0, 0, 0, 0, 0, 0, 0, 0, 0, 0, 0],
+    [1, 0, 1, 1, 0, 0, 0, 0, 1, 1, 1, 1, 1, 1, 1, 1],
+    [1, 0, 1, 1, 1, 1, 0, 0, 1, 1, 1, 1, 1, 1, 1, 1],
+];
+
+// What a fetch answers: 0 or a refusal's number, the 64 bits of the setting, and its unit; zeros after a refusal.
+pub struct Shown {
+    pub number: u32,
+    pub setting: u64,
+    pub unit: u16,
+}
+
+// What the old release's fetch answers: it knows no unit.
+pub struct Shown1 {
+    pub number: u32,
+    pub setting: u64,
+}
+
+// Slot i is free.
+fn is_free(area: &[u8], i: usize) -> bool
+    requires { ⌜ 32 * i + 32 ≤ length (now area) ⌝ }
+    ensures { λ r. ⌜ r ≡ isFree (slotAt (now (area .entry)) i) ⌝ }
+{
+    let mut j = 0;
+    while j < 32 {
+        if area[32 * i + j] != 0 {
+            return false;
+        }
+        j += 1;
+    }
+    true
+}
+
+// The version of slot i.
+fn version_of(area: &[u8], i: usize) -> u8
+    requires { ⌜ 32 * i + 32 ≤ length (now area) ⌝ }
+    ensures { λ r. ⌜ r ≡ version (slotAt (now (area .entry)) i) ⌝ }
+{
+    area[32 * i]
+}
+
+// Slot i has a byte that is other than zero and must be zero.
+fn is_malformed(area: &[u8], i: usize) -> bool
+    requires { ⌜ 32 * i + 32 ≤ length (now area) ⌝ }
+    ensures { λ r. ⌜ r ≡ isMalformed (slotAt (now (area .entry)) i) ⌝ }
+{
+    let v = version_of(area, i) as usize;
+    if 2 < v {
+        return true;
+    }
+    let mut byte = 0;
+    while byte < 32 {
+        if area[32 * i + byte] != 0 {
+            if 15 < byte {
+                return true;
+            }
+            if MAY[v][byte] == 0 {
+                return true;
+            }
+        }
+        byte += 1;
+    }
+    false
+}
+
+// The key of slot i.
+fn key_of(area: &[u8], i: usize) -> usize
+    requires { ⌜ 32 * i + 32 ≤ length (now area) ⌝ }
+    ensures { λ r. ⌜ r ≡ keyIn (slotAt (now (area .entry)) i) ⌝ }
+{
+    number::read2(area, 32 * i + 2)
+}
+
+// Slot i has a record of this key.
+fn holds(area: &[u8], i: usize, key: usize) -> bool
+    requires { ⌜ 32 * i + 32 ≤ length (now area) ⌝ }
+    ensures { λ r. ⌜ r ≡ holds key (slotAt (now (area .entry)) i) ⌝ }
+{
+    if is_free(area, i) {
+        return false;
+    }
+    key == key_of(area, i)
+}
+
+// Slot i can take a record of this key: it is free, or has one.
+fn takes(area: &[u8], i: usize, key: usize) -> bool
+    requires { ⌜ 32 * i + 32 ≤ length (now area) ⌝ }
+    ensures { λ r. ⌜ r ≡ takes key (slotAt (now (area .entry)) i) ⌝ }
+{
+    if is_free(area, i) {
+        return true;
+    }
+    key == key_of(area, i)
+}
+
+// Some whole slot has a version over the newest that the release knows.
+fn any_newer(area: &[u8], newest: u8) -> bool
+    ensures { λ r. ⌜ r ≡ anyNewer newest (slotsOf (now (area .entry))) ⌝ }
+{
+    let n = area.len() / 32;
+    let mut i = 0;
+    while i < n {
+        if newest < version_of(area, i) {
+            return true;
+        }
+        i += 1;
+    }
+    false
+}
+
+// The slots from `from` on are all free.
+fn all_free(area: &[u8], from: usize) -> bool
+    ensures { λ r. ⌜ r ≡ allFree (rest (now (area .entry)) from) ⌝ }
+{
+    let n = area.len() / 32;
+    let mut i = from;
+    while i < n {
+        if is_free(area, i) {
+            i += 1;
+        } else {
+            return false;
+        }
+    }
+    true
+}
+
+// The first slot from `from` on that has a record of the key; the number of slots where none has.
+fn find(area: &[u8], from: usize, key: usize) -> usize
+    requires { ⌜ from ≤ length (now area) / 32 ⌝ }
+    ensures { λ r. ⌜ (r ≡ firstIn (holds key) from (rest (now (area .entry)) from)) × (r ≤ length (now (area .entry)) / 32) ⌝ }
+{
+    let n = area.len() / 32;
+    let mut i = from;
+    while i < n {
+        if holds(area, i, key) {
+            return i;
+        }
+        i += 1;
+    }
+    i
+}
+
+// The first slot that can take a record of the key; the number of slots where none can.
+fn room_for(area: &[u8], key: usize) -> usize
+    ensures { λ r. ⌜ (r ≡ firstIn (takes key) 0 (rest (now (area .entry)) 0)) × (r ≤ length (now (area .entry)) / 32) ⌝ }
+{
+    let n = area.len() / 32;
+    let mut i = 0;
+    while i < n {
+        if takes(area, i, key) {
+            return i;
+        }
+        i += 1;
+    }
+    i
+}
+
+// No record is malformed, no key is there twice, and free slots come last.
+fn in_order(area: &[u8]) -> bool
+    ensures { λ r. ⌜ r ≡ inOrder (slotsOf (now (area .entry))) ⌝ }
+{
+    let n = area.len() / 32;
+    let mut i = 0;
+    while i < n {
+        if is_free(area, i) {
+            return all_free(area, i + 1);
+        }
+        if is_malformed(area, i) {
+            return false;
+        }
+        if find(area, i + 1, key_of(area, i)) < n {
+            return false;
+        }
+        i += 1;
+    }
+    true
+}
+
+// What a release that knows the versions up to `newest` says of the area: 0, 10 or 11.
+fn judge(area: &[u8], newest: u8) -> u32
+    ensures { λ r. ⌜ r ≡ areaVerdict newest (now (area .entry)) ⌝ }
+{
+    if any_newer(area, newest) {
+        return 10;
+    }
+    if 0 < area.len() % 32 {
+        return 11;
+    }
+    if in_order(area) {
+        return 0;
+    }
+    11
+}
+
+// Shows the setting of a key; the area is only read.
+pub fn fetch(area: &[u8], key: u16) -> Shown
+    ensures { λ r. ⌜ says r ≡ fetched 2 key (now (area .entry)) ⌝ }
+{
+    let number = judge(area, NEW);
+    if 0 < number {
+        return Shown {
+            number: number,
+            setting: 0,
+            unit: 0,
+        };
+    }
+    let i = find(area, 0, key as usize);
+    if i < area.len() / 32 {
+        let unit = number::read2(area, 32 * i + 4);
+        let setting = number::read8(area, 32 * i + 8);
+        return Shown {
+            number: 0,
+            setting: setting,
+            unit: unit as u16,
+        };
+    }
+    Shown {
+        number: 12,
+        setting: 0,
+        unit: 0,
+    }
+}
+
+// The reader of the old release, which refuses a record of version 2 and shows nothing of it.
+pub fn fetch_1(area: &[u8], key: u16) -> Shown1
+    ensures { λ r. ⌜ says-1 r ≡ fetchedOld key (now (area .entry)) ⌝ }
+{
+    let number = judge(area, OLD);
+    if 0 < number {
+        return Shown1 {
+            number: number,
+            setting: 0,
+        };
+    }
+    let i = find(area, 0, key as usize);
+    if i < area.len() / 32 {
+        let setting = number::read8(area, 32 * i + 8);
+        return Shown1 {
+            number: 0,
+            setting: setting,
+        };
+    }
+    Shown1 {
+        number: 12,
+        setting: 0,
+    }
+}
+
+// Writes a record of version 2 into slot i; all other bytes of the area stay.
+fn write_slot(area: &mut [u8], i: usize, key: u16, setting: u64, unit: u16)
+    requires { ⌜ 32 * i + 32 ≤ length (now area) ⌝ }
+    ensures { λ _. ⌜ now (area .exit) ≡ put (now (area .entry)) (32 * i) (slotOf key setting unit) ⌝ }
+{
+    let k0 = (key % 256) as u8;
+    let k1 = (key / 256 % 256) as u8;
+    let u0 = (unit % 256) as u8;
+    let u1 = (unit / 256 % 256) as u8;
+    let b = number::bytes8(setting);
+    let r = [
+        NEW,
+        0,
+        k0,
+        k1,
+        u0,
+        u1,
+        0,
+        0,
+        b[0],
+        b[1],
+        b[2],
+        b[3],
+        b[4],
+        b[5],
+        b[6],
+        b[7],
+        0,
+        0,
+        0,
+        0,
+        0,
+        0,
+        0,
+        0,
+        0,
+        0,
+        0,
+        0,
+        0,
+        0,
+        0,
+        0,
+    ];
+    stretch::copy_bytes(area, 32 * i, &r, 0, 32);
+}
+
+// Moves the slots after slot i up by one, and frees the last.
+fn close_up(area: &mut [u8], i: usize)
+    requires { ⌜ 32 * i + 32 ≤ length (now area) ⌝ }
+    ensures { λ _. ⌜ now (area .exit) ≡ closedUp (now (area .entry)) i ⌝ }
+{
+    let n = area.len();
+    stretch::shift_left(area, 32 * i, 32 * i + 32, n - (32 * i + 32));
+    stretch::clear(area, n - 32, 32);
+}
+
+// Stores a setting with its unit: a known key's record is replaced, a new one goes into the first free slot. After a refusal the area is as it
+// was.
+pub fn store(area: &mut [u8], key: u16, setting: u64, unit: u16) -> u32
+    ensures { λ r. ⌜ stores r (now (area .exit)) ≡ called (to-store key setting unit) (now (area .entry)) ⌝ }
+{
+    let number = judge(area, NEW);
+    if 0 < number {
+        return number;
+    }
+    let i = room_for(area, key as usize);
+    if i < area.len() / 32 {
+        write_slot(area, i, key, setting, unit);
+        return 0;
+    }
+    13
+}
+
+// Removes a key's record: the later ones move up, byte for byte. After a refusal the area is as it was.
+pub fn remove(area: &mut [u8], key: u16) -> u32
+    ensures { λ r. ⌜ stores r (now (area .exit)) ≡ called (to-remove key) (now (area .entry)) ⌝ }
+{
+    let number = judge(area, NEW);
+    if 0 < number {
+        return number;
+    }
+    let i = find(area, 0, key as usize);
+    if i < area.len() / 32 {
+        close_up(area, i);
+        return 0;
+    }
+    12
+}

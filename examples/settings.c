@@ -1,0 +1,187 @@
+/* Settings in a file of slots of 32 bytes, as a controller keeps them: stored, shown, removed and listed by the library.
+
+     settings FILE list                        every setting, in the order of the slots
+     settings FILE fetch KEY                   one setting
+     settings FILE fetch-1 KEY                 the same as a machine with the old release shows it
+     settings FILE store KEY SETTING [UNIT]    replaces the setting of a known key, or takes a free slot
+     settings FILE remove KEY
+
+   A file of zeros is one of free slots: head -c 640 /dev/zero >FILE makes room for twenty settings. The file is read whole into memory, the
+   library changes that copy, and only what was accepted is written back: first to FILE.new, which then takes the file's place. What goes wrong
+   goes to standard error in words; the exit code is then 1. */
+#include "../include/simmergate.h"
+#include <errno.h>
+#include <stdio.h>
+#include <stdlib.h>
+#include <string.h>
+
+#define SLOT 32
+#define MOST_BYTES (SLOT * 65536) /* a slot for each key that there is */
+
+static uint8_t area[MOST_BYTES + 1]; /* one byte more, to see that a file is too long */
+static size_t length;
+static const char *file;
+
+/* Number i of an answer, or of a record in parts of 8 bytes. */
+static uint64_t number(const uint8_t *bytes, int i) {
+    uint64_t x = 0;
+    for (int k = 7; k >= 0; k--) x = x << 8 | bytes[8 * i + k];
+    return x;
+}
+
+/* ---- Words for a person ---- */
+
+static int usage(void) {
+    fprintf(stderr, "usage: settings FILE list | fetch KEY | fetch-1 KEY | store KEY SETTING [UNIT] | remove KEY\n");
+    return 2;
+}
+
+static int complain(const char *of, const char *what) {
+    fprintf(stderr, "settings: %s: %s\n", of, what);
+    return 1;
+}
+
+static int refused(uint32_t why, unsigned key) {
+    fprintf(stderr, "settings: %s: refused %u: ", file, why);
+    switch (why) {
+    case 6: fprintf(stderr, "the answer that this program lends is too small\n"); break;
+    case 10: fprintf(stderr, "this area was written by a newer release\n"); break;
+    case 11:
+        if (length % SLOT != 0) fprintf(stderr, "%zu bytes are no whole number of slots of %d bytes\n", length, SLOT);
+        else fprintf(stderr, "a record is malformed, a key is there twice, or a record follows a free slot\n");
+        break;
+    case 12: fprintf(stderr, "there is no setting of key %u\n", key); break;
+    case 13: fprintf(stderr, "key %u is new, and none of the %zu slots is free\n", key, length / SLOT); break;
+    default: fprintf(stderr, "a refusal that this program does not know\n");
+    }
+    return 1;
+}
+
+static void show(unsigned key, uint64_t setting, uint64_t unit) {
+    printf("%u = %lld", key, (long long)setting);
+    if (unit != 0) printf(" unit %llu", (unsigned long long)unit);
+    printf("\n");
+}
+
+/* ---- The file ---- */
+
+/* Reads the file into `area`; 0 after a message. */
+static int read_area(void) {
+    FILE *f = fopen(file, "rb");
+    if (f == NULL) return complain(file, strerror(errno)), 0;
+    long whole = fseek(f, 0, SEEK_END) == 0 ? ftell(f) : -1;
+    if (whole >= 0) fseek(f, 0, SEEK_SET);
+    length = fread(area, 1, sizeof area, f);
+    if (ferror(f)) {
+        complain(file, strerror(errno));
+        fclose(f);
+        return 0;
+    }
+    fclose(f);
+    if (length > MOST_BYTES) return complain(file, "it has more slots than there are keys"), 0;
+    if (whole > (long)length) {
+        fprintf(stderr, "settings: %s: short read: it has %ld bytes, and %zu came\n", file, whole, length);
+        return 0;
+    }
+    return 1;
+}
+
+/* Writes the area beside the file, and puts it in the file's place when it is written whole. */
+static int write_area(void) {
+    char beside[4096];
+    int n = snprintf(beside, sizeof beside, "%s.new", file);
+    if (n < 0 || (size_t)n >= sizeof beside) return complain(file, "its name is too long");
+    FILE *f = fopen(beside, "wb");
+    if (f == NULL) return complain(beside, strerror(errno));
+    int whole = fwrite(area, 1, length, f) == length;
+    if (fclose(f) != 0) whole = 0;
+    if (whole && rename(beside, file) == 0) return 0;
+    complain(beside, strerror(errno));
+    remove(beside);
+    return 1;
+}
+
+/* ---- The commands ---- */
+
+static int fetch(unsigned key) {
+    uint8_t answer[32];
+    uint32_t why = simmergate_settings_fetch(area, length, (uint16_t)key, answer, sizeof answer);
+    if (why != 0) return refused(why, key);
+    show(key, number(answer, 2), number(answer, 3));
+    return 0;
+}
+
+static int fetch_1(unsigned key) {
+    uint8_t answer[24];
+    uint32_t why = simmergate_settings_fetch_1(area, length, (uint16_t)key, answer, sizeof answer);
+    if (why != 0) return refused(why, key);
+    show(key, number(answer, 2), 0);
+    return 0;
+}
+
+static int store(unsigned key, uint64_t setting, unsigned unit) {
+    uint32_t why = simmergate_settings_store(area, length, (uint16_t)key, setting, (uint16_t)unit);
+    return why != 0 ? refused(why, key) : write_area();
+}
+
+static int take_out(unsigned key) {
+    uint32_t why = simmergate_settings_remove(area, length, (uint16_t)key);
+    return why != 0 ? refused(why, key) : write_area();
+}
+
+/* One fetch judges the area; where it is in order, its records are read as they stand, up to the first free slot. */
+static int list(void) {
+    uint8_t answer[32];
+    uint32_t why = simmergate_settings_fetch(area, length, 0, answer, sizeof answer);
+    size_t i = 0;
+    if (why != 0 && why != 12) return refused(why, 0);
+    for (; i < length / SLOT && area[SLOT * i] != 0; i++) {
+        const uint8_t *slot = area + SLOT * i;
+        show(slot[2] + 256u * slot[3], number(slot, 1), slot[4] + 256u * slot[5]);
+    }
+    printf("%zu of %zu slots used\n", i, length / SLOT);
+    return 0;
+}
+
+/* ---- The command line ---- */
+
+/* The number from 0 to 65,535 that `text` is; 0 after a message. */
+static int read_16(const char *text, unsigned *to) {
+    char *end;
+    unsigned long long x = strtoull(text, &end, 10);
+    if (*text < '0' || *text > '9' || *end != 0 || x > 65535) {
+        fprintf(stderr, "settings: not a number from 0 to 65535: %s\n", text);
+        return 0;
+    }
+    *to = (unsigned)x;
+    return 1;
+}
+
+static int read_setting(const char *text, uint64_t *to) {
+    char *end;
+    errno = 0;
+    *to = (uint64_t)strtoll(text, &end, 10);
+    if (end == text || *end != 0 || errno != 0) {
+        fprintf(stderr, "settings: not a signed number of 64 bits: %s\n", text);
+        return 0;
+    }
+    return 1;
+}
+
+int main(int argc, char **argv) {
+    unsigned key = 0, unit = 0;
+    uint64_t setting = 0;
+    const char *command = argc > 2 ? argv[2] : "";
+    int is_list = strcmp(command, "list") == 0, is_fetch = strcmp(command, "fetch") == 0, is_fetch_1 = strcmp(command, "fetch-1") == 0,
+        is_store = strcmp(command, "store") == 0, is_remove = strcmp(command, "remove") == 0;
+    if (!(is_list && argc == 3) && !((is_fetch || is_fetch_1 || is_remove) && argc == 4) && !(is_store && (argc == 5 || argc == 6))) return usage();
+    file = argv[1];
+    if (argc > 3 && !read_16(argv[3], &key)) return 1;
+    if (argc > 4 && !read_setting(argv[4], &setting)) return 1;
+    if (argc > 5 && !read_16(argv[5], &unit)) return 1;
+    if (!read_area()) return 1;
+    if (is_list) return list();
+    if (is_fetch) return fetch(key);
+    if (is_fetch_1) return fetch_1(key);
+    return is_store ? store(key, setting, unit) : take_out(key);
+}
