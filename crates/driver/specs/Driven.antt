@@ -8,6 +8,7 @@ use mathlib.Core.Option.{Option, none}
 use lib.ListN.{length, take, drop}
 use lib.Dec.{eqb}
 use lib.IntN.{pos}
+unfoldable pub use Rattle.paper.specs.Standing.{kindNumber}
 use Rattle.paper.specs.Bytes.{word}
 use Rattle.paper.specs.Tree.{Tree, integer, symbol, sum, product, power, ofList, count, records, recordses, weight, weights}
 use Rattle.paper.specs.WellFormed.{WFl}
@@ -30,13 +31,6 @@ abbrev pub weightAll : List Tree → ℕ
 weightAll l = weights (ofList l)
 
 -- ---- a node by its first record: its kind, and the record itself
-unfoldable pub kindNumber : Tree → ℕ
-kindNumber (integer μ z) = 0
-kindNumber (symbol μ s) = 1
-kindNumber (sum μ f) = 2
-kindNumber (product μ f) = 3
-kindNumber (power μ b ξ e) = 4
-
 unfoldable pub firstRecord : Tree → List ℕ
 firstRecord (integer μ z) = recordOf 0 0 (word z)
 firstRecord (symbol μ s) = recordOf 1 0 s

@@ -23,35 +23,21 @@ use Rattle.paper.proofs.EqualView.{same-view, matched-view, same-records}
 use Rattle.paper.proofs.Equality.{matched-bag}
 use Rattle.paper.proofs.WFLaws.{count-list}
 use Rattle.paper.proofs.Seen.{Seen, an-integer, a-symbol, a-sum, a-product, a-power, seen-sum, seen-product, seen-power}
+use Rattle.paper.specs.Standing.{kindNumber}
 use Rattle.split.specs.Standing.{TreeIn, TreesIn}
-use Rattle.paper.proofs.StandingLaws.{seen, tree-within, sum-trees, product-trees, power-tree}
+use Rattle.paper.proofs.StandingLaws.{seen, kind-number, tree-within, sum-trees, product-trees, power-tree}
 use Rattle.equal.specs.Matching.{matchOf, Comparable}
 use Rattle.equal.specs.declared.Match.{Match}
 use Rattle.equal.specs.declared.Match.the-variants.{Different, Ends}
 
--- the paper's number of a tree's kind
-unfoldable pub number : Tree → ℕ
-number (integer μ z) = 0
-number (symbol μ v) = 1
-number (sum μ f) = 2
-number (product μ f) = 3
-number (power μ b ξ e) = 4
-
-pub kind-number : {s : List ℕ} {i : ℕ} {t : Tree} → Seen s i t → kind s i ≡ number t
-unfolding number
-kind-number (an-integer e b w) = e
-kind-number (a-symbol e b w) = e
-kind-number (a-sum e n c w m) = e
-kind-number (a-product e n c w m) = e
-kind-number (a-power e w m p q o y z) = e
-
-pub same-number : {t u : Tree} → Same t u → number t ≡ number u
-unfolding number
-same-number s-integer = refl
-same-number s-symbol = refl
-same-number (s-sum r) = refl
-same-number (s-product r) = refl
-same-number (s-power r) = refl
+-- equal trees are of one kind
+pub same-kind : {t u : Tree} → Same t u → kindNumber t ≡ kindNumber u
+unfolding kindNumber
+same-kind s-integer = refl
+same-kind s-symbol = refl
+same-kind (s-sum r) = refl
+same-kind (s-product r) = refl
+same-kind (s-power r) = refl
 
 pub taken-length : {u : Tree} {l m : List Tree} → Taken u l m → length l ≡ 1 + length m
 taken-length here = omega arith
@@ -128,7 +114,7 @@ module _ {a : List ℕ} {i : ℕ} {b : List ℕ} {j : ℕ} {t u : Tree} (h : Tre
   -- ---- kinds
   pub kinds-differ : (kind a i ≡ kind b j → ⊥) → equal t u ≡ false
   kinds-differ n =
-      not-so (equal t u) (λ e. n (kind-number (seen h) ∙ same-number (same-view t u e) ∙ sym (kind-number (seen g))))
+      not-so (equal t u) (λ e. n (kind-number (seen h) ∙ same-kind (same-view t u e) ∙ sym (kind-number (seen g))))
 
   -- ---- leaves
   module _ (k : kind a i ≡ kind b j) (l : kind a i < 2) where

@@ -6,7 +6,7 @@ use mathlib.Core.Bool.{Bool, true, false}
 use mathlib.Core.List.{List, [], _∷_}
 use mathlib.Core.Option.{Option, none, some}
 use native.Mathlib.Omega.{arith}
-use Rattle.paper.specs.Equal.{one, onto, takeIf, removeFirst, goOn, isEmpty, sameBag, occurs}
+use Rattle.paper.specs.Equal.{one, keeping, takeIf, removeFirst, goOn, isEmpty, sameBag, occurs}
 use Rattle.paper.proofs.Tests.{never, both-ways}
 
 -- taking y out of the first list leaves the second
@@ -27,7 +27,7 @@ module _ {A : Type 0} where
 
   -- `removeFirst` takes out one member that p holds of, and fails only where there is none
   pub removeFirst-first : (p : A → Bool) (l : List A) → First p l (removeFirst p l)
-  unfolding removeFirst takeIf onto occurs one
+  unfolding removeFirst takeIf keeping occurs one
   removeFirst-first p [] = refl
   removeFirst-first p (x ∷ l) = go (p x) refl (removeFirst p l) (removeFirst-first p l)
     where

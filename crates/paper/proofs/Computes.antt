@@ -6,12 +6,12 @@ use Rattle.paper.specs.Record.{kind, countIn, bits, symbolIn, mayTable, 
 use Rattle.paper.specs.Verdict.{isAccepted, recordsIn, badLength, firstFlawed, tableWeight, skip, treeEnd, isPositive, badExponent}
 use Rattle.paper.specs.Verdict.{firstBadExponent, judgeRecords, verdict}
 use Rattle.paper.specs.Table.{recordOf, encode, then, kindOf, readMembers, raised, readExponent, readTree, whole, treeOf}
-use Rattle.paper.specs.Equal.{eqZ, onInteger, onSymbol, onSum, onProduct, onPower, onto, takeIf, removeFirst, goOn, isEmpty, equal}
+use Rattle.paper.specs.Equal.{eqZ, onInteger, onSymbol, onSum, onProduct, onPower, keeping, takeIf, removeFirst, goOn, isEmpty, equal}
 use Rattle.paper.specs.Walk.{lastOf, initOf, lastFirst, oneRemoved, turn, walk}
 use Rattle.paper.specs.Walk as Walk
 use Rattle.paper.specs.Rules.{fits, collapse, sumOf, productOf, onSumMembers, onProductMembers, asInteger, isThe, unless, dropAll, anyOf}
 use Rattle.paper.specs.Rules.{appliesIf, addZero, multiplyZero, multiplyOne, allInRange, rebuilt, outcome, combine}
-use Rattle.paper.specs.Rules.{term, withInteger, integersOf, withOther, othersOf, timesOne, timesEach, unit, productTerm, termOf, added, addIf, mergeTerms, times, timesUnless}
+use Rattle.paper.specs.Rules.{term, withInteger, integersOf, withOther, othersOf, timesOne, timesEach, unit, productTerm, termOf, added, addIf, mergeTerms, coefficientTimes, timesUnless}
 use Rattle.paper.specs.Rules.{fromTerm, combineLikeTerms, factor, factorOf, raiseIf, bothIntegers, multiplyIf, mergeFactors}
 use Rattle.paper.specs.Rules.{powerUnless, fromFactor, combineLikeFactors, editionOne}
 use Rattle.paper.specs.Driver.{ask, after, andThen, each, members, asSum, asProduct, openOne, opened, baseFrom, gather}
@@ -38,14 +38,14 @@ unfolding trees-compute record-computes bytes recordOf encode then kindOf readMe
 table-computes = tt
 
 unfoldable pub equality-computes : Unit {0}
-unfolding toList eqZ onInteger onSymbol onSum onProduct onPower onto takeIf removeFirst goOn isEmpty equal
+unfolding toList eqZ onInteger onSymbol onSum onProduct onPower keeping takeIf removeFirst goOn isEmpty equal
 equality-computes = tt
 
 unfoldable pub rules-compute : Unit {0}
 unfolding
-    equality-computes toList ofList lastOf initOf lastFirst oneRemoved Walk.onto turn walk fits collapse sumOf productOf
+    equality-computes toList ofList lastOf initOf lastFirst oneRemoved Walk.thenWalk turn walk fits collapse sumOf productOf
     onSumMembers onProductMembers asInteger isThe unless dropAll anyOf appliesIf addZero multiplyZero multiplyOne allInRange rebuilt
-    outcome combine term withInteger integersOf withOther othersOf timesOne timesEach unit productTerm termOf added addIf mergeTerms times timesUnless fromTerm
+    outcome combine term withInteger integersOf withOther othersOf timesOne timesEach unit productTerm termOf added addIf mergeTerms coefficientTimes timesUnless fromTerm
     combineLikeTerms factor factorOf raiseIf bothIntegers multiplyIf mergeFactors powerUnless fromFactor combineLikeFactors editionOne
 rules-compute = tt
 

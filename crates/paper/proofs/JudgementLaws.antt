@@ -76,24 +76,24 @@ module _ (s : List ℕ) (l : Lent) where
 
   -- and what is the table's lowest is the call's
   still-lowest : {k p : ℕ} → Lowest (Applies s) k p → Lowest (AppliesToCall s l) k p
-  still-lowest {k} {p} h = record { applies = of-table (h .applies); lowest = λ j q u x. none u x }
+  still-lowest {k} {p} h = record { given = of-table (h .given); lowest = λ j q u x. none u x }
     where
       none : {j q : ℕ} → j < k → ¬ AppliesToCall s l j q
       none u (of-table x) = h .lowest _ _ u x
-      none u (refusal-6 x) = omega (arith, applies-within (h .applies) .1)
+      none u (refusal-6 x) = omega (arith, applies-within (h .given) .1)
 
   -- a refusal is given exactly when the paper's table says so, at the place that it says, and tells what is wrong with the record
   pub judgement-exactly : (v : Verdict) → 0 < v .number → (judgement s l ≡ v) ↔ (Lowest (AppliesToCall s l) (v .number) (v .place) × Tells s v)
   unfolding judgement isAccepted
   judgement-exactly v z =
-      (λ e. down (isAccepted (verdict s)) refl (cramped (tableWeight s) l) refl e, λ h. up (v .flaw) (h .0 .applies) (h .0 .lowest) (h .1))
+      (λ e. down (isAccepted (verdict s)) refl (cramped (tableWeight s) l) refl e, λ h. up (v .flaw) (h .0 .given) (h .0 .lowest) (h .1))
     where
       down : (a : Bool) → isAccepted (verdict s) ≡ a → (c : Bool) → cramped (tableWeight s) l ≡ c
           → cond a (cond c (refused 6 0) accepted) (verdict s) ≡ v → Lowest (AppliesToCall s l) (v .number) (v .place) × Tells s v
       down true a true c e =
           subst (λ (w : Verdict). Lowest (AppliesToCall s l) (w .number) (w .place) × Tells s w) e (
             record {
-              applies = refusal-6 (cramped-words (tableWeight s) l c);
+              given = refusal-6 (cramped-words (tableWeight s) l c);
               lowest = λ j i u x. none-lower (verdict-accepted s a) u x;
             },
             (λ e. absurd (omega arith), λ e. refl),
@@ -104,7 +104,7 @@ module _ (s : List ℕ) (l : Lent) where
       up : {k p : ℕ} (f : Flaw) → AppliesToCall s l k p → ((j q : ℕ) → j < k → ¬ AppliesToCall s l j q) → Tells s (told k p f) → judgement s l ≡ told k p f
       up {k} {p} f (of-table x) h w =
           let v : verdict s ≡ told k p f =
-          verdict-exactly s (told k p f) (applies-within x .0) .1 (record { applies = x; lowest = λ j q u y. h j q u (of-table y) }, w) in
+          verdict-exactly s (told k p f) (applies-within x .0) .1 (record { given = x; lowest = λ j q u y. h j q u (of-table y) }, w) in
           rw (v, ne-eqb k 0 (λ e. omega (arith, applies-within x .0)))
       up f (refusal-6 x) h w =
           let v : verdict s ≡ accepted = accepted-exactly s .1 (λ j q y. h j q (omega (arith, applies-within y .1)) (of-table y)) in

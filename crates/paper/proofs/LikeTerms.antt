@@ -13,7 +13,7 @@ use Rattle.paper.specs.Bytes.{word}
 use Rattle.paper.specs.Tree.{Tree, Forest, integer, symbol, sum, product, power, toList, ofList, value}
 use Rattle.paper.specs.Equal.{equal, eqZ}
 use Rattle.paper.specs.Rules.{sumOf, asInteger, Term, term, withInteger, integersOf, withOther, othersOf, Multiplied, timesOne, timesEach, unit, productTerm, termOf}
-use Rattle.paper.specs.Rules.{added, addIf, mergeTerms, times, timesUnless, fromTerm}
+use Rattle.paper.specs.Rules.{added, addIf, mergeTerms, coefficientTimes, timesUnless, fromTerm}
 use Rattle.paper.proofs.Congruence.{Agree, agree-refl, agree-of, agree-trans, agree-add, agree-mul, word-add, word-mul}
 use Rattle.paper.proofs.Value.{exact, value-exact, total, multiplied, multiplied-append}
 use Rattle.paper.proofs.Value.{sum-list, product-list, list-product}
@@ -89,8 +89,8 @@ module _ (ρ : ℕ → ℕ) where
       let m = mergeTerms-some c x d h in
       subst (λ d. Agree modulus (worth d) (worth c + worth x)) (m .1) (added-worth c x (m .0))
 
-  times-worth : (z : ℤ) (t : Tree) → Agree modulus (unreduced (times z t .0)) (word z * unreduced t)
-  unfolding times exact ofList multiplied
+  times-worth : (z : ℤ) (t : Tree) → Agree modulus (unreduced (coefficientTimes z t .0)) (word z * unreduced t)
+  unfolding coefficientTimes exact ofList multiplied
   times-worth z (integer μ y) = word-mul z y
   times-worth z (symbol μ s) = agree-of (omega arith)
   times-worth z (sum μ f) = agree-of (omega arith)

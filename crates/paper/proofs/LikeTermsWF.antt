@@ -16,7 +16,7 @@ use Rattle.paper.specs.Tree.{Tree, integer, symbol, sum, product, power,
 use Rattle.paper.specs.WellFormed.{InRange, WF, WFl}
 use Rattle.paper.specs.Equal.{eqZ}
 use Rattle.paper.specs.Rules.{fits, sumOf, Term, term, asInteger, withOther, othersOf, integersOf, Multiplied, timesOne, timesEach, unit, productTerm, termOf}
-use Rattle.paper.specs.Rules.{added, mergeTerms, times, timesUnless, fromTerm}
+use Rattle.paper.specs.Rules.{added, mergeTerms, coefficientTimes, timesUnless, fromTerm}
 use Rattle.paper.proofs.Tests.{and-left, and-right}
 use Rattle.paper.proofs.WFLaws.{wf-list, list-wf, count-list, list-count, wf-append, sumOf-wf, productOf-wf}
 use Rattle.paper.proofs.OutcomeLaws.{comeOut, stayInRange, combine-wf}
@@ -85,8 +85,8 @@ mergeTerms-wf : (c x d : Term) → TermWF c → TermWF x → mergeTerms c x ≡ 
 mergeTerms-wf c x d q p h = subst TermWF (mergeTerms-some c x d h .1) (added-wf c x q)
 
 -- ---- putting together
-times-wf : (z : ℤ) (t : Tree) → InRange z → WF t → times z t .1 ≡ true → WF (times z t .0)
-unfolding times ofList count
+times-wf : (z : ℤ) (t : Tree) → InRange z → WF t → coefficientTimes z t .1 ≡ true → WF (coefficientTimes z t .0)
+unfolding coefficientTimes ofList count
 times-wf z (integer μ y) r w h = (fits-true (z *ℤ y) h, refl)
 times-wf z (symbol μ s) r w h = (omega arith, ((r, refl), (w, tt)), refl)
 times-wf z (sum μ f) r w h = (omega arith, ((r, refl), (w, tt)), refl)

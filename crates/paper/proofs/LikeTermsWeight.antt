@@ -14,7 +14,7 @@ use Rattle.paper.specs.Tree.{Tree, integer, symbol, sum, product, power,
 use Rattle.paper.specs.WellFormed.{WF, WFl}
 use Rattle.paper.specs.Equal.{eqZ}
 use Rattle.paper.specs.Rules.{asInteger, collapse, sumOf, productOf, Term, term, withInteger, withOther, integersOf, othersOf, timesEach, unit, productTerm, termOf}
-use Rattle.paper.specs.Rules.{added, mergeTerms, times, timesUnless, fromTerm}
+use Rattle.paper.specs.Rules.{added, mergeTerms, coefficientTimes, timesUnless, fromTerm}
 use Rattle.paper.proofs.Value.{total, total-append, weights-list, list-weights}
 use Rattle.paper.proofs.Bulk.{atLeast, bulk, weight-bulk, bulk-wf}
 use Rattle.paper.proofs.EqualView.{Same, s-integer, s-symbol, s-sum, s-product, s-power, same-view}
@@ -65,8 +65,8 @@ mergeTerms-cost c x d h =
     subst (λ d. cost d + 1 ≤ cost c + cost x) (m .1) (omega (arith, saved one (same-view (c .rest) (x .rest) (m .0))))
 
 -- ---- putting together: a member weighs no more than its term costs
-times-cost : (z : ℤ) (t : Tree) → weight (times z t .0) ≤ weight t + extra false t
-unfolding times extra weight ofList total
+times-cost : (z : ℤ) (t : Tree) → weight (coefficientTimes z t .0) ≤ weight t + extra false t
+unfolding coefficientTimes extra weight ofList total
 times-cost z (integer μ y) = omega arith
 times-cost z (symbol μ s) = omega arith
 times-cost z (sum μ f) = omega arith

@@ -13,7 +13,7 @@ use Rattle.paper.specs.Limits.{modulus}
 use Rattle.paper.specs.Bytes.{word}
 use Rattle.paper.specs.Tree.{Tree, ofList, weight}
 use Rattle.paper.specs.WellFormed.{WF, WFl}
-use Rattle.paper.specs.Walk.{Walked, walk}
+use Rattle.paper.specs.Walk.{WalkEnd, walk}
 use Rattle.paper.specs.Rules.{collapse, sumOf, productOf, allInRange, rebuilt, outcome, combine}
 use Rattle.paper.specs.Good.{Kept, GoodAnswer}
 use Rattle.paper.proofs.Congruence.{Agree, agree-of, agree-trans}
@@ -71,7 +71,7 @@ outcome-good t node l (suc n) h = go (allInRange l) refl
 
 module _ {P : Type 0} (split : Tree → P) (merge : P → P → Option P) (join : P → Tree × Bool) where
   -- the walk over the members l, the members that come out, and whether all of them are in range
-  abbrev pub walked : List Tree → Walked P
+  abbrev pub walked : List Tree → WalkEnd P
   walked l = walk merge (length l) (map split l)
 
   abbrev pub comeOut : List Tree → List Tree

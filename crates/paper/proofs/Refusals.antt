@@ -461,7 +461,7 @@ verdict-exactly s v l = (down, λ h. up (h .0) (h .1))
     down h =
         let r = ladder-down (test s) (place s) (what s) 5 1 k p (v .flaw) l (sym (verdict-ladder s) ∙ h) in (
           record {
-            applies = subst (λ (q : ℕ). Applies s k q) (r .1) (test-words s k (r .0));
+            given = subst (λ (q : ℕ). Applies s k q) (r .1) (test-words s k (r .0));
             lowest = λ j q u x. let y = words-test s j q x in true-not-false (y .0) (r .2 j (y .2) u);
           },
           rw (r .1, r .3) at (tells-what s k (r .0)),
@@ -469,7 +469,7 @@ verdict-exactly s v l = (down, λ h. up (h .0) (h .1))
 
     up : Lowest (Applies s) k p → Tells s v → verdict s ≡ v
     up h w =
-        let y = words-test s k p (h .applies) in
+        let y = words-test s k p (h .given) in
         verdict-ladder s
         ∙ ladder-up (test s) (place s) (what s) 5 1 k (y .2) (y .3) (y .0)
         (λ j u v. not-so (test s j) (λ e. h .lowest j (place s j) v (test-words s j e)))
@@ -485,7 +485,7 @@ refusal-exactly s k p l = (down, up)
 
     up : Lowest (Applies s) k p → (verdict s .number ≡ k) × (verdict s .place ≡ p)
     up h =
-        let y = words-test s k p (h .applies) in
+        let y = words-test s k p (h .given) in
         let e : verdict s ≡ told k p (what s k) =
         verdict-exactly s (told k p (what s k)) l .1 (h, rw (y .1) at (tells-what s k (y .0))) in
         (ap (λ (v : Verdict). v .number) e, ap (λ (v : Verdict). v .place) e)

@@ -6,14 +6,14 @@ use mathlib.Core.List.{List, _++_}
 use mathlib.Core.Option.{some}
 use native.Mathlib.Omega.{arith}
 use lib.ListN.{length}
-use Rattle.paper.specs.Record.{countIn}
+use Rattle.paper.specs.Record.{kind, countIn}
 use Rattle.paper.specs.Tree.{Tree, Forest, sum, product, power, nil, cons, count, records, recordses}
 use Rattle.paper.specs.Table.{encode, Reading, readTree}
 use Rattle.paper.proofs.EncodeLaws.{records-pos}
 use Rattle.paper.proofs.ReadLaws.{read-written}
 use Rattle.paper.proofs.Stands.{first-member, other-members}
-use Rattle.paper.proofs.Seen.{Seen, see, a-sum, a-product, a-power, SeenPower, stands-within}
-use Rattle.paper.specs.Standing.{TreeIn, TreesIn}
+use Rattle.paper.proofs.Seen.{Seen, see, an-integer, a-symbol, a-sum, a-product, a-power, SeenPower, stands-within}
+use Rattle.paper.specs.Standing.{TreeIn, TreesIn, kindNumber}
 
 module _ {s : List ℕ} {i : ℕ} {t : Tree} (h : TreeIn s i t) where
   -- its records lie in the table, and it has one or more
@@ -97,3 +97,12 @@ one-tree {t = t} {u = u} h g =
 
 pub one-product : {s : List ℕ} {i μ ν : ℕ} {f g : Forest} → TreeIn s i (product μ f) → TreeIn s i (product ν g) → f ≡ g
 one-product h g = let same = one-tree h g in cc
+
+-- the kind that a record tells is that of the tree which begins there
+pub kind-number : {s : List ℕ} {i : ℕ} {t : Tree} → Seen s i t → kind s i ≡ kindNumber t
+unfolding kindNumber
+kind-number (an-integer e b w) = e
+kind-number (a-symbol e b w) = e
+kind-number (a-sum e n c w m) = e
+kind-number (a-product e n c w m) = e
+kind-number (a-power e w m p q o y z) = e

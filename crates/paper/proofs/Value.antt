@@ -1,32 +1,15 @@
 -- The value without any reduction, in the natural numbers, and its agreement with the paper's: reducing at each node equals reducing
 -- once, since sums, products and powers respect congruence. Assumes nothing.
-use Prim.Native.Nat.{ℕ, _+_, _*_, _%_, _^_, _<_}
+use Prim.Native.Nat.{ℕ, _+_, _*_, _%_, _<_}
 use mathlib.Core.Path.{_≡_, refl, sym, ap, _∙_}
 use mathlib.Core.List.{List, [], _∷_, _++_}
 use native.Mathlib.Omega.{arith}
 use native.Mathlib.Nat.{mod-eq-of-lt}
 use Rattle.paper.specs.Limits.{modulus}
-use Rattle.paper.specs.Bytes.{word}
 use Rattle.paper.specs.Tree.{Tree, Forest, integer, symbol, sum, product, power, nil, cons, toList, ofList, weight, weights}
 use Rattle.paper.specs.Tree.{value, sumValue, productValue}
+unfoldable pub use Rattle.paper.specs.Exact.{exact, exactSum, exactProduct}
 use Rattle.paper.proofs.Congruence.{Agree, agree-of, agree-trans, agree-mod, agree-add, agree-mul, agree-pow, word-lt}
-
--- the value before it is taken modulo 2^64
-unfoldable mutual
-  pub exact : Tree → (ℕ → ℕ) → ℕ
-  exact (integer μ z) ρ = word z
-  exact (symbol μ s) ρ = ρ s
-  exact (sum μ f) ρ = exactSum f ρ
-  exact (product μ f) ρ = exactProduct f ρ
-  exact (power μ b ξ e) ρ = exact b ρ ^ e
-
-  pub exactSum : Forest → (ℕ → ℕ) → ℕ
-  exactSum nil ρ = 0
-  exactSum (cons t f) ρ = exact t ρ + exactSum f ρ
-
-  pub exactProduct : Forest → (ℕ → ℕ) → ℕ
-  exactProduct nil ρ = 1
-  exactProduct (cons t f) ρ = exact t ρ * exactProduct f ρ
 
 reduced : {a : ℕ} (b : ℕ) → a ≡ b % modulus → Agree modulus a b
 reduced b e = agree-trans (agree-of e) (agree-mod b)

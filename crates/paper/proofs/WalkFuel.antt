@@ -9,7 +9,7 @@ use Rattle.paper.specs.Rules.{outcome, combine}
 use mathlib.Core.Option.{Option, none, some}
 use native.Mathlib.Omega.{arith}
 use lib.ListN.{length, length-append}
-use Rattle.paper.specs.Walk.{lastOf, initOf, lastFirst, Turn, Walked, oneRemoved, onto, turn, walk}
+use Rattle.paper.specs.Walk.{lastOf, initOf, lastFirst, Turn, WalkEnd, oneRemoved, thenWalk, turn, walk}
 
 module _ {A : Type 0} where
   init-length : (a : A) (l : List A) → length (initOf a l) ≡ length l
@@ -78,13 +78,13 @@ module _ {P : Type 0} (merge : P → P → Option P) where
   walk-fuel (suc n) (suc m) [] p q = refl
   walk-fuel (suc n) (suc m) (c ∷ l) p q =
       let t = turn merge (length l) c [] l in
-      ap (onto t) (walk-fuel n m (t .later) (omega (arith, turn-later (length l) c [] l)) (omega (arith, turn-later (length l) c [] l)))
+      ap (thenWalk t) (walk-fuel n m (t .later) (omega (arith, turn-later (length l) c [] l)) (omega (arith, turn-later (length l) c [] l)))
 
   -- a walk is the turn of its first part, with any bound that is enough, and then the walk over what is left
   pub walk-turns : (n m : ℕ) (c : P) (l : List P) → length l ≤ n
-      → walk merge (suc m) (c ∷ l) ≡ onto (turn merge n c [] l) (walk merge m (turn merge n c [] l .later))
+      → walk merge (suc m) (c ∷ l) ≡ thenWalk (turn merge n c [] l) (walk merge m (turn merge n c [] l .later))
   unfolding walk
-  walk-turns n m c l h = ap (λ (t : Turn P). onto t (walk merge m (t .later))) (turn-fuel (length l) n c [] l (omega arith) h)
+  walk-turns n m c l h = ap (λ (t : Turn P). thenWalk t (walk merge m (t .later))) (turn-fuel (length l) n c [] l (omega arith) h)
 
 pub map-length : {A B : Type 0} (f : A → B) (l : List A) → length (map f l) ≡ length l
 map-length f [] = refl
@@ -97,5 +97,5 @@ pub combine-fuel : {P : Type 0} (node : List Tree → Tree) (split : Tree → P)
     ≡ outcome node (map join (walk merge n (map split l) .parts)) (walk merge n (map split l) .removed)
 unfolding combine
 combine-fuel {P} node split merge join l n h =
-    ap (λ (w : Walked P). outcome node (map join (w .parts)) (w .removed))
+    ap (λ (w : WalkEnd P). outcome node (map join (w .parts)) (w .removed))
     (walk-fuel merge (length l) n (map split l) (omega (arith, map-length split l)) (omega (arith, map-length split l)))

@@ -8,7 +8,7 @@ use mathlib.Core.List.{List, [], _∷_, _++_}
 use mathlib.Core.Option.{Option, none, some}
 use native.Mathlib.Omega.{arith}
 use lib.ListN.{length}
-use Rattle.paper.specs.Walk.{lastOf, initOf, lastFirst, Turn, oneRemoved, onto, turn, walk}
+use Rattle.paper.specs.Walk.{lastOf, initOf, lastFirst, Turn, oneRemoved, thenWalk, turn, walk}
 
 -- a commutative operation on numbers
 pub record Commutes (op : ℕ → ℕ → ℕ) (e : ℕ) : Type 0 where
@@ -95,7 +95,7 @@ module _ {P : Type 0} (merge : P → P → Option P)
       go (some d) h same more = R .then (more d) (R .then (R .both (merged c x d h) (R .of refl)) (R .of taken-up))
 
   pub walk-keeps : (n : ℕ) (l : List P) → Rel (all (walk merge n l .parts)) (all l)
-  unfolding walk fold onto
+  unfolding walk fold thenWalk
   walk-keeps zero l = R .of refl
   walk-keeps (suc n) [] = R .of refl
   walk-keeps (suc n) (c ∷ l) =
@@ -132,7 +132,7 @@ module _ {P : Type 0} (merge : P → P → Option P)
       go (some d) h same more = omega (arith, more d, lower c x d h, fold-lastFirst plus-laws m l)
 
   pub walk-lowers : (n : ℕ) (l : List P) → costs (walk merge n l .parts) + walk merge n l .removed ≤ costs l
-  unfolding walk fold onto
+  unfolding walk fold thenWalk
   walk-lowers zero l = omega arith
   walk-lowers (suc n) [] = omega arith
   walk-lowers (suc n) (c ∷ l) = omega (arith, turn-lowers (length l) c [] l, walk-lowers n (turn merge (length l) c [] l .later))
@@ -183,7 +183,7 @@ module _ {P : Type 0} (merge : P → P → Option P)
       go (some d) e same more = more d (kept c x d q (h .0) e)
 
   pub walk-all : (n : ℕ) (l : List P) → All Q l → All Q (walk merge n l .parts)
-  unfolding walk onto
+  unfolding walk thenWalk
   walk-all zero l h = h
   walk-all (suc n) [] h = tt
   walk-all (suc n) (c ∷ l) h =

@@ -19,13 +19,13 @@ one true = 1
 one false = 0
 
 module _ {A : Type 0} where
-  unfoldable pub onto : A → Option (List A) → Option (List A)
-  onto y none = none
-  onto y (some l) = some (y ∷ l)
+  unfoldable pub keeping : A → Option (List A) → Option (List A)
+  keeping y none = none
+  keeping y (some l) = some (y ∷ l)
 
   unfoldable pub takeIf : Bool → A → List A → Option (List A) → Option (List A)
   takeIf true y ys r = some ys
-  takeIf false y ys r = onto y r
+  takeIf false y ys r = keeping y r
 
   -- the list without its first member that p holds of
   unfoldable pub removeFirst : (A → Bool) → List A → Option (List A)

@@ -3,8 +3,8 @@
 -- The same again, in other words or in figures, each held to it by a theorem: Refusals (1 to 6 in the paper's words), Examples and Stored
 -- (trees and what the driver makes of them), Sayings, SmallTables, Bounds, Slices (small calls, limits), Worthless and WorthlessKinds
 -- (simplifiers that are turned away).
--- Only tools, for laws and for the code's contracts: Good (what is asked of a rule), Standing (trees that stand in a table), Once (the form
--- of the uniqueness lemmas).
+-- Only tools, for laws and for the code's contracts: Exact (the value with no reduction), Good (what is asked of a rule), Gathering (document
+-- 01's gathering, to be compared with), Standing (trees that stand in a table), Once (the form of the uniqueness lemmas).
 pub mod Limits
 pub mod Bytes
 pub mod Tree
@@ -19,6 +19,7 @@ pub mod Walk
 pub mod Rules
 pub mod Driver
 pub mod Gathering
+pub mod Exact
 pub mod Admits
 pub mod Good
 pub mod Answers

@@ -83,5 +83,5 @@ pub data AppliesToCall (s : List ℕ) (l : Lent) : ℕ → ℕ → Type 0 where
 
 -- "The lowest number wins": of the refusals that apply, k at p is the one with the lowest number
 pub record Lowest (Apply : ℕ → ℕ → Type 0) (k p : ℕ) : Type 0 where
-  pub applies : Apply k p
+  pub given : Apply k p
   pub lowest : (j q : ℕ) → j < k → ¬ Apply j q

@@ -185,17 +185,17 @@ mergeTerms c x = addIf (equal (c .rest) (x .rest)) c x
 
 -- "coefficient times rest: two integers multiply; a product rest gets the coefficient appended last; any other rest R becomes
 -- the product (coefficient, R)", and whether that is in range
-unfoldable pub times : ℤ → Tree → Tree × Bool
-times z (integer μ y) = (integer 0 (z *ℤ y), fits (z *ℤ y))
-times z (symbol μ s) = (product 0 (ofList (integer 0 z ∷ symbol μ s ∷ [])), true)
-times z (sum μ f) = (product 0 (ofList (integer 0 z ∷ sum μ f ∷ [])), true)
-times z (product μ f) = (product 0 (ofList (toList f ++ (integer 0 z ∷ []))), true)
-times z (power μ b ξ e) = (product 0 (ofList (integer 0 z ∷ power μ b ξ e ∷ [])), true)
+unfoldable pub coefficientTimes : ℤ → Tree → Tree × Bool
+coefficientTimes z (integer μ y) = (integer 0 (z *ℤ y), fits (z *ℤ y))
+coefficientTimes z (symbol μ s) = (product 0 (ofList (integer 0 z ∷ symbol μ s ∷ [])), true)
+coefficientTimes z (sum μ f) = (product 0 (ofList (integer 0 z ∷ sum μ f ∷ [])), true)
+coefficientTimes z (product μ f) = (product 0 (ofList (toList f ++ (integer 0 z ∷ []))), true)
+coefficientTimes z (power μ b ξ e) = (product 0 (ofList (integer 0 z ∷ power μ b ξ e ∷ [])), true)
 
 -- "the current member becomes its rest if the coefficient is 1, else coefficient times rest"
 unfoldable pub timesUnless : Bool → Term → Tree × Bool
 timesUnless true c = (c .rest, c .inRange)
-timesUnless false c = (times (c .coefficient) (c .rest) .0, c .inRange && times (c .coefficient) (c .rest) .1)
+timesUnless false c = (coefficientTimes (c .coefficient) (c .rest) .0, c .inRange && coefficientTimes (c .coefficient) (c .rest) .1)
 
 unfoldable pub fromTerm : Term → Tree × Bool
 fromTerm c = timesUnless (eqZ (c .coefficient) (pos 1)) c

@@ -4,7 +4,7 @@ use Prim.Native.Nat.{ℕ, _+_, _*_, _≤_, _<_}
 use mathlib.Core.Path.{_≡_}
 use mathlib.Core.List.{List, _++_}
 use lib.ListN.{drop}
-use Rattle.paper.specs.Tree.{Tree, Forest, count, records, recordses}
+use Rattle.paper.specs.Tree.{Tree, Forest, integer, symbol, sum, product, power, count, records, recordses}
 use Rattle.paper.specs.WellFormed.{WF, WFs}
 use Rattle.paper.specs.Record.{countIn}
 use Rattle.paper.specs.Table.{encode, encodes}
@@ -43,3 +43,11 @@ pub record SeenMembers (s : List ℕ) (i : ℕ) (f : Forest) : Type 0 where
   pub two : 2 ≤ count f
   pub wf : WFs f
   pub stand : Stands s (i + 1) (encodes f)
+
+-- the kind of a tree's first record
+unfoldable pub kindNumber : Tree → ℕ
+kindNumber (integer μ z) = 0
+kindNumber (symbol μ s) = 1
+kindNumber (sum μ f) = 2
+kindNumber (product μ f) = 3
+kindNumber (power μ b ξ e) = 4

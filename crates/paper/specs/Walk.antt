@@ -28,7 +28,7 @@ pub record Turn (P : Type 0) : Type 0 where
   pub removed : ℕ
 
 -- after the whole walk: the parts that come out, how many members were removed
-pub record Walked (P : Type 0) : Type 0 where
+pub record WalkEnd (P : Type 0) : Type 0 where
   pub parts : List P
   pub removed : ℕ
 
@@ -36,8 +36,8 @@ module _ {P : Type 0} where
   unfoldable pub oneRemoved : Turn P → Turn P
   oneRemoved t = record { current = t .current; later = t .later; removed = suc (t .removed) }
 
-  unfoldable pub onto : Turn P → Walked P → Walked P
-  onto t w = record { parts = t .current ∷ w .parts; removed = t .removed + w .removed }
+  unfoldable pub thenWalk : Turn P → WalkEnd P → WalkEnd P
+  thenWalk t w = record { parts = t .current ∷ w .parts; removed = t .removed + w .removed }
 
 module _ {P : Type 0} (merge : P → P → Option P) where
   -- the turn of the current part c: `passed` were looked at and stay, l are still to be looked at; n bounds the length of l
@@ -51,7 +51,7 @@ module _ {P : Type 0} (merge : P → P → Option P) where
       ]
 
   -- the whole walk; n bounds the length of l
-  unfoldable pub walk : ℕ → List P → Walked P
+  unfoldable pub walk : ℕ → List P → WalkEnd P
   walk zero l = record { parts = l; removed = 0 }
   walk (suc n) [] = record { parts = []; removed = 0 }
-  walk (suc n) (c ∷ l) = let t = turn (length l) c [] l in onto t (walk n (t .later))
+  walk (suc n) (c ∷ l) = let t = turn (length l) c [] l in thenWalk t (walk n (t .later))

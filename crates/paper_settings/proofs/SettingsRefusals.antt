@@ -415,13 +415,13 @@ module _ (newest : ℕ) (op : Op) (a : List ℕ) (n : ℕ) (tested : Tested newe
       down h =
           let r = ladder-down (test newest op a) (λ j. 0) (λ j. sound) 4 10 k 0 sound l (sym tested ∙ ap (λ (m : ℕ). refused m 0) h) in
           record {
-            applies = test-words newest op a k (r .0);
+            given = test-words newest op a k (r .0);
             lowest = λ j q u x. let y = words-test newest op a j q x in true-not-false (y .0) (r .2 j (y .2) u);
           }
 
       up : Lowest (Refuses newest a op) k 0 → n ≡ k
       up h =
-          let y = words-test newest op a k 0 (h .applies) in
+          let y = words-test newest op a k 0 (h .given) in
           ap (λ (v : Verdict). v .number)
           (tested
           ∙ ladder-up (test newest op a) (λ j. 0) (λ j. sound) 4 10 k (y .2) (y .3) (y .0)

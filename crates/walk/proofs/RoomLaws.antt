@@ -15,7 +15,7 @@ use Rattle.paper.specs.Tree.{Tree, Forest, integer, symbol, sum, product, power
 use Rattle.paper.specs.WellFormed.{WF}
 use Rattle.paper.specs.Equal.{equal, eqZ}
 use Rattle.paper.specs.Rules.{asInteger, collapse, productOf, Term, term, integersOf, othersOf, timesEach, unit, productTerm, termOf}
-use Rattle.paper.specs.Rules.{added, times, timesUnless, fromTerm}
+use Rattle.paper.specs.Rules.{added, coefficientTimes, timesUnless, fromTerm}
 use Rattle.paper.specs.Rules.{Factor, factor, factorOf, bothIntegers, powerUnless, fromFactor}
 use Rattle.paper.proofs.EncodeLaws.{records-pos, records-weight, recordses-weights}
 use Rattle.paper.proofs.Value.{total, weights-list, list-weights, weight-pos}
@@ -48,8 +48,8 @@ abbrev Extra : Option ℤ → ℕ → ℕ → Type 0
 Extra (some z) n m = m ≡ 1
 Extra none n m = (n ≤ m) × (m ≤ n + 2)
 
-times-records : (z : ℤ) (t : Tree) → Extra (asInteger t) (records t) (records (times z t .0))
-unfolding times asInteger records ofList
+times-records : (z : ℤ) (t : Tree) → Extra (asInteger t) (records t) (records (coefficientTimes z t .0))
+unfolding coefficientTimes asInteger records ofList
 times-records z (integer μ y) = refl
 times-records z (symbol μ s) = (omega arith, omega arith)
 times-records z (sum μ f) = (omega arith, omega arith)
@@ -101,14 +101,14 @@ whole-records (t ∷ []) = omega (arith, records-weight t)
 whole-records (t ∷ u ∷ l) = omega (arith, records-weight t, records-weight u, recordses-weights (ofList l), list-weights l)
 
 others-records : (b : Bool) (c : Term) (l : List Tree) → c .rest ≡ productOf l → records (timesUnless b c .0) ≤ 2 + total weight l
-unfolding timesUnless productOf collapse total times records ofList
+unfolding timesUnless productOf collapse total coefficientTimes records ofList
 others-records true c l e = omega (arith, ap records e, whole-records l)
-others-records false c l e = omega (arith, ap (λ t. records (times (c .coefficient) t .0)) e, timed l)
+others-records false c l e = omega (arith, ap (λ t. records (coefficientTimes (c .coefficient) t .0)) e, timed l)
   where
-    timed : (l : List Tree) → records (times (c .coefficient) (productOf l) .0) ≤ 2 + total weight l
+    timed : (l : List Tree) → records (coefficientTimes (c .coefficient) (productOf l) .0) ≤ 2 + total weight l
     timed [] = omega arith
     timed (t ∷ []) =
-        let e = extra-most (asInteger t) (records t) (records (times (c .coefficient) t .0)) (records-pos t) (times-records (c .coefficient) t) in
+        let e = extra-most (asInteger t) (records t) (records (coefficientTimes (c .coefficient) t .0)) (records-pos t) (times-records (c .coefficient) t) in
         omega (arith, records-weight t)
     timed (t ∷ u ∷ l) =
         let e = longer-records 0 (ofList (t ∷ u ∷ l)) (c .coefficient) in
@@ -128,7 +128,7 @@ product-records l = go (integersOf l) (parted-weight l)
         omega (arith, others-records (eqZ (c .number) (pos 1)) (record { coefficient = c .number; rest = productOf (othersOf l); inRange = c .inRange }) (othersOf l) refl)
 
 integer-term : (b : Bool) (μ : ℕ) (z : ℤ) → records (timesUnless b (term z (integer 0 (pos 1))) .0) ≤ weight (integer μ z)
-unfolding timesUnless term times records weight
+unfolding timesUnless term coefficientTimes records weight
 integer-term true μ z = omega arith
 integer-term false μ z = omega arith
 

@@ -10,7 +10,7 @@ use lib.ListN.{length, take, drop, length-append}
 use lib.Seq.{take-take}
 use Rattle.paper.specs.Tree.{Tree, ofList, records, recordses}
 use Rattle.paper.specs.Table.{encode, encodes}
-use Rattle.paper.specs.Walk.{Walked, walk}
+use Rattle.paper.specs.Walk.{WalkEnd, walk}
 use Rattle.paper.specs.Rules as paper
 use Rattle.paper.specs.Rules.{allInRange, rebuilt, outcome, combine}
 use Rattle.stretch.specs.Put.{put, part}
@@ -24,7 +24,7 @@ use Rattle.walk.specs.Walked.{combined}
 use Rattle.walk.proofs.EntryLaws.{tree-still}
 
 -- ---- the outcome of the whole walk
-abbrev pub walked : (b : Bool) → List Tree → Walked (Like b)
+abbrev pub walked : (b : Bool) → List Tree → WalkEnd (Like b)
 walked b l = walk (merge b) (length l) (map (split b) l)
 
 -- the members that parts become

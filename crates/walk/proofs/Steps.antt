@@ -9,7 +9,7 @@ use native.Mathlib.Omega.{arith}
 use lib.ListN.{length, take, drop, length-append}
 use Rattle.paper.specs.Tree.{Tree, ofList, weight, records, recordses}
 use Rattle.paper.specs.Table.{encode, encodes}
-use Rattle.paper.specs.Walk.{Walked, onto, turn, walk, lastFirst}
+use Rattle.paper.specs.Walk.{WalkEnd, thenWalk, turn, walk, lastFirst}
 use Rattle.paper.specs.Rules as paper
 use Rattle.paper.specs.Rules.{allInRange}
 use Rattle.paper.proofs.EncodeLaws.{records-weight}
@@ -35,10 +35,10 @@ abbrev pub parts : (b : Bool) → List Tree → List (Like b)
 parts b l = map (split b) l
 
 -- what is left of the walk between two turns, and within a turn, put onto what was done
-abbrev pub rest-of-walk : (b : Bool) → List (Like b) → ℕ → List Tree → Walked (Like b)
+abbrev pub rest-of-walk : (b : Bool) → List (Like b) → ℕ → List Tree → WalkEnd (Like b)
 rest-of-walk b done r left = resumed done r (walk (merge b) (length (parts b left)) (parts b left))
 
-abbrev pub rest-of-turn : (b : Bool) → List (Like b) → ℕ → Like b → List Tree → List Tree → Walked (Like b)
+abbrev pub rest-of-turn : (b : Bool) → List (Like b) → ℕ → Like b → List Tree → List Tree → WalkEnd (Like b)
 rest-of-turn b done r c passed left =
     resumed done r (after (merge b) (turn (merge b) (length (parts b left)) c (parts b passed) (parts b left)))
 
@@ -256,7 +256,7 @@ module _ {b : Bool} {l : List Tree} {o₀ w₀ : List ℕ} {d p count : ℕ} whe
 
       -- it is taken up, and the range is left
       pub says-over : (x : Like b) → merge b (v .current) (split b (next .tree)) ≡ some x → inRange b x ≡ false → combined b l ≡ paper.range-exceeded
-      unfolding resumed after onto
+      unfolding resumed after thenWalk
       says-over x q bad =
           let t = next .tree in
           let m = parts b (next .others) in

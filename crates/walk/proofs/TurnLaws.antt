@@ -7,7 +7,7 @@ use mathlib.Core.List.{List, [], _∷_, _++_, map, append-assoc, append-nil}
 use mathlib.Core.Option.{Option, none, some}
 use native.Mathlib.Omega.{arith}
 use lib.ListN.{length}
-use Rattle.paper.specs.Walk.{lastOf, initOf, lastFirst, Turn, Walked, oneRemoved, onto, turn, walk}
+use Rattle.paper.specs.Walk.{lastOf, initOf, lastFirst, Turn, WalkEnd, oneRemoved, thenWalk, turn, walk}
 use Rattle.paper.proofs.WalkFuel.{turn-later, walk-fuel}
 
 module _ {A B : Type 0} (f : A → B) where
@@ -32,10 +32,10 @@ module _ {A B : Type 0} (f : A → B) where
 
 -- ---- a walk with parts that came out before it
 module _ {P : Type 0} where
-  unfoldable pub resumed : List P → ℕ → Walked P → Walked P
+  unfoldable pub resumed : List P → ℕ → WalkEnd P → WalkEnd P
   resumed done r w = record { parts = done ++ w .parts; removed = r + w .removed }
 
-  pub resumed-none : (w : Walked P) → resumed [] 0 w ≡ w
+  pub resumed-none : (w : WalkEnd P) → resumed [] 0 w ≡ w
   unfolding resumed
   resumed-none w = ap (λ r. record { parts = w .parts; removed = r }) (omega arith)
 
@@ -44,8 +44,8 @@ module _ {P : Type 0} where
 
 module _ {P : Type 0} (merge : P → P → Option P) where
   -- what is left of the walk after a turn
-  unfoldable pub after : Turn P → Walked P
-  after t = onto t (walk merge (length (t .later)) (t .later))
+  unfoldable pub after : Turn P → WalkEnd P
+  after t = thenWalk t (walk merge (length (t .later)) (t .later))
 
   -- ---- one law for each step
   module _ (done : List P) (r : ℕ) where
@@ -55,7 +55,7 @@ module _ {P : Type 0} (merge : P → P → Option P) where
     turn-begins c l =
         let t = turn merge (length l) c [] l in
         let few = turn-later merge (length l) c [] l in
-        ap (λ w. resumed done r (onto t w)) (walk-fuel merge (length l) (length (t .later)) (t .later) (omega arith) (omega arith))
+        ap (λ w. resumed done r (thenWalk t w)) (walk-fuel merge (length l) (length (t .later)) (t .later) (omega arith) (omega arith))
 
     pub passes-by : (n : ℕ) (c x : P) (passed l : List P) → merge c x ≡ none
         → resumed done r (after (turn merge (suc n) c passed (x ∷ l))) ≡ resumed done r (after (turn merge n c (passed ++ (x ∷ [])) l))
@@ -68,7 +68,7 @@ module _ {P : Type 0} (merge : P → P → Option P) where
 
     pub takes-up : (n : ℕ) (c x d : P) (passed l : List P) → merge c x ≡ some d
         → resumed done r (after (turn merge (suc n) c passed (x ∷ l))) ≡ resumed done (r + 1) (after (turn merge n d passed (lastFirst l)))
-    unfolding turn oneRemoved after onto resumed
+    unfolding turn oneRemoved after thenWalk resumed
     takes-up n c x d passed l e =
         let t = turn merge n d passed (lastFirst l) in
         let w = walk merge (length (t .later)) (t .later) in
@@ -80,7 +80,7 @@ module _ {P : Type 0} (merge : P → P → Option P) where
 
     pub turn-ends : (c : P) (passed : List P)
         → resumed done r (after (turn merge 0 c passed [])) ≡ resumed (done ++ (c ∷ [])) r (walk merge (length passed) passed)
-    unfolding turn after onto resumed
+    unfolding turn after thenWalk resumed
     turn-ends c passed =
         let w = walk merge (length passed) passed in
         ap (λ (l : List P). record { parts = done ++ (c ∷ walk merge (length l) l .parts); removed = r + (0 + walk merge (length l) l .removed) })

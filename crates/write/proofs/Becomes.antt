@@ -16,7 +16,7 @@ use Rattle.paper.specs.Tree.{Tree, Forest, integer, product, power, toList, ofL
 use Rattle.paper.specs.Record.{kind}
 use Rattle.paper.specs.Table.{encode}
 use Rattle.paper.specs.Equal.{eqZ}
-use Rattle.paper.specs.Rules.{fits, Term, term, termOf, times, timesUnless, fromTerm, Factor, powerUnless, fromFactor}
+use Rattle.paper.specs.Rules.{fits, Term, term, termOf, coefficientTimes, timesUnless, fromTerm, Factor, powerUnless, fromFactor}
 use Rattle.paper.proofs.EncodeLaws.{signed-in-range}
 use Rattle.paper.proofs.Tests.{eqZ-true, not-so}
 use Rattle.paper.proofs.Seen.{Seen, an-integer, a-symbol, a-sum, a-product, a-power}
@@ -53,20 +53,20 @@ timed-one : (n : ℕ) (t : Tree) → n ≡ 1 → timed n t ≡ (t, true)
 unfolding timed timesUnless term eqZ
 timed-one n t e = rw e refl
 
-timed-more : (n : ℕ) (t : Tree) → n < 2 ^ 64 → (n ≡ 1 → ⊥) → timed n t ≡ times (signed n) t
+timed-more : (n : ℕ) (t : Tree) → n < 2 ^ 64 → (n ≡ 1 → ⊥) → timed n t ≡ coefficientTimes (signed n) t
 unfolding timed timesUnless term
 timed-more n t l h = rw (not-so (eqZ (signed n) (pos 1)) (λ e. h (same-bits n 1 l (omega arith) (eqZ-true (signed n) (pos 1) e)))) refl
 
-times-product : (μ : ℕ) (z : ℤ) (f : Forest) → times z (product μ f) ≡ (product 0 (ofList (toList f ++ (integer 0 z ∷ []))), true)
-unfolding times
+times-product : (μ : ℕ) (z : ℤ) (f : Forest) → coefficientTimes z (product μ f) ≡ (product 0 (ofList (toList f ++ (integer 0 z ∷ []))), true)
+unfolding coefficientTimes
 times-product μ z f = refl
 
 times-other : (s : List ℕ) (i : ℕ) (z : ℤ) (t : Tree) → TreeIn s i t → 1 ≤ kind s i → (kind s i ≡ 3 → ⊥)
-    → times z t ≡ (product 0 (ofList (integer 0 z ∷ t ∷ [])), true)
-unfolding times
+    → coefficientTimes z t ≡ (product 0 (ofList (integer 0 z ∷ t ∷ [])), true)
+unfolding coefficientTimes
 times-other s i z t h k o = go (seen h)
   where
-    go : {t : Tree} → Seen s i t → times z t ≡ (product 0 (ofList (integer 0 z ∷ t ∷ [])), true)
+    go : {t : Tree} → Seen s i t → coefficientTimes z t ≡ (product 0 (ofList (integer 0 z ∷ t ∷ [])), true)
     go (an-integer e b w) = absurd (omega arith)
     go (a-symbol e v w) = refl
     go (a-sum e n c w m) = refl
@@ -88,7 +88,7 @@ module _ (n : ℕ) {t : Tree} {k : ℕ} (size : k ≡ records t) where
         → Becomes (timed n t) (product 0 (ofList (toList f ++ (integer 0 (signed n) ∷ [])))) (k + 1)
     longer-becomes {μ} {f} e =
         record {
-          is = timed-more n t l more ∙ ap (times (signed n)) e ∙ times-product μ (signed n) f;
+          is = timed-more n t l more ∙ ap (coefficientTimes (signed n)) e ∙ times-product μ (signed n) f;
           size = omega (arith, ap records e, longer-records μ f (signed n));
         }
 
@@ -103,7 +103,7 @@ unfolding fits
 fits-signed n l = lt-ltb (mag (signed n)) (2 ^ 63) (signed-in-range n l)
 
 timed-unit : (n : ℕ) → n < 2 ^ 64 → timed n (integer 0 (pos 1)) ≡ (integer 0 (signed n), true)
-unfolding timed timesUnless term times one
+unfolding timed timesUnless term coefficientTimes one
 timed-unit n l = go (eqZ (signed n) (pos 1)) refl
   where
     go : (b : Bool) → eqZ (signed n) (pos 1) ≡ b → timesUnless b (term (signed n) (integer 0 (pos 1))) ≡ (integer 0 (signed n), true)
