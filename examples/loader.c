@@ -27,7 +27,7 @@ static uint64_t number(const uint8_t *answer, int i) {
 
 /* ---- Words for a person ---- */
 
-/* What a refusal says, by the numbers of the answer, of which the last two, `wrong`, say what is wrong with a record. */
+/* What a refusal says, by the numbers of the answer, of which the two at `wrong` say what is wrong with a record. */
 static int refused(const char *file, size_t length, uint32_t why, uint64_t place, const uint8_t *wrong) {
     unsigned long long at = place, what = number(wrong, 0), byte = number(wrong, 1);
     fflush(stdout);
@@ -161,22 +161,23 @@ int main(int argc, char **argv) {
     size_t n = (size_t)length;
 
     uint32_t why = simmergate_value(table, n, registers, sizeof registers, before, sizeof before);
-    if (why != 0) return refused(argv[1], n, why, number(before, 1), before + sizeof before - 16);
+    if (why != 0) return refused(argv[1], n, why, number(before, 1), before + 24);
     fputs("formula    ", stdout);
     print_formula(table, 0);
     putchar('\n');
 
     why = simmergate_simplify(table, n, out, sizeof out, steps, sizeof steps, work, sizeof work, answer, sizeof answer);
-    if (why != 0) return refused(argv[1], n, why, number(answer, 1), answer + sizeof answer - 16);
+    if (why != 0) return refused(argv[1], n, why, number(answer, 1), answer + 56);
     size_t shortened = 16 * (size_t)number(answer, 2);
     fputs("shortened  ", stdout);
     print_formula(out, 0);
     printf("\nweight     %llu to %llu\n", (unsigned long long)number(answer, 5), (unsigned long long)number(answer, 6));
     printf("opened     %llu\n", (unsigned long long)number(answer, 4));
+    printf("tries      %llu\n", (unsigned long long)number(answer, 9));
     for (uint64_t i = 0; i < number(answer, 3); i++) printf("step %-5llu %s\n", (unsigned long long)i + 1, step_name(steps[i]));
 
     why = simmergate_value(out, shortened, registers, sizeof registers, after, sizeof after);
-    if (why != 0) return refused(argv[1], n, why, number(after, 1), after + sizeof after - 16);
+    if (why != 0) return refused(argv[1], n, why, number(after, 1), after + 24);
     printf("value      %lld\n", (long long)number(after, 2));
     if (number(before, 2) != number(after, 2)) {
         fprintf(stderr, "loader: %s: the shortened formula has another value: %lld before\n", argv[1], (long long)number(before, 2));

@@ -3,7 +3,7 @@
 
     tests/answers/make_equal.py >tests/answers/equal.tsv
 
-A line has a name, two tables in hexadecimal, and the four numbers of the answer: refusal number, place, which table is refused (1, 2, 0),
+A line has a name, two tables in hexadecimal, and the first four numbers of the answer: refusal number, place, which table is refused (1, 2, 0),
 and yes 1 or no 0. The answers come from the plain judgement below, which reads the tables by itself; how a pair was made decides its name and
 nothing else. Equality is that of canonical forms: a tree is written out as a text, the members of a sum or a product in the order of their
 texts, and two trees are equal when their texts are. The dice are written out, so that every Python 3 makes the same file.

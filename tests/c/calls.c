@@ -6,7 +6,7 @@
 #include "own.h"
 #include "text.h"
 
-enum { GUARD = 64, WORK = 65536, LONGEST = WORK + 4 * RECORD, REGISTER_BYTES = 8 * REGISTERS, MOST_NUMBERS = 9 };
+enum { GUARD = 64, WORK = 65536, LONGEST = WORK + 4 * RECORD, REGISTER_BYTES = 8 * REGISTERS, MOST_NUMBERS = 10 };
 
 /* An area that is lent to a call: canary bytes, the area, canary bytes; and what the area held before. */
 struct room {
@@ -66,11 +66,14 @@ static uint32_t make(enum entry entry) {
     }
 }
 
-/* The numbers that a call must answer: a table is refused by v, or it has this result. The last two are what is wrong with a record. */
+/* Which number of an answer is what is wrong with a record; the byte comes after it, and last the simplifier's tries. */
+static size_t flaw_at(enum entry entry) { return enough[entry] / 8 - (entry == SIMPLIFY ? 3 : 2); }
+
+/* The numbers that a call must answer: a table is refused by v, or it has this result. */
 static void answers(enum entry entry, struct verdict v, uint64_t result, uint64_t *numbers) {
-    size_t n = enough[entry] / 8;
+    size_t n = flaw_at(entry);
     memset(numbers, 0, MOST_NUMBERS * sizeof *numbers);
-    numbers[0] = v.number, numbers[1] = v.place, numbers[n - 2] = v.what, numbers[n - 1] = v.byte;
+    numbers[0] = v.number, numbers[1] = v.place, numbers[n] = v.what, numbers[n + 1] = v.byte;
     if (entry == WEIGHT || entry == VALUE) numbers[2] = v.number ? 0 : result;
     if (entry == EQUAL || entry == SECOND) numbers[2] = v.number ? (entry == EQUAL ? 1 : 2) : 0, numbers[3] = v.number ? 0 : result;
 }
@@ -84,8 +87,7 @@ static void call(enum entry entry, size_t room, const uint64_t *numbers) {
     if (r != (written ? numbers[0] : 6)) fail(name, "the return", written ? numbers[0] : 6, r);
     for (size_t i = 0; i < written / 8; i++) {
         uint64_t got = own_number(answer.start + 8 * i);
-        size_t left = written / 8 - i;
-        const char *what = i == 0 ? "the number" : i == 1 ? "the place" : left == 2 ? "what is wrong" : left == 1 ? "which byte" : "a result";
+        const char *what = i == 0 ? "the number" : i == 1 ? "the place" : i == flaw_at(entry) ? "what is wrong" : i == flaw_at(entry) + 1 ? "which byte" : "a result";
         if (got != numbers[i]) fail(name, what, numbers[i], got);
     }
     kept(name, "a byte past the answer", &answer, written);
@@ -158,6 +160,7 @@ static void simplified(const uint8_t *t, size_t bytes, struct verdict v) {
     if (own_number(answer.start) != r) fail("simmergate_simplify", "the number", r, own_number(answer.start));
     if (r == 0 && own_number(answer.start + 40) != own_weight(t, bytes))
         fail("simmergate_simplify", "the weight", own_weight(t, bytes), own_number(answer.start + 40));
+    if ((r == 0) != (own_number(answer.start + 72) != 0)) fail("simmergate_simplify", "whether it tells tries", r == 0, own_number(answer.start + 72));
     for (int i = 7; i < 9; i++)
         if (own_number(answer.start + 8 * i) != 0) fail("simmergate_simplify", "what is wrong with a good table", 0, own_number(answer.start + 8 * i));
     calls++;

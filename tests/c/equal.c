@@ -108,7 +108,7 @@ static size_t bytes[2];
 
 static unsigned long lines, yes_lines, by_number[6];
 
-/* The stored answers: name, two tables, the four numbers. */
+/* The stored answers: name, two tables, the first four numbers. */
 static void stored(void) {
     while (next_line()) {
         char *parts[4], *end;

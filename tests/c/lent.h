@@ -38,9 +38,9 @@ static inline int holds(const struct lent *area, const uint8_t *bytes, size_t co
 /* Whether nothing of it changed. */
 static inline int untouched(const struct lent *area) { return holds(area, lent_zeros, 0, 0); }
 
-/* The numbers, at most nine, as the bytes of an answer. */
+/* The numbers, at most ten, as the bytes of an answer. */
 static inline const uint8_t *numbers(const uint64_t *values, size_t count) {
-    static uint8_t bytes[72];
+    static uint8_t bytes[80];
     for (size_t i = 0; i < 8 * count; i++) bytes[i] = (uint8_t)(values[i / 8] >> 8 * (i % 8));
     return bytes;
 }

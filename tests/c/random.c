@@ -1,8 +1,8 @@
 /* random SEED COUNT [FROM]: the calls on COUNT random tables beside a checker and an evaluator (own.c), a simplifier (rules.c) and an equality
    test in plain C that share nothing with the port. Of five tables one is damaged. Compared: every number of every answer and every byte that
    is written. Besides, the result by what must hold of it: a good table of the same value under random registers, of the weight that was
-   answered, lighter by at least a unit for each step and opening, and simplified again it is itself, with no step and no opening. Every
-   lent area is guarded. */
+   answered, lighter by at least a unit for each step and opening, after at most the cube of the weight in tries, and simplified again it is itself,
+   with no step, no opening and a try for each record. Every lent area is guarded. */
 #include "../../include/simmergate.h"
 #include "lent.h"
 #include "own.h"
@@ -125,7 +125,7 @@ static void damage(uint8_t *t, size_t *n) {
 
 static struct lent lent_table = {.name = "table"}, lent_other = {.name = "other table"}, lent_registers = {.name = "registers"},
                    lent_out = {.name = "out"}, lent_steps = {.name = "steps"}, lent_work = {.name = "work"}, lent_answer = {.name = "answer"};
-static uint64_t counts[8], flaws[4], steps_seen, openings_seen, equal_seen, unequal_seen, calls;
+static uint64_t counts[8], flaws[4], steps_seen, openings_seen, tries_seen, equal_seen, unequal_seen, calls;
 
 /* A size for an area that must have `need` bytes: mostly that, at times more, at times too few. */
 static size_t some_size(size_t need) { return chance(100) && need > 0 ? (size_t)below(need) : chance(3) ? need + (size_t)below(300) : need; }
@@ -193,8 +193,8 @@ static void try_equal(struct judged v) {
 /* What an accepted call left: the records and steps that the plain C has, and zeros. */
 static void try_result(struct judged v, const uint64_t *said, struct simplified own, const uint8_t *own_out, const uint8_t *own_steps) {
     static uint8_t result[49152], again[49152], again_steps[3072], again_work[65536], again_answer[SIMMERGATE_SIMPLIFY_BYTES];
-    uint64_t records = said[2], given = said[3], opened = said[4];
-    if (said[1] != 0 || records != own.records || given != own.steps || opened != own.openings) fail("simplify: other counts than the plain C's");
+    uint64_t records = said[2], given = said[3], opened = said[4], tries = said[9];
+    if (said[1] != 0 || records != own.records || given != own.steps || opened != own.openings || tries != own.tries) fail("simplify: other counts than the plain C's");
     memcpy(result, own_out, 16 * records);
     if (!holds(&lent_out, own_out, 16 * records, 16 * v.weight)) fail("simplify: out is another one, or changed past its stretch");
     if (!holds(&lent_steps, own_steps, given, v.weight)) fail("simplify: steps is another one, or changed past its stretch");
@@ -202,6 +202,7 @@ static void try_result(struct judged v, const uint64_t *said, struct simplified 
     if (after.number != 0) fail("simplify: the result is no good table");
     if (said[5] != v.weight || said[6] != after.weight) fail("simplify: the weights are others");
     if (after.weight + given + opened > v.weight) fail("simplify: a step or an opening made nothing lighter");
+    if (tries < records || tries > v.weight * v.weight * v.weight) fail("simplify: fewer tries than the result has records, or more than the cube of the weight");
     for (int i = 0; i < 2; i++) {
         uint64_t registers[256];
         random_registers(registers);
@@ -211,11 +212,12 @@ static void try_result(struct judged v, const uint64_t *said, struct simplified 
     uint32_t r = simmergate_simplify(result, 16 * records, again, sizeof again, again_steps, sizeof again_steps, again_work, sizeof again_work,
                                      again_answer, sizeof again_answer);
     calls++;
-    uint64_t wanted[9] = {0, 0, records, 0, 0, after.weight, after.weight, 0, 0};
-    if (r != 0 || memcmp(again_answer, numbers(wanted, 9), sizeof again_answer) != 0 || memcmp(again, result, 16 * records) != 0)
+    uint64_t wanted[10] = {0, 0, records, 0, 0, after.weight, after.weight, 0, 0, records};
+    if (r != 0 || memcmp(again_answer, numbers(wanted, 10), sizeof again_answer) != 0 || memcmp(again, result, 16 * records) != 0)
         fail("simplify: the result simplified again is not itself");
     steps_seen += given;
     openings_seen += opened;
+    tries_seen += tries;
 }
 
 static void try_simplify(struct judged v) {
@@ -227,15 +229,15 @@ static void try_simplify(struct judged v) {
     if (!holds(&lent_table, table, length, length)) fail("simplify: the table changed");
     if (v.number == 0 && (out_size < 16 * w || steps_size < w || work_size < 65536)) v.number = 6;
     if (v.number != 0 || room < SIMMERGATE_SIMPLIFY_BYTES) {
-        answered(number, (uint64_t[]){v.number, v.place, 0, 0, 0, 0, 0, v.what, v.byte}, 9, "simplify");
+        answered(number, (uint64_t[]){v.number, v.place, 0, 0, 0, 0, 0, v.what, v.byte, 0}, 10, "simplify");
         if (!untouched(&lent_out) || !untouched(&lent_steps) || !untouched(&lent_work)) fail("simplify: refused, and a lent byte changed");
         flaws[room < SIMMERGATE_SIMPLIFY_BYTES ? 0 : v.what]++;
         counts[room < SIMMERGATE_SIMPLIFY_BYTES ? 6 : v.number]++;
         return;
     }
     calls++;
-    uint64_t said[9];
-    for (int i = 0; i < 9; i++) said[i] = own_number(a + 8 * i);
+    uint64_t said[10];
+    for (int i = 0; i < 10; i++) said[i] = own_number(a + 8 * i);
     if (!holds(&lent_answer, a, SIMMERGATE_SIMPLIFY_BYTES, SIMMERGATE_SIMPLIFY_BYTES)) fail("simplify: changed past the answer");
     if (said[7] != 0 || said[8] != 0) fail("simplify: a good table, and something is wrong with a record");
     if (said[0] != number || (number != 0 && number != 7)) fail("simplify: a good table refused by another number than 7");
@@ -246,7 +248,7 @@ static void try_simplify(struct judged v) {
     if (number != own.number) fail("simplify: the plain C says otherwise whether an integer leaves the range");
     if (number == 0) { try_result(v, said, own, own_out, own_steps); return; }
     if (said[1] != own.place) fail("simplify: 7 at another place than the plain C's");
-    if (said[2] + said[3] + said[4] + said[5] + said[6] != 0) fail("simplify: other numbers than 0 beside 7");
+    if (said[2] + said[3] + said[4] + said[5] + said[6] + said[9] != 0) fail("simplify: other numbers than 0 beside 7");
     if (!holds(&lent_out, lent_zeros, 0, 16 * w) || !holds(&lent_steps, lent_zeros, 0, w)) fail("simplify: 7, and out or steps is not zero");
 }
 
@@ -280,9 +282,9 @@ int main(int argc, char **argv) {
         }
         if (equal_seen == 0 || unequal_seen == 0) { printf("random: no equal or no unequal tables\n"); return 1; }
     }
-    printf("random tables beside plain C: %llu (seed %llu), %llu calls; simplified %llu (%llu steps, %llu openings, all bytes equal, values equal), refused 1 to 7:",
+    printf("random tables beside plain C: %llu (seed %llu), %llu calls; simplified %llu (%llu steps, %llu openings, %llu tries, all bytes equal, values equal), refused 1 to 7:",
            (unsigned long long)count, (unsigned long long)seed, (unsigned long long)calls, (unsigned long long)counts[0],
-           (unsigned long long)steps_seen, (unsigned long long)openings_seen);
+           (unsigned long long)steps_seen, (unsigned long long)openings_seen, (unsigned long long)tries_seen);
     for (int i = 1; i < 8; i++) printf(" %llu", (unsigned long long)counts[i]);
     printf("; of 2 by kind %llu, byte %llu, count %llu; equal %llu, unequal %llu\n", (unsigned long long)flaws[1], (unsigned long long)flaws[2],
            (unsigned long long)flaws[3], (unsigned long long)equal_seen, (unsigned long long)unequal_seen);

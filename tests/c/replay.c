@@ -1,7 +1,8 @@
 /* replay FILE LINES: replays a file of stored answers (on standard input, so many lines; see tests/answers/README.md) through
-   simmergate_simplify. On every table: the returned number, the nine numbers of the answer, every byte of out, steps and work, and the
+   simmergate_simplify. On every table: the returned number, the ten numbers of the answer, every byte of out, steps and work, and the
    bytes around them, with areas exactly as large as they must be, larger ones, and each of them one byte too short. What is wrong with a
-   record is as own.c says, and as the line says where it does. */
+   record is as own.c says, and as the line says where it does; tries that the line does not tell are the same in every call, and at most the
+   cube of the weight. */
 #include "../../include/simmergate.h"
 #include "lent.h"
 #include "own.h"
@@ -21,12 +22,12 @@ static void fail(const char *what) {
 }
 
 /* What the call must say on areas that are large enough. */
-static struct { size_t length; uint64_t weight, numbers[9]; } wanted;
+static struct { size_t length; uint64_t weight, numbers[10]; } wanted;
 
 /* One call on areas of these sizes. */
 static void call(size_t out_length, size_t steps_length, size_t work_length, size_t answer_length) {
     uint8_t *t = lend(&table, wanted.length);
-    uint64_t expected[9];
+    uint64_t expected[10];
     uint64_t records = wanted.numbers[2], count = wanted.numbers[3];
     memcpy(t, given, wanted.length);
     uint8_t *o = lend(&out, out_length), *s = lend(&steps, steps_length), *w = lend(&work, work_length), *a = lend(&answer, answer_length);
@@ -38,6 +39,7 @@ static void call(size_t out_length, size_t steps_length, size_t work_length, siz
         if (!untouched(&answer) || !untouched(&out) || !untouched(&steps) || !untouched(&work)) fail("the answer is too short, and a byte changed");
         return;
     }
+    if (number == 0 && wanted.numbers[9] == 0) wanted.numbers[9] = own_number(a + 72);
     memcpy(expected, wanted.numbers, sizeof expected);
     int small = out_length < 16 * wanted.weight || steps_length < wanted.weight || work_length < 65536;
     if (small && (expected[0] == 0 || expected[0] == 7)) {
@@ -45,7 +47,7 @@ static void call(size_t out_length, size_t steps_length, size_t work_length, siz
         expected[0] = 6;
     }
     if (number != expected[0]) fail("the returned number is another one");
-    if (!holds(&answer, numbers(expected, 9), ANSWER, ANSWER)) fail("the answer or what is around it is another one");
+    if (!holds(&answer, numbers(expected, 10), ANSWER, ANSWER)) fail("the answer or what is around it is another one");
     if (number != 0 && number != 7) {
         if (!untouched(&out) || !untouched(&steps) || !untouched(&work)) fail("refused, and a lent byte changed");
         return;
@@ -57,7 +59,7 @@ static void call(size_t out_length, size_t steps_length, size_t work_length, siz
 }
 
 int main(int argc, char **argv) {
-    long lines = 0, accepted = 0, left_range = 0, named = 0;
+    long lines = 0, accepted = 0, left_range = 0, named = 0, counted = 0;
     lent_begin();
     while (next_line()) {
         char *parts[6];
@@ -71,6 +73,7 @@ int main(int argc, char **argv) {
         if (field[0] != 0 && (field[0] != own.what || field[1] != own.byte)) fail("the test's own reading finds something else wrong with the record");
         named += field[0] != 0;
         field[0] = own.what, field[1] = own.byte;
+        counted += wanted.numbers[9] != 0;
         size_t count = strlen(parts[3]);
         if (count != wanted.numbers[3] || count > sizeof wanted_steps) fail("the steps are not as many as the verdict says");
         for (size_t i = 0; i < count; i++) wanted_steps[i] = (uint8_t)(parts[3][i] - '0');
@@ -80,6 +83,7 @@ int main(int argc, char **argv) {
         if (number == 0 && wanted.weight != wanted.numbers[5]) fail("the weight is not the one that the verdict says");
         size_t w = wanted.weight > 3072 ? 3072 : (size_t)wanted.weight;
         call(16 * w, w, 65536, ANSWER);
+        if (number == 0 && (wanted.numbers[9] == 0 || wanted.numbers[9] > w * w * w)) fail("no tries, or more than the cube of the weight");
         call(16 * w + 1, w + 1, 65537, ANSWER + 1);
         call(16 * w + 4096, w + 1000, 65536 + 4096, ANSWER + 8);
         if (w > 0) {
@@ -96,7 +100,7 @@ int main(int argc, char **argv) {
         left_range += number == 7;
     }
     if (argc != 3 || (uint64_t)lines != decimal(argv[2])) { printf("replay: %ld stored answers on standard input, not as many as they should be\n", lines); return 1; }
-    printf("stored answers of %s: %ld tables (%ld accepted, %ld out of range, %ld refused otherwise, %ld with what is wrong), %ld calls, all bytes as stored\n", argv[1], lines,
-           accepted, left_range, lines - accepted - left_range, named, calls);
+    printf("stored answers of %s: %ld tables (%ld accepted, %ld out of range, %ld refused otherwise, %ld with what is wrong, %ld with their tries), %ld calls, all bytes as stored\n",
+           argv[1], lines, accepted, left_range, lines - accepted - left_range, named, counted, calls);
     return 0;
 }

@@ -200,9 +200,10 @@ static enum tried try_step(tree *t, int step) {
 static struct simplified answer;
 static uint8_t *step_bytes;
 
-/* Tries the rules in order; whether one applied. A range that is exceeded ends the run: answer.number is 7 then. */
+/* Tries the rules in order, which is one try; whether one applied. A range that is exceeded ends the run: answer.number is 7 then. */
 static int asked(tree *t) {
     static const uint8_t order[] = {1, 2, 3, 4, 6};
+    answer.tries++;
     for (size_t k = 0; k < sizeof order; k++) {
         enum tried tried = try_step(t, order[k]);
         if (tried == DOES_NOT_APPLY) continue;
@@ -272,10 +273,10 @@ static uint8_t *write_tree(tree t, uint8_t *at) {
 struct simplified own_simplify(const uint8_t *table, uint8_t *out, uint8_t *steps) {
     int changed = 0;
     used = 0;
-    answer = (struct simplified){0, 0, 0, 0, 0};
+    answer = (struct simplified){0};
     step_bytes = steps;
     tree t = driven(read_tree(&table), &changed);
-    if (answer.number != 0) return (struct simplified){7, answer.steps, 0, 0, 0};
+    if (answer.number != 0) return (struct simplified){.number = 7, .place = answer.steps};
     answer.records = (uint64_t)(write_tree(t, out) - out) / RECORD;
     return answer;
 }

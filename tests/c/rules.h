@@ -5,9 +5,9 @@
 #include <stddef.h>
 #include <stdint.h>
 
-/* What simplifying gives: 0, or 7 with the steps completed before it; the records, the steps a byte each, the openings. */
+/* What simplifying gives: 0, or 7 with the steps completed before it; the records, the steps a byte each, the openings, the tries. */
 struct simplified {
-    uint64_t number, place, records, steps, openings;
+    uint64_t number, place, records, steps, openings, tries;
 };
 
 /* Simplifies a table that is not refused; `out` and `steps` have room for its weight, and hold nothing of use after 7. */

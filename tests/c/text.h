@@ -70,11 +70,12 @@ static inline size_t cut(char *text, char **parts, size_t most) {
     return n;
 }
 
-/* The nine numbers of an answer that `refused NUMBER at PLACE`, with ` kind`, ` byte N` or ` count` where it says what is wrong with the
-   record, or `ok RECORDS STEPS OPENINGS WEIGHT-IN WEIGHT-OUT` says; 0 where it is neither. */
+/* The ten numbers of an answer that `refused NUMBER at PLACE`, with ` kind`, ` byte N` or ` count` where it says what is wrong with the
+   record, or `ok RECORDS STEPS OPENINGS WEIGHT-IN WEIGHT-OUT`, with ` TRIES` where it tells them, says; 0 where it is neither. Tries that are
+   not told are 0, which no accepted table takes. */
 static inline int read_verdict(const char *text, uint64_t *numbers) {
     char *end = NULL;
-    memset(numbers, 0, 9 * sizeof *numbers);
+    memset(numbers, 0, 10 * sizeof *numbers);
     if (strncmp(text, "refused ", 8) == 0) {
         numbers[0] = strtoull(text + 8, &end, 10);
         if (strncmp(end, " at ", 4) != 0) return 0;
@@ -85,6 +86,7 @@ static inline int read_verdict(const char *text, uint64_t *numbers) {
     } else if (strncmp(text, "ok ", 3) == 0) {
         end = (char *)text + 2;
         for (int i = 2; i < 7; i++) numbers[i] = strtoull(end, &end, 10);
+        if (*end == ' ') numbers[9] = strtoull(end, &end, 10);
     }
     return end != NULL && *end == 0;
 }

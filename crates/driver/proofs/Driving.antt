@@ -1,7 +1,8 @@
 -- The driver's loop. Its invariant says in continuation style what is still to do: the run of the tree that stood there is the run of
--- the tree that stands there now, after the steps and openings so far; and that tree weighs less by as many. Each way that a turn
--- goes is one law: a step, a refusal, nothing changed, begun again, settled. Assumes nothing.
-use Prim.Native.Nat.{ℕ, _+_, _-_, _*_, _<_, _≤_}
+-- the tree that stands there now, after the steps, openings and tries so far; that tree weighs less by the steps and openings, and what
+-- it may still cost, with the tries so far, is within what the first may cost. Each way that a turn goes is one law: a step, a refusal,
+-- nothing changed, begun again, settled. Assumes nothing.
+use Prim.Native.Nat.{ℕ, _+_, _-_, _*_, _^_, _<_, _≤_}
 use mathlib.Core.Path.{_≡_, refl, sym, ap, _∙_}
 use mathlib.Core.List.{List, [], _∷_, _++_, append-nil, append-assoc}
 use native.Mathlib.Omega.{arith}
@@ -17,6 +18,7 @@ use Rattle.paper.specs.Admits.{AdmitsNone}
 use Rattle.paper.proofs.EncodeLaws.{encode-length, records-weight}
 use Rattle.paper.proofs.Value.{weight-pos}
 use Rattle.paper.proofs.Simplified.{simplify-again}
+use Rattle.paper.proofs.Squares.{cost}
 use Rattle.stretch.specs.Put.{part, put}
 use Rattle.stretch.proofs.Laws.{take-put-end}
 use Rattle.rules.specs.declared.Asked.the-variants.{Nothing, Step}
@@ -28,10 +30,11 @@ use Rattle.driver.proofs.Places.{none-of, advance, part-there, part-end
 use Rattle.driver.proofs.Runs.{drives, visit-step, visit-over, pass-over, pass-done, pass-again, pass-kept}
 use Rattle.driver.proofs.Runs.{step-kept, run-lighter, after-none, after-after}
 use Rattle.driver.proofs.Settled.{settled}
+use Rattle.driver.proofs.Counting.{cost-least, cost-step, cost-small, pass-few, pass-pays}
 
 -- out₀, work₀, steps₀ at the entry, the tree at record p; out, work, steps now, the tree at record at, n steps noted, o openings;
--- size is the number of the tree's records where it comes from a pass, else 0
-pub record DInv (out₀ work₀ steps₀ : List ℕ) (d p s : ℕ) (out work steps : List ℕ) (at n o size : ℕ) : Type 0 where
+-- τ tries; size is the number of the tree's records where it comes from a pass, else 0
+pub record DInv (out₀ work₀ steps₀ : List ℕ) (d p s : ℕ) (out work steps : List ℕ) (at n o τ size : ℕ) : Type 0 where
   pub t : Tree
   pub rest : List ℕ
   pub set-up : Set out₀ work₀ steps₀ d p s t rest
@@ -42,15 +45,16 @@ pub record DInv (out₀ work₀ steps₀ : List ℕ) (d p s : ℕ) (out work ste
   pub kept : take (d * 16) out ≡ take (d * 16) out₀
   pub noted-end : n ≡ s + length ks
   pub noted : take n steps ≡ take s steps₀ ++ ks
-  pub goes-on : drives t ≡ after ks o (drives u)
+  pub goes-on : drives t ≡ after ks o τ (drives u)
   pub lighter : length ks + o + weight u ≤ weight t
+  pub tried-bound : τ + cost (weight u) ≤ cost (weight t)
   pub settles : 0 < size → (size ≡ records u) × (ask editionOne u ≡ no-rule → AdmitsNone editionOne u)
   pub out-long : length out ≡ length out₀
   pub work-long : length work ≡ length work₀
   pub steps-long : length steps ≡ length steps₀
 
 pub start : {out work steps : List ℕ} {d p s : ℕ} {t : Tree} {rest : List ℕ} → Set out work steps d p s t rest
-    → DInv out work steps d p s out work steps p s 0 0
+    → DInv out work steps d p s out work steps p s 0 0 0
 start {steps = steps} {s = s} {t = t} {rest = rest} h =
     record {
       t = t;
@@ -65,6 +69,7 @@ start {steps = steps} {s = s} {t = t} {rest = rest} h =
       noted = sym (append-nil (take s steps));
       goes-on = sym (after-none (drives t));
       lighter = omega arith;
+      tried-bound = omega arith;
       settles = λ z. absurd (omega arith);
       out-long = refl;
       work-long = refl;
@@ -72,30 +77,31 @@ start {steps = steps} {s = s} {t = t} {rest = rest} h =
     }
 
 -- at a turn where no rule applies
-pub record Idle (out₀ work₀ steps₀ : List ℕ) (d p s : ℕ) (out work steps : List ℕ) (at n o size : ℕ) : Type 0 where
-  pub inv : DInv out₀ work₀ steps₀ d p s out work steps at n o size
+pub record Idle (out₀ work₀ steps₀ : List ℕ) (d p s : ℕ) (out work steps : List ℕ) (at n o τ size : ℕ) : Type 0 where
+  pub inv : DInv out₀ work₀ steps₀ d p s out work steps at n o τ size
   pub none : ask editionOne (inv .u) ≡ no-rule
 
--- where a pass is done, with records up to e in out, what is pending from record q on in work, j steps noted and b openings: its
+-- where a pass is done, with records up to e in out, what is pending from record q on in work, j steps noted, b openings and υ tries: its
 -- places are in order, and within the areas
-pub record PassFits (out work : List ℕ) (d n o e q j b : ℕ) : Type 0 where
+pub record PassFits (out work : List ℕ) (d n o τ e q j b υ : ℕ) : Type 0 where
   pub more-noted : n ≤ j
   pub more-done : d ≤ e
   pub room-before : e - d ≤ q
   pub in-work : q * 16 ≤ length work
   pub in-out : e * 16 ≤ length out
   pub few : o + b + j < n + 65536
+  pub few-tries : τ + (υ + 1) < 2 ^ 63
 
-after-done : (ks : List ℕ) (o : ℕ) (u : Tree) → after ks o (done u [] 0) ≡ done u ks o
+after-done : (ks : List ℕ) (o τ : ℕ) (u : Tree) (υ : ℕ) → after ks o τ (done u [] 0 υ) ≡ done u ks o (τ + υ)
 unfolding after
-after-done ks o u = ap (λ (x : List ℕ). done u x (o + 0)) (append-nil ks) ∙ ap (done u ks) (add-zero o)
+after-done ks o τ u υ = ap (λ (x : List ℕ). done u x (o + 0) (τ + υ)) (append-nil ks) ∙ ap (λ i. done u ks i (τ + υ)) (add-zero o)
 
-after-over : (ks : List ℕ) (o k : ℕ) → after ks o (over k) ≡ over (length ks + k)
+after-over : (ks : List ℕ) (o τ k : ℕ) → after ks o τ (over k) ≡ over (length ks + k)
 unfolding after
-after-over ks o k = refl
+after-over ks o τ k = refl
 
-module _ {out₀ work₀ steps₀ : List ℕ} {d p s : ℕ} {out work steps : List ℕ} {at n o size : ℕ}
-    (v : DInv out₀ work₀ steps₀ d p s out work steps at n o size) where
+module _ {out₀ work₀ steps₀ : List ℕ} {d p s : ℕ} {out work steps : List ℕ} {at n o τ size : ℕ}
+    (v : DInv out₀ work₀ steps₀ d p s out work steps at n o τ size) where
   pub set-now : Set out work steps d at n (v .u) (v .rest)
   set-now =
       let r = v .set-up .ready in
@@ -123,18 +129,25 @@ module _ {out₀ work₀ steps₀ : List ℕ} {d p s : ℕ} {out work steps : Li
   pub step-fits : n < length steps
   step-fits = omega (arith, set-now .steps-room, weight-pos (v .u))
 
+  -- one more try, or one for each record of the tree, is within the range
+  pub tries-fit : τ + weight (v .u) < 2 ^ 63
+  tries-fit = omega (arith, v .tried-bound, cost-least (weight (v .u)), cost-small (weight (v .t)) (v .set-up .ready .light))
+
+  pub try-fits : τ + 1 < 2 ^ 63
+  try-fits = omega (arith, tries-fit, weight-pos (v .u))
+
   -- a rule left the range: the steps so far are completed
   pub burst : ask editionOne (v .u) ≡ out-of-range → (k : ℕ) × (drives (v .t) ≡ over k) × (n ≡ s + k)
   burst e = (
     length (v .ks) + 0,
-    v .goes-on ∙ ap (after (v .ks) o) (visit-over (v .u) (v .wf) e) ∙ after-over (v .ks) o 0,
+    v .goes-on ∙ ap (after (v .ks) o τ) (visit-over (v .u) (v .wf) e) ∙ after-over (v .ks) o τ 0,
     omega (arith, v .noted-end),
   )
 
   module _ (out' work' : List ℕ) (lo : length out' ≡ length out) (lw : length work' ≡ length work) where
     -- a rule applied: its step is noted, and the driver goes on at its result
     module _ (k q : ℕ) (a : AskedIs (v .u) (v .rest) out out' work' d at (Step k q)) where
-      pub stepped : DInv out₀ work₀ steps₀ d p s out' work' (set steps n k) q (n + 1) o 0
+      pub stepped : DInv out₀ work₀ steps₀ d p s out' work' (set steps n k) q (n + 1) o (τ + 1) 0
       stepped =
           let h = step-kept (v .u) (v .wf) k (a .0) (a .1) in
           let h1 = h .1 in
@@ -150,9 +163,10 @@ module _ {out₀ work₀ steps₀ : List ℕ} {d p s : ℕ} {out work steps : Li
             noted-end = omega (arith, v .noted-end, length-append (v .ks) (k ∷ []));
             noted = noted-one steps n k step-fits ∙ ap (λ (x : List ℕ). x ++ (k ∷ [])) (v .noted) ∙ append-assoc (take s steps₀) (v .ks) (k ∷ []);
             goes-on =
-                v .goes-on ∙ ap (after (v .ks) o) (visit-step (v .u) (v .wf) k (a .0) (a .1))
-                ∙ after-after (v .ks) o (k ∷ []) 0 (drives (a .0)) ∙ ap (λ x. after (v .ks ++ (k ∷ [])) x (drives (a .0))) (add-zero o);
+                v .goes-on ∙ ap (after (v .ks) o τ) (visit-step (v .u) (v .wf) k (a .0) (a .1))
+                ∙ after-after (v .ks) o τ (k ∷ []) 0 1 (drives (a .0)) ∙ ap (λ x. after (v .ks ++ (k ∷ [])) x (τ + 1) (drives (a .0))) (add-zero o);
             lighter = omega (arith, v .lighter, length-append (v .ks) (k ∷ []));
+            tried-bound = omega (arith, v .tried-bound, cost-step (weight (a .0)) (weight (v .u)) h1);
             settles = λ z. absurd (omega arith);
             out-long = lo ∙ v .out-long;
             work-long = lw ∙ v .work-long;
@@ -169,7 +183,7 @@ module _ {out₀ work₀ steps₀ : List ℕ} {d p s : ℕ} {out work steps : Li
     pub idle-weighs : AskedIs (v .u) (v .rest) out out' work' d at Nothing → tableWeight (drop (at * 16) work') ≡ tableWeight (drop (at * 16) work)
     idle-weighs a = ap tableWeight (a .1 ∙ sym (v .stands))
 
-    pub idle : AskedIs (v .u) (v .rest) out out' work' d at Nothing → Idle out₀ work₀ steps₀ d p s out' work' steps at n o size
+    pub idle : AskedIs (v .u) (v .rest) out out' work' d at Nothing → Idle out₀ work₀ steps₀ d p s out' work' steps at n o τ size
     idle a =
         record {
           inv =
@@ -186,6 +200,7 @@ module _ {out₀ work₀ steps₀ : List ℕ} {d p s : ℕ} {out work steps : Li
                 noted = v .noted;
                 goes-on = v .goes-on;
                 lighter = v .lighter;
+                tried-bound = v .tried-bound;
                 settles = v .settles;
                 out-long = lo ∙ v .out-long;
                 work-long = lw ∙ v .work-long;
@@ -194,30 +209,32 @@ module _ {out₀ work₀ steps₀ : List ℕ} {d p s : ℕ} {out work steps : Li
           none = a .0;
         }
 
-module _ {out₀ work₀ steps₀ : List ℕ} {d p s : ℕ} {out work steps : List ℕ} {at n o size : ℕ}
-    (w : Idle out₀ work₀ steps₀ d p s out work steps at n o size) where
-  abbrev pub v : DInv out₀ work₀ steps₀ d p s out work steps at n o size
+module _ {out₀ work₀ steps₀ : List ℕ} {d p s : ℕ} {out work steps : List ℕ} {at n o τ size : ℕ}
+    (w : Idle out₀ work₀ steps₀ d p s out work steps at n o τ size) where
+  abbrev pub v : DInv out₀ work₀ steps₀ d p s out work steps at n o τ size
   v = w .inv
 
   -- the tree comes from a pass: it is finished, and moves to what is done
   module _ (h : 0 < size) where
-    finished : drives (v .u) ≡ done (v .u) [] 0
-    finished = simplify-again (v .u) (v .wf) (v .settles h .1 (w .none))
+    -- the driver would ask each of its records once more
+    finished : drives (v .u) ≡ done (v .u) [] 0 size
+    finished = simplify-again (v .u) (v .wf) (v .settles h .1 (w .none)) ∙ ap (done (v .u) [] 0) (sym (v .settles h .0))
 
     tree-long : length (encode (v .u)) ≡ size * 16
     tree-long = let e = v .settles h .0 in omega (arith, encode-length (v .u))
 
-    pub move-fits : (d * 16 + size * 16 ≤ length out) × (at * 16 + size * 16 ≤ length work)
+    pub move-fits : (d * 16 + size * 16 ≤ length out) × (at * 16 + size * 16 ≤ length work) × (τ + size < 2 ^ 63)
     move-fits =
         let e = v .settles h .0 in
         let r = set-now v .ready in
         let l : length (encode (v .u) ++ v .rest) ≡ length (encode (v .u)) + length (v .rest) = length-append (encode (v .u)) (v .rest) in (
           omega (arith, records-weight (v .u), r .out-room),
           omega (arith, tree-long, ends-after work (encode (v .u) ++ v .rest) (at * 16) (v .stands) (omega (arith, tree-long))),
+          omega (arith, records-weight (v .u), tries-fit v),
         )
 
     pub moved : (out' : List ℕ) → out' ≡ put out (d * 16) (part work (at * 16) (size * 16))
-        → Drove (drives (v .t)) (v .rest) out₀ out' work steps₀ steps d s (d + size) (at + size) n o
+        → Drove (drives (v .t)) (v .rest) out₀ out' work steps₀ steps d s (d + size) (at + size) n o (τ + size)
     moved out' e =
         let z = v .settles h .0 in
         let m0 = move-fits .0 in
@@ -228,7 +245,7 @@ module _ {out₀ work₀ steps₀ : List ℕ} {d p s : ℕ} {out work steps : Li
         record {
           to = v .u;
           ks = v .ks;
-          ran = v .goes-on ∙ ap (after (v .ks) o) finished ∙ after-done (v .ks) o (v .u);
+          ran = v .goes-on ∙ ap (after (v .ks) o τ) finished ∙ after-done (v .ks) o τ (v .u) size;
           end = ap (λ x. d + x) z;
           wrote =
               ap (take ((d + size) * 16)) (e ∙ ap (put out (d * 16)) (part-there work (encode (v .u)) (v .rest) (at * 16) (size * 16) (v .stands) l))
@@ -245,18 +262,18 @@ module _ {out₀ work₀ steps₀ : List ℕ} {d p s : ℕ} {out work steps : Li
       → (k : ℕ) × (drives (v .t) ≡ over k) × (m ≡ s + k)
   pass-burst m b = (
     length (v .ks) + b .0,
-    v .goes-on ∙ ap (after (v .ks) o) (pass-over (v .u) (v .wf) (w .none) (b .0) (b .1)) ∙ after-over (v .ks) o (b .0),
+    v .goes-on ∙ ap (after (v .ks) o τ) (pass-over (v .u) (v .wf) (w .none) (b .0) (b .1)) ∙ after-over (v .ks) o τ (b .0),
     let b2 = b .2 in omega (arith, v .noted-end),
   )
 
   -- a pass that is done
-  module _ {out' work' steps' : List ℕ} {e q j b : ℕ}
-      (a : Drove (passed (v .u) (each drives (members (v .u)))) (v .rest) out out' work' steps steps' d n e q j b)
+  module _ {out' work' steps' : List ℕ} {e q j b υ : ℕ}
+      (a : Drove (passed (v .u) (each drives (members (v .u)))) (v .rest) out out' work' steps steps' d n e q j b υ)
       (lo : length out' ≡ length out) (lw : length work' ≡ length work) (lz : length steps' ≡ length steps) where
     pub less : WF (a .to) × (length (a .ks) + b + weight (a .to) ≤ weight (v .u))
-    less = run-lighter (v .u) (a .to) (a .ks) b _ (pass-kept (v .u) (v .wf)) (a .ran)
+    less = run-lighter (v .u) (a .to) (a .ks) b υ _ (pass-kept (v .u) (v .wf)) (a .ran)
 
-    pub pass-fits : PassFits out' work' d n o e q j b
+    pub pass-fits : PassFits out' work' d n o τ e q j b υ
     pass-fits =
         let l = less .1 in
         let r = set-now v .ready in
@@ -268,17 +285,21 @@ module _ {out₀ work₀ steps₀ : List ℕ} {d p s : ℕ} {out work steps : Li
           in-work = omega (arith, a .place);
           in-out = omega (arith, a .end, r .out-room);
           few = omega (arith, a .noted-end, v .lighter, v .set-up .ready .light);
+          few-tries =
+              let most = cost-small (weight (v .t)) (v .set-up .ready .light) in
+              omega (arith, v .tried-bound, pass-few (v .u) (v .wf) (a .to) (a .ks) b υ (a .ran));
         }
 
     -- nothing changed: the node is finished
-    pub nothing-changed : j - n + b < 1 → Drove (drives (v .t)) (v .rest) out₀ out' work' steps₀ steps' d s e q n o
+    pub nothing-changed : j - n + b < 1 → Drove (drives (v .t)) (v .rest) out₀ out' work' steps₀ steps' d s e q n o (τ + (υ + 1))
     nothing-changed h =
         let z : length (a .ks) + b ≡ 0 = omega (arith, a .noted-end) in
         let jn : j ≡ n = omega (arith, a .noted-end) in
         record {
           to = a .to;
           ks = v .ks;
-          ran = v .goes-on ∙ ap (after (v .ks) o) (pass-done (v .u) (v .wf) (w .none) (a .to) (a .ks) b (a .ran) z) ∙ after-done (v .ks) o (a .to);
+          ran = v .goes-on ∙ ap (after (v .ks) o τ) (pass-done (v .u) (v .wf) (w .none) (a .to) (a .ks) b υ (a .ran) z)
+              ∙ after-done (v .ks) o τ (a .to) (υ + 1);
           end = a .end;
           wrote = a .wrote ∙ ap (λ (x : List ℕ). x ++ encode (a .to)) (v .kept);
           left = a .left;
@@ -305,7 +326,7 @@ module _ {out₀ work₀ steps₀ : List ℕ} {d p s : ℕ} {out work steps : Li
           (e * 16) (a .wrote) ends (front-long (set-now v)) l (omega arith)))
           ∙ put-before work' (encode (a .to)) (v .rest) ((q - (e - d)) * 16) (q * 16) room (a .left) (omega arith)
 
-      pub again : length work'' ≡ length work' → DInv out₀ work₀ steps₀ d p s out' work'' steps' (q - (e - d)) j (o + b) (e - d)
+      pub again : length work'' ≡ length work' → DInv out₀ work₀ steps₀ d p s out' work'' steps' (q - (e - d)) j (o + b) (τ + (υ + 1)) (e - d)
       again l2 =
           let l = less .1 in
           let f = pass-fits in
@@ -321,10 +342,13 @@ module _ {out₀ work₀ steps₀ : List ℕ} {d p s : ℕ} {out work steps : Li
             noted-end = omega (arith, v .noted-end, a .noted-end, length-append (v .ks) (a .ks));
             noted = a .noted ∙ ap (λ (x : List ℕ). x ++ a .ks) (v .noted) ∙ append-assoc (take s steps₀) (v .ks) (a .ks);
             goes-on =
-                v .goes-on ∙ ap (after (v .ks) o) (pass-again (v .u) (v .wf) (w .none) (a .to) (a .ks) b (a .ran) (omega (arith, a .noted-end)))
-                ∙ after-after (v .ks) o (a .ks) b (drives (a .to));
+                v .goes-on ∙ ap (after (v .ks) o τ) (pass-again (v .u) (v .wf) (w .none) (a .to) (a .ks) b υ (a .ran) (omega (arith, a .noted-end)))
+                ∙ after-after (v .ks) o τ (a .ks) b (υ + 1) (drives (a .to));
             lighter = omega (arith, v .lighter, length-append (v .ks) (a .ks));
-            settles = λ z. (omega (arith, a .end), settled (v .u) (a .to) (a .ks) b (v .wf) (a .ran));
+            tried-bound =
+                let changed : 1 ≤ length (a .ks) + b = omega (arith, a .noted-end) in
+                omega (arith, v .tried-bound, pass-pays (v .u) (v .wf) (a .to) (a .ks) b υ (a .ran) changed);
+            settles = λ z. (omega (arith, a .end), settled (v .u) (a .to) (a .ks) b υ (v .wf) (a .ran));
             out-long = lo ∙ v .out-long;
             work-long = l2 ∙ lw ∙ v .work-long;
             steps-long = lz ∙ v .steps-long;

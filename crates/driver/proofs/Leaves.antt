@@ -1,4 +1,4 @@
--- A leaf among the members: no rule applies to it and it has no members, so the run on it is done at once, with no step and no opening,
+-- A leaf among the members: no rule applies to it and it has no members, so the run on it is done after one try, with no step and no opening,
 -- and its one record goes to what is done. Assumes nothing.
 use Prim.Native.Nat.{ℕ, _+_, _*_, _<_, _≤_}
 use mathlib.Core.Path.{_≡_, refl, sym, ap, _∙_}
@@ -30,7 +30,7 @@ use Rattle.driver.proofs.Opening.{member-kind, as-it-is}
 
 -- what is known of a tree whose first record has the kind of a leaf
 record Leaf (work : List ℕ) (p : ℕ) (t : Tree) : Type 0 where
-  finished : drives t ≡ done t [] 0
+  finished : drives t ≡ done t [] 0 1
   written : encode t ≡ recordOf (kind work p) 0 (bits work p)
   one : records t ≡ 1
 
@@ -56,7 +56,7 @@ module _ {t : Tree} {rest out work steps : List ℕ} {d p s : ℕ} (h : Set out 
   tree-long = let o = this .one in omega (arith, encode-length t)
 
   leaf-driven : (out' : List ℕ) → out' ≡ put out (d * 16) (recordOf (kind work p) 0 (bits work p))
-      → Drove (drives t) rest out out' work steps steps d s (d + 1) (p + 1) s 0
+      → Drove (drives t) rest out out' work steps steps d s (d + 1) (p + 1) s 0 1
   leaf-driven out' e =
       let o = this .one in
       let f : d * 16 + 16 ≤ length out = omega (arith, records-weight t, h .ready .out-room) in
@@ -82,7 +82,7 @@ module _ {t : Tree} {rest out work steps : List ℕ} {d p s : ℕ} (h : Set out 
 
   pub leaf-kept : (out' : List ℕ) → out' ≡ put out (d * 16) (recordOf (kind work p) 0 (bits work p)) → length out' ≡ length out
       → (k : ℕ)
-      → Gave (openedRuns (inside k) (each drives (t ∷ []))) rest out out' work steps steps d s (d + 1) (p + 1) s 0 1
+      → Gave (openedRuns (inside k) (each drives (t ∷ []))) rest out out' work steps steps d s (d + 1) (p + 1) s 0 1 1
   unfolding leaf-driven kind
   leaf-kept out' e m k =
       let a = leaf-driven out' e in

@@ -2,6 +2,7 @@ pub mod Forests
 pub mod Runs
 pub mod Weighs
 pub mod Settled
+pub mod Counting
 pub mod Places
 pub mod Driving
 pub mod FirstRecords

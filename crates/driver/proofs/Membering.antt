@@ -1,6 +1,7 @@
 -- The loop over a node's members. Its invariant in continuation style: what is gathered of all the members is what was gathered so
--- far, before what will be gathered of those left; and all together weigh less by the steps and openings so far. Assumes nothing.
-use Prim.Native.Nat.{ℕ, _+_, _*_, _<_, _≤_}
+-- far, before what will be gathered of those left; and all together weigh less by the steps and openings so far; those left pay
+-- for their tries. Assumes nothing.
+use Prim.Native.Nat.{ℕ, _+_, _*_, _^_, _<_, _≤_}
 use mathlib.Core.Path.{_≡_, refl, sym, ap, _∙_, subst}
 use mathlib.Core.List.{List, [], _∷_, _++_, append-nil, append-assoc}
 use native.Mathlib.Omega.{arith}
@@ -11,15 +12,17 @@ use Rattle.paper.specs.Table.{encode}
 use Rattle.paper.specs.Verdict.{tableWeight}
 use Rattle.paper.specs.Driver.{overs, each}
 use Rattle.paper.proofs.EncodeLaws.{encodes-length, recordses-weights}
+use Rattle.paper.proofs.Squares.{cost}
 use Rattle.driver.specs.Driven.{encodeAll, recordsAll, weightAll, inside, openedRuns, Set, SetAll, Gave}
 use Rattle.driver.proofs.Forests.{encode-both, records-both, weight-both, all-many, set-all-once}
 use Rattle.driver.proofs.Weighs.{weighs-all}
 use Rattle.driver.proofs.Runs.{drives, drives-kept, run-lighter, before, joined, before-none, before-joined, gather-first, gather-none, same-dones}
 use Rattle.driver.proofs.Places.{none-of}
 use Rattle.driver.proofs.Opening.{member-weighs}
+use Rattle.driver.proofs.Counting.{cost-both, cost-small, member-tries}
 
 -- out₀, work₀, steps₀ at the entry, members from record p on; i of the c are driven, and gathered to m up to record e of out
-pub record MInv (out₀ work₀ steps₀ : List ℕ) (k c d p s : ℕ) (out work steps : List ℕ) (i e q n o m : ℕ) : Type 0 where
+pub record MInv (out₀ work₀ steps₀ : List ℕ) (k c d p s : ℕ) (out work steps : List ℕ) (i e q n o m τ : ℕ) : Type 0 where
   pub l : List Tree
   pub rest : List ℕ
   pub many : length l ≡ c
@@ -36,14 +39,15 @@ pub record MInv (out₀ work₀ steps₀ : List ℕ) (k c d p s : ℕ) (out work
   pub wrote : take (e * 16) out ≡ take (d * 16) out₀ ++ encodeAll g
   pub noted-end : n ≡ s + length ks
   pub noted : take n steps ≡ take s steps₀ ++ ks
-  pub goes-on : openedRuns (inside k) (each drives l) ≡ before g ks o (openedRuns (inside k) (each drives r))
+  pub goes-on : openedRuns (inside k) (each drives l) ≡ before g ks o τ (openedRuns (inside k) (each drives r))
   pub lighter : weightAll g + (length ks + o) + weightAll r ≤ weightAll l
+  pub tried-bound : τ + cost (weightAll r) ≤ cost (weightAll l)
   pub out-long : length out ≡ length out₀
   pub work-long : length work ≡ length work₀
   pub steps-long : length steps ≡ length steps₀
 
 pub start : {out work steps : List ℕ} {d p s : ℕ} {l : List Tree} {rest : List ℕ} (k c : ℕ) → length l ≡ c → SetAll out work steps d p s l rest
-    → MInv out work steps k c d p s out work steps 0 d p s 0 0
+    → MInv out work steps k c d p s out work steps 0 d p s 0 0 0
 unfolding encode records weight ofList
 start {out = out} {steps = steps} {d = d} {s = s} {l = l} {rest = rest} k c e h =
     record {
@@ -65,6 +69,7 @@ start {out = out} {steps = steps} {d = d} {s = s} {l = l} {rest = rest} k c e h 
       noted = sym (append-nil (take s steps));
       goes-on = sym (before-none (openedRuns (inside k) (each drives l)));
       lighter = omega arith;
+      tried-bound = omega arith;
       out-long = refl;
       work-long = refl;
       steps-long = refl;
@@ -80,8 +85,8 @@ first : (r : List Tree) → 0 < length r → First r
 first [] h = absurd (omega arith)
 first (t ∷ l) h = record { x = t; xs = l; is = refl }
 
-module _ {out₀ work₀ steps₀ : List ℕ} {k c d p s : ℕ} {out work steps : List ℕ} {i e q n o m : ℕ}
-    (v : MInv out₀ work₀ steps₀ k c d p s out work steps i e q n o m) where
+module _ {out₀ work₀ steps₀ : List ℕ} {k c d p s : ℕ} {out work steps : List ℕ} {i e q n o m τ : ℕ}
+    (v : MInv out₀ work₀ steps₀ k c d p s out work steps i e q n o m τ) where
   pub for-every : (Q : List Tree → List ℕ → Type 0) → Q (v .l) (v .rest) → (l : List Tree) (rest : List ℕ) → length l ≡ c
       → SetAll out₀ work₀ steps₀ d p s l rest → Q l rest
   for-every Q z l rest a h =
@@ -152,8 +157,8 @@ module _ {out₀ work₀ steps₀ : List ℕ} {k c d p s : ℕ} {out work steps 
         }
 
     goes-next : openedRuns (inside k) (each drives (v .l))
-        ≡ before (v .g) (v .ks) o (joined (openedRuns (inside k) (each drives (x ∷ []))) (openedRuns (inside k) (each drives (f .xs))))
-    goes-next = v .goes-on ∙ ap (before (v .g) (v .ks) o) (ap (λ r. openedRuns (inside k) (each drives r)) (f .is) ∙ gather-first (inside k) x (f .xs))
+        ≡ before (v .g) (v .ks) o τ (joined (openedRuns (inside k) (each drives (x ∷ []))) (openedRuns (inside k) (each drives (f .xs))))
+    goes-next = v .goes-on ∙ ap (before (v .g) (v .ks) o τ) (ap (λ r. openedRuns (inside k) (each drives r)) (f .is) ∙ gather-first (inside k) x (f .xs))
 
     -- the member was refused
     pub burst : (j : ℕ) → (b : ℕ) × (openedRuns (inside k) (each drives (x ∷ [])) ≡ overs b) × (j ≡ n + b)
@@ -161,27 +166,36 @@ module _ {out₀ work₀ steps₀ : List ℕ} {k c d p s : ℕ} {out work steps 
     unfolding before joined
     burst j b = (
       length (v .ks) + b .0,
-      goes-next ∙ ap (λ r. before (v .g) (v .ks) o (joined r (openedRuns (inside k) (each drives (f .xs))))) (b .1),
+      goes-next ∙ ap (λ r. before (v .g) (v .ks) o τ (joined r (openedRuns (inside k) (each drives (f .xs))))) (b .1),
       let b2 = b .2 in omega (arith, v .noted-end),
     )
 
     -- the member is gathered
-    module _ {out' work' steps' : List ℕ} {e' q' n' o' m' : ℕ}
-        (a : Gave (openedRuns (inside k) (each drives (x ∷ []))) rest-after out out' work' steps steps' e n e' q' n' o' m')
+    module _ {out' work' steps' : List ℕ} {e' q' n' o' m' τ' : ℕ}
+        (a : Gave (openedRuns (inside k) (each drives (x ∷ []))) rest-after out out' work' steps steps' e n e' q' n' o' m' τ')
         (lo : length out' ≡ length out) (lw : length work' ≡ length work) (lz : length steps' ≡ length steps) where
       weighs : weightAll (a .to) + (length (a .ks) + o') ≤ weight x
       weighs =
-          member-weighs k x (λ u s o r. run-lighter x u s o (drives x) (drives-kept x (wf-next .0)) r .1) (a .to) (a .ks) o' (a .ran)
+          member-weighs k x (λ u s o υ r. run-lighter x u s o υ (drives x) (drives-kept x (wf-next .0)) r .1) (a .to) (a .ks) o' τ' (a .ran)
 
-      pub sums-fit : (o + o' < 65536) × (m + m' < 131072)
+      -- what may still come pays for its tries
+      paid : τ' + cost (weightAll (f .xs)) ≤ cost (weightAll (v .r))
+      paid =
+          let both = cost-both (weight x) (weightAll (f .xs)) in
+          omega (arith, ap cost weight-next, member-tries k x (wf-next .0) (a .to) (a .ks) o' τ' (a .ran))
+
+      pub sums-fit : (o + o' < 65536) × (m + m' < 131072) × (τ + τ' < 2 ^ 63)
       sums-fit =
           let w = weighs in
           let z = weight-next in
           let b = recordses-weights (ofList (a .to)) in
-          let y = all-many (a .to) in
-          (omega (arith, v .lighter, v .set-up .light), omega (arith, small .1, a .many, v .lighter, v .set-up .light))
+          let y = all-many (a .to) in (
+            omega (arith, v .lighter, v .set-up .light),
+            omega (arith, small .1, a .many, v .lighter, v .set-up .light),
+            omega (arith, v .tried-bound, paid, cost-small (weightAll (v .l)) (v .set-up .light)),
+          )
 
-      pub next : MInv out₀ work₀ steps₀ k c d p s out' work' steps' (i + 1) e' q' n' (o + o') (m + m')
+      pub next : MInv out₀ work₀ steps₀ k c d p s out' work' steps' (i + 1) e' q' n' (o + o') (m + m') (τ + τ')
       unfolding joined
       next =
           let w = weighs in
@@ -207,16 +221,17 @@ module _ {out₀ work₀ steps₀ : List ℕ} {k c d p s : ℕ} {out work steps 
             noted-end = omega (arith, v .noted-end, a .noted-end, length-append (v .ks) (a .ks));
             noted = a .noted ∙ ap (λ (y : List ℕ). y ++ a .ks) (v .noted) ∙ append-assoc (take s steps₀) (v .ks) (a .ks);
             goes-on =
-                goes-next ∙ ap (λ r. before (v .g) (v .ks) o (joined r (openedRuns (inside k) (each drives (f .xs))))) (a .ran)
-                ∙ before-joined (v .g) (v .ks) o (a .to) (a .ks) o' (openedRuns (inside k) (each drives (f .xs)));
+                goes-next ∙ ap (λ r. before (v .g) (v .ks) o τ (joined r (openedRuns (inside k) (each drives (f .xs))))) (a .ran)
+                ∙ before-joined (v .g) (v .ks) o τ (a .to) (a .ks) o' τ' (openedRuns (inside k) (each drives (f .xs)));
             lighter = omega (arith, v .lighter, weight-both (v .g) (a .to), length-append (v .ks) (a .ks));
+            tried-bound = omega (arith, v .tried-bound, paid);
             out-long = lo ∙ v .out-long;
             work-long = lw ∙ v .work-long;
             steps-long = lz ∙ v .steps-long;
           }
 
   -- all members are gathered
-  pub finish : c ≤ i → Gave (openedRuns (inside k) (each drives (v .l))) (v .rest) out₀ out work steps₀ steps d s e q n o m
+  pub finish : c ≤ i → Gave (openedRuns (inside k) (each drives (v .l))) (v .rest) out₀ out work steps₀ steps d s e q n o m τ
   unfolding before encode ofList
   finish h =
       let z : v .r ≡ [] = none-of (v .r) (omega (arith, v .to-go)) in
@@ -224,9 +239,9 @@ module _ {out₀ work₀ steps₀ : List ℕ} {k c d p s : ℕ} {out work steps 
         to = v .g;
         ks = v .ks;
         ran =
-            v .goes-on ∙ ap (λ r. before (v .g) (v .ks) o (openedRuns (inside k) (each drives r))) z
-            ∙ ap (before (v .g) (v .ks) o) (gather-none (inside k))
-            ∙ same-dones (append-nil (v .g)) (append-nil (v .ks)) (omega arith);
+            v .goes-on ∙ ap (λ r. before (v .g) (v .ks) o τ (openedRuns (inside k) (each drives r))) z
+            ∙ ap (before (v .g) (v .ks) o τ) (gather-none (inside k))
+            ∙ same-dones (append-nil (v .g)) (append-nil (v .ks)) (omega arith) (omega arith);
         many = v .gathered;
         end = v .end;
         wrote = v .wrote;

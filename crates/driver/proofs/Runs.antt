@@ -13,7 +13,7 @@ use borrow.Author.Tests.{eq-eqb, ne-eqb}
 use Rattle.paper.specs.Tree.{Tree, integer, symbol, sum, product, power, weight}
 use Rattle.paper.specs.WellFormed.{WF}
 use Rattle.paper.specs.Rules.{editionOne}
-use Rattle.paper.specs.Driver.{no-rule, step, out-of-range, ask, Ran, done, over, Rans, dones, overs, after, andThen, each, members}
+use Rattle.paper.specs.Driver.{no-rule, step, out-of-range, ask, Ran, done, over, Rans, dones, overs, after, tried, andThen, each, members}
 use Rattle.paper.specs.Driver.{openOne, opened, gather, settle, gathered, visit, simplify}
 use Rattle.paper.proofs.EditionOne.{edition-one-good}
 use Rattle.paper.proofs.GatherLaws.{members-wf}
@@ -26,28 +26,29 @@ abbrev pub drives : Tree → Ran
 drives = simplify editionOne
 
 -- ---- members gathered before others
-unfoldable pub before : List Tree → List ℕ → ℕ → Rans → Rans
-before g ks o (overs k) = overs (length ks + k)
-before g ks o (dones l s n) = dones (g ++ l) (ks ++ s) (o + n)
+unfoldable pub before : List Tree → List ℕ → ℕ → ℕ → Rans → Rans
+before g ks o τ (overs k) = overs (length ks + k)
+before g ks o τ (dones l s n υ) = dones (g ++ l) (ks ++ s) (o + n) (τ + υ)
 
 -- what was gathered, and then what follows it
 unfoldable pub joined : Rans → Rans → Rans
 joined (overs k) r = overs k
-joined (dones g ks o) r = before g ks o r
+joined (dones g ks o τ) r = before g ks o τ r
 
-pub same-dones : {l m : List Tree} {s t : List ℕ} {o n : ℕ} → l ≡ m → s ≡ t → o ≡ n → dones l s o ≡ dones m t n
-same-dones a b c = cc
+pub same-dones : {l m : List Tree} {s t : List ℕ} {o n τ υ : ℕ} → l ≡ m → s ≡ t → o ≡ n → τ ≡ υ → dones l s o τ ≡ dones m t n υ
+same-dones a b c d = cc
 
-pub before-none : (r : Rans) → before [] [] 0 r ≡ r
+pub before-none : (r : Rans) → before [] [] 0 0 r ≡ r
 unfolding before
 before-none (overs k) = ap overs (zero-add k)
-before-none (dones l s n) = same-dones refl refl (zero-add n)
+before-none (dones l s n τ) = same-dones refl refl (zero-add n) (zero-add τ)
 
-pub before-joined : (g : List Tree) (ks : List ℕ) (o : ℕ) (h : List Tree) (js : List ℕ) (n : ℕ) (r : Rans)
-    → before g ks o (before h js n r) ≡ before (g ++ h) (ks ++ js) (o + n) r
+pub before-joined : (g : List Tree) (ks : List ℕ) (o τ : ℕ) (h : List Tree) (js : List ℕ) (n υ : ℕ) (r : Rans)
+    → before g ks o τ (before h js n υ r) ≡ before (g ++ h) (ks ++ js) (o + n) (τ + υ) r
 unfolding before
-before-joined g ks o h js n (overs k) = ap overs (omega (arith, length-append ks js))
-before-joined g ks o h js n (dones l s m) = same-dones (sym (append-assoc g h l)) (sym (append-assoc ks js s)) (omega arith)
+before-joined g ks o τ h js n υ (overs k) = ap overs (omega (arith, length-append ks js))
+before-joined g ks o τ h js n υ (dones l s m φ) =
+    same-dones (sym (append-assoc g h l)) (sym (append-assoc ks js s)) (omega arith) (omega arith)
 
 module _ (ins : Tree → Option (List Tree)) where
   open-first : (u : Tree) (x : Option (List Tree)) (r : List Tree × ℕ)
@@ -56,14 +57,14 @@ module _ (ins : Tree → Option (List Tree)) where
   open-first u none r = (refl, omega arith)
   open-first u (some l) r = (ap (λ m. m ++ r .0) (sym (append-nil l)), omega arith)
 
-  one-first : (a : Ran) (r : Rans) → openedRuns ins (andThen a r) ≡ joined (openedRuns ins (andThen a (dones [] [] 0))) (openedRuns ins r)
+  one-first : (a : Ran) (r : Rans) → openedRuns ins (andThen a r) ≡ joined (openedRuns ins (andThen a (dones [] [] 0 0))) (openedRuns ins r)
   unfolding openedRuns andThen joined before opened
   one-first (over k) r = refl
-  one-first (done u s o) (overs k) = ap (λ (x : List ℕ). overs (length x + k)) (sym (append-nil s))
-  one-first (done u s o) (dones l s′ o′) =
+  one-first (done u s o τ) (overs k) = ap (λ (x : List ℕ). overs (length x + k)) (sym (append-nil s))
+  one-first (done u s o τ) (dones l s′ o′ τ′) =
       let f = open-first u (ins u) (opened ins l) in
       let f1 = f .1 in
-      same-dones (f .0) (ap (λ (x : List ℕ). x ++ s′) (sym (append-nil s))) (omega arith)
+      same-dones (f .0) (ap (λ (x : List ℕ). x ++ s′) (sym (append-nil s))) (omega arith) (omega arith)
 
   -- gathering the runs of a list: those of its first tree, and then the rest
   pub gather-first : (t : Tree) (l : List Tree)
@@ -71,7 +72,7 @@ module _ (ins : Tree → Option (List Tree)) where
   unfolding each
   gather-first t l = one-first (drives t) (each drives l)
 
-  pub gather-none : openedRuns ins (each drives []) ≡ dones [] [] 0
+  pub gather-none : openedRuns ins (each drives []) ≡ dones [] [] 0 0
   unfolding openedRuns each opened
   gather-none = refl
 
@@ -83,20 +84,21 @@ opened-nothing ins h (t ∷ l) = ap (λ x. openOne x t (opened ins l)) (h t) ∙
 -- ---- a pass, by what its members are gathered to
 unfoldable pub closedRuns : Tree → Rans → Ran
 closedRuns t (overs k) = over k
-closedRuns t (dones g s o) = done (closedOver t g) s o
+closedRuns t (dones g s o τ) = done (closedOver t g) s o τ
 
-still : (k : ℕ) (u : Tree) (s : List ℕ) (o : ℕ) (l : List Tree) → opened (inside k) l ≡ (l, 0) → done u s (o + 0) ≡ done u s (o + opened (inside k) l .1)
-still k u s o l e = ap (λ (r : List Tree × ℕ). done u s (o + r .1)) (sym e)
+still : (k : ℕ) (u : Tree) (s : List ℕ) (o τ : ℕ) (l : List Tree) → opened (inside k) l ≡ (l, 0)
+    → done u s (o + 0) τ ≡ done u s (o + opened (inside k) l .1) τ
+still k u s o τ l e = ap (λ (r : List Tree × ℕ). done u s (o + r .1) τ) (sym e)
 
 pub pass-closed : (t : Tree) (r : Rans) → passed t r ≡ closedRuns t (openedRuns (inside (kindNumber t)) r)
 unfolding passed closedRuns openedRuns gather closedOver kindNumber inside
 pass-closed t (overs k) = refl
-pass-closed (integer μ z) (dones l s o) = still 0 (integer μ z) s o l (opened-nothing (inside 0) (λ t. refl) l)
-pass-closed (symbol μ v) (dones l s o) = still 1 (symbol μ v) s o l (opened-nothing (inside 1) (λ t. refl) l)
-pass-closed (sum μ f) (dones l s o) = refl
-pass-closed (product μ f) (dones l s o) = refl
-pass-closed (power μ b ξ e) (dones l s o) =
-    ap (λ (r : List Tree × ℕ). done (closedOver (power μ b ξ e) (r .0)) s (o + r .1)) (sym (opened-nothing (inside 4) (λ t. refl) l))
+pass-closed (integer μ z) (dones l s o τ) = still 0 (integer μ z) s o τ l (opened-nothing (inside 0) (λ t. refl) l)
+pass-closed (symbol μ v) (dones l s o τ) = still 1 (symbol μ v) s o τ l (opened-nothing (inside 1) (λ t. refl) l)
+pass-closed (sum μ f) (dones l s o τ) = refl
+pass-closed (product μ f) (dones l s o τ) = refl
+pass-closed (power μ b ξ e) (dones l s o τ) =
+    ap (λ (r : List Tree × ℕ). done (closedOver (power μ b ξ e) (r .0)) s (o + r .1) τ) (sym (opened-nothing (inside 4) (λ t. refl) l))
 
 -- ---- what a pass keeps, and how the visit goes on from it
 pub drives-kept : (t : Tree) → WF t → RunKept t (drives t)
@@ -106,63 +108,79 @@ drives-kept t w = run-kept edition-one-good (weight t) t w
 passed-kept : (t : Tree) → WF t → (r : Rans) → RunsKept (members t) r → RunKept t (passed t r)
 unfolding passed
 passed-kept t w (overs k) h = tt
-passed-kept t w (dones l s o) h = gathered-tree t l s o w h
+passed-kept t w (dones l s o τ) h = gathered-tree t l s o τ w h
 
 pub pass-kept : (t : Tree) → WF t → RunKept t (passed t (each drives (members t)))
 pass-kept t w = passed-kept t w (each drives (members t)) (each-kept drives drives-kept (members t) (members-wf t w))
 
 abbrev concluded : Ran → Ran
 concluded (over k) = over k
-concluded (done u s o) = settle drives s o u (eqb (length s + o) 0)
+concluded (done u s o τ) = settle drives s o τ u (eqb (length s + o) 0)
 
 gathered-passed : (t : Tree) (r : Rans) → gathered drives t r ≡ concluded (passed t r)
 unfolding gathered passed settle
 gathered-passed t (overs k) = refl
-gathered-passed t (dones l s o) = refl
+gathered-passed t (dones l s o τ) = refl
+
+pub after-none : (r : Ran) → after [] 0 0 r ≡ r
+unfolding after
+after-none (over k) = ap over (zero-add k)
+after-none (done u s o τ) = ap (λ i. done u s i (0 + τ)) (zero-add o) ∙ ap (done u s o) (zero-add τ)
+
+pub after-after : (s : List ℕ) (o τ : ℕ) (s′ : List ℕ) (o′ τ′ : ℕ) (r : Ran)
+    → after s o τ (after s′ o′ τ′ r) ≡ after (s ++ s′) (o + o′) (τ + τ′) r
+unfolding after
+after-after s o τ s′ o′ τ′ (over k) = ap over (omega (arith, length-append s s′))
+after-after s o τ s′ o′ τ′ (done u s″ o″ τ″) =
+    let a : s ++ (s′ ++ s″) ≡ (s ++ s′) ++ s″ = sym (append-assoc s s′ s″) in
+    let b : o + (o′ + o″) ≡ o + o′ + o″ = omega arith in
+    let c : τ + (τ′ + τ″) ≡ τ + τ′ + τ″ = omega arith in
+    cc
+
+-- where a node was asked and then its members were run, the tries are the members' and its own
+asked-before : (s : List ℕ) (o τ : ℕ) (r : Ran) → tried (after s o τ r) ≡ after s o (τ + 1) r
+unfolding tried
+asked-before s o τ r =
+    after-after [] 0 1 s o τ r ∙ ap (λ i. after s i (1 + τ) r) (zero-add o) ∙ ap (λ i. after s o i r) (omega arith)
 
 module _ (t : Tree) (w : WF t) where
-  pub visit-step : (k : ℕ) (u : Tree) → ask editionOne t ≡ step k u → drives t ≡ after (k ∷ []) 0 (drives u)
+  pub visit-step : (k : ℕ) (u : Tree) → ask editionOne t ≡ step k u → drives t ≡ after (k ∷ []) 0 1 (drives u)
   unfolding visit
-  visit-step k u e = edition-one-visits t w ∙ ap (visit drives t) e
+  visit-step k u e = edition-one-visits t w ∙ ap (λ a. tried (visit drives t a)) e ∙ asked-before (k ∷ []) 0 0 (drives u)
 
   pub visit-over : ask editionOne t ≡ out-of-range → drives t ≡ over 0
-  unfolding visit
-  visit-over e = edition-one-visits t w ∙ ap (visit drives t) e
+  unfolding visit tried after
+  visit-over e = edition-one-visits t w ∙ ap (λ a. tried (visit drives t a)) e
 
   module _ (e : ask editionOne t ≡ no-rule) where
-    visit-pass : drives t ≡ concluded (passed t (each drives (members t)))
+    visit-pass : drives t ≡ tried (concluded (passed t (each drives (members t))))
     unfolding visit
-    visit-pass = edition-one-visits t w ∙ ap (visit drives t) e ∙ gathered-passed t (each drives (members t))
+    visit-pass =
+        edition-one-visits t w ∙ ap (λ a. tried (visit drives t a)) e ∙ ap tried (gathered-passed t (each drives (members t)))
 
     pub pass-over : (k : ℕ) → passed t (each drives (members t)) ≡ over k → drives t ≡ over k
-    pass-over k h = visit-pass ∙ ap concluded h
+    unfolding tried after
+    pass-over k h = visit-pass ∙ ap (λ r. tried (concluded r)) h ∙ ap over (zero-add k)
 
-    pub pass-done : (u : Tree) (s : List ℕ) (o : ℕ) → passed t (each drives (members t)) ≡ done u s o → length s + o ≡ 0 → drives t ≡ done u [] 0
-    unfolding settle
-    pass-done u s o h z = visit-pass ∙ ap concluded h ∙ ap (settle drives s o u) (eq-eqb (length s + o) 0 z)
+    module _ (u : Tree) (s : List ℕ) (o τ : ℕ) (h : passed t (each drives (members t)) ≡ done u s o τ) where
+      pub pass-done : length s + o ≡ 0 → drives t ≡ done u [] 0 (τ + 1)
+      unfolding settle tried after
+      pass-done z =
+          visit-pass ∙ ap (λ r. tried (concluded r)) h ∙ ap (λ b. tried (settle drives s o τ u b)) (eq-eqb (length s + o) 0 z)
+          ∙ ap (done u [] 0) (omega arith)
 
-    pub pass-again : (u : Tree) (s : List ℕ) (o : ℕ) → passed t (each drives (members t)) ≡ done u s o → 0 < length s + o
-        → drives t ≡ after s o (drives u)
-    unfolding settle
-    pass-again u s o h z = visit-pass ∙ ap concluded h ∙ ap (settle drives s o u) (ne-eqb (length s + o) 0 (λ x. omega arith))
+      pub pass-again : 0 < length s + o → drives t ≡ after s o (τ + 1) (drives u)
+      unfolding settle
+      pass-again z =
+          visit-pass ∙ ap (λ r. tried (concluded r)) h
+          ∙ ap (λ b. tried (settle drives s o τ u b)) (ne-eqb (length s + o) 0 (λ x. omega arith)) ∙ asked-before s o τ (drives u)
 
 pub step-kept : (t : Tree) → WF t → (k : ℕ) (u : Tree) → ask editionOne t ≡ step k u → WF u × (weight u + 1 ≤ weight t)
 step-kept t w k u e =
     let h : AskedKept t (step k u) = subst (AskedKept t) e (ask-kept edition-one-good t w) in
     (h .0, h .1 .lighter)
 
-pub after-none : (r : Ran) → after [] 0 r ≡ r
-unfolding after
-after-none (over k) = ap over (zero-add k)
-after-none (done u s o) = ap (done u s) (zero-add o)
-
-pub after-after : (s : List ℕ) (o : ℕ) (s′ : List ℕ) (o′ : ℕ) (r : Ran) → after s o (after s′ o′ r) ≡ after (s ++ s′) (o + o′) r
-unfolding after
-after-after s o s′ o′ (over k) = ap over (omega (arith, length-append s s′))
-after-after s o s′ o′ (done u s″ o″) =
-    ap (λ (x : List ℕ). done u x (o + (o′ + o″))) (sym (append-assoc s s′ s″)) ∙ ap (done u ((s ++ s′) ++ s″)) (omega arith)
-
-pub run-lighter : (t u : Tree) (s : List ℕ) (o : ℕ) (r : Ran) → RunKept t r → r ≡ done u s o → WF u × (length s + o + weight u ≤ weight t)
-run-lighter t u s o r h e =
-    let k : RunKept t (done u s o) = subst (RunKept t) e h in
+pub run-lighter : (t u : Tree) (s : List ℕ) (o τ : ℕ) (r : Ran) → RunKept t r → r ≡ done u s o τ → WF u × (length s + o + weight u ≤ weight t)
+run-lighter t u s o τ r h e =
+    let k : RunKept t (done u s o τ) = subst (RunKept t) e h in
     (k .0, omega (arith, k .1 .lighter))

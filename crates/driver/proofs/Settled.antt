@@ -8,7 +8,7 @@ use mathlib.Core.Option.{Option, none, some}
 use native.Mathlib.Omega.{arith}
 use lib.ListN.{length}
 use lib.IntN.{ℤ, pos}
-use Rattle.paper.specs.Tree.{Tree, integer, symbol, sum, product, power, toList, ofList}
+use Rattle.paper.specs.Tree.{Tree, integer, symbol, sum, product, power, records, toList, ofList}
 use Rattle.paper.specs.WellFormed.{WF, WFl}
 use Rattle.paper.specs.Rules.{editionOne, addZero, combineLikeTerms, multiplyZero, multiplyOne, combineLikeFactors, onSumMembers, onProductMembers}
 use Rattle.paper.specs.Driver.{no-rule, ask, Ran, done, over, Rans, dones, overs, andThen, each, members}
@@ -34,40 +34,41 @@ integer-none : (μ : ℕ) (z : ℤ) → None (integer μ z)
 unfolding ask editionOne addZero combineLikeTerms multiplyZero multiplyOne combineLikeFactors onSumMembers onProductMembers openingsAt gather members
 integer-none μ z = admits-none refl refl no-more
 
-pub integer-drives : (μ : ℕ) (z : ℤ) → WF (integer μ z) → drives (integer μ z) ≡ done (integer μ z) [] 0
+pub integer-drives : (μ : ℕ) (z : ℤ) → WF (integer μ z) → drives (integer μ z) ≡ done (integer μ z) [] 0 1
+unfolding records
 integer-drives μ z w = simplify-again (integer μ z) w (integer-none μ z)
 
 -- ---- to which lists a node's members are gathered
-power-shape : (b : Tree) (ξ e : ℕ) (g : List Tree) (ks : List ℕ) (o : ℕ) (a : Ran)
-    → openedRuns (inside 4) (andThen a (andThen (done (integer ξ (pos e)) [] 0) (dones [] [] 0))) ≡ dones g ks o
+power-shape : (b : Tree) (ξ e : ℕ) (g : List Tree) (ks : List ℕ) (o τ : ℕ) (a : Ran)
+    → openedRuns (inside 4) (andThen a (andThen (done (integer ξ (pos e)) [] 0 1) (dones [] [] 0 0))) ≡ dones g ks o τ
     → (u : Tree) × (g ≡ u ∷ integer ξ (pos e) ∷ [])
 unfolding openedRuns andThen opened openOne inside
-power-shape b ξ e g ks o (over k) h = absurd (let z : _≡_ {A = ℕ} 0 1 = cc in omega arith)
-power-shape b ξ e g ks o (done u s n) h = (u, cc)
+power-shape b ξ e g ks o τ (over k) h = absurd (let z : _≡_ {A = ℕ} 0 1 = cc in omega arith)
+power-shape b ξ e g ks o τ (done u s n υ) h = (u, cc)
 
-pub shape : (t : Tree) → WF t → (g : List Tree) (ks : List ℕ) (o : ℕ)
-    → openedRuns (inside (kindNumber t)) (each drives (members t)) ≡ dones g ks o → Shape t g
+pub shape : (t : Tree) → WF t → (g : List Tree) (ks : List ℕ) (o τ : ℕ)
+    → openedRuns (inside (kindNumber t)) (each drives (members t)) ≡ dones g ks o τ → Shape t g
 unfolding kindNumber members each openedRuns opened
-shape (integer μ z) w g ks o h = cc
-shape (symbol μ s) w g ks o h = cc
-shape (sum μ f) w g ks o h = tt
-shape (product μ f) w g ks o h = tt
-shape (power μ b ξ e) w g ks o h = (
+shape (integer μ z) w g ks o τ h = cc
+shape (symbol μ s) w g ks o τ h = cc
+shape (sum μ f) w g ks o τ h = tt
+shape (product μ f) w g ks o τ h = tt
+shape (power μ b ξ e) w g ks o τ h = (
   w .2,
-  power-shape b ξ e g ks o (drives b)
-      (ap (λ (r : Ran). openedRuns (inside 4) (andThen (drives b) (andThen r (dones [] [] 0)))) (sym (integer-drives ξ (pos e) (w .2, w .4))) ∙ h),
+  power-shape b ξ e g ks o τ (drives b)
+      (ap (λ (r : Ran). openedRuns (inside 4) (andThen (drives b) (andThen r (dones [] [] 0 0)))) (sym (integer-drives ξ (pos e) (w .2, w .4))) ∙ h),
 )
 
 -- ---- the results of members admit none
 abbrev EndedAll : Rans → Type 0
 EndedAll (overs k) = Unit {0}
-EndedAll (dones l s o) = Nones l
+EndedAll (dones l s o τ) = Nones l
 
 then-ended : (a : Ran) (r : Rans) → Ended editionOne a → EndedAll r → EndedAll (andThen a r)
 unfolding andThen
 then-ended (over k) r x y = tt
-then-ended (done u s o) (overs k) x y = tt
-then-ended (done u s o) (dones l s′ o′) x y = and-more x y
+then-ended (done u s o τ) (overs k) x y = tt
+then-ended (done u s o τ) (dones l s′ o′ τ′) x y = and-more x y
 
 each-ended : (l : List Tree) → WFl l → EndedAll (each drives l)
 unfolding each
@@ -145,27 +146,27 @@ unfolding baseFrom
 first-none b [] e h = absurd (omega arith)
 first-none b (u ∷ l) e (and-more x h) = x
 
-gathered-none : (t : Tree) (l : List Tree) (s : List ℕ) (o : ℕ) → WF t → RunsKept (members t) (dones l s o) → Nones l
+gathered-none : (t : Tree) (l : List Tree) (s : List ℕ) (o τ : ℕ) → WF t → RunsKept (members t) (dones l s o τ) → Nones l
     → ask editionOne (gather t l .0) ≡ no-rule → None (gather t l .0)
 unfolding gather members openingsAt
-gathered-none (integer μ z) l s o w k h a = integer-none μ z
-gathered-none (symbol μ v) l s o w k h a = admits-none a refl no-more
-gathered-none (sum μ f) l s o w k h a =
+gathered-none (integer μ z) l s o τ w k h a = integer-none μ z
+gathered-none (symbol μ v) l s o τ w k h a = admits-none a refl no-more
+gathered-none (sum μ f) l s o τ w k h a =
     let n = opened-none asSum sum-node l h in
     sum-finished μ (opened asSum l .0) (n .0) (n .1) a
-gathered-none (product μ f) l s o w k h a =
+gathered-none (product μ f) l s o τ w k h a =
     let n = opened-none asProduct product-node l h in
     product-finished μ (opened asProduct l .0) (n .0) (n .1) a
-gathered-none (power μ b ξ e) l s o w k h a =
+gathered-none (power μ b ξ e) l s o τ w k h a =
     admits-none a refl (and-more (first-none b l (kepts-length (k .1)) h) (and-more (integer-none ξ (pos e)) no-more))
 
-pub settled : (t u : Tree) (s : List ℕ) (o : ℕ) → WF t → passed t (each drives (members t)) ≡ done u s o → ask editionOne u ≡ no-rule → None u
+pub settled : (t u : Tree) (s : List ℕ) (o τ : ℕ) → WF t → passed t (each drives (members t)) ≡ done u s o τ → ask editionOne u ≡ no-rule → None u
 unfolding passed
-settled t u s o w e a =
+settled t u s o τ w e a =
     go (each drives (members t)) e (each-kept drives drives-kept (members t) (members-wf t w)) (each-ended (members t) (members-wf t w))
   where
-    go : (r : Rans) → passed t r ≡ done u s o → RunsKept (members t) r → EndedAll r → None u
+    go : (r : Rans) → passed t r ≡ done u s o τ → RunsKept (members t) r → EndedAll r → None u
     go (overs k) e k′ h = absurd (let z : _≡_ {A = ℕ} 0 1 = cc in omega arith)
-    go (dones l s′ o′) e k h =
+    go (dones l s′ o′ τ′) e k h =
         let q : gather t l .0 ≡ u = cc in
-        subst None q (gathered-none t l s′ o′ w k h (ap (ask editionOne) q ∙ a))
+        subst None q (gathered-none t l s′ o′ τ′ w k h (ap (ask editionOne) q ∙ a))

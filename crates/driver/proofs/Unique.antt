@@ -21,18 +21,19 @@ use Rattle.driver.proofs.drive.Kinds as kinds
 
 -- what is done, pending and noted after an answer, in one call and in another
 abbrev Left : (o o' w w' z z' : List ℕ) → Driven → Type 0
-Left o o' w w' z z' (Done e q n b) =
+Left o o' w w' z z' (Done e q n b τ) =
     (take (e * 16) o ≡ take (e * 16) o') × (drop (q * 16) w ≡ drop (q * 16) w') × (take n z ≡ take n z')
 Left o o' w w' z z' (Over n) = Unit {0}
 
 module _ (r : Ran) (rest s o o' w w' zs z z' : List ℕ) (d k : ℕ) (long : length w ≡ length w') where
-  done-once : {e q n b e' q' n' b' : ℕ} → Drove r rest s o w zs z d k e q n b → Drove r rest s o' w' zs z' d k e' q' n' b'
-      → (Done e q n b ≡ Done e' q' n' b') × Left o o' w w' z z' (Done e q n b)
-  done-once {e} {q} {n} {b} {e'} {q'} {n'} {b'} h h' =
-      let same : done (h .to) (h .ks) b ≡ done (h' .to) (h' .ks) b' = sym (h .ran) ∙ h' .ran in
+  done-once : {e q n b τ e' q' n' b' τ' : ℕ} → Drove r rest s o w zs z d k e q n b τ → Drove r rest s o' w' zs z' d k e' q' n' b' τ'
+      → (Done e q n b τ ≡ Done e' q' n' b' τ') × Left o o' w w' z z' (Done e q n b τ)
+  done-once {e} {q} {n} {b} {τ} {e'} {q'} {n'} {b'} {τ'} h h' =
+      let same : done (h .to) (h .ks) b τ ≡ done (h' .to) (h' .ks) b' τ' = sym (h .ran) ∙ h' .ran in
       let tree : h .to ≡ h' .to = cc in
       let steps : h .ks ≡ h' .ks = cc in
       let openings : b ≡ b' = cc in
+      let tries : τ ≡ τ' = cc in
       let end : e ≡ e' = h .end ∙ ap (λ t. d + records t) tree ∙ sym (h' .end) in
       let noted : n ≡ n' = h .noted-end ∙ ap (λ (l : List ℕ). k + length l) steps ∙ sym (h' .noted-end) in
       let first : q ≡ q' = omega (arith, h .place, h' .place) in (
@@ -51,12 +52,12 @@ module _ (r : Ran) (rest s o o' w w' zs z z' : List ℕ) (d k : ℕ) (long : len
       ap Over (h .2 ∙ ap (λ i. k + i) steps ∙ sym (h' .2))
 
   driven-once : (x x' : Driven) → DrivenIs r rest s o w zs z d k x → DrivenIs r rest s o' w' zs z' d k x' → (x ≡ x') × Left o o' w w' z z' x
-  driven-once (Done e q n b) (Done e' q' n' b') h h' = done-once h h'
-  driven-once (Done e q n b) (Over n') h h' =
+  driven-once (Done e q n b τ) (Done e' q' n' b' τ') h h' = done-once h h'
+  driven-once (Done e q n b τ) (Over n') h h' =
       let a = h .ran in
       let b = h' .1 in
       absurd (let z : _≡_ {A = ℕ} 0 1 = cc in omega arith)
-  driven-once (Over n) (Done e' q' n' b') h h' =
+  driven-once (Over n) (Done e' q' n' b' τ') h h' =
       let a = h .1 in
       let b = h' .ran in
       absurd (let z : _≡_ {A = ℕ} 0 1 = cc in omega arith)

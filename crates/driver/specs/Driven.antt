@@ -45,11 +45,11 @@ inside k t = cond (eqb k 2) (asSum t) (cond (eqb k 3) (asProduct t) none)
 -- ---- what a pass over the members makes: the gathered members, and the gathered node
 unfoldable pub openedRuns : (Tree → Option (List Tree)) → Rans → Rans
 openedRuns ins (overs k) = overs k
-openedRuns ins (dones l s o) = dones (opened ins l .0) s (o + opened ins l .1)
+openedRuns ins (dones l s o τ) = dones (opened ins l .0) s (o + opened ins l .1) τ
 
 unfoldable pub passed : Tree → Rans → Ran
 passed t (overs k) = over k
-passed t (dones l s o) = done (gather t l .0) s (o + gather t l .1)
+passed t (dones l s o τ) = done (gather t l .0) s (o + gather t l .1) τ
 
 -- the node t with the gathered members l
 unfoldable pub closedOver : Tree → List Tree → Tree
@@ -76,11 +76,12 @@ pub record SetAll (out work steps : List ℕ) (d p s : ℕ) (l : List Tree) (res
   pub steps-room : s + weightAll l ≤ length steps
 
 -- ---- what the answers say
--- the run r is done: its tree stands at the end of what is done, rest is what is pending, and its steps are noted
-pub record Drove (r : Ran) (rest out out' work' steps steps' : List ℕ) (d s e q n o : ℕ) : Type 0 where
+-- the run r is done, after o openings and τ tries: its tree stands at the end of what is done, rest is what is pending, and its
+-- steps are noted
+pub record Drove (r : Ran) (rest out out' work' steps steps' : List ℕ) (d s e q n o τ : ℕ) : Type 0 where
   pub to : Tree
   pub ks : List ℕ
-  pub ran : r ≡ done to ks o
+  pub ran : r ≡ done to ks o τ
   pub end : e ≡ d + records to
   pub wrote : take (e * 16) out' ≡ take (d * 16) out ++ encode to
   pub left : drop (q * 16) work' ≡ rest
@@ -89,14 +90,14 @@ pub record Drove (r : Ran) (rest out out' work' steps steps' : List ℕ) (d s e 
   pub noted : take n steps' ≡ take s steps ++ ks
 
 abbrev pub DrivenIs : (r : Ran) (rest out out' work' steps steps' : List ℕ) (d s : ℕ) → Driven → Type 0
-DrivenIs r rest out out' work' steps steps' d s (driven.Done e q n o) = Drove r rest out out' work' steps steps' d s e q n o
+DrivenIs r rest out out' work' steps steps' d s (driven.Done e q n o τ) = Drove r rest out out' work' steps steps' d s e q n o τ
 DrivenIs r rest out out' work' steps steps' d s (driven.Over n) = (k : ℕ) × (r ≡ over k) × (n ≡ s + k)
 
 -- the same of runs on members: m trees stand at the end of what is done
-pub record Gave (r : Rans) (rest out out' work' steps steps' : List ℕ) (d s e q n o m : ℕ) : Type 0 where
+pub record Gave (r : Rans) (rest out out' work' steps steps' : List ℕ) (d s e q n o m τ : ℕ) : Type 0 where
   pub to : List Tree
   pub ks : List ℕ
-  pub ran : r ≡ dones to ks o
+  pub ran : r ≡ dones to ks o τ
   pub many : m ≡ length to
   pub end : e ≡ d + recordsAll to
   pub wrote : take (e * 16) out' ≡ take (d * 16) out ++ encodeAll to
@@ -106,7 +107,7 @@ pub record Gave (r : Rans) (rest out out' work' steps steps' : List ℕ) (d s e 
   pub noted : take n steps' ≡ take s steps ++ ks
 
 abbrev pub GivenIs : (r : Rans) (rest out out' work' steps steps' : List ℕ) (d s : ℕ) → Given → Type 0
-GivenIs r rest out out' work' steps steps' d s (given.Members e q n o m) = Gave r rest out out' work' steps steps' d s e q n o m
+GivenIs r rest out out' work' steps steps' d s (given.Members e q n o m τ) = Gave r rest out out' work' steps steps' d s e q n o m τ
 GivenIs r rest out out' work' steps steps' d s (given.Over n) = (k : ℕ) × (r ≡ overs k) × (n ≡ s + k)
 
 -- ---- the gathered node's first record

@@ -11,16 +11,16 @@ ghost use Rattle.paper.specs.Rules.{editionOne};
 ghost use Rattle.paper.specs.Driver.{each, members, simplify};
 ghost use Rattle.driver.specs.Driven.{inside, openedRuns, passed, closedOver, Set, SetAll, DrivenIs, GivenIs, Gathers, Closed};
 
-// What became of a tree: the records done, the first record pending, the steps noted and the openings; or the steps completed
-// when a rule left the range.
+// What became of a tree: the records done, the first record pending, the steps noted, the openings and the tries; or the steps
+// completed when a rule left the range.
 pub enum Driven {
-    Done(usize, usize, usize, usize),
+    Done(usize, usize, usize, usize, usize),
     Over(usize),
 }
 
-// The same of members, and their number.
+// The same of members, with their number before the tries.
 enum Given {
-    Members(usize, usize, usize, usize, usize),
+    Members(usize, usize, usize, usize, usize, usize),
     Over(usize),
 }
 
@@ -38,11 +38,12 @@ pub fn drive(
         → DrivenIs (simplify editionOne t) rest (now (out .entry)) (now (out .exit)) (now (work .exit))
         (now (steps .entry)) (now (steps .exit)) d s r) ⌝ }
 {
-    // The tree's record, the steps noted and the openings so far; and its number of records where it comes from a pass, so that its
-    // members are finished, else 0.
+    // The tree's record, the steps noted, the openings and the tries so far; and its number of records where it comes from a pass, so
+    // that its members are finished, else 0.
     let mut at = p;
     let mut n = s;
     let mut o = 0;
+    let mut tries = 0;
     let mut size = 0;
     loop {
         let asked = rules::ask(out, work, d, at);
@@ -51,20 +52,23 @@ pub fn drive(
             rules::Asked::Step(k, q) => {
                 steps[n] = k;
                 n += 1;
+                tries += 1;
                 at = q;
                 size = 0;
             }
             rules::Asked::Nothing => {
                 if 0 < size {
+                    // Each of its records would be asked once more, in vain.
                     stretch::copy_bytes(out, d * 16, work, at * 16, size * 16);
-                    return Driven::Done(d + size, at + size, n, o);
+                    return Driven::Done(d + size, at + size, n, o, tries + size);
                 }
                 let g = pass(out, work, steps, d, at, n);
                 match g {
                     Driven::Over(k) => return Driven::Over(k),
-                    Driven::Done(e, q, j, b) => {
+                    Driven::Done(e, q, j, b, asked_below) => {
+                        tries += asked_below + 1;
                         if j - n + b < 1 {
-                            return Driven::Done(e, q, n, o);
+                            return Driven::Done(e, q, n, o, tries);
                         }
                         n = j;
                         o += b;
@@ -91,9 +95,9 @@ fn pass(out: &mut [u8], work: &mut [u8], steps: &mut [u8], d: usize, p: usize, s
     let g = drive_members(out, work, steps, k, c, d + 1, p + 1, s);
     match g {
         Given::Over(n) => Driven::Over(n),
-        Given::Members(e, q, n, o, m) => {
+        Given::Members(e, q, n, o, m, tries) => {
             close_up(out, k, m, d);
-            Driven::Done(e, q, n, o)
+            Driven::Done(e, q, n, o, tries)
         }
     }
 }
@@ -120,24 +124,27 @@ fn drive_members(
     let mut n = s;
     let mut o = 0;
     let mut m = 0;
+    let mut tries = 0;
     while i < c {
         let g = drive_member(out, work, steps, k, e, q, n);
         match g {
             Given::Over(j) => return Given::Over(j),
-            Given::Members(e1, q1, n1, o1, m1) => {
+            Given::Members(e1, q1, n1, o1, m1, tries1) => {
                 e = e1;
                 q = q1;
                 n = n1;
                 o += o1;
                 m += m1;
+                tries += tries1;
             }
         }
         i += 1;
     }
-    Given::Members(e, q, n, o, m)
+    Given::Members(e, q, n, o, m, tries)
 }
 
-// Drives the member at record p of a node of kind k, and opens its result where that is of the node's kind. A leaf is finished, and kept.
+// Drives the member at record p of a node of kind k, and opens its result where that is of the node's kind. A leaf is finished
+// after one try, and kept.
 fn drive_member(
     out: &mut [u8],
     work: &mut [u8],
@@ -155,18 +162,18 @@ fn drive_member(
     let j = record::kind(work, p);
     if j < 2 {
         record::write_record(out, d, j, 0, record::bits(work, p));
-        return Given::Members(d + 1, p + 1, s, 0, 1);
+        return Given::Members(d + 1, p + 1, s, 0, 1, 1);
     }
     let g = drive(out, work, steps, d, p, s);
     match g {
         Driven::Over(n) => Given::Over(n),
-        Driven::Done(e, q, n, o) => {
+        Driven::Done(e, q, n, o, tries) => {
             if opens(k, record::kind(out, d)) {
                 let m = record::count(out, d);
                 stretch::shift_left(out, d * 16, d * 16 + 16, (e - d - 1) * 16);
-                return Given::Members(e - 1, q, n, o + 1, m);
+                return Given::Members(e - 1, q, n, o + 1, m, tries);
             }
-            Given::Members(e, q, n, o, 1)
+            Given::Members(e, q, n, o, 1, tries)
         }
     }
 }

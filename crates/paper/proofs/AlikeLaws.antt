@@ -20,8 +20,9 @@ module _ (f : Simplifier) (alike : (s : List ℕ) → Bytes s → (l : Lent) →
         leaves-alone = λ s b l v h g e. rw (alike s b l) (d .leaves-alone s b l v h g (rw (alike s b l) at e));
         clears = λ s b l p e. rw (alike s b l) (d .clears s b l p (rw (alike s b l) at e));
         runs-over = λ s b l p. rw (alike s b l) (d .runs-over s b l p);
-        follows = λ s b l j t u ks o r e. rw (alike s b l) (d .follows s b l j t u ks o r e);
+        follows = λ s b l j t u ks o n r e. rw (alike s b l) (d .follows s b l j t u ks o n r e);
         lightens = λ s b l n t r. rw (alike s b l) (d .lightens s b l (rw (alike s b l) at n) t r);
+        bounded = λ s b l n t r. rw (alike s b l) (d .bounded s b l (rw (alike s b l) at n) t r);
         finishes = λ s b l n t r. rw (alike s b l) (d .finishes s b l (rw (alike s b l) at n) t r);
         keeps-value = λ s b l n t r. rw (alike s b l) (d .keeps-value s b l (rw (alike s b l) at n) t r);
       }

@@ -14,7 +14,7 @@ use Rattle.paper.specs.Rules.{appliesIf, addZero, multiplyZero, multiply
 use Rattle.paper.specs.Rules.{term, withInteger, integersOf, withOther, othersOf, timesOne, timesEach, unit, productTerm, termOf, added, addIf, mergeTerms, coefficientTimes, timesUnless}
 use Rattle.paper.specs.Rules.{fromTerm, combineLikeTerms, factor, factorOf, raiseIf, bothIntegers, multiplyIf, mergeFactors}
 use Rattle.paper.specs.Rules.{powerUnless, fromFactor, combineLikeFactors, editionOne}
-use Rattle.paper.specs.Driver.{ask, after, andThen, each, members, asSum, asProduct, openOne, opened, baseFrom, gather}
+use Rattle.paper.specs.Driver.{ask, after, tried, andThen, each, members, asSum, asProduct, openOne, opened, baseFrom, gather}
 use Rattle.paper.specs.Driver.{settle, gathered, visit, run, simplify}
 use Rattle.paper.specs.Answers.{measured, weighed, register, treeValue, registersVerdict, valued, cramped, judgement, runOn, outcomeOf}
 use Rattle.paper.specs.Answers.{refusedBy, ranAnswer, answerOf, written, noted, outAfter, stepsAfter, workAfter, lentAfter, simplifiedBy, simplified}
@@ -51,7 +51,7 @@ rules-compute = tt
 
 unfoldable pub driver-computes : Unit {0}
 unfolding
-    rules-compute weight ask after andThen each members asSum asProduct openOne opened baseFrom gather settle gathered visit run
+    rules-compute weight ask after tried andThen each members asSum asProduct openOne opened baseFrom gather settle gathered visit run
     simplify
 driver-computes = tt
 

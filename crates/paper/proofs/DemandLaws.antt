@@ -2,7 +2,7 @@
 -- a run finished, off what a finished run gives (Simplified). And the demands leave no choice: two simplifiers that meet them
 -- answer alike and leave alike bytes. Assumes nothing.
 use Prim.Native.Nat.{ℕ, _*_, _≤_}
-use mathlib.Core.Path.{_≡_, refl, sym, ap, _∙_}
+use mathlib.Core.Path.{_≡_, refl, sym, ap, _∙_, subst}
 use mathlib.Core.List.{List, []}
 use mathlib.Core.Option.{some}
 use native.Mathlib.Omega.{arith}
@@ -29,7 +29,7 @@ module _ (run : Tree → Ran) where
   -- a run's answer is no refusal 1 to 6
   no-refusal : {A : Type 0} (w : ℕ) (v : Verdict) (r : Ran) → 1 ≤ v .number → v .number ≤ 6 → ranAnswer w r ≡ refusedBy v → A
   unfolding ranAnswer refusedBy
-  no-refusal w v (done u ks o) h g e = absurd (let z : 0 ≡ v .number = ap (λ (a : Answer). a .number) e in omega arith)
+  no-refusal w v (done u ks o n) h g e = absurd (let z : 0 ≡ v .number = ap (λ (a : Answer). a .number) e in omega arith)
   no-refusal w v (over j) h g e = absurd (let z : 7 ≡ v .number = ap (λ (a : Answer). a .number) e in omega arith)
 
   judges : Refuses (simplifiedBy run)
@@ -57,7 +57,7 @@ module _ (run : Tree → Ran) where
 
   ran-over : (w p : ℕ) (r : Ran) → ranAnswer w r ≡ refusal 7 p → r ≡ over p
   unfolding ranAnswer refusedBy
-  ran-over w p (done u ks o) e = absurd (let z : _≡_ {A = ℕ} 0 7 = ap (λ (a : Answer). a .number) e in omega arith)
+  ran-over w p (done u ks o n) e = absurd (let z : _≡_ {A = ℕ} 0 7 = ap (λ (a : Answer). a .number) e in omega arith)
   ran-over w p (over j) e = ap over (ap (λ (v : Verdict). v .place) (refusal-tells (refused 7 j) (refused 7 p) e))
 
   went-over : (s : List ℕ) → Bytes s → (l : Lent) (p : ℕ) → simplifiedBy run s l .answer ≡ refusal 7 p → WentOver s l p
@@ -94,12 +94,12 @@ runs-over s b l p = (there, λ x. back (call (simplify editionOne) s l b) (x .0)
 
 follows : Follows simplified
 unfolding simplified ranAnswer lentAfter outAfter stepsAfter workAfter written noted
-follows s b l j t u ks o e h = go (call (simplify editionOne) s l b)
+follows s b l j t u ks o n e h = go (call (simplify editionOne) s l b)
   where
     f : Tree → Ran
     f = simplify editionOne
 
-    go : Call f s l → (simplified s l .answer ≡ ranAnswer (weight t) (done u ks o)) × (simplified s l .lent ≡ lentAfter (ran (weight t) (done u ks o)) l)
+    go : Call f s l → (simplified s l .answer ≡ ranAnswer (weight t) (done u ks o n)) × (simplified s l .lent ≡ lentAfter (ran (weight t) (done u ks o n)) l)
     go (is-turned-down d) = absurd (let z : judgement s l .number ≡ 0 = ap (λ v. v .number) j in omega (arith, d .number))
     go (is-run r) =
         let x : r .holds .tree ≡ t = same-tree (r .holds .read) e in (
@@ -113,10 +113,11 @@ pub record Done (s : List ℕ) (l : Lent) : Type 0 where
   pub tree-out : Tree
   pub steps : List ℕ
   pub opened : ℕ
-  pub finished : Finished (holds .tree) tree-out steps opened
+  pub tries : ℕ
+  pub finished : Finished (holds .tree) tree-out steps opened tries
   pub accepts : judgement s l ≡ accepted
-  pub answer : simplified s l .answer ≡ ranAnswer (weight (holds .tree)) (done tree-out steps opened)
-  pub lent : simplified s l .lent ≡ lentAfter (ran (weight (holds .tree)) (done tree-out steps opened)) l
+  pub answer : simplified s l .answer ≡ ranAnswer (weight (holds .tree)) (done tree-out steps opened tries)
+  pub lent : simplified s l .lent ≡ lentAfter (ran (weight (holds .tree)) (done tree-out steps opened tries)) l
   pub written-bytes : result (simplified s l) ≡ encode tree-out
   pub read-back : treeOf (result (simplified s l)) ≡ some tree-out
 
@@ -127,11 +128,11 @@ call-done s b l e = go (call (simplify editionOne) s l b)
     by-run : (r : RunOn (simplify editionOne) s l) (x : Ran) → simplify editionOne (r .holds .tree) ≡ x → Done s l
     by-run r (over k) h =
         absurd (let z : _≡_ {A = ℕ} 7 0 = sym (ap (λ a. a .number) (r .answer ∙ ap (ranAnswer (weight (r .holds .tree))) h)) ∙ e in omega arith)
-    by-run r (done u ks o) h =
+    by-run r (done u ks o n) h =
         let t : Tree = r .holds .tree in
-        let f : Finished t u ks o = simplify-finished t u ks o (r .holds .wf) h in
-        let a : simplified s l .answer ≡ ranAnswer (weight t) (done u ks o) = r .answer ∙ ap (ranAnswer (weight t)) h in
-        let g : simplified s l .lent ≡ lentAfter (ran (weight t) (done u ks o)) l = r .lent ∙ ap (λ x. lentAfter (ran (weight t) x) l) h in
+        let f : Finished t u ks o n = simplify-finished t u ks o n (r .holds .wf) h in
+        let a : simplified s l .answer ≡ ranAnswer (weight t) (done u ks o n) = r .answer ∙ ap (ranAnswer (weight t)) h in
+        let g : simplified s l .lent ≡ lentAfter (ran (weight t) (done u ks o n)) l = r .lent ∙ ap (λ x. lentAfter (ran (weight t) x) l) h in
         let w : result (simplified s l) ≡ encode u =
         result-written (simplified s l) (weight t) u (l .out) (ap (λ x. x .records-written) a) (ap (λ x. x .out) g) in
         record {
@@ -139,6 +140,7 @@ call-done s b l e = go (call (simplify editionOne) s l b)
           tree-out = u;
           steps = ks;
           opened = o;
+          tries = n;
           finished = f;
           accepts = r .accepts;
           answer = a;
@@ -167,6 +169,10 @@ simplified-meets =
           let o : simplified s l .answer .openings ≡ d .opened = ap (λ x. x .openings) (d .answer) in
           let f = d .finished .lightens in
           (d .tree-out, d .read-back, omega (arith, ap weight (same-tree p (d .holds .read))));
+      bounded = λ s b l e t p.
+          let d = call-done s b l e in
+          let a : simplified s l .answer .tries ≡ d .tries = ap (λ x. x .tries) (d .answer) in
+          (d .tree-out, d .read-back, subst (λ i. simplified s l .answer .tries ≤ weight i * (weight i * weight i)) (same-tree (d .holds .read) p) (omega (arith, d .finished .bounded)));
       finishes = λ s b l e t p. let d = call-done s b l e in (d .tree-out, d .read-back, d .finished .admits-none);
       keeps-value = λ s b l e t p.
           let d = call-done s b l e in
@@ -192,9 +198,9 @@ demands-once f g p q s b l = alike f p ∙ sym (alike g q)
         let x = d .runs-over s b l k .1 (r .accepts, (r .holds .tree, r .holds .read, e)) in
         let y = simplified-meets .runs-over s b l k .1 (r .accepts, (r .holds .tree, r .holds .read, e)) in
         both h (x ∙ sym y) (d .clears s b l k x ∙ sym (simplified-meets .clears s b l k y))
-    by-run h d r (done u ks o) e =
-        let x = d .follows s b l (r .accepts) (r .holds .tree) u ks o (r .holds .read) e in
-        let y = simplified-meets .follows s b l (r .accepts) (r .holds .tree) u ks o (r .holds .read) e in
+    by-run h d r (done u ks o n) e =
+        let x = d .follows s b l (r .accepts) (r .holds .tree) u ks o n (r .holds .read) e in
+        let y = simplified-meets .follows s b l (r .accepts) (r .holds .tree) u ks o n (r .holds .read) e in
         both h (x .0 ∙ sym (y .0)) (x .1 ∙ sym (y .1))
 
     by-call : (h : Simplifier) → Demands h → Call (simplify editionOne) s l → h s l ≡ simplified s l

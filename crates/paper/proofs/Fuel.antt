@@ -12,7 +12,7 @@ use borrow.Author.Tests.{eqb-false}
 use Rattle.paper.specs.Tree.{Tree, integer, symbol, sum, product, power, weight}
 use Rattle.paper.specs.WellFormed.{WF, WFl}
 use Rattle.paper.specs.Rules.{Rule}
-use Rattle.paper.specs.Driver.{Asked, no-rule, step, out-of-range, ask, Ran, done, over, Rans, dones, overs, after, andThen, each, members}
+use Rattle.paper.specs.Driver.{Asked, no-rule, step, out-of-range, ask, Ran, done, over, Rans, dones, overs, after, tried, andThen, each, members}
 use Rattle.paper.specs.Driver.{gather, settle, gathered, visit, run, simplify}
 use Rattle.paper.specs.Good.{Kept, Goods}
 use Rattle.paper.proofs.Value.{total, weights-list, weight-pos}
@@ -28,13 +28,13 @@ members-lighter (product μ f) = omega (arith, weights-list f)
 members-lighter (power μ b ξ e) = omega arith
 
 -- a node that is begun again weighs less than before
-pub gathered-lighter : (t : Tree) (l : List Tree) (s : List ℕ) (o : ℕ) → WF t → RunsKept (members t) (dones l s o)
+pub gathered-lighter : (t : Tree) (l : List Tree) (s : List ℕ) (o n : ℕ) → WF t → RunsKept (members t) (dones l s o n)
     → eqb (length s + (o + gather t l .1)) 0 ≡ false → weight (gather t l .0) < weight t
-gathered-lighter t l s o w p e = go (length s + (o + gather t l .1)) refl
+gathered-lighter t l s o n w p e = go (length s + (o + gather t l .1)) refl
   where
     go : (k : ℕ) → length s + (o + gather t l .1) ≡ k → weight (gather t l .0) < weight t
     go zero q = absurd (eqb-false (length s + (o + gather t l .1)) 0 e q)
-    go (suc k) q = omega (arith, gathered-tree t l s o w p .1 .lighter)
+    go (suc k) q = omega (arith, gathered-tree t l s o n w p .1 .lighter)
 
 each-same : (f g : Tree → Ran) (b : ℕ) → ((t : Tree) → WF t → weight t < b → f t ≡ g t)
     → (l : List Tree) → WFl l → total weight l < b → each f l ≡ each g l
@@ -47,7 +47,7 @@ gathered-same : (t : Tree) → WF t → (f g : Tree → Ran) → ((u : Tree) →
     → (r : Rans) → RunsKept (members t) r → gathered f t r ≡ gathered g t r
 unfolding gathered settle
 gathered-same t v f g h (overs k) p = refl
-gathered-same t v f g h (dones l s o) p = go (eqb (length s + (o + gather t l .1)) 0) refl
+gathered-same t v f g h (dones l s o n) p = go (eqb (length s + (o + gather t l .1)) 0) refl
   where
     u : Tree
     u = gather t l .0
@@ -55,16 +55,16 @@ gathered-same t v f g h (dones l s o) p = go (eqb (length s + (o + gather t l .1
     k : ℕ
     k = o + gather t l .1
 
-    go : (b : Bool) → eqb (length s + k) 0 ≡ b → settle f s k u b ≡ settle g s k u b
+    go : (b : Bool) → eqb (length s + k) 0 ≡ b → settle f s k n u b ≡ settle g s k n u b
     go true e = refl
-    go false e = ap (after s k) (h u (gathered-tree t l s o v p .0) (gathered-lighter t l s o v p e))
+    go false e = ap (after s k n) (h u (gathered-tree t l s o n v p .0) (gathered-lighter t l s o n v p e))
 
 -- a visit depends on what the driver does with lighter trees only
 visit-same : {rs : List Rule} → Goods rs → (f g : Tree → Ran) → ((u : Tree) → WF u → RunKept u (f u))
     → (t : Tree) → WF t → ((u : Tree) → WF u → weight u < weight t → f u ≡ g u)
     → (a : Asked) → AskedKept t a → visit f t a ≡ visit g t a
 unfolding visit
-visit-same gs f g kept t v h (step k u) p = ap (after (k ∷ []) 0) (h u (p .0) (omega (arith, p .1 .lighter)))
+visit-same gs f g kept t v h (step k u) p = ap (after (k ∷ []) 0 0) (h u (p .0) (omega (arith, p .1 .lighter)))
 visit-same gs f g kept t v h out-of-range p = refl
 visit-same gs f g kept t v h no-rule p =
     gathered-same t v f g h (each f (members t)) (each-kept f kept (members t) (members-wf t v))
@@ -77,13 +77,15 @@ module _ {rs : List Rule} (gs : Goods rs) where
   run-fuel zero m t v a b = absurd (omega (arith, weight-pos t))
   run-fuel (suc n) zero t v a b = absurd (omega (arith, weight-pos t))
   run-fuel (suc n) (suc m) t v a b =
-      visit-same gs (λ u. run rs n u) (λ u. run rs m u) (λ u x. run-kept gs n u x) t v
-      (λ u x w. run-fuel n m u x (omega arith) (omega arith)) (ask rs t) (ask-kept gs t v)
+      ap tried
+      (visit-same gs (λ u. run rs n u) (λ u. run rs m u) (λ u x. run-kept gs n u x) t v
+      (λ u x w. run-fuel n m u x (omega arith) (omega arith)) (ask rs t) (ask-kept gs t v))
 
   -- the driver in the paper's words, with no fuel: at a node, ask the rules, and go on with the driver itself
-  pub simplify-visits : (t : Tree) → WF t → simplify rs t ≡ visit (simplify rs) t (ask rs t)
+  pub simplify-visits : (t : Tree) → WF t → simplify rs t ≡ tried (visit (simplify rs) t (ask rs t))
   unfolding simplify run
   simplify-visits t v =
       run-fuel (weight t) (suc (weight t)) t v (omega arith) (omega arith)
-      ∙ visit-same gs (λ u. run rs (weight t) u) (λ u. run rs (weight u) u) (λ u x. run-kept gs (weight t) u x) t v
-      (λ u x w. run-fuel (weight t) (weight u) u x (omega arith) (omega arith)) (ask rs t) (ask-kept gs t v)
+      ∙ ap tried
+      (visit-same gs (λ u. run rs (weight t) u) (λ u. run rs (weight u) u) (λ u x. run-kept gs (weight t) u x) t v
+      (λ u x w. run-fuel (weight t) (weight u) u x (omega arith) (omega arith)) (ask rs t) (ask-kept gs t v))

@@ -12,7 +12,7 @@ use lib.Dec.{eqb}
 use Rattle.paper.specs.Tree.{Tree, integer, symbol, sum, product, power, weight}
 use Rattle.paper.specs.WellFormed.{WF, WFl}
 use Rattle.paper.specs.Rules.{Rule}
-use Rattle.paper.specs.Driver.{Asked, no-rule, step, out-of-range, ask, Ran, Rans, dones, overs, after, each, members}
+use Rattle.paper.specs.Driver.{Asked, no-rule, step, out-of-range, ask, Ran, Rans, dones, overs, after, tried, each, members}
 use Rattle.paper.specs.Driver.{asSum, asProduct, opened, gather, settle, gathered, visit, run, simplify}
 use Rattle.paper.specs.Good.{Goods}
 use Rattle.paper.specs.Gathering.{gatherCollapsing, gatheredCollapsing, visitCollapsing, runCollapsing, simplifyCollapsing, BranchNotReached}
@@ -24,9 +24,9 @@ use Rattle.paper.proofs.CallLaws.{same-tree}
 
 -- whatever the members' runs end with, two members or more are gathered
 pub each-gathers-two : {rs : List Rule} → Goods rs → (t : Tree) → WF t → 0 < length (members t)
-    → (l : List Tree) (s : List ℕ) (o : ℕ) → each (simplify rs) (members t) ≡ dones l s o → 2 ≤ length (gatheredList t l)
+    → (l : List Tree) (s : List ℕ) (o n : ℕ) → each (simplify rs) (members t) ≡ dones l s o n → 2 ≤ length (gatheredList t l)
 unfolding simplify
-each-gathers-two {rs} gs t w m l s o e =
+each-gathers-two {rs} gs t w m l s o n e =
     let k = subst (RunsKept (members t)) e (each-kept (simplify rs) (λ u v. run-kept gs (weight u) u v) (members t) (members-wf t w)) in
     gathers-two t l (length s + o) w m (k .0) (k .1)
 
@@ -50,22 +50,22 @@ module _ (a b : Tree → Ran) (alike : (u : Tree) → WF u → a u ≡ b u) (kep
   each-alike [] w = refl
   each-alike (t ∷ l) w = rw (alike t (w .0), each-alike l (w .1)) refl
 
-  settle-alike : (s : List ℕ) (o : ℕ) (u : Tree) (c : Bool) → WF u → settle a s o u c ≡ settle b s o u c
+  settle-alike : (s : List ℕ) (o n : ℕ) (u : Tree) (c : Bool) → WF u → settle a s o n u c ≡ settle b s o n u c
   unfolding settle
-  settle-alike s o u true w = refl
-  settle-alike s o u false w = ap (after s o) (alike u w)
+  settle-alike s o n u true w = refl
+  settle-alike s o n u false w = ap (after s o n) (alike u w)
 
   gathered-alike : (t : Tree) → WF t → (r : Rans) → RunsKept (members t) r → gatheredCollapsing a t r ≡ gathered b t r
   unfolding gatheredCollapsing gathered
   gathered-alike t w (overs k) p = refl
-  gathered-alike t w (dones l s o) p =
-      ap (λ g. settle a s (o + g .1) (g .0) (eqb (length s + (o + g .1)) 0))
+  gathered-alike t w (dones l s o n) p =
+      ap (λ g. settle a s (o + g .1) n (g .0) (eqb (length s + (o + g .1)) 0))
       (no-collapse t l w (λ m. gathers-two t l (length s + o) w m (p .0) (p .1)))
-      ∙ settle-alike s _ _ _ (gathered-tree t l s o w p .0)
+      ∙ settle-alike s _ n _ _ (gathered-tree t l s o n w p .0)
 
   visit-alike : (t : Tree) → WF t → (q : Asked) → AskedKept t q → visitCollapsing a t q ≡ visit b t q
   unfolding visitCollapsing visit
-  visit-alike t w (step k u) p = ap (after (k ∷ []) 0) (alike u (p .0))
+  visit-alike t w (step k u) p = ap (after (k ∷ []) 0 0) (alike u (p .0))
   visit-alike t w out-of-range p = refl
   visit-alike t w no-rule p =
       ap (gatheredCollapsing a t) (each-alike (members t) (members-wf t w))
@@ -75,8 +75,9 @@ run-alike : {rs : List Rule} → Goods rs → (n : ℕ) (t : Tree) → WF t → 
 unfolding runCollapsing run
 run-alike gs zero t w = refl
 run-alike {rs} gs (suc n) t w =
-    visit-alike (λ u. runCollapsing rs n u) (λ u. run rs n u) (λ u v. run-alike gs n u v) (λ u v. run-kept gs n u v) t w (ask rs t)
-    (ask-kept gs t w)
+    ap tried
+    (visit-alike (λ u. runCollapsing rs n u) (λ u. run rs n u) (λ u v. run-alike gs n u v) (λ u v. run-kept gs n u v) t w (ask rs t)
+    (ask-kept gs t w))
 
 -- taking the branch out changes nothing from an accepted table
 pub branch-not-reached : {rs : List Rule} → Goods rs → BranchNotReached rs

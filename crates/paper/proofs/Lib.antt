@@ -62,3 +62,5 @@ pub mod SmallTables
 pub mod PlaceOfSeven
 pub mod Told
 pub mod AlikeLaws
+pub mod Squares
+pub mod TryLaws

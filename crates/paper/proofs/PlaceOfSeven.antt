@@ -11,7 +11,7 @@ use Rattle.paper.specs.Tree.{Tree, weight}
 use Rattle.paper.specs.WellFormed.{WF, WFl}
 use Rattle.paper.specs.Rules.{Rule}
 use Rattle.paper.specs.Driver.{Asked, no-rule, step, out-of-range, ask, Ran, done, over, Rans, dones, overs, after, andThen, each, members}
-use Rattle.paper.specs.Driver.{gather, settle, gathered, visit, run}
+use Rattle.paper.specs.Driver.{gather, settle, gathered, visit, tried, run}
 use Rattle.paper.specs.Good.{Kept, Goods}
 use Rattle.paper.proofs.Value.{total}
 use Rattle.paper.proofs.GatherLaws.{members-wf}
@@ -20,23 +20,28 @@ use Rattle.paper.proofs.Fuel.{members-lighter}
 
 -- of a run on t, and of the runs on the members l
 abbrev pub Within : Tree → Ran → Type 0
-Within t (done u s o) = Unit {0}
+Within t (done u s o n) = Unit {0}
 Within t (over k) = k ≤ weight t
 
 abbrev Withins : List Tree → Rans → Type 0
-Withins l (dones m s o) = Unit {0}
+Withins l (dones m s o n) = Unit {0}
 Withins l (overs k) = k ≤ total weight l
 
-after-within : (t u : Tree) (s : List ℕ) (o : ℕ) (r : Ran) → Kept (length s + o) t u → Within u r → Within t (after s o r)
+after-within : (t u : Tree) (s : List ℕ) (o n : ℕ) (r : Ran) → Kept (length s + o) t u → Within u r → Within t (after s o n r)
 unfolding after
-after-within t u s o (done v s′ o′) h p = tt
-after-within t u s o (over k) h p = omega (arith, h .lighter)
+after-within t u s o n (done v s′ o′ n′) h p = tt
+after-within t u s o n (over k) h p = omega (arith, h .lighter)
+
+tried-within : (t : Tree) (r : Ran) → Within t r → Within t (tried r)
+unfolding tried after
+tried-within t (done u s o n) p = tt
+tried-within t (over k) p = omega arith
 
 andThen-within : (t : Tree) (l : List Tree) (r : Ran) (rs : Rans) → RunKept t r → Within t r → Withins l rs → Withins (t ∷ l) (andThen r rs)
 unfolding andThen total
 andThen-within t l (over k) rs h p q = omega arith
-andThen-within t l (done u s o) (overs k) h p q = omega (arith, h .1 .lighter)
-andThen-within t l (done u s o) (dones m s′ o′) h p q = tt
+andThen-within t l (done u s o n) (overs k) h p q = omega (arith, h .1 .lighter)
+andThen-within t l (done u s o n) (dones m s′ o′ n′) h p q = tt
 
 module _ (again : Tree → Ran) (kept : (u : Tree) → WF u → RunKept u (again u)) (ih : (u : Tree) → WF u → Within u (again u)) where
   each-within : (l : List Tree) → WFl l → Withins l (each again l)
@@ -47,17 +52,17 @@ module _ (again : Tree → Ran) (kept : (u : Tree) → WF u → RunKept u (again
   gathered-within : (t : Tree) → WF t → (r : Rans) → RunsKept (members t) r → Withins (members t) r → Within t (gathered again t r)
   unfolding gathered settle
   gathered-within t w (overs k) h p = omega (arith, members-lighter t)
-  gathered-within t w (dones l s o) h p = go (eqb (length s + (o + gather t l .1)) 0)
+  gathered-within t w (dones l s o n) h p = go (eqb (length s + (o + gather t l .1)) 0)
     where
-      go : (b : Bool) → Within t (settle again s (o + gather t l .1) (gather t l .0) b)
+      go : (b : Bool) → Within t (settle again s (o + gather t l .1) n (gather t l .0) b)
       go true = tt
       go false =
-          let g = gathered-tree t l s o w h in
-          after-within t (gather t l .0) s (o + gather t l .1) (again (gather t l .0)) (g .1) (ih (gather t l .0) (g .0))
+          let g = gathered-tree t l s o n w h in
+          after-within t (gather t l .0) s (o + gather t l .1) n (again (gather t l .0)) (g .1) (ih (gather t l .0) (g .0))
 
   visit-within : (t : Tree) → WF t → (a : Asked) → AskedKept t a → Within t (visit again t a)
   unfolding visit
-  visit-within t w (step k u) p = after-within t u (k ∷ []) 0 (again u) (p .1) (ih u (p .0))
+  visit-within t w (step k u) p = after-within t u (k ∷ []) 0 0 (again u) (p .1) (ih u (p .0))
   visit-within t w out-of-range p = omega arith
   visit-within t w no-rule p =
       let ms = members-wf t w in
@@ -67,4 +72,4 @@ pub run-within : {rs : List Rule} → Goods rs → (n : ℕ) (t : Tree) → WF t
 unfolding run
 run-within {rs} gs zero t w = tt
 run-within {rs} gs (suc n) t w =
-    visit-within (λ u. run rs n u) (λ u v. run-kept gs n u v) (λ u v. run-within gs n u v) t w (ask rs t) (ask-kept gs t w)
+    tried-within t _ (visit-within (λ u. run rs n u) (λ u v. run-kept gs n u v) (λ u v. run-within gs n u v) t w (ask rs t) (ask-kept gs t w))

@@ -1,7 +1,7 @@
 -- Demand 3 for edition one, at the level of trees: what a finished run of `simplify editionOne` gives. The instances at edition
 -- one of the laws that are proved over any list of good rules. Assumes nothing.
 use Prim.Native.Nat.{ℕ, _+_, _*_, _≤_}
-use mathlib.Core.Path.{_≡_, refl, sym, ap, _∙_, subst}
+use mathlib.Core.Path.{_≡_, subst}
 use mathlib.Core.List.{List, []}
 use native.Mathlib.Omega.{arith}
 use lib.ListN.{length}
@@ -9,16 +9,17 @@ use Rattle.paper.specs.Tree.{Tree, weight, value, records}
 use Rattle.paper.specs.WellFormed.{WF}
 use Rattle.paper.specs.Table.{encode}
 use Rattle.paper.specs.Rules.{editionOne}
-use Rattle.paper.specs.Driver.{Ran, done, over, ask, visit, simplify}
+use Rattle.paper.specs.Driver.{done, tried, ask, visit, simplify}
 use Rattle.paper.specs.Admits.{AdmitsNone}
 use Rattle.paper.proofs.EncodeLaws.{encode-length, records-weight}
 use Rattle.paper.proofs.EditionOne.{edition-one-good}
 use Rattle.paper.proofs.DriverLaws.{RunKept, run-kept}
+use Rattle.paper.proofs.TryLaws.{tries-cube}
 use Rattle.paper.proofs.Fuel.{simplify-visits}
 use Rattle.paper.proofs.FinishedLaws.{Ended, simplify-ended, run-finished}
 
 -- what holds of a tree t and the result u of a run on it, with its steps ks and o openings
-pub record Finished (t u : Tree) (ks : List ℕ) (o : ℕ) : Type 0 where
+pub record Finished (t u : Tree) (ks : List ℕ) (o n : ℕ) : Type 0 where
   pub result-wf : WF u
   pub lightens : length ks + o + weight u ≤ weight t
   pub keeps-value : (ρ : ℕ → ℕ) → value u ρ ≡ value t ρ
@@ -26,12 +27,13 @@ pub record Finished (t u : Tree) (ks : List ℕ) (o : ℕ) : Type 0 where
   -- so `16 x W` bytes and W steps always suffice
   pub out-suffices : length (encode u) ≤ 16 * weight t
   pub steps-suffice : length ks ≤ weight t
+  pub bounded : n ≤ weight t * (weight t * weight t)
 
-pub simplify-finished : (t u : Tree) (ks : List ℕ) (o : ℕ) → WF t → simplify editionOne t ≡ done u ks o → Finished t u ks o
+pub simplify-finished : (t u : Tree) (ks : List ℕ) (o n : ℕ) → WF t → simplify editionOne t ≡ done u ks o n → Finished t u ks o n
 unfolding simplify
-simplify-finished t u ks o w e =
-    let kept : RunKept t (done u ks o) = subst (RunKept t) e (run-kept edition-one-good (weight t) t w) in
-    let ended : Ended editionOne (done u ks o) = subst (Ended editionOne) e (simplify-ended editionOne edition-one-good t w) in
+simplify-finished t u ks o n w e =
+    let kept : RunKept t (done u ks o n) = subst (RunKept t) e (run-kept edition-one-good (weight t) t w) in
+    let ended : Ended editionOne (done u ks o n) = subst (Ended editionOne) e (simplify-ended editionOne edition-one-good t w) in
     record {
       result-wf = kept .0;
       lightens = omega (arith, kept .1 .lighter);
@@ -39,13 +41,14 @@ simplify-finished t u ks o w e =
       admits-none = ended;
       out-suffices = omega (arith, kept .1 .lighter, encode-length u, records-weight u);
       steps-suffice = omega (arith, kept .1 .lighter);
+      bounded = tries-cube edition-one-good t u ks o n w e;
     }
 
 -- a result is simplified to itself, with no step and no opening
-pub simplify-again : (u : Tree) → WF u → AdmitsNone editionOne u → simplify editionOne u ≡ done u [] 0
+pub simplify-again : (u : Tree) → WF u → AdmitsNone editionOne u → simplify editionOne u ≡ done u [] 0 (records u)
 unfolding simplify
-simplify-again u w a = run-finished a w (weight u)
+simplify-again u w a = run-finished a w (weight u) (omega arith)
 
 -- the driver of edition one in the paper's words
-pub edition-one-visits : (t : Tree) → WF t → simplify editionOne t ≡ visit (simplify editionOne) t (ask editionOne t)
+pub edition-one-visits : (t : Tree) → WF t → simplify editionOne t ≡ tried (visit (simplify editionOne) t (ask editionOne t))
 edition-one-visits = simplify-visits edition-one-good

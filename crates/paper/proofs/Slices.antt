@@ -2,9 +2,9 @@
 -- decides. Assumes nothing.
 use Prim.Native.Nat.{ℕ, _*_, _≤_, _<_}
 use mathlib.Core.Path.{_≡_, refl}
-use mathlib.Core.List.{List}
+use mathlib.Core.List.{List, [], _∷_}
 use native.Mathlib.Omega.{arith}
-use lib.ListN.{length}
+use lib.ListN.{length, length-append}
 use borrow.Author.Tests.{le-ltb, lt-ltb}
 use Rattle.paper.specs.Calls.{verdictNumbers, measuredNumbers, comparedNumbers, answerNumbers, tooShort, returned, answered}
 use Rattle.paper.specs.Calls.{checkReturns, checkAnswers, weightReturns, weightAnswers, valueReturns, valueAnswers}
@@ -41,9 +41,9 @@ pub compared-count : (c : Compared) → length (comparedNumbers c) ≡ 6
 unfolding comparedNumbers
 compared-count c = omega (arith, flaw-count (c .flaw))
 
-pub answer-count : (a : Answer) → length (answerNumbers a) ≡ 9
+pub answer-count : (a : Answer) → length (answerNumbers a) ≡ 10
 unfolding answerNumbers
-answer-count a = omega (arith, flaw-count (a .flaw))
+answer-count a = omega (arith, flaw-count (a .flaw), length-append (flawNumbers (a .flaw)) (a .tries ∷ []))
 
 pub slices : Slices
 unfolding

@@ -9,7 +9,7 @@ use native.Mathlib.Omega.{arith}
 use lib.ListN.{length, length-append, length-replicate}
 use Rattle.paper.specs.Limits.{maxWeight, workBytes}
 use Rattle.paper.specs.Bytes.{stretch}
-use Rattle.paper.specs.Tree.{weight}
+use Rattle.paper.specs.Tree.{weight, records}
 use Rattle.paper.specs.Table.{encode}
 use Rattle.paper.specs.Verdict.{tableWeight}
 use Rattle.paper.specs.Driver.{Ran}
@@ -32,7 +32,7 @@ takeover s b l e l′ room =
     let light : weight u ≤ maxWeight = omega (arith, d .finished .lightens, d .holds .light) in
     let w : tableWeight (encode u) ≡ simplified s l .answer .weight-out = encode-weight u ∙ sym (ap (λ x. x .weight-out) (d .answer)) in
     let j = accepted-judgement (encode u) l′ (written-accepted u wf light) (ap (λ n. cramped n l′) w ∙ of-room _ l′ room) in
-    let f = simplified-meets .follows (encode u) (encode-bytes u) l′ j u u [] 0 (tree-of-written u wf light)
+    let f = simplified-meets .follows (encode u) (encode-bytes u) l′ j u u [] 0 (records u) (tree-of-written u wf light)
     (simplify-again u wf (d .finished .admits-none)) in
     subst (λ x. Repeats (simplified s l) (simplified x l′)) (sym (d .written-bytes))
     (record {

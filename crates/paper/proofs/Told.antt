@@ -1,10 +1,11 @@
 -- The numbers of every answer of the simplifier fit in 8 bytes, and so its slice tells them: a place is at most the number of records, or
 -- of steps; steps, openings and weights are at most the weight of the table. Assumes nothing.
 use Prim.Native.Nat.{ℕ, zero, suc, _+_, _*_, _^_, _≤_, _<_, min}
-use mathlib.Core.Path.{_≡_, refl, sym, ap, _∙_, subst}
+use mathlib.Core.Path.{_≡_, refl, sym, ap, ap₂, _∙_, subst}
 use mathlib.Core.Bool.{Bool, true, false, cond, not, _&&_}
 use mathlib.Core.List.{List, [], _∷_, _++_, append-assoc}
 use native.Mathlib.Omega.{arith}
+use native.Mathlib.Nat.{mul-le-mul}
 use lib.ListN.{length, getD}
 use lib.Dec.{eqb, ltb, lit<}
 use borrow.Author.Tests.{ltb-true}
@@ -27,6 +28,7 @@ use Rattle.paper.proofs.VerdictLaws.{length-good}
 use Rattle.paper.proofs.EditionOne.{edition-one-good}
 use Rattle.paper.proofs.PlaceOfSeven.{Within, run-within}
 use Rattle.paper.proofs.Simplified.{simplify-finished}
+use Rattle.paper.proofs.TryLaws.{tries-cube}
 use Rattle.paper.proofs.CallLaws.{RunOn, Call, is-turned-down, is-run, call}
 
 -- ---- places, and what is wrong with a record
@@ -99,23 +101,39 @@ judgement-place s l = go (isAccepted (verdict s))
         either maxWeight (cramped (tableWeight s) l) (refused 6 0) accepted (λ e. plain maxWeight 6 0 z) (plain maxWeight 0 0 z)
     go false = verdict-place s
 
+-- and none of the tries
+with-none : (f : Flaw) → FitEight (flawNumbers f) → FitEight (flawNumbers f ++ (0 ∷ []))
+unfolding flawNumbers
+with-none sound h = (h .0, (h .1 .0, (omega arith, tt)))
+with-none bad-kind h = (h .0, (h .1 .0, (omega arith, tt)))
+with-none (bad-byte j) h = (h .0, (h .1 .0, (omega arith, tt)))
+with-none bad-count h = (h .0, (h .1 .0, (omega arith, tt)))
+
+-- the cube of a weight fits in 8 bytes
+cube-small : (w n : ℕ) → w ≤ maxWeight → n ≤ w * (w * w) → n < 2 ^ 64
+cube-small w n h k =
+    let a : w * w ≤ maxWeight * maxWeight = mul-le-mul h h in
+    let b : w * (w * w) ≤ maxWeight * (maxWeight * maxWeight) = mul-le-mul h a in
+    omega arith
+
 -- ---- all numbers of an answer
 run-fit : (t : Tree) → WF t → weight t ≤ maxWeight → (x : Ran) → simplify editionOne t ≡ x → FitEight (answerNumbers (ranAnswer (weight t) x))
 unfolding answerNumbers ranAnswer refusedBy flawNumbers simplify
-run-fit t w h (done u ks o) e =
-    let f = simplify-finished t u ks o w e .lightens in
+run-fit t w h (done u ks o n) e =
+    let f = simplify-finished t u ks o n w e .lightens in
+    let m : n < 2 ^ 64 = cube-small (weight t) n h (tries-cube edition-one-good t u ks o n w e) in
     let r = records-weight u in
-    (omega arith, (omega arith, (omega arith, (omega arith, (omega arith, (omega arith, (omega arith, (omega arith, (omega arith, tt)))))))))
+    (omega arith, (omega arith, (omega arith, (omega arith, (omega arith, (omega arith, (omega arith, (omega arith, (omega arith, (omega arith, tt))))))))))
 run-fit t w h (over k) e =
     let x : Within t (over k) = subst (Within t) e (run-within edition-one-good (weight t) t w) in
-    (omega arith, (omega arith, (omega arith, (omega arith, (omega arith, (omega arith, (omega arith, (omega arith, (omega arith, tt)))))))))
+    (omega arith, (omega arith, (omega arith, (omega arith, (omega arith, (omega arith, (omega arith, (omega arith, (omega arith, (omega arith, tt))))))))))
 
 pub numbers-fit : (s : List ℕ) → Bytes s → (l : Lent) → FitEight (answerNumbers (simplified s l .answer))
 unfolding simplified answerNumbers refusedBy
 numbers-fit s b l = go (call (simplify editionOne) s l b)
   where
     small : (v : Verdict) → v .number ≤ 6 → PlaceIn maxWeight v → FitEight (answerNumbers (refusedBy v))
-    small v h p = let m = p .most in (omega arith, (omega arith, (omega arith, (omega arith, (omega arith, (omega arith, (omega arith, p .fits)))))))
+    small v h p = let m = p .most in (omega arith, (omega arith, (omega arith, (omega arith, (omega arith, (omega arith, (omega arith, with-none (v .flaw) (p .fits))))))))
 
     go : Call (simplify editionOne) s l → FitEight (answerNumbers (simplified s l .answer))
     go (is-turned-down d) = subst (λ a. FitEight (answerNumbers a)) (sym (d .answer)) (small (judgement s l) (d .within) (judgement-place s l))
@@ -138,20 +156,27 @@ number-at (n ∷ ns) rest (suc i) h f =
     ∙ le8-append-add (bytes 8 n) (eights ns ++ rest) (8 * i) ∙ number-at ns rest i (omega arith) (f .1)
 
 -- what is wrong with a record is told by its two numbers
-flaw-told : (f : Flaw) → flawFrom (getD (flawNumbers f) 0 0) (getD (flawNumbers f) 1 0) ≡ f
+flaw-told : (f : Flaw) (n : ℕ) → flawFrom (getD (flawNumbers f ++ (n ∷ [])) 0 0) (getD (flawNumbers f ++ (n ∷ [])) 1 0) ≡ f
 unfolding flawFrom flawNumbers
-flaw-told sound = refl
-flaw-told bad-kind = refl
-flaw-told (bad-byte j) = refl
-flaw-told bad-count = refl
+flaw-told sound n = refl
+flaw-told bad-kind n = refl
+flaw-told (bad-byte j) n = refl
+flaw-told bad-count n = refl
+
+tries-told : (f : Flaw) (n : ℕ) → getD (flawNumbers f ++ (n ∷ [])) 2 0 ≡ n
+unfolding flawNumbers
+tries-told sound n = refl
+tries-told bad-kind n = refl
+tries-told (bad-byte j) n = refl
+tries-told bad-count n = refl
 
 -- a slice that begins with the numbers of an answer tells that answer
 pub told-answer : (a : Answer) (rest : List ℕ) → FitEight (answerNumbers a) → answerIn (eights (answerNumbers a) ++ rest) ≡ a
 unfolding answerIn answerNumbers
 told-answer a rest f =
     let ns = answerNumbers a in
-    let nine : length ns ≡ 9 = answer-count a in
-    let read : (i : ℕ) → i < 9 → le8 (eights ns ++ rest) (8 * i) ≡ getD ns i 0 = λ i h. number-at ns rest i (omega arith) f in
+    let ten : length ns ≡ 10 = answer-count a in
+    let read : (i : ℕ) → i < 10 → le8 (eights ns ++ rest) (8 * i) ≡ getD ns i 0 = λ i h. number-at ns rest i (omega arith) f in
     rw (
       read 0 (lit< tt),
       read 1 (lit< tt),
@@ -162,7 +187,8 @@ told-answer a rest f =
       read 6 (lit< tt),
       read 7 (lit< tt),
       read 8 (lit< tt),
-    ) (ap (λ w. record {
+      read 9 (lit< tt),
+    ) (ap₂ (λ w n. record {
       number = a .number;
       place = a .place;
       flaw = w;
@@ -171,4 +197,5 @@ told-answer a rest f =
       openings = a .openings;
       weight-in = a .weight-in;
       weight-out = a .weight-out;
-    }) (flaw-told (a .flaw)))
+      tries = n;
+    }) (flaw-told (a .flaw) (a .tries)) (tries-told (a .flaw) (a .tries)))

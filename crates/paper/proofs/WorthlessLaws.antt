@@ -18,13 +18,13 @@ use Rattle.paper.specs.WellFormed.{WF}
 use Rattle.paper.specs.Table.{encode, treeOf}
 use Rattle.paper.specs.Verdict.{Verdict, accepted, refused}
 use Rattle.paper.specs.Rules.{editionOne}
-use Rattle.paper.specs.Driver.{Ran, done, over, no-rule, step, ask, members, simplify}
+use Rattle.paper.specs.Driver.{Ran, done, over, no-rule, step, ask, after, tried, members, simplify}
 use Rattle.paper.specs.Admits.{AdmitsNone, admits-none, AllAdmitNone, and-more}
 use Rattle.paper.specs.Answers.{Lent, ran, judgement, cramped, refusedBy, refusal, ranAnswer, written, outAfter, lentAfter, simplifiedBy}
-use Rattle.paper.specs.Demands.{Simplifier, result, Refuses, RunsOver, Follows, Lightens, Finishes, KeepsValue, Accepted}
+use Rattle.paper.specs.Demands.{Simplifier, result, Refuses, LeavesAlone, RunsOver, Follows, Lightens, Finishes, KeepsValue, Accepted}
 use Rattle.paper.specs.Takeover.{Room}
 use Rattle.paper.specs.Worthless.{RefusesEverything, refusesAll, returnsZero, returnsInput, firstPass, passesOnce, rootOnly, staysAtRoot, oneStepMore}
-use Rattle.paper.specs.Worthless.{oneOpeningMore, inventsSteps, inventsOpenings}
+use Rattle.paper.specs.Worthless.{oneOpeningMore, inventsSteps, inventsOpenings, oneTryLess, hidesTries}
 use Rattle.paper.specs.WorthlessKinds.{Makes, ReturnsZero, ReturnsInput, StopsAfterPass, NeverEnters, Invents}
 use Rattle.paper.proofs.EncodeLaws.{encode-bytes}
 use Rattle.paper.proofs.TableLaws.{encode-weight, written-accepted}
@@ -54,13 +54,13 @@ module _ (t : Tree) (w : WF t) (light : weight t ≤ maxWeight) where
       (ap (λ n. cramped n (areas (weight t))) (encode-weight t) ∙ of-room (weight t) (areas (weight t)) (areas-room (weight t)))
 
   -- a simplifier around a run that ends on t with u answers with u's records
-  record Gives (run : Tree → Ran) (u : Tree) (ks : List ℕ) (o : ℕ) : Type 0 where
-    answer : simplifiedBy run (encode t) (areas (weight t)) .answer ≡ ranAnswer (weight t) (done u ks o)
+  record Gives (run : Tree → Ran) (u : Tree) (ks : List ℕ) (o n : ℕ) : Type 0 where
+    answer : simplifiedBy run (encode t) (areas (weight t)) .answer ≡ ranAnswer (weight t) (done u ks o n)
     bytes : result (simplifiedBy run (encode t) (areas (weight t))) ≡ encode u
 
-  gives : (run : Tree → Ran) (u : Tree) (ks : List ℕ) (o : ℕ) → run t ≡ done u ks o → Gives run u ks o
+  gives : (run : Tree → Ran) (u : Tree) (ks : List ℕ) (o n : ℕ) → run t ≡ done u ks o n → Gives run u ks o n
   unfolding ranAnswer lentAfter outAfter written
-  gives run u ks o e = go (call run (encode t) (areas (weight t)) (encode-bytes t))
+  gives run u ks o n e = go (call run (encode t) (areas (weight t)) (encode-bytes t))
     where
       s : List ℕ
       s = encode t
@@ -68,13 +68,13 @@ module _ (t : Tree) (w : WF t) (light : weight t ≤ maxWeight) where
       l : Lent
       l = areas (weight t)
 
-      go : Call run s l → Gives run u ks o
+      go : Call run s l → Gives run u ks o n
       go (is-turned-down d) = absurd (let z : judgement s l .number ≡ 0 = ap (λ v. v .number) tree-accepted in omega (arith, d .number))
       go (is-run r) =
           let x : r .holds .tree ≡ t = same-tree (r .holds .read) (tree-of-written t w light) in
-          let a : simplifiedBy run s l .answer ≡ ranAnswer (weight t) (done u ks o) =
+          let a : simplifiedBy run s l .answer ≡ ranAnswer (weight t) (done u ks o n) =
           r .answer ∙ ap (λ y. ranAnswer (weight y) (run y)) x ∙ ap (ranAnswer (weight t)) e in
-          let g : simplifiedBy run s l .lent ≡ lentAfter (ran (weight t) (done u ks o)) l =
+          let g : simplifiedBy run s l .lent ≡ lentAfter (ran (weight t) (done u ks o n)) l =
           r .lent ∙ ap (λ y. lentAfter (ran (weight y) (run y)) l) x ∙ ap (λ y. lentAfter (ran (weight t) y) l) e in
           record {
             answer = a;
@@ -127,7 +127,7 @@ module _ (f : Simplifier) where
       let t : x .1 .0 ≡ one = same-tree (x .1 .1) (tree-of-written one one-wf one-light) in
       no (sym (ap (simplify editionOne) t) ∙ x .1 .2)
     where
-      no : done one [] 0 ≡ over p → ⊥
+      no : done one [] 0 1 ≡ over p → ⊥
       no e = let z : _≡_ {A = ℕ} 0 1 = cc in omega arith
 
   pub refusing-is-refused : RefusesEverything f → (¬ Refuses f) ⊎ (¬ RunsOver f)
@@ -159,7 +159,7 @@ always-7-is-refused = not-by-7 (refusesAll 7) 0 refl
 pub zero-is-refused : ¬ KeepsValue returnsZero
 unfolding returnsZero trees-compute one ranAnswer
 zero-is-refused k =
-    let g = gives one one-wf one-light (λ t. done (integer 0 (pos 0)) [] 0) (integer 0 (pos 0)) [] 0 refl in
+    let g = gives one one-wf one-light (λ t. done (integer 0 (pos 0)) [] 0 0) (integer 0 (pos 0)) [] 0 0 refl in
     let x = k (encode one) (encode-bytes one) (areas (weight one)) (ap (λ y. y .number) (g .answer)) one (tree-of-written one one-wf one-light) in
     let b = ap treeOf (g .bytes) ∙ tree-of-written (integer 0 (pos 0)) (lit< tt, refl) (lit≤ tt) in
     let u : integer 0 (pos 0) ≡ x .0 = same-tree b (x .1) in
@@ -173,7 +173,7 @@ admits-a-rule t u k e (admits-none a o ms) = let z : step k u ≡ no-rule = sym 
 pub input-is-refused : ¬ Finishes returnsInput
 unfolding returnsInput ranAnswer
 input-is-refused f =
-    let g = gives difference difference-wf difference-light (λ t. done t [] 0) difference [] 0 refl in
+    let g = gives difference difference-wf difference-light (λ t. done t [] 0 0) difference [] 0 0 refl in
     let r = tree-of-written difference difference-wf difference-light in
     let x = f (encode difference) (encode-bytes difference) (areas (weight difference)) (ap (λ y. y .number) (g .answer)) difference r in
     let u : x .0 ≡ difference = same-tree (x .1) (ap treeOf (g .bytes) ∙ r) in
@@ -186,14 +186,14 @@ input-is-refused f =
 pub pass-is-refused : ¬ Finishes passesOnce
 unfolding passesOnce ranAnswer
 pass-is-refused f =
-    let g = gives difference difference-wf difference-light (λ t. firstPass editionOne (weight t) t) once (2 ∷ []) 0 passed in
+    let g = gives difference difference-wf difference-light (λ t. firstPass editionOne (weight t) t) once (2 ∷ []) 0 1 passed in
     let r = tree-of-written once once-wf once-light in
     let x = f (encode difference) (encode-bytes difference) (areas (weight difference)) (ap (λ y. y .number) (g .answer)) difference
     (tree-of-written difference difference-wf difference-light) in
     let u : x .0 ≡ once = same-tree (x .1) (ap treeOf (g .bytes) ∙ r) in
     admits-a-rule once (integer 0 (pos 0)) 3 second-step (subst (AdmitsNone editionOne) u (x .2))
   where
-    passed : firstPass editionOne (weight difference) difference ≡ done once (2 ∷ []) 0
+    passed : firstPass editionOne (weight difference) difference ≡ done once (2 ∷ []) 0 1
     passed = unfold difference once firstPass driver-computes trees-compute in refl
 
     second-step : ask editionOne once ≡ step 3 (integer 0 (pos 0))
@@ -215,7 +215,7 @@ inside = power 0 twice 0 2
 pub root-is-refused : ¬ Finishes staysAtRoot
 unfolding staysAtRoot ranAnswer
 root-is-refused f =
-    let g = gives inside inside-wf inside-light (λ t. rootOnly editionOne (weight t) t) inside [] 0 stays in
+    let g = gives inside inside-wf inside-light (λ t. rootOnly editionOne (weight t) t) inside [] 0 1 stays in
     let r = tree-of-written inside inside-wf inside-light in
     let x = f (encode inside) (encode-bytes inside) (areas (weight inside)) (ap (λ y. y .number) (g .answer)) inside r in
     let u : x .0 ≡ inside = same-tree (x .1) (ap treeOf (g .bytes) ∙ r) in
@@ -227,7 +227,7 @@ root-is-refused f =
     inside-light : weight inside ≤ maxWeight
     inside-light = unfold inside twice weight in (lit≤ tt)
 
-    stays : rootOnly editionOne (weight inside) inside ≡ done inside [] 0
+    stays : rootOnly editionOne (weight inside) inside ≡ done inside [] 0 1
     stays = unfold inside twice rootOnly driver-computes trees-compute in refl
 
     double : Tree
@@ -248,25 +248,34 @@ root-is-refused f =
 
 -- ---- "Invented steps or openings fall to demand 2, since both are those of the driver."
 module _ where
-  ran-one : simplify editionOne one ≡ done one [] 0
+  ran-one : simplify editionOne one ≡ done one [] 0 1
   unfolding one driver-computes
   ran-one = refl
 
   pub steps-are-refused : ¬ Follows inventsSteps
   unfolding inventsSteps oneStepMore ranAnswer
   steps-are-refused f =
-      let g = gives one one-wf one-light (λ t. oneStepMore (simplify editionOne t)) one (1 ∷ []) 0 (ap oneStepMore ran-one) in
-      let x = f (encode one) (encode-bytes one) (areas (weight one)) (tree-accepted one one-wf one-light) one one [] 0
+      let g = gives one one-wf one-light (λ t. oneStepMore (simplify editionOne t)) one (1 ∷ []) 0 1 (ap oneStepMore ran-one) in
+      let x = f (encode one) (encode-bytes one) (areas (weight one)) (tree-accepted one one-wf one-light) one one [] 0 1
       (tree-of-written one one-wf one-light) ran-one .0 in
       let z : _≡_ {A = ℕ} 0 1 = ap (λ y. y .steps-taken) (sym x ∙ g .answer) in omega arith
 
   pub openings-are-refused : ¬ Follows inventsOpenings
   unfolding inventsOpenings oneOpeningMore ranAnswer
   openings-are-refused f =
-      let g = gives one one-wf one-light (λ t. oneOpeningMore (simplify editionOne t)) one [] 1 (ap oneOpeningMore ran-one) in
-      let x = f (encode one) (encode-bytes one) (areas (weight one)) (tree-accepted one one-wf one-light) one one [] 0
+      let g = gives one one-wf one-light (λ t. oneOpeningMore (simplify editionOne t)) one [] 1 1 (ap oneOpeningMore ran-one) in
+      let x = f (encode one) (encode-bytes one) (areas (weight one)) (tree-accepted one one-wf one-light) one one [] 0 1
       (tree-of-written one one-wf one-light) ran-one .0 in
       let z : _≡_ {A = ℕ} 0 1 = ap (λ y. y .openings) (sym x ∙ g .answer) in omega arith
+
+  -- and so does a hidden try
+  pub tries-are-refused : ¬ Follows hidesTries
+  unfolding hidesTries oneTryLess ranAnswer
+  tries-are-refused f =
+      let g = gives one one-wf one-light (λ t. oneTryLess (simplify editionOne t)) one [] 0 0 (ap oneTryLess ran-one) in
+      let x = f (encode one) (encode-bytes one) (areas (weight one)) (tree-accepted one one-wf one-light) one one [] 0 1
+      (tree-of-written one one-wf one-light) ran-one .0 in
+      let z : _≡_ {A = ℕ} 1 0 = ap (λ y. y .tries) (sym x ∙ g .answer) in omega arith
 
 -- ---- the same of any simplifier that does as they do. What such a one gives for the table of t is the table of u; so what demand 3 says
 -- of its result is said of u.
@@ -297,7 +306,7 @@ module _ where
   second-step : ask editionOne once ≡ step 3 (integer 0 (pos 0))
   second-step = unfold once driver-computes in refl
 
-  passed-once : firstPass editionOne (weight difference) difference ≡ done once (2 ∷ []) 0
+  passed-once : firstPass editionOne (weight difference) difference ≡ done once (2 ∷ []) 0 1
   passed-once = unfold difference once firstPass driver-computes trees-compute in refl
 
   once-wf : WF once
@@ -309,7 +318,7 @@ module _ where
   pub stopping-is-refused : (f : Simplifier) → StopsAfterPass f → ¬ Finishes f
   stopping-is-refused f g k =
       admits-a-rule once (integer 0 (pos 0)) 3 second-step
-      (said-of f g difference once (2 ∷ [], 0, passed-once) difference-wf difference-light once-wf once-light (λ t u. AdmitsNone editionOne u) k)
+      (said-of f g difference once (2 ∷ [], 0, 1, passed-once) difference-wf difference-light once-wf once-light (λ t u. AdmitsNone editionOne u) k)
 
   inside-is-wf : WF inside
   inside-is-wf = unfold inside twice trees-compute in ((lit≤ tt, ((lit< tt, refl), ((lit< tt, refl), tt)), refl), lit≤ tt, lit< tt, refl, refl)
@@ -344,11 +353,11 @@ module _ where
 -- told another number of steps or of openings than the driver has
 pub inventing-is-refused : (f : Simplifier) (told : ℕ → ℕ → ℕ) → Invents f told → ¬ Follows f
 inventing-is-refused f told i k =
-    let x = k (i .table) (i .bytes) (i .areas) (i .accepts) (i .tree) (i .end) (i .steps) (i .openings) (i .read) (i .ran) .0 in
+    let x = k (i .table) (i .bytes) (i .areas) (i .accepts) (i .tree) (i .end) (i .steps) (i .openings) (i .tries) (i .read) (i .ran) .0 in
     i .other (ap (λ a. told (a .steps-taken) (a .openings)) x)
 
 -- ---- there are such simplifiers: each of the programs above is one of its kind
-module _ (run : Tree → Ran) (P : Tree → Tree → Type 0) (ends : (t u : Tree) → P t u → (ks : List ℕ) × (o : ℕ) × (run t ≡ done u ks o)) where
+module _ (run : Tree → Ran) (P : Tree → Tree → Type 0) (ends : (t u : Tree) → P t u → (ks : List ℕ) × (o : ℕ) × (n : ℕ) × (run t ≡ done u ks o n)) where
   run-makes : Makes P (simplifiedBy run)
   unfolding ranAnswer lentAfter outAfter written
   run-makes s b l j t u r p = go (call run s l b)
@@ -357,7 +366,7 @@ module _ (run : Tree → Ran) (P : Tree → Tree → Type 0) (ends : (t u : Tree
       go (is-turned-down d) = absurd (let z : judgement s l .number ≡ 0 = ap (λ v. v .number) j in omega (arith, d .number))
       go (is-run c) =
           let v = c .holds .tree in
-          let e : run v ≡ done u (ends t u p .0) (ends t u p .1) = ap run (same-tree (c .holds .read) r) ∙ ends t u p .2 in
+          let e : run v ≡ done u (ends t u p .0) (ends t u p .1) (ends t u p .2) = ap run (same-tree (c .holds .read) r) ∙ ends t u p .3 in
           let x = c .answer ∙ ap (ranAnswer (weight v)) e in
           let y = c .lent ∙ ap (λ z. lentAfter (ran (weight v) z) l) e in (
             ap (λ z. z .number) x,
@@ -366,11 +375,11 @@ module _ (run : Tree → Ran) (P : Tree → Tree → Type 0) (ends : (t u : Tree
 
 pub zero-returns-zero : ReturnsZero returnsZero
 unfolding returnsZero
-zero-returns-zero = run-makes _ _ (λ t u e. ([], 0, ap (λ y. done y [] 0) (sym e)))
+zero-returns-zero = run-makes _ _ (λ t u e. ([], 0, 0, ap (λ y. done y [] 0 0) (sym e)))
 
 pub input-returns-input : ReturnsInput returnsInput
 unfolding returnsInput
-input-returns-input = run-makes _ _ (λ t u e. ([], 0, ap (λ y. done y [] 0) (sym e)))
+input-returns-input = run-makes _ _ (λ t u e. ([], 0, 0, ap (λ y. done y [] 0 0) (sym e)))
 
 pub pass-stops : StopsAfterPass passesOnce
 unfolding passesOnce
@@ -378,13 +387,18 @@ pass-stops = run-makes _ _ (λ t u e. e)
 
 pub root-never-enters : NeverEnters staysAtRoot
 unfolding staysAtRoot
-root-never-enters = run-makes _ _ (λ t u e. ([], 0, stays t (weight t) (e .0) ∙ ap (λ y. done y [] 0) (sym (e .1))))
+root-never-enters = run-makes _ _ (λ t u e. let s = stays t (weight t) (e .0) in ([], 0, s .0, s .1 ∙ ap (λ y. done y [] 0 (s .0)) (sym (e .1))))
   where
-    stays : (t : Tree) (n : ℕ) → ask editionOne t ≡ no-rule → rootOnly editionOne n t ≡ done t [] 0
-    stays t zero e = unfold rootOnly in refl
-    stays t (suc n) e = unfold rootOnly in rw (e, rootOnly) refl
+    stays : (t : Tree) (n : ℕ) → ask editionOne t ≡ no-rule → (m : ℕ) × (rootOnly editionOne n t ≡ done t [] 0 m)
+    stays t zero e = (0, unfold rootOnly in refl)
+    stays t (suc n) e = (1, unfold rootOnly tried after in rw (e, rootOnly) refl)
 
 -- told more steps and openings than the weight that is lost, on some accepted call: it fails `lightens`
 pub overcounting-is-refused : (f : Simplifier) (s : List ℕ) → Bytes s → (l : Lent) → f s l .answer .number ≡ 0 → (t : Tree) → treeOf s ≡ some t
     → ((u : Tree) → treeOf (result (f s l)) ≡ some u → weight t < f s l .answer .steps-taken + f s l .answer .openings + weight u) → ¬ Lightens f
 overcounting-is-refused f s b l n t r more k = let x = k s b l n t r in omega (arith, x .2, more (x .0) (x .1))
+
+-- one that changes a lent byte though it refuses by one of 1 to 6, on some call: it fails `leaves-alone`
+pub scribbling-is-refused : (f : Simplifier) (s : List ℕ) → Bytes s → (l : Lent) (v : Verdict) → 1 ≤ v .number → v .number ≤ 6
+    → f s l .answer ≡ refusedBy v → ¬ (f s l .lent ≡ l) → ¬ LeavesAlone f
+scribbling-is-refused f s b l v h g e changed alone = changed (alone s b l v h g e)

@@ -86,6 +86,7 @@ pub record Answer : Type 0 where
   pub openings : ℕ
   pub weight-in : ℕ
   pub weight-out : ℕ
+  pub tries : ℕ
 
 -- 6: "`out` under 16 x W bytes, `steps` under W, or `work` under 65,536"
 unfoldable pub cramped : ℕ → Lent → Bool
@@ -120,6 +121,7 @@ refusedBy v =
       openings = 0;
       weight-in = 0;
       weight-out = 0;
+      tries = 0;
     }
 
 -- one that says nothing of a record
@@ -128,7 +130,7 @@ refusal k p = refusedBy (refused k p)
 
 -- "An accepted call returns 0, place 0, the records written, the steps, the openings, and both weights."
 unfoldable pub ranAnswer : ℕ → Ran → Answer
-ranAnswer w (done u ks o) =
+ranAnswer w (done u ks o n) =
     record {
       number = 0;
       place = 0;
@@ -138,6 +140,7 @@ ranAnswer w (done u ks o) =
       openings = o;
       weight-in = w;
       weight-out = weight u;
+      tries = n;
     }
 ranAnswer w (over k) = refusal 7 k
 
@@ -148,11 +151,11 @@ answerOf (ran w r) = ranAnswer w r
 -- "It writes the tree to `out` and the step numbers, one byte each, to `steps`, and zeros up to 16 x W and W bytes. After 7 these
 -- two stretches are zeros throughout."
 unfoldable pub written : Ran → List ℕ
-written (done u ks o) = encode u
+written (done u ks o n) = encode u
 written (over k) = []
 
 unfoldable pub noted : Ran → List ℕ
-noted (done u ks o) = ks
+noted (done u ks o n) = ks
 noted (over k) = []
 
 unfoldable pub outAfter : Outcome → List ℕ → List ℕ

@@ -12,7 +12,8 @@ use Rattle.paper.specs.Verdict.{Verdict, verdict}
 use Rattle.paper.specs.Equal.{one}
 use Rattle.paper.specs.Answers.{Measured, weighed, valued, Compared, compared, Lent, Answer, Given, simplified}
 
--- the numbers of an answer, in the order that the paper names them; last, so that no other number moves, what is wrong with the record
+-- the numbers of an answer, in the order that the paper names them; after them, so that
+-- no other number moves, what is wrong with the record, and last the tries
 unfoldable pub verdictNumbers : Verdict → List ℕ
 verdictNumbers v = v .number ∷ v .place ∷ flawNumbers (v .flaw)
 
@@ -25,7 +26,7 @@ comparedNumbers c = c .number ∷ c .place ∷ c .which ∷ one (c .yes) ∷ fla
 unfoldable pub answerNumbers : Answer → List ℕ
 answerNumbers a =
     a .number ∷ a .place ∷ a .records-written ∷ a .steps-taken ∷ a .openings ∷ a .weight-in ∷ a .weight-out
-    ∷ flawNumbers (a .flaw)
+    ∷ (flawNumbers (a .flaw) ++ (a .tries ∷ []))
 
 -- 8 bytes each, little-endian
 unfoldable pub eights : List ℕ → List ℕ

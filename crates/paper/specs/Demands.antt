@@ -58,7 +58,7 @@ module _ (f : Simplifier) where
   abbrev pub Follows : Type 0
   Follows =
       (s : List ℕ) → Bytes s → (l : Lent) → judgement s l ≡ accepted
-      → (t u : Tree) (ks : List ℕ) (o : ℕ) → treeOf s ≡ some t → simplify editionOne t ≡ done u ks o
+      → (t u : Tree) (ks : List ℕ) (o n : ℕ) → treeOf s ≡ some t → simplify editionOne t ≡ done u ks o n
       → (f s l .answer
       ≡ record {
         number = 0;
@@ -69,6 +69,7 @@ module _ (f : Simplifier) where
         openings = o;
         weight-in = weight t;
         weight-out = weight u;
+        tries = n;
       })
       × (f s l .lent
       ≡ record {
@@ -87,6 +88,10 @@ module _ (f : Simplifier) where
   abbrev pub Lightens : Type 0
   Lightens = Accepted (λ s l t u. f s l .answer .steps-taken + f s l .answer .openings + weight u ≤ weight t)
 
+  -- "they are at most the cube of the weight going in"
+  abbrev pub Bounded : Type 0
+  Bounded = Accepted (λ s l t u. f s l .answer .tries ≤ weight t * (weight t * weight t))
+
   -- "the output admits no rule and no opening"
   abbrev pub Finishes : Type 0
   Finishes = Accepted (λ s l t u. AdmitsNone editionOne u)
@@ -102,5 +107,6 @@ pub record Demands (f : Simplifier) : Type 0 where
   pub runs-over : RunsOver f
   pub follows : Follows f
   pub lightens : Lightens f
+  pub bounded : Bounded f
   pub finishes : Finishes f
   pub keeps-value : KeepsValue f

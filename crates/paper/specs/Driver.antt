@@ -27,28 +27,32 @@ ask (r ∷ rs) t =
       | range-exceeded ↦ out-of-range
     ]
 
--- a run: the tree it ends with, its steps in order, its openings; or the steps completed before an integer outside the range
+-- a run: the tree it ends with, its steps in order, its openings, its tries; or the steps completed before an integer outside the range
 pub data Ran : Type 0 where
-  done : Tree → List ℕ → ℕ → Ran
+  done : Tree → List ℕ → ℕ → ℕ → Ran
   over : ℕ → Ran
 
 -- the runs of the members, first to last
 pub data Rans : Type 0 where
-  dones : List Tree → List ℕ → ℕ → Rans
+  dones : List Tree → List ℕ → ℕ → ℕ → Rans
   overs : ℕ → Rans
 
--- a run with steps and openings before it
-unfoldable pub after : List ℕ → ℕ → Ran → Ran
-after s o (done t s′ o′) = done t (s ++ s′) (o + o′)
-after s o (over k) = over (length s + k)
+-- a run with steps, openings and tries before it
+unfoldable pub after : List ℕ → ℕ → ℕ → Ran → Ran
+after s o n (done t s′ o′ n′) = done t (s ++ s′) (o + o′) (n + n′)
+after s o n (over k) = over (length s + k)
+
+-- "A try is one asking, at one node, whether any rule applies": a run with one before it
+unfoldable pub tried : Ran → Ran
+tried r = after [] 0 1 r
 
 unfoldable pub andThen : Ran → Rans → Rans
 andThen (over k) r = overs k
-andThen (done t s o) (overs k) = overs (length s + k)
-andThen (done t s o) (dones l s′ o′) = dones (t ∷ l) (s ++ s′) (o + o′)
+andThen (done t s o n) (overs k) = overs (length s + k)
+andThen (done t s o n) (dones l s′ o′ n′) = dones (t ∷ l) (s ++ s′) (o + o′) (n + n′)
 
 unfoldable pub each : (Tree → Ran) → List Tree → Rans
-each run [] = dones [] [] 0
+each run [] = dones [] [] 0 0
 each run (t ∷ l) = andThen (run t) (each run l)
 
 -- the members, a power's exponent among them
@@ -98,26 +102,26 @@ gather (product μ f) l = let r = opened asProduct l in (product μ (ofList (r .
 gather (power μ b ξ e) l = (power μ (baseFrom b l) ξ e, 0)
 
 -- finished where nothing changed and nothing was opened, begun again where something did
-unfoldable pub settle : (Tree → Ran) → List ℕ → ℕ → Tree → Bool → Ran
-settle again s o t true = done t [] 0
-settle again s o t false = after s o (again t)
+unfoldable pub settle : (Tree → Ran) → List ℕ → ℕ → ℕ → Tree → Bool → Ran
+settle again s o n t true = done t [] 0 n
+settle again s o n t false = after s o n (again t)
 
 unfoldable pub gathered : (Tree → Ran) → Tree → Rans → Ran
 gathered again t (overs k) = over k
-gathered again t (dones l s o) =
+gathered again t (dones l s o n) =
     let g = gather t l in
-    settle again s (o + g .1) (g .0) (eqb (length s + (o + g .1)) 0)
+    settle again s (o + g .1) n (g .0) (eqb (length s + (o + g .1)) 0)
 
 -- one visit of a node, where the rules' answer there is known; `again` is the driver
 unfoldable pub visit : (Tree → Ran) → Tree → Asked → Ran
-visit again t (step k u) = after (k ∷ []) 0 (again u)
+visit again t (step k u) = after (k ∷ []) 0 0 (again u)
 visit again t out-of-range = over 0
 visit again t no-rule = gathered again t (each again (members t))
 
 -- at most n visits deep; the weight is enough (proofs/Fuel)
 unfoldable pub run : List Rule → ℕ → Tree → Ran
-run rs zero t = done t [] 0
-run rs (suc n) t = visit (λ u. run rs n u) t (ask rs t)
+run rs zero t = done t [] 0 0
+run rs (suc n) t = tried (visit (λ u. run rs n u) t (ask rs t))
 
 unfoldable pub simplify : List Rule → Tree → Ran
 simplify rs t = run rs (weight t) t

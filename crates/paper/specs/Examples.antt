@@ -41,7 +41,7 @@ minus n = integer 0 (negsuc (n - 1))
 
 -- the tree, its weight, the result, its steps, its openings, the result's weight
 abbrev gives : Tree → ℕ → Tree → List ℕ → ℕ → ℕ → Example
-gives t w u s o v = record { given = t; answer = done u s o; weight-in = w; weight-out = v }
+gives t w u s o v = record { given = t; answer = done u s o 0; weight-in = w; weight-out = v }
 
 -- 1. a + a gives 2*a
 unfoldable pub exampleOne : Example
@@ -164,16 +164,54 @@ edges =
     ∷ gives (raised a 1) 5 (raised a 1) ([]) 0 5
     ∷ []
 
+-- "A try is one asking, at one node, whether any rule applies": the tries of small trees, of which the paper's examples say nothing
+pub record Count : Type 0 where
+  pub given : Tree
+  pub tries : ℕ
+
+unfoldable pub counts : List Count
+counts =
+    -- a leaf is asked
+    record { given = a; tries = 1 }
+    -- node, base and exponent
+    ∷ record { given = raised a 2; tries = 3 }
+    ∷ record { given = plus (a ∷ b ∷ []); tries = 3 }
+    -- one, step 2, and then the three nodes of 2*a
+    ∷ record { given = plus (a ∷ a ∷ []); tries = 4 }
+    -- one, step 1, and then 0
+    ∷ record { given = plus (i 0 ∷ i 0 ∷ []); tries = 2 }
+    ∷ record { given = times (times (a ∷ b ∷ []) ∷ a ∷ []); tries = 11 }
+    ∷ record { given = times (plus (a ∷ a ∷ []) ∷ b ∷ []); tries = 10 }
+    ∷ record { given = plus (times (plus (a ∷ a ∷ []) ∷ b ∷ []) ∷ c ∷ []); tries = 18 }
+    ∷ record { given = raised (plus (a ∷ a ∷ [])) 2; tries = 11 }
+    -- example 10
+    ∷ record { given = times (raised (times (a ∷ b ∷ [])) 1 ∷ c ∷ c ∷ a ∷ []); tries = 18 }
+    -- none is told after 7
+    ∷ record { given = plus (i 9223372036854775807 ∷ i 1 ∷ []); tries = 0 }
+    ∷ []
+
+unfoldable pub triesOf : Ran → ℕ
+triesOf (done t s o n) = n
+triesOf (over k) = 0
+
+unfoldable pub counted : Tree → Count
+counted t = record { given = t; tries = triesOf (simplify editionOne t) }
+
 unfoldable pub outWeight : Ran → ℕ
-outWeight (done t s o) = weight t
+outWeight (done t s o n) = weight t
 outWeight (over k) = 0
+
+-- a run without its tries, of which the paper's examples say nothing
+unfoldable pub untried : Ran → Ran
+untried (done t s o n) = done t s o 0
+untried (over k) = over k
 
 -- what the definitions give for a tree
 unfoldable pub computed : Tree → Example
 computed t =
     record {
       given = t;
-      answer = simplify editionOne t;
+      answer = untried (simplify editionOne t);
       weight-in = weight t;
       weight-out = outWeight (simplify editionOne t);
     }

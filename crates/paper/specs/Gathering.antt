@@ -13,7 +13,7 @@ use Rattle.paper.specs.Tree.{Tree, integer, symbol, sum, product, power,
 use Rattle.paper.specs.Table.{treeOf}
 use Rattle.paper.specs.Verdict.{accepted, verdict}
 use Rattle.paper.specs.Rules.{Rule, collapse}
-use Rattle.paper.specs.Driver.{Asked, no-rule, step, out-of-range, ask, Ran, done, over, Rans, dones, overs, after, each, members}
+use Rattle.paper.specs.Driver.{Asked, no-rule, step, out-of-range, ask, Ran, done, over, Rans, dones, overs, after, tried, each, members}
 use Rattle.paper.specs.Driver.{asSum, asProduct, opened, baseFrom, settle, simplify}
 
 -- "A gathered list of fewer than two members would collapse as after a rule."
@@ -27,18 +27,18 @@ gatherCollapsing (power μ b ξ e) l = (power μ (baseFrom b l) ξ e, 0)
 -- the driver over it
 unfoldable pub gatheredCollapsing : (Tree → Ran) → Tree → Rans → Ran
 gatheredCollapsing again t (overs k) = over k
-gatheredCollapsing again t (dones l s o) =
+gatheredCollapsing again t (dones l s o n) =
     let g = gatherCollapsing t l in
-    settle again s (o + g .1) (g .0) (eqb (length s + (o + g .1)) 0)
+    settle again s (o + g .1) n (g .0) (eqb (length s + (o + g .1)) 0)
 
 unfoldable pub visitCollapsing : (Tree → Ran) → Tree → Asked → Ran
-visitCollapsing again t (step k u) = after (k ∷ []) 0 (again u)
+visitCollapsing again t (step k u) = after (k ∷ []) 0 0 (again u)
 visitCollapsing again t out-of-range = over 0
 visitCollapsing again t no-rule = gatheredCollapsing again t (each again (members t))
 
 unfoldable pub runCollapsing : List Rule → ℕ → Tree → Ran
-runCollapsing rs zero t = done t [] 0
-runCollapsing rs (suc n) t = visitCollapsing (λ u. runCollapsing rs n u) t (ask rs t)
+runCollapsing rs zero t = done t [] 0 0
+runCollapsing rs (suc n) t = tried (visitCollapsing (λ u. runCollapsing rs n u) t (ask rs t))
 
 unfoldable pub simplifyCollapsing : List Rule → Tree → Ran
 simplifyCollapsing rs t = runCollapsing rs (weight t) t

@@ -54,8 +54,8 @@ pub record Sayings : Type 0 where
   pub equal-second : compared a+b b^0 ≡ compares 5 2 2 false
   pub equal-yes : compared a+b a+b ≡ compares 0 0 0 true
   pub zeros-and-past : stretch 4 (1 ∷ 2 ∷ []) (9 ∷ 9 ∷ 9 ∷ 9 ∷ 9 ∷ []) ≡ 1 ∷ 2 ∷ 0 ∷ 0 ∷ 9 ∷ []
-  pub numbers : answerNumbers (ranAnswer 15 (done (symbol 0 0) (2 ∷ 6 ∷ []) 4)) ≡ 0 ∷ 0 ∷ 1 ∷ 2 ∷ 4 ∷ 15 ∷ 3 ∷ 0 ∷ 0 ∷ []
-  pub numbers-refused : answerNumbers (ranAnswer 15 (over 3)) ≡ 7 ∷ 3 ∷ 0 ∷ 0 ∷ 0 ∷ 0 ∷ 0 ∷ 0 ∷ 0 ∷ []
+  pub numbers : answerNumbers (ranAnswer 15 (done (symbol 0 0) (2 ∷ 6 ∷ []) 4 9)) ≡ 0 ∷ 0 ∷ 1 ∷ 2 ∷ 4 ∷ 15 ∷ 3 ∷ 0 ∷ 0 ∷ 9 ∷ []
+  pub numbers-refused : answerNumbers (ranAnswer 15 (over 3)) ≡ 7 ∷ 3 ∷ 0 ∷ 0 ∷ 0 ∷ 0 ∷ 0 ∷ 0 ∷ 0 ∷ 0 ∷ []
   pub slice-short : (weightReturns a+b (replicate 39 9) ≡ 6) × (weightAnswers a+b (replicate 39 9) ≡ replicate 39 9)
   pub slice : (weightReturns cut (replicate 41 9) ≡ 4)
       × (weightAnswers a+b (replicate 41 9) ≡ replicate 16 0 ++ (7 ∷ replicate 23 0 ++ (9 ∷ [])))
@@ -71,4 +71,4 @@ pub record Sayings : Type 0 where
   pub weight-says : weightAnswers badCount (replicate 40 9) ≡ eights (2 ∷ 0 ∷ 0 ∷ 3 ∷ 0 ∷ [])
   pub value-says : valueAnswers badByte [] (replicate 40 9) ≡ eights (2 ∷ 0 ∷ 0 ∷ 2 ∷ 3 ∷ [])
   pub equal-says : equalAnswers a+b badByte (replicate 48 9) ≡ eights (2 ∷ 0 ∷ 2 ∷ 0 ∷ 2 ∷ 3 ∷ [])
-  pub simplify-says : answerNumbers (refusedBy (flawed 4 bad-kind)) ≡ 2 ∷ 4 ∷ 0 ∷ 0 ∷ 0 ∷ 0 ∷ 0 ∷ 1 ∷ 0 ∷ []
+  pub simplify-says : answerNumbers (refusedBy (flawed 4 bad-kind)) ≡ 2 ∷ 4 ∷ 0 ∷ 0 ∷ 0 ∷ 0 ∷ 0 ∷ 1 ∷ 0 ∷ 0 ∷ []

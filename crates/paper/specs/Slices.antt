@@ -10,7 +10,7 @@ use Rattle.paper.specs.Calls.{verdictNumbers, measuredNumbers, comparedN
 use Rattle.paper.specs.Calls.{checkReturns, checkAnswers, weightReturns, weightAnswers, valueReturns, valueAnswers}
 use Rattle.paper.specs.Calls.{equalReturns, equalAnswers, simplifyReturns, simplifyAnswers, simplifyLeaves}
 
--- the bytes of an answer: four numbers, five, six, and nine
+-- the bytes of an answer: four numbers, five, six, and ten
 abbrev pub checkBytes : ℕ
 checkBytes = 32
 
@@ -21,7 +21,7 @@ abbrev pub equalBytes : ℕ
 equalBytes = 48
 
 abbrev pub simplifyBytes : ℕ
-simplifyBytes = 72
+simplifyBytes = 80
 
 -- of a call that has a number and all numbers ns to tell, what it returns and what its slice is afterwards, n bytes being room enough
 abbrev pub TellsIn : ℕ → ℕ → List ℕ → (List ℕ → ℕ) → (List ℕ → List ℕ) → Type 0

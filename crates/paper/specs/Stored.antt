@@ -34,7 +34,7 @@ raised t n = power 0 t 0 n
 
 -- the tree, its weight, the result, its steps, its openings, the result's weight
 abbrev gives : Tree → ℕ → Tree → List ℕ → ℕ → ℕ → Example
-gives t w u s o v = record { given = t; answer = done u s o; weight-in = w; weight-out = v }
+gives t w u s o v = record { given = t; answer = done u s o 0; weight-in = w; weight-out = v }
 
 -- the tree, its weight, the place of 7
 abbrev leaves : Tree → ℕ → ℕ → Example

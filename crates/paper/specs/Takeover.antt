@@ -28,6 +28,7 @@ again a =
       openings = 0;
       weight-in = a .weight-out;
       weight-out = a .weight-out;
+      tries = a .records-written;
     }
 
 -- what a second call gives repeats what the first one gave

@@ -23,6 +23,7 @@ answerIn slice =
       openings = le8 slice 32;
       weight-in = le8 slice 40;
       weight-out = le8 slice 48;
+      tries = le8 slice 72;
     }
 
 -- numbers that 8 bytes hold

@@ -1,6 +1,6 @@
--- "Four worthless simplifiers must be turned away", and invented steps and openings too, and one that never enters a member. Each is
--- refuted at the field that the paper names for it (proofs/WorthlessLaws).
-use Prim.Native.Nat.{ℕ, zero, suc, _+_, _≤_}
+-- "Four worthless simplifiers must be turned away", and invented steps and openings too, one that never enters a member, and one that
+-- hides a try. Each is refuted at the field that the paper names for it (proofs/WorthlessLaws).
+use Prim.Native.Nat.{ℕ, zero, suc, _+_, _-_, _≤_}
 use mathlib.Core.Path.{_≡_}
 use mathlib.Core.Logic.{_⊎_}
 use mathlib.Core.List.{List, [], _∷_}
@@ -9,7 +9,7 @@ use Rattle.paper.specs.Bytes.{Bytes}
 use Rattle.paper.specs.Tree.{Tree, integer, weight}
 use Rattle.paper.specs.Verdict.{Verdict}
 use Rattle.paper.specs.Rules.{Rule, editionOne}
-use Rattle.paper.specs.Driver.{Ran, done, over, Rans, dones, overs, ask, step, out-of-range, no-rule, after, each, members, gather}
+use Rattle.paper.specs.Driver.{Ran, done, over, Rans, dones, overs, ask, step, out-of-range, no-rule, after, tried, each, members, gather}
 use Rattle.paper.specs.Driver.{simplify}
 use Rattle.paper.specs.Answers.{Lent, refusedBy, refusal, simplifiedBy}
 use Rattle.paper.specs.Demands.{Simplifier}
@@ -26,22 +26,22 @@ refusesAll k s l = record { answer = refusal k 0; lent = l }
 
 -- one that returns 0 for all
 unfoldable pub returnsZero : Simplifier
-returnsZero = simplifiedBy (λ t. done (integer 0 (pos 0)) [] 0)
+returnsZero = simplifiedBy (λ t. done (integer 0 (pos 0)) [] 0 0)
 
 -- one that returns its input
 unfoldable pub returnsInput : Simplifier
-returnsInput = simplifiedBy (λ t. done t [] 0)
+returnsInput = simplifiedBy (λ t. done t [] 0 0)
 
 -- one that makes a first pass and then stops: it never begins again
 unfoldable pub gatheredOnce : Tree → Rans → Ran
 gatheredOnce t (overs k) = over k
-gatheredOnce t (dones l s o) = done (gather t l .0) s (o + gather t l .1)
+gatheredOnce t (dones l s o n) = done (gather t l .0) s (o + gather t l .1) (suc n)
 
 unfoldable pub firstPass : List Rule → ℕ → Tree → Ran
-firstPass rs zero t = done t [] 0
+firstPass rs zero t = done t [] 0 0
 firstPass rs (suc n) t =
     elim (ask rs t) [
-      | step k u ↦ done u (k ∷ []) 0
+      | step k u ↦ done u (k ∷ []) 0 1
       | out-of-range ↦ over 0
       | no-rule ↦ gatheredOnce t (each (λ u. firstPass rs n u) (members t))
     ]
@@ -51,24 +51,25 @@ passesOnce = simplifiedBy (λ t. firstPass editionOne (weight t) t)
 
 -- one that never enters a member: it tries the rules at the root alone, as often as one applies
 unfoldable pub rootOnly : List Rule → ℕ → Tree → Ran
-rootOnly rs zero t = done t [] 0
+rootOnly rs zero t = done t [] 0 0
 rootOnly rs (suc n) t =
-    elim (ask rs t) [
-      | step k u ↦ after (k ∷ []) 0 (rootOnly rs n u)
+    tried
+    (elim (ask rs t) [
+      | step k u ↦ after (k ∷ []) 0 0 (rootOnly rs n u)
       | out-of-range ↦ over 0
-      | no-rule ↦ done t [] 0
-    ]
+      | no-rule ↦ done t [] 0 0
+    ])
 
 unfoldable pub staysAtRoot : Simplifier
 staysAtRoot = simplifiedBy (λ t. rootOnly editionOne (weight t) t)
 
 -- invented steps, invented openings
 unfoldable pub oneStepMore : Ran → Ran
-oneStepMore (done u ks o) = done u (1 ∷ ks) o
+oneStepMore (done u ks o n) = done u (1 ∷ ks) o n
 oneStepMore (over k) = over k
 
 unfoldable pub oneOpeningMore : Ran → Ran
-oneOpeningMore (done u ks o) = done u ks (suc o)
+oneOpeningMore (done u ks o n) = done u ks (suc o) n
 oneOpeningMore (over k) = over k
 
 unfoldable pub inventsSteps : Simplifier
@@ -76,3 +77,11 @@ inventsSteps = simplifiedBy (λ t. oneStepMore (simplify editionOne t))
 
 unfoldable pub inventsOpenings : Simplifier
 inventsOpenings = simplifiedBy (λ t. oneOpeningMore (simplify editionOne t))
+
+-- and one that hides a try
+unfoldable pub oneTryLess : Ran → Ran
+oneTryLess (done u ks o n) = done u ks o (n - 1)
+oneTryLess (over k) = over k
+
+unfoldable pub hidesTries : Simplifier
+hidesTries = simplifiedBy (λ t. oneTryLess (simplify editionOne t))

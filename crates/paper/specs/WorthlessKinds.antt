@@ -33,7 +33,7 @@ ReturnsInput = Makes (λ t u. u ≡ t)
 
 -- "One that makes a first pass and then stops"
 abbrev pub StopsAfterPass : Simplifier → Type 0
-StopsAfterPass = Makes (λ t u. (ks : List ℕ) × (o : ℕ) × (firstPass editionOne (weight t) t ≡ done u ks o))
+StopsAfterPass = Makes (λ t u. (ks : List ℕ) × (o : ℕ) × (n : ℕ) × (firstPass editionOne (weight t) t ≡ done u ks o n))
 
 -- one that never enters a node's members: where no rule applies at the root, it returns its input
 abbrev pub NeverEnters : Simplifier → Type 0
@@ -50,5 +50,6 @@ pub record Invents (f : Simplifier) (told : ℕ → ℕ → ℕ) : Type 0 where
   pub end : Tree
   pub steps : List ℕ
   pub openings : ℕ
-  pub ran : simplify editionOne tree ≡ done end steps openings
+  pub tries : ℕ
+  pub ran : simplify editionOne tree ≡ done end steps openings tries
   pub other : ¬ (told (f table areas .answer .steps-taken) (f table areas .answer .openings) ≡ told (length steps) openings)

@@ -83,20 +83,20 @@ with-flaw before rest e w = w ∙ ap (λ (l : List ℕ). eights (before ++ l) ++
 
 -- ---- the simplifier's call: its areas, too, are as they were where the slice is too short
 module _ (s slice : List ℕ) (l : Lent) where
-  pub simplify-no-room : length slice < 72
+  pub simplify-no-room : length slice < 80
       → (6 ≡ simplifyReturns s l slice) × ((slice ≡ simplifyAnswers s l slice) × (l ≡ simplifyLeaves s l slice))
   unfolding simplifyReturns simplifyAnswers simplifyLeaves tooShort
   simplify-no-room h =
       let a = simplified s l .answer in
       let count = answer-count a in
-      let q = no-room (answerNumbers a) slice (a .number) 9 count h in
+      let q = no-room (answerNumbers a) slice (a .number) 10 count h in
       (q .0, (q .1, rw (lt-ltb (length slice) (8 * length (answerNumbers a)) (omega arith))))
 
-  pub simplify-room : (g : Given) → g ≡ simplified s l → 72 ≤ length slice
-      → (after : List ℕ) → after ≡ eights (answerNumbers (g .answer)) ++ drop 72 slice
+  pub simplify-room : (g : Given) → g ≡ simplified s l → 80 ≤ length slice
+      → (after : List ℕ) → after ≡ eights (answerNumbers (g .answer)) ++ drop 80 slice
       → (g .answer .number ≡ simplifyReturns s l slice) × ((after ≡ simplifyAnswers s l slice) × (g .lent ≡ simplifyLeaves s l slice))
   unfolding simplifyReturns simplifyAnswers simplifyLeaves tooShort
   simplify-room g e h after w =
       let count = answer-count (g .answer) in
-      let q = room (answerNumbers (g .answer)) slice (g .answer .number) 9 count h after w in
+      let q = room (answerNumbers (g .answer)) slice (g .answer .number) 10 count h after w in
       rw (← e) (q .0, (q .1, rw (le-ltb (length slice) (8 * length (answerNumbers (g .answer))) (omega arith))))

@@ -119,7 +119,7 @@ pub extern "C" fn simmergate_equal(a: &[u8], b: &[u8], answer: &mut [u8]) -> u32
 }
 
 // Simplifies a table in lent memory. The answer: number, place, records written, steps, openings, weight in, weight out, what is wrong
-// with the record, which byte.
+// with the record, which byte, tries.
 #[no_mangle]
 pub extern "C" fn simmergate_simplify(
     table: &[u8],
@@ -133,7 +133,7 @@ pub extern "C" fn simmergate_simplify(
     ensures { λ _. ⌜ lent (now (out .exit)) (now (steps .exit)) (now (work .exit))
         ≡ simplifyLeaves (now (table .entry)) (lent (now (out .entry)) (now (steps .entry)) (now (work .entry))) (now (answer .entry)) ⌝ }
 {
-    if answer.len() < 72 {
+    if answer.len() < 80 {
         return 6;
     }
     let a = simplify::simplify(table, out, steps, work);
@@ -149,6 +149,7 @@ pub extern "C" fn simmergate_simplify(
         a.weight_out as u64,
         wrong.what,
         wrong.byte,
+        a.tries as u64,
     ];
     write_numbers(answer, &numbers);
     a.number

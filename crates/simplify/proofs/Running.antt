@@ -94,10 +94,10 @@ module _ {table out steps work : List ℕ} {w : ℕ} {t : Tree} (h : Lending tab
       }
 
   -- the run is done
-  module _ {out' steps' work' : List ℕ} {e q n o : ℕ} (a : Drove (drives t) [] out out' work' steps steps' 0 0 e q n o)
+  module _ {out' steps' work' : List ℕ} {e q n o τ : ℕ} (a : Drove (drives t) [] out out' work' steps steps' 0 0 e q n o τ)
       (lo : length out' ≡ length out) (lz : length steps' ≡ length steps) (lw : length work' ≡ length work) where
     lighter : length (a .ks) + o + weight (a .to) ≤ weight t
-    lighter = run-lighter t (a .to) (a .ks) o (drives t) (drives-kept t (h .wf)) (a .ran) .1
+    lighter = run-lighter t (a .to) (a .ks) o τ (drives t) (drives-kept t (h .wf)) (a .ran) .1
 
     pub done-fits : (e * 16 ≤ length out') × (n ≤ length steps')
     done-fits =
@@ -120,7 +120,8 @@ module _ {table out steps work : List ℕ} {w : ℕ} {t : Tree} (h : Lending tab
         → out'' ≡ put out' (e * 16) (replicate (length out' - e * 16) 0) → steps'' ≡ put steps' n (replicate (length steps' - n) 0)
         → work'' ≡ put work' 0 (replicate (length work') 0) → x ≡ weightFrom out'' 0 e
         → Leaves (drives t) w
-        (record { number = 0; place = 0; flaw = Sound; records = e; steps = n; openings = o; «weight_in» = w; «weight_out» = x }) out out'' steps steps'' work work''
+        (record { number = 0; place = 0; flaw = Sound; records = e; steps = n; openings = o; «weight_in» = w; «weight_out» = x; tries = τ })
+        out out'' steps steps'' work work''
     unfolding paper.ranAnswer paper.written paper.noted
     left-done out'' steps'' work'' x co cz cw cx =
         let z : e ≡ records (a .to) = omega (arith, a .end) in

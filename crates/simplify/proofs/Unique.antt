@@ -26,6 +26,7 @@ answerOf a =
       openings = a .openings;
       «weight_in» = a .weight-in;
       «weight_out» = a .weight-out;
+      tries = a .tries;
     }
 
 answer-of : (r : Answer) → answerOf (says r) ≡ r
@@ -40,6 +41,7 @@ answer-of r =
       openings = r .openings;
       «weight_in» = r .«weight_in»;
       «weight_out» = r .«weight_out»;
+      tries = r .tries;
     })
     (code-of (r .flaw))
 
@@ -55,6 +57,7 @@ says-answer a =
       openings = a .openings;
       weight-in = a .weight-in;
       weight-out = a .weight-out;
+      tries = a .tries;
     })
     (flaw-of (a .flaw))
 

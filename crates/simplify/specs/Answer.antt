@@ -11,7 +11,7 @@ use Rattle.paper.specs.Answers as paper
 use Rattle.record.specs.Flaw.{flawOf}
 use Rattle.simplify.specs.declared.Answer.{Answer}
 
--- the seven numbers and what is wrong with the record, field by field
+-- the eight numbers and what is wrong with the record, field by field
 abbrev pub says : Answer → paper.Answer
 says a =
     record {
@@ -23,6 +23,7 @@ says a =
       openings = a .openings;
       weight-in = a .«weight_in»;
       weight-out = a .«weight_out»;
+      tries = a .tries;
     }
 
 abbrev pub lent : List ℕ → List ℕ → List ℕ → paper.Lent

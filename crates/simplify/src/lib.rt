@@ -11,8 +11,8 @@ ghost use Rattle.paper.specs.Answers.{refusedBy, simplified};
 ghost use Rattle.record.specs.Flaw.{flawOf};
 ghost use Rattle.simplify.specs.Answer.{says, lent, gives, Lending, Leaves};
 
-// A refusal's number and place, or 0 and 0; after 2 what is wrong with the record; the records written, the steps, the openings, and the
-// weights of the table and of the result.
+// A refusal's number and place, or 0 and 0; after 2 what is wrong with the record; the records written, the steps, the openings, the
+// weights of the table and of the result, and the tries.
 pub struct Answer {
     pub number: u32,
     pub place: usize,
@@ -22,6 +22,7 @@ pub struct Answer {
     pub openings: usize,
     pub weight_in: usize,
     pub weight_out: usize,
+    pub tries: usize,
 }
 
 // A refusal: its number and place, what is wrong with the record, and zeros.
@@ -37,6 +38,7 @@ fn refusal(number: u32, place: usize, flaw: Flaw) -> Answer
         openings: 0,
         weight_in: 0,
         weight_out: 0,
+        tries: 0,
     }
 }
 
@@ -58,7 +60,7 @@ fn run(table: &[u8], out: &mut [u8], steps: &mut [u8], work: &mut [u8], w: usize
             stretch::clear(steps, 0, steps.len());
             refusal(7, k, Flaw::Sound)
         }
-        driver::Driven::Done(e, q, n, o) => {
+        driver::Driven::Done(e, q, n, o, tries) => {
             stretch::clear(out, e * 16, out.len() - e * 16);
             stretch::clear(steps, n, steps.len() - n);
             Answer {
@@ -70,6 +72,7 @@ fn run(table: &[u8], out: &mut [u8], steps: &mut [u8], work: &mut [u8], w: usize
                 openings: o,
                 weight_in: w,
                 weight_out: table::weight_of(out, e),
+                tries,
             }
         }
     }

@@ -3,7 +3,9 @@
 use borrow.Author.Needs.{needs}
 use native.Mathlib.Omega.{arith}
 use lib.ListN.{drop}
-use mathlib.Core.List.{[], _∷_}
+use Prim.Native.Nat.{ℕ}
+use mathlib.Core.Path.{ap}
+use mathlib.Core.List.{List, [], _∷_, _++_}
 use Rattle.paper.specs.Calls.{answerNumbers}
 use Rattle.simplify.specs.Answer.{lent, gives}
 use Rattle.simmergate.proofs.NumbersLaws.{with-flaw, simplify-no-room, simplify-room}
@@ -52,7 +54,7 @@ returns-2 c =
     let r = run .result in
     let written = c .before .before .write-numbers in
     let before = r .number ∷ r .place ∷ r .records ∷ r .steps ∷ r .openings ∷ r .«weight_in» ∷ r .«weight_out» ∷ [] in
-    let after = with-flaw before (drop 72 (g .answer .now)) (wrong .ensures) (written .ensures) in
+    let after = with-flaw before (drop 80 (g .answer .now)) (ap (λ (l : List ℕ). l ++ (r .tries ∷ [])) (wrong .ensures)) (written .ensures) in
     simplify-room (g .table .now) (g .answer .now) (lent (g .out .now) (g .steps .now) (g .work .now))
     (gives r (run .last .1 .0) (run .last .1 .1 .0) (run .last .1 .1 .1 .0)) (run .ensures) (omega arith) (written .last .0) after
 

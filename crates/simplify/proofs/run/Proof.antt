@@ -92,7 +92,7 @@ drove : (c : Finished)
     let r = called .drive in
     let n = c .before .g2 .given .0 in
     Drove (drives (entry .pre .0)) [] (g .out .now) (r .last .0) (r .last .1 .0) (g .steps .now) (r .last .1 .1 .0) 0 0
-    (n .0) (n .1 .0) (n .1 .1 .0) (n .1 .1 .1 .0)
+    (n .0) (n .1 .0) (n .1 .1 .0) (n .1 .1 .1 .0) (n .1 .1 .1 .1 .0)
 drove c = result (driven-of (cleared-of c)) _ (c .before .g2 .given .1)
 
 -- the result and its steps end within the areas
@@ -228,7 +228,17 @@ returns-2 c =
     let x = c .weight-of .result in
     for-every (entry .pre .1)
     (λ u. Leaves (drives u) (g .w)
-    (record { number = 0; place = 0; flaw = Sound; records = n .0; steps = n .1 .1 .0; openings = n .1 .1 .1 .0; «weight_in» = g .w; «weight_out» = x })
+    (record {
+      number = 0;
+      place = 0;
+      flaw = Sound;
+      records = n .0;
+      steps = n .1 .1 .0;
+      openings = n .1 .1 .1 .0;
+      «weight_in» = g .w;
+      «weight_out» = x;
+      tries = n .1 .1 .1 .1 .0;
+    })
     (g .out .now) (out .last .0) (g .steps .now) (steps .last .0) (g .work .now) (work .last .0))
     (left-done (entry .pre .1) (drove finished) (r .kept .0) (r .kept .1 .1 .0) long (out .last .0) (steps .last .0) (work .last .0) x
     (out .ensures) (steps .ensures) (work .ensures) (c .weight-of .ensures))

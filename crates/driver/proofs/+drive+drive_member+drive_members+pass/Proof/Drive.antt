@@ -16,7 +16,7 @@ use Rattle.rules.specs.Asked.{AskedIs}
 use Rattle.driver.specs.Driven.{passed as after-pass, DrivenIs, Drove}
 use Rattle.driver.proofs.Runs.{drives}
 use Rattle.driver.proofs.Forests.{for-every}
-use Rattle.driver.proofs.Driving.{DInv, Idle, PassFits, start, set-now, no-heavier, step-fits, burst, stepped, stepped-less, idle, idle-weighs}
+use Rattle.driver.proofs.Driving.{DInv, Idle, PassFits, start, set-now, no-heavier, step-fits, try-fits, burst, stepped, stepped-less, idle, idle-weighs}
 use Rattle.driver.proofs.Driving.{move-fits, moved, pass-burst, pass-fits, nothing-changed, again, again-less}
 use Rattle.driver.proofs.drive.Reads as reads
 use Rattle.driver.proofs.pass.Reads as pass
@@ -29,10 +29,10 @@ abbrev pub claims : ℕ → lts.Claims
 claims t = (ask-reads.Asked, ask-reads.Learnt, copy-bytes-reads.Asked, copy-bytes-reads.Learnt, pass-below t, pass.Post)
 
 abbrev pub Inv : lts.InvT-loop
-Inv out₀ work₀ steps₀ d p s at₀ n₀ o₀ size₀ out work steps at n o size = DInv out₀ work₀ steps₀ d p s out work steps at n o size
+Inv out₀ work₀ steps₀ d p s at₀ n₀ o₀ τ₀ size₀ out work steps at n o τ size = DInv out₀ work₀ steps₀ d p s out work steps at n o τ size
 
 abbrev pub μ : lts.MeasureT-loop
-μ out₀ work₀ steps₀ d p s at₀ n₀ o₀ size₀ out work steps at n o size = tableWeight (drop (at * 16) work)
+μ out₀ work₀ steps₀ d p s at₀ n₀ o₀ τ₀ size₀ out work steps at n o τ size = tableWeight (drop (at * 16) work)
 
 module _ (t : ℕ) where
   -- places on the way through the code, and from each the one before it: the entry, the head of the loop, after the rules were asked,
@@ -107,7 +107,7 @@ module _ (t : ℕ) where
       let head = head-of asked in
       let entry = entry-of head in
       let g = entry .args in let l = head .loop in let a = asked .ask in
-      Idle (g .out .now) (g .work .now) (g .steps .now) (g .d) (g .p) (g .s) (a .last .0) (a .last .1 .0) (l .steps) (l .at) (l .n) (l .o) (l .size)
+      Idle (g .out .now) (g .work .now) (g .steps .now) (g .d) (g .p) (g .s) (a .last .0) (a .last .1 .0) (l .steps) (l .at) (l .n) (l .o) (l .tries) (l .size)
   state c =
       let answered = answered-of c in
       let asked = asked-of answered in
@@ -145,7 +145,7 @@ module _ (t : ℕ) where
       let entry = entry-of head in
       let w = state quiet .inv in let r = called .pass in let n = c .before .g2 .given .0 in
       Drove (after-pass (w .u) (each drives (members (w .u)))) (w .rest) (asked .ask .last .0) (r .last .0) (r .last .1 .0)
-      (head .loop .steps) (r .last .1 .1 .0) (entry .args .d) (head .loop .n) (n .0) (n .1 .0) (n .1 .1 .0) (n .1 .1 .1 .0)
+      (head .loop .steps) (r .last .1 .1 .0) (entry .args .d) (head .loop .n) (n .0) (n .1 .0) (n .1 .1 .0) (n .1 .1 .1 .0) (n .1 .1 .1 .1 .0)
   drove c = result (passed-of c) _ (c .before .g2 .given .1)
 
   -- the finished tree fits where it goes
@@ -154,6 +154,7 @@ module _ (t : ℕ) where
       let head = head-of asked in
       let g = entry-of head .args in let l = head .loop in let a = asked .ask in
       (g .d * 16 + l .size * 16 ≤ length (a .last .0)) × (l .at * 16 + l .size * 16 ≤ length (a .last .1 .0))
+      × (l .tries + l .size < 2 ^ 63)
   move-room c = move-fits (state (c .before)) (c .if1 .taken)
 
   -- the pass's places are in order and within the areas, and so they are numbers of the machine
@@ -161,7 +162,8 @@ module _ (t : ℕ) where
       → let called = called-of (passed-of c) in
       let head = head-of (asked-of (answered-of (quiet-of called))) in
       let l = head .loop in let r = called .pass in let n = c .before .g2 .given .0 in
-      PassFits (r .last .0) (r .last .1 .0) (entry-of head .args .d) (l .n) (l .o) (n .0) (n .1 .0) (n .1 .1 .0) (n .1 .1 .1 .0)
+      PassFits (r .last .0) (r .last .1 .0) (entry-of head .args .d) (l .n) (l .o) (l .tries) (n .0) (n .1 .0) (n .1 .1 .0) (n .1 .1 .1 .0)
+      (n .1 .1 .1 .1 .0)
       × (n .0 * 16 < 2 ^ 64) × (n .1 .0 * 16 < 2 ^ 64)
   pass-bounds c =
       let called = called-of (passed-of c) in
@@ -218,6 +220,12 @@ module _ (t : ℕ) where
       let fits = step-fits (head .loop .inv) in
       omega arith
 
+  pub add-tries : lts.Need-add-tries (claims t) (drive-at t) reads.Post Inv μ
+  add-tries c =
+      let head = head-of (asked-of (c .before .before .before)) in
+      let fits = try-fits (head .loop .inv) in
+      omega arith
+
   pub loop-less : lts.Need-loop-less (claims t) (drive-at t) reads.Post Inv μ
   loop-less c =
       let answered = c .before .before .before in
@@ -253,11 +261,14 @@ module _ (t : ℕ) where
   pub copy-bytes-requires : lts.Need-copy-bytes-requires (claims t) (drive-at t) reads.Post Inv μ
   copy-bytes-requires c κs = let fits = move-room (c .before .before) in (omega (arith, fits), omega (arith, fits))
 
-  pub add-t29 : lts.Need-add-t29 (claims t) (drive-at t) reads.Post Inv μ
-  add-t29 c = omega (arith, move-room (c .before .before .before .before .before))
+  pub add-t31 : lts.Need-add-t31 (claims t) (drive-at t) reads.Post Inv μ
+  add-t31 c = omega (arith, move-room (c .before .before .before .before .before))
 
-  pub add-t33 : lts.Need-add-t33 (claims t) (drive-at t) reads.Post Inv μ
-  add-t33 c = omega (arith, move-room (c .before .before .before .before .before))
+  pub add-t35 : lts.Need-add-t35 (claims t) (drive-at t) reads.Post Inv μ
+  add-t35 c = omega (arith, move-room (c .before .before .before .before .before))
+
+  pub add-t34 : lts.Need-add-t34 (claims t) (drive-at t) reads.Post Inv μ
+  add-t34 c = omega (arith, move-room (c .before .before .before .before .before))
 
   pub same-length-4 : lts.Need-same-length-4 (claims t) (drive-at t) reads.Post Inv μ
   same-length-4 c = search needs
@@ -279,7 +290,7 @@ module _ (t : ℕ) where
       let copied = c .before .before .copy-bytes in
       for-every (state quiet .inv .set-up)
       (λ u r. Drove (drives u) r (g .out .now) (copied .last .0) (asked .ask .last .1 .0) (g .steps .now) (l .steps) (g .d) (g .s)
-      (g .d + l .size) (l .at + l .size) (l .n) (l .o))
+      (g .d + l .size) (l .at + l .size) (l .n) (l .o) (l .tries + l .size))
       (moved (state quiet) (c .before .before .before .before .before .if1 .taken) (copied .last .0) (copied .ensures))
 
   pub pass-requires : lts.Need-pass-requires (claims t) (drive-at t) reads.Post Inv μ
@@ -315,6 +326,12 @@ module _ (t : ℕ) where
   pub enum-known-g-2 : lts.Need-enum-known-g-2 (claims t) (drive-at t) reads.Post Inv μ
   enum-known-g-2 c = search needs
 
+  pub add-tries-2 : lts.Need-add-tries-2 (claims t) (drive-at t) reads.Post Inv μ
+  add-tries-2 c = omega (arith, pass-bounds c)
+
+  pub add-tries-3 : lts.Need-add-tries-3 (claims t) (drive-at t) reads.Post Inv μ
+  add-tries-3 c = omega (arith, pass-bounds c)
+
   pub sub-if2 : lts.Need-sub-if2 (claims t) (drive-at t) reads.Post Inv μ
   sub-if2 c = omega (arith, pass-bounds c)
 
@@ -342,7 +359,8 @@ module _ (t : ℕ) where
       let r = called .pass in
       let n = c .before .before .g2 .given .0 in
       for-every (state quiet .inv .set-up)
-      (λ u x. Drove (drives u) x (g .out .now) (r .last .0) (r .last .1 .0) (g .steps .now) (r .last .1 .1 .0) (g .d) (g .s) (n .0) (n .1 .0) (l .n) (l .o))
+      (λ u x. Drove (drives u) x (g .out .now) (r .last .0) (r .last .1 .0) (g .steps .now) (r .last .1 .1 .0) (g .d) (g .s) (n .0) (n .1 .0) (l .n) (l .o)
+      (l .tries + (n .1 .1 .1 .1 .0 + 1)))
       (nothing-changed (state quiet) (drove gathered) (r .kept .0) (r .kept .1 .0) (r .kept .1 .1 .0) (c .if2 .taken))
 
   pub add-o : lts.Need-add-o (claims t) (drive-at t) reads.Post Inv μ

@@ -104,7 +104,7 @@ module _ (t : ℕ) where
       let entry = entry-of called in
       let g = entry .args in let r = called .drive in let n = c .before .g2 .given .0 in
       Drove (drives (entry .pre .1 .0)) (entry .pre .1 .1) (g .out .now) (r .last .0) (r .last .1 .0) (g .steps .now) (r .last .1 .1 .0)
-      (g .d) (g .s) (n .0) (n .1 .0) (n .1 .1 .0) (n .1 .1 .1 .0)
+      (g .d) (g .s) (n .0) (n .1 .0) (n .1 .1 .0) (n .1 .1 .1 .0) (n .1 .1 .1 .1 .0)
   drove c = result (driven-of c) _ (c .before .g2 .given .1)
 
   -- the result's records end within what is done, and the openings are few
@@ -132,11 +132,11 @@ module _ (t : ℕ) where
   pub write-record-requires : lts.Need-write-record-requires (claims t) (drive-member-at t) reads.Post
   write-record-requires c κs = let entry = unread-entry (c .before .before .before .before .before .before) in record-fits (entry .pre .1 .2) .1
 
-  pub add-t25 : lts.Need-add-t25 (claims t) (drive-member-at t) reads.Post
-  add-t25 c = omega (arith, record-fits (leaf-entry c .pre .1 .2) .1)
-
   pub add-t26 : lts.Need-add-t26 (claims t) (drive-member-at t) reads.Post
-  add-t26 c = omega (arith, record-fits (leaf-entry c .pre .1 .2) .0)
+  add-t26 c = omega (arith, record-fits (leaf-entry c .pre .1 .2) .1)
+
+  pub add-t27 : lts.Need-add-t27 (claims t) (drive-member-at t) reads.Post
+  add-t27 c = omega (arith, record-fits (leaf-entry c .pre .1 .2) .0)
 
   pub same-length : lts.Need-same-length (claims t) (drive-member-at t) reads.Post
   same-length c = search needs
@@ -198,11 +198,11 @@ module _ (t : ℕ) where
   pub shift-left-requires : lts.Need-shift-left-requires (claims t) (drive-member-at t) reads.Post
   shift-left-requires c κs = let fits = bounds (gathered-of (c .before .before .before .before .before)) in (omega (arith, fits), omega (arith, fits))
 
-  pub sub-t43 : lts.Need-sub-t43 (claims t) (drive-member-at t) reads.Post
-  sub-t43 c = omega (arith, bounds (gathered-of (c .before .before .before .before .before .before .before .before)))
+  pub sub-t44 : lts.Need-sub-t44 (claims t) (drive-member-at t) reads.Post
+  sub-t44 c = omega (arith, bounds (gathered-of (c .before .before .before .before .before .before .before .before)))
 
-  pub add-t48 : lts.Need-add-t48 (claims t) (drive-member-at t) reads.Post
-  add-t48 c = omega (arith, bounds (gathered-of (c .before .before .before .before .before .before .before .before)))
+  pub add-t49 : lts.Need-add-t49 (claims t) (drive-member-at t) reads.Post
+  add-t49 c = omega (arith, bounds (gathered-of (c .before .before .before .before .before .before .before .before)))
 
   pub same-length-3 : lts.Need-same-length-3 (claims t) (drive-member-at t) reads.Post
   same-length-3 c = search needs
@@ -227,7 +227,7 @@ module _ (t : ℕ) where
       let shifted = c .before .before .shift-left in
       for-every (entry .pre .1 .2)
       (λ u x. Gave (openedRuns (inside k) (each drives (u ∷ []))) x (g .out .now) (shifted .last .0) (r .last .1 .0) (g .steps .now) (r .last .1 .1 .0)
-      (g .d) (g .s) (n .0 - 1) (n .1 .0) (n .1 .1 .0) (n .1 .1 .1 .0 + 1) (count .result))
+      (g .d) (g .s) (n .0 - 1) (n .1 .0) (n .1 .1 .0) (n .1 .1 .1 .0 + 1) (count .result) (n .1 .1 .1 .1 .0))
       (rw (count .ensures .0) (opened-up (entry .pre .1 .2) (drove gathered) (r .kept .0) k
       (ap (λ j. eqb j k && isNode k) (sym (kinded .kind2 .ensures)) ∙ sym (c .before .before .before .before .before .before .before .opens .ensures)
       ∙ c .before .before .before .before .before .before .if2 .taken)
@@ -273,7 +273,7 @@ module _ (t : ℕ) where
       let n = c .before .before .before .before .before .g2 .given .0 in
       for-every (entry .pre .1 .2)
       (λ u x. Gave (openedRuns (inside k) (each drives (u ∷ []))) x (g .out .now) (r .last .0) (r .last .1 .0) (g .steps .now) (r .last .1 .1 .0)
-      (g .d) (g .s) (n .0) (n .1 .0) (n .1 .1 .0) (n .1 .1 .1 .0) 1)
+      (g .d) (g .s) (n .0) (n .1 .0) (n .1 .1 .0) (n .1 .1 .1 .0) 1 (n .1 .1 .1 .1 .0))
       (as-it-is (entry .pre .1 .2) (drove gathered) (r .kept .0) k
       (ap (λ j. eqb j k && isNode k) (sym (kinded .kind2 .ensures)) ∙ sym (c .before .opens .ensures)
       ∙ c .if2 .left))

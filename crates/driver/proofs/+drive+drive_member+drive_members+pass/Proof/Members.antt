@@ -1,6 +1,6 @@
 -- `driver::drive_members` meets its contract: the invariant of its loop and a law for each need are those of Membering. That
 -- the sums fit follows from `sums`. The loop's measure is the number of members left. Assumes nothing.
-use Prim.Native.Nat.{ℕ, _+_, _-_, _<_}
+use Prim.Native.Nat.{ℕ, _+_, _-_, _^_, _<_}
 use mathlib.Core.Path.{_≡_, subst}
 use mathlib.Core.List.{[], _∷_}
 use native.Mathlib.Omega.{arith}
@@ -20,10 +20,10 @@ abbrev pub claims : ℕ → lts.Claims
 claims t = (drive-member-below t, drive-member.Post)
 
 abbrev pub Inv : lts.InvT-loop
-Inv out₀ work₀ steps₀ k c d p s i₀ e₀ q₀ n₀ o₀ m₀ out work steps i e q n o m = MInv out₀ work₀ steps₀ k c d p s out work steps i e q n o m
+Inv out₀ work₀ steps₀ k c d p s i₀ e₀ q₀ n₀ o₀ m₀ τ₀ out work steps i e q n o m τ = MInv out₀ work₀ steps₀ k c d p s out work steps i e q n o m τ
 
 abbrev pub μ : lts.MeasureT-loop
-μ out₀ work₀ steps₀ k c d p s i₀ e₀ q₀ n₀ o₀ m₀ out work steps i e q n o m = c - i
+μ out₀ work₀ steps₀ k c d p s i₀ e₀ q₀ n₀ o₀ m₀ τ₀ out work steps i e q n o m τ = c - i
 
 module _ (t : ℕ) where
   -- places on the way through the code, and from each the one before it: the entry, the head of the loop, a turn of it, after the member
@@ -91,12 +91,13 @@ module _ (t : ℕ) where
       let h = turn .loop-test .taken in let l = head .loop in let m = called .drive-member in let n = c .before .g2 .given .0 in
       Gave (openedRuns (inside (entry .args .k)) (each drives (x (l .inv) h ∷ []))) (rest-after (l .inv) h) (l .out) (m .last .0) (m .last .1 .0)
       (l .steps) (m .last .1 .1 .0) (l .e) (l .n) (n .0) (n .1 .0) (n .1 .1 .0) (n .1 .1 .1 .0) (n .1 .1 .1 .1 .0)
+      (n .1 .1 .1 .1 .1 .0)
   gave c = result (driven-of c) _ (c .before .g2 .given .1)
 
-  -- the openings and the members so far, and the member's, are few
+  -- the openings, the members and the tries so far, and the member's, are few
   sums : (c : Gathered)
       → let l = head-of (turn-of (called-of (driven-of c))) .loop in let n = c .before .g2 .given .0 in
-      (l .o + n .1 .1 .1 .0 < 65536) × (l .m + n .1 .1 .1 .1 .0 < 131072)
+      (l .o + n .1 .1 .1 .0 < 65536) × (l .m + n .1 .1 .1 .1 .0 < 131072) × (l .tries + n .1 .1 .1 .1 .1 .0 < 2 ^ 63)
   sums c =
       let called = called-of (driven-of c) in
       let turn = turn-of called in
@@ -150,6 +151,9 @@ module _ (t : ℕ) where
   pub add-m : lts.Need-add-m (claims t) (drive-members-at t) reads.Post Inv μ
   add-m c = omega (arith, sums c)
 
+  pub add-tries : lts.Need-add-tries (claims t) (drive-members-at t) reads.Post Inv μ
+  add-tries c = omega (arith, sums c)
+
   pub add-i : lts.Need-add-i (claims t) (drive-members-at t) reads.Post Inv μ
   add-i c =
       let head = head-of (turn-of (called-of (driven-of c))) in
@@ -186,5 +190,5 @@ module _ (t : ℕ) where
       let l = head .loop in
       for-every (l .inv)
       (λ m r. Gave (openedRuns (inside (g .k)) (each drives m)) r (g .out .now) (l .out) (l .work) (g .steps .now) (l .steps) (g .d) (g .s)
-      (l .e) (l .q) (l .n) (l .o) (l .m))
+      (l .e) (l .q) (l .n) (l .o) (l .m) (l .tries))
       (finish (l .inv) (c .loop-test .left))

@@ -141,7 +141,7 @@ module _ (t : ℕ) where
       let g = entry .args in let r = called .drive-members in let n = c .before .g2 .given .0 in
       Gave (openedRuns (inside (kinded .kind .result)) (each drives (members (entry .pre .1 .0)))) (entry .pre .1 .1)
       (moved .copy-bytes .last .0) (r .last .0) (r .last .1 .0) (g .steps .now) (r .last .1 .1 .0) (g .d + 1) (g .s)
-      (n .0) (n .1 .0) (n .1 .1 .0) (n .1 .1 .1 .0) (n .1 .1 .1 .1 .0)
+      (n .0) (n .1 .0) (n .1 .1 .0) (n .1 .1 .1 .0) (n .1 .1 .1 .1 .0) (n .1 .1 .1 .1 .1 .0)
   gave c = result (driven-of c) _ (c .before .g2 .given .1)
 
   pub kind-requires : lts.Need-kind-requires (claims t) (pass-at t) reads.Post
@@ -240,6 +240,6 @@ module _ (t : ℕ) where
       let there = gathers (entry .pre .1 .2) (m .last .0) (m .ensures) (kind-of copied) (gave gathered) (m .kept .0) (r .kept .0) in
       for-every (entry .pre .1 .2)
       (λ u x. Drove (passed u (each drives (members u))) x (g .out .now) (closing .last .0) (r .last .1 .0) (g .steps .now) (r .last .1 .1 .0)
-      (g .d) (g .s) (n .0) (n .1 .0) (n .1 .1 .0) (n .1 .1 .1 .0))
+      (g .d) (g .s) (n .0) (n .1 .0) (n .1 .1 .0) (n .1 .1 .1 .0) (n .1 .1 .1 .1 .1 .0))
       (closed-up (entry .pre .1 .2) (m .last .0) (m .ensures) (kind-of copied) (gave gathered) (m .kept .0) (r .kept .0)
       (closing .ensures (entry .pre .1 .0) (gave gathered .to) (n .0) there fits))
