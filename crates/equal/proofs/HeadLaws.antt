@@ -9,7 +9,9 @@ use native.Mathlib.Decide.{decLe}
 use native.Mathlib.Omega.{arith}
 use borrow.Author.Tests.{eq-eqb, eqb-true, eqb-false}
 use lib.ListN.{length, getD}
+use lib.IntN.{pos}
 use lib.Dec.{eqb}
+use Rattle.paper.specs.Bytes.{word}
 use Rattle.paper.specs.Record.{kind, bits}
 use Rattle.paper.specs.Tree.{Tree, integer, symbol, sum, product, power, count, records}
 use Rattle.paper.specs.Equal.{equal}
@@ -19,9 +21,14 @@ use Rattle.paper.proofs.EncodeLaws.{bits-there}
 use Rattle.paper.proofs.Seen.{Seen, an-integer, a-symbol, seen-power}
 use Rattle.paper.proofs.Stands.{sum-record, product-record, power-record}
 use Rattle.split.specs.Standing.{TreeIn}
+use Rattle.split.specs.Rest.{coefficientOf}
+use Rattle.number.specs.declared.Num.the-variants.{Is}
 use Rattle.paper.proofs.StandingLaws.{seen, record-within, power-tree}
-use Rattle.split.proofs.SplitLaws.{term-other}
-use Rattle.equal.specs.Head.{sameHead, beginAlike, isCandidate, isWhole, restsDiffer}
+use Rattle.split.proofs.SplitLaws.{no-integer, term-integer, term-other}
+use Rattle.equal.specs.Head.{sameHead, beginAlike, isCandidate, isWhole, hasTwo, restsDiffer}
+use Rattle.equal.proofs.AnswerLaws.{equal-turned}
+use Rattle.equal.proofs.RestLaws.{integer-apart}
+use Rattle.equal.proofs.TwoLaws.{not-false, positive, two-rest, product-apart}
 use Rattle.equal.proofs.SameLaws.{kinds-differ, leaf-records, leaves-equal, leaves-differ, powers-differ, is-different}
 use Rattle.equal.specs.declared.Match.the-variants.{Different}
 
@@ -90,28 +97,73 @@ unfolding isCandidate
 candidate-free a i b j us k e = eqb-true _ _ (and-both (eqb (getD us k 0) 0) (beginAlike a i b j) e .0)
 
 -- ---- rests
-not-so-false : (x : Bool) → not x ≡ true → x ≡ false
-not-so-false true e = absurd (true-not-false e refl)
-not-so-false false e = refl
+-- a tree that is neither an integer nor a product is whole
+whole-if : (s : List ℕ) (j : ℕ) → eqb (kind s j) 0 ≡ false → eqb (kind s j) 3 ≡ false → isWhole s j ≡ true
+unfolding isWhole
+whole-if s j z p = rw (z, p) refl
 
-positive : (k : ℕ) → (k ≡ 0 → ⊥) → 1 ≤ k
-positive zero h = absurd (h refl)
-positive (suc k) h = omega arith
+-- a whole tree is no product, and one that is neither whole nor an integer is one
+whole-no-product : (s : List ℕ) (j : ℕ) → isWhole s j ≡ true → kind s j ≡ 3 → ⊥
+unfolding isWhole
+whole-no-product s j e =
+    let b = and-both (not (eqb (kind s j) 0)) (not (eqb (kind s j) 3)) e in
+    eqb-false (kind s j) 3 (not-false (eqb (kind s j) 3) (b .1))
+
+pub product-if : (s : List ℕ) (i : ℕ) → isWhole s i ≡ false → eqb (kind s i) 0 ≡ false → kind s i ≡ 3
+unfolding isWhole
+product-if s i w z = eqb-true _ _ (by (eqb (kind s i) 3) (sym (rw z refl) ∙ w))
+  where
+    by : (p : Bool) → not p ≡ false → p ≡ true
+    by true e = refl
+    by false e = absurd (true-not-false refl e)
 
 module _ {s : List ℕ} where
-  -- a whole tree is its own rest
-  whole-rest : {i : ℕ} {t : Tree} → TreeIn s i t → isWhole s i ≡ true → termOf t .rest ≡ t
-  unfolding isWhole term
-  whole-rest {i} {t} h e =
+  -- a whole tree is its own rest, and its coefficient is 1
+  whole-term : {i : ℕ} {t : Tree} → TreeIn s i t → isWhole s i ≡ true → termOf t ≡ term (pos 1) t
+  unfolding isWhole
+  whole-term {i} {t} h e =
       let b = and-both (not (eqb (kind s i) 0)) (not (eqb (kind s i) 3)) e in
-      let integer = eqb-false (kind s i) 0 (not-so-false (eqb (kind s i) 0) (b .0)) in
-      let product = eqb-false (kind s i) 3 (not-so-false (eqb (kind s i) 3) (b .1)) in
-      ap (λ (x : Term). x .rest) (term-other t h (positive (kind s i) integer) product)
+      let integer = eqb-false (kind s i) 0 (not-false (eqb (kind s i) 0) (b .0)) in
+      let product = eqb-false (kind s i) 3 (not-false (eqb (kind s i) 3) (b .1)) in
+      term-other t h (positive (kind s i) integer) product
+
+  whole-rest : {i : ℕ} {t : Tree} → TreeIn s i t → isWhole s i ≡ true → termOf t .rest ≡ t
+  unfolding term
+  whole-rest h e = ap (λ (x : Term). x .rest) (whole-term h e)
+
+  pub whole-coefficient : {i : ℕ} {t : Tree} → TreeIn s i t → isWhole s i ≡ true → Is 1 ≡ coefficientOf (termOf t)
+  unfolding term coefficientOf word
+  whole-coefficient h e = sym (ap coefficientOf (whole-term h e))
+
+  -- an integer's rest is 1, which no whole tree is
+  one-unlike : {i j : ℕ} {t u : Tree} → TreeIn s i t → TreeIn s j u → kind s i ≡ 0 → isWhole s j ≡ true
+      → equal (termOf t .rest) (termOf u .rest) ≡ false
+  unfolding isWhole
+  one-unlike {i} {j} {t} {u} h g k e =
+      let b = and-both (not (eqb (kind s j) 0)) (not (eqb (kind s j) 3)) e in
+      let other = positive (kind s j) (eqb-false (kind s j) 0 (not-false (eqb (kind s j) 0) (b .0))) in
+      rw (term-integer t h (omega arith) .1, whole-rest g e) (integer-apart 0 (pos 1) u (no-integer g other))
+
+  -- the rest of a product with two members besides its integers is a product, which no whole tree is
+  two-unlike : {i j : ℕ} {t u : Tree} → TreeIn s i t → TreeIn s j u → kind s i ≡ 3 → hasTwo s i ≡ true → isWhole s j ≡ true
+      → equal (termOf t .rest) (termOf u .rest) ≡ false
+  two-unlike {i} {j} {t} {u} h g k two e =
+      let r = two-rest h k two in
+      rw (r .1, whole-rest g e) (product-apart (r .0) u (seen g) (whole-no-product s j e))
 
   pub rests-unlike : {i j : ℕ} {t u : Tree} → TreeIn s i t → TreeIn s j u → restsDiffer s i j ≡ true
       → equal (termOf t .rest) (termOf u .rest) ≡ false
   unfolding restsDiffer
-  rests-unlike {i} {j} {t} {u} h g e =
-      let b = and-both (isWhole s i && isWhole s j) (not (beginAlike s i s j)) e in
-      let w = and-both (isWhole s i) (isWhole s j) (b .0) in
-      rw (whole-rest h (w .0), whole-rest g (w .1)) (begins-differ h g (not-so-false _ (b .1)))
+  rests-unlike {i} {j} {t} {u} h g = by (isWhole s i) refl (eqb (kind s j) 3) refl (eqb (kind s j) 0) refl (eqb (kind s i) 0) refl
+    where
+      by : (w : Bool) → isWhole s i ≡ w → (p : Bool) → eqb (kind s j) 3 ≡ p → (z : Bool) → eqb (kind s j) 0 ≡ z
+          → (x : Bool) → eqb (kind s i) 0 ≡ x
+          → cond w (cond p (hasTwo s j) (not (beginAlike s i s j))) (cond x (isWhole s j) (isWhole s j && hasTwo s i)) ≡ true
+          → equal (termOf t .rest) (termOf u .rest) ≡ false
+      by true w true p z f x y e = equal-turned (termOf t .rest) (termOf u .rest) ∙ two-unlike g h (eqb-true _ _ p) e w
+      by true w false p true f x y e = equal-turned (termOf t .rest) (termOf u .rest) ∙ one-unlike g h (eqb-true _ _ f) w
+      by true w false p false f x y e = rw (whole-rest h w, whole-rest g (whole-if s j f p)) (begins-differ h g (not-false _ e))
+      by false w p q z f true y e = one-unlike h g (eqb-true _ _ y) e
+      by false w p q z f false y e =
+          let b = and-both (isWhole s j) (hasTwo s i) e in
+          two-unlike h g (product-if s i w y) (b .1) (b .0)

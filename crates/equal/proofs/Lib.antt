@@ -1,4 +1,5 @@
 pub mod SameLaws
+pub mod TwoLaws
 pub mod HeadLaws
 pub mod MarkLaws
 pub mod MatchLaws

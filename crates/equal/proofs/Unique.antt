@@ -14,6 +14,10 @@ use Rattle.equal.proofs.same_tree.Reads as same-tree
 use Rattle.equal.proofs.same_tree.Kinds as same-tree-kinds
 use Rattle.equal.proofs.same.Reads as same
 use Rattle.equal.proofs.same.Kinds as same-kinds
+use Rattle.equal.proofs.is_whole.Reads as is-whole
+use Rattle.equal.proofs.is_whole.Kinds as is-whole-kinds
+use Rattle.equal.proofs.rests_differ.Reads as rests-differ
+use Rattle.equal.proofs.rests_differ.Kinds as rests-differ-kinds
 use Rattle.equal.proofs.same_rest.Reads as same-rest
 use Rattle.equal.proofs.same_rest.Kinds as same-rest-kinds
 
@@ -39,6 +43,12 @@ same-tree-once κs a v v' x x' q p p' =
 pub same-once : Once 3 same-kinds.ps same-kinds.r same.Pre same.Post
 same-once κs a v v' x x' q p p' =
     p (q .one) (q .other) (q .one-there) (q .other-there) ∙ sym (p' (q .one) (q .other) (q .one-there) (q .other-there))
+
+pub is-whole-once : Once 1 is-whole-kinds.ps is-whole-kinds.r is-whole.Pre is-whole.Post
+is-whole-once κs a v v' x x' q p p' = p ∙ sym p'
+
+pub rests-differ-once : Once 1 rests-differ-kinds.ps rests-differ-kinds.r rests-differ.Pre rests-differ.Post
+rests-differ-once κs a v v' x x' q p p' = p ∙ sym p'
 
 pub same-rest-once : Once 2 same-rest-kinds.ps same-rest-kinds.r same-rest.Pre same-rest.Post
 same-rest-once κs a v v' x x' q p p' =

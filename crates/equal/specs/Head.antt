@@ -2,9 +2,9 @@
 use Prim.Native.Nat.{ℕ, _+_}
 use mathlib.Core.Bool.{Bool, true, cond, not, _&&_}
 use mathlib.Core.List.{List}
-use lib.Dec.{eqb}
+use lib.Dec.{eqb, ltb}
 use lib.ListN.{getD}
-use Rattle.paper.specs.Record.{kind, bits}
+use Rattle.paper.specs.Record.{kind, countIn, bits}
 
 unfoldable pub sameHead : List ℕ → ℕ → List ℕ → ℕ → Bool
 sameHead a i b j = eqb (bits a i) (bits b j) && eqb (kind a i) (kind b j)
@@ -20,6 +20,17 @@ isCandidate a i b j us k = eqb (getD us k 0) 0 && beginAlike a i b j
 unfoldable pub isWhole : List ℕ → ℕ → Bool
 isWhole s i = not (eqb (kind s i) 0) && not (eqb (kind s i) 3)
 
--- two trees are their own rests, and begin otherwise
+-- a symbol stands at record i, and at the next record a tree that is no integer
+unfoldable pub twoAt : List ℕ → ℕ → Bool
+twoAt s i = eqb (kind s i) 1 && not (eqb (kind s (i + 1)) 0)
+
+-- the product at record i is seen at once to have two members that are no integers: the first two, or the two after an integer
+unfoldable pub hasTwo : List ℕ → ℕ → Bool
+hasTwo s i = cond (eqb (kind s (i + 1)) 0) (not (ltb (countIn s i) 3) && twoAt s (i + 2)) (twoAt s (i + 1))
+
+-- the rests of two trees are seen at once to differ: one is a product that has two members besides its integers, the other is its own
+-- rest; or neither is a product, not both are integers, and they begin otherwise
 unfoldable pub restsDiffer : List ℕ → ℕ → ℕ → Bool
-restsDiffer s i j = isWhole s i && isWhole s j && not (beginAlike s i s j)
+restsDiffer s i j =
+    cond (isWhole s i) (cond (eqb (kind s j) 3) (hasTwo s j) (not (beginAlike s i s j)))
+    (cond (eqb (kind s i) 0) (isWhole s j) (isWhole s j && hasTwo s i))

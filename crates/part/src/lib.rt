@@ -30,12 +30,18 @@ pub enum Merged {
     Over,
 }
 
-// The term of the member at record `at`.
+// The term of the member at record `at`, with a look first whether it is its own rest, or an integer, as most members are.
 fn term_of(s: &[u8], at: usize) -> Part
     requires { ⌜ SomeTree (now s) at ⌝ }
     ensures { λ r. ⌜ ((t : Tree) → TreeIn (now (s .entry)) at t → Shows true (now (s .entry)) r (termOf t)) ⌝ }
     ensures place { λ r. ⌜ ((p : ℕ) → p ≤ at → From p r) ⌝ }
 {
+    if equal::is_whole(s, at) {
+        return Part::Term(1, at);
+    }
+    if record::kind(s, at) < 1 {
+        return Part::Term(record::bits(s, at), at);
+    }
     let n = split::coefficient(s, at);
     match n {
         Num::Is(v) => Part::Term(v, at),
@@ -63,13 +69,17 @@ pub fn part_of(s: &[u8], at: usize, size: usize, terms: bool) -> Part
     Part::Power(e, at, size)
 }
 
-// The term with the coefficient n and the rest of the member at record i, where it meets the member at record `at`.
+// The term with the coefficient n and the rest of the member at record i, where it meets the member at record `at`, with a look first
+// whether their rests are seen to differ, as most are.
 fn merge_term(s: &[u8], n: u64, i: usize, at: usize, marks: &mut [u8]) -> Merged
     requires { ⌜ Comparable (now s) i (now s) at (length (now marks)) ⌝ }
     ensures { λ r. ⌜ ((c : Term) (t : Tree) → ShowsTerm (now (s .entry)) n i c → TreeIn (now (s .entry)) at t
         → MergedIs true (now (s .entry)) c (termOf t) r) ⌝ }
     ensures place { λ r. ⌜ ((p : ℕ) → p ≤ i → IntoFrom p r) ⌝ }
 {
+    if equal::rests_differ(s, i, at) {
+        return Merged::Apart;
+    }
     if equal::same_rest(s, i, at, marks) {
         return add_term(s, n, i, at);
     }

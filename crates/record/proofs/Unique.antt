@@ -25,8 +25,8 @@ use Rattle.record.proofs.is_positive.Reads as is-positive
 use Rattle.record.proofs.is_positive.Kinds as is-positive-kinds
 use Rattle.record.proofs.judge_record.Reads as judge-record
 use Rattle.record.proofs.judge_record.Kinds as judge-record-kinds
-use Rattle.record.proofs.is_flawed.Reads as is-flawed
-use Rattle.record.proofs.is_flawed.Kinds as is-flawed-kinds
+use Rattle.record.proofs.is_sound.Reads as is-sound
+use Rattle.record.proofs.is_sound.Kinds as is-sound-kinds
 use Rattle.record.proofs.flaw_numbers.Reads as flaw-numbers
 use Rattle.record.proofs.flaw_numbers.Kinds as flaw-numbers-kinds
 use Rattle.record.proofs.write_record.Reads as write-record
@@ -50,8 +50,8 @@ arity-once κs a v v' x x' q p p' = p .0 ∙ sym (p' .0)
 pub is-positive-once : Once 1 is-positive-kinds.ps is-positive-kinds.r is-positive.Pre is-positive.Post
 is-positive-once κs a v v' x x' q p p' = p ∙ sym p'
 
-pub is-flawed-once : Once 0 is-flawed-kinds.ps is-flawed-kinds.r is-flawed.Pre is-flawed.Post
-is-flawed-once κs a v v' x x' q p p' = p ∙ sym p'
+pub is-sound-once : Once 1 is-sound-kinds.ps is-sound-kinds.r is-sound.Pre is-sound.Post
+is-sound-once κs a v v' x x' q p p' = p ∙ sym p'
 
 -- the two numbers tell the answer that has them
 numbers-once : (v v' : FlawNumbers) → bothNumbers v ≡ bothNumbers v' → v ≡ v'

@@ -1,5 +1,6 @@
 // One record of a table: its fields, its number of members, and what is wrong with it.
 ghost use mathlib.Core.Path.{_≡_};
+ghost use mathlib.Core.Bool.{not};
 ghost use Prim.Native.Nat.{_+_, _*_, _<_, _≤_};
 ghost use lib.ListN.{length};
 ghost use Rattle.paper.specs.Record.{kind, countIn, bits, symbolIn, stray, flaw, arity, isFlawed, flawNumbers};
@@ -176,7 +177,7 @@ fn judge_count(s: &[u8], i: usize, k: usize) -> Flaw
 }
 
 // Something is wrong with the record.
-pub fn is_flawed(f: Flaw) -> bool
+fn is_flawed(f: Flaw) -> bool
     ensures { λ r. ⌜ r ≡ isFlawed (flawOf f) ⌝ }
 {
     match f {
@@ -209,6 +210,27 @@ pub fn judge_record(s: &[u8], i: usize) -> Flaw
     let bytes = judge_bytes(s, i, k);
     let members = judge_count(s, i, k);
     first_of(bytes, members)
+}
+
+// Nothing is wrong with record i.
+pub fn is_sound(s: &[u8], i: usize) -> bool
+    requires { ⌜ i * 16 + 16 ≤ length (now s) ⌝ }
+    ensures { λ r. ⌜ r ≡ not (isFlawed (flaw (now (s .entry)) i)) ⌝ }
+{
+    let k = kind(s, i) as usize;
+    if 4 < k {
+        return false;
+    }
+    if stray(s, i, k) < 16 {
+        return false;
+    }
+    if k < 2 {
+        return true;
+    }
+    if k == 4 {
+        return true;
+    }
+    1 < count(s, i)
 }
 
 // Record i anew: its kind, its number of members, and the number in its bytes 8-15; all other bytes of d stay.

@@ -1,7 +1,7 @@
 -- One record of each definition that goes through the records of a table, as a loop takes it. Assumes nothing.
 use Prim.Native.Nat.{ℕ, suc, _+_, _-_, _<_, _≤_}
-use mathlib.Core.Path.{_≡_, refl, _∙_}
-use mathlib.Core.Bool.{true, false, cond}
+use mathlib.Core.Path.{_≡_, refl, sym, ap, _∙_}
+use mathlib.Core.Bool.{Bool, true, false, cond, not}
 use mathlib.Core.List.{List}
 use native.Mathlib.Omega.{arith}
 use borrow.Author.Tests.{eq-eqb, ne-eqb}
@@ -9,16 +9,23 @@ use lib.Dec.{eqb}
 use Rattle.paper.specs.Record.{kind, flaw, isFlawed, weightFrom}
 use Rattle.paper.specs.Verdict.{firstFlawed}
 
+-- a test that says where there is no flaw, turned round
+other-way : (b c : Bool) → c ≡ not b → b ≡ not c
+other-way true c e = sym (ap not e)
+other-way false c e = sym (ap not e)
+
 module _ (s : List ℕ) (n i : ℕ) where
   flawed-step : i < n → firstFlawed s i (n - i) ≡ cond (isFlawed (flaw s i)) i (firstFlawed s (i + 1) (n - (i + 1)))
   unfolding firstFlawed
   flawed-step h = let left : n - i ≡ suc (n - (i + 1)) = omega arith in rw left refl
 
-  pub flawed-here : i < n → isFlawed (flaw s i) ≡ true → firstFlawed s i (n - i) ≡ i
-  flawed-here h e = flawed-step h ∙ rw e
+  -- by a test that says whether the record is sound
+  pub flawed-here : i < n → (b : Bool) → b ≡ not (isFlawed (flaw s i)) → b ≡ false → firstFlawed s i (n - i) ≡ i
+  flawed-here h b e f = flawed-step h ∙ rw (other-way (isFlawed (flaw s i)) b e, f)
 
-  pub flawed-later : i < n → isFlawed (flaw s i) ≡ false → firstFlawed s i (n - i) ≡ firstFlawed s (i + 1) (n - (i + 1))
-  flawed-later h e = flawed-step h ∙ rw e
+  pub flawed-later : i < n → (b : Bool) → b ≡ not (isFlawed (flaw s i)) → b ≡ true
+      → firstFlawed s i (n - i) ≡ firstFlawed s (i + 1) (n - (i + 1))
+  flawed-later h b e f = flawed-step h ∙ rw (other-way (isFlawed (flaw s i)) b e, f)
 
   pub flawed-done : n ≤ i → firstFlawed s i (n - i) ≡ i
   unfolding firstFlawed

@@ -48,10 +48,11 @@ fn first_flawed(s: &[u8], n: usize) -> usize
 {
     let mut i = 0;
     while i < n {
-        if record::is_flawed(record::judge_record(s, i)) {
+        if record::is_sound(s, i) {
+            i += 1;
+        } else {
             return i;
         }
-        i += 1;
     }
     i
 }

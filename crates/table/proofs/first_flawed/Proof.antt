@@ -1,11 +1,10 @@
 -- `table::first_flawed` meets its contract. The loop's invariant: what is left to search from record i on gives what the whole
 -- search gives. Assumes nothing.
 use Prim.Native.Nat.{_-_, _≤_}
-use mathlib.Core.Path.{_≡_, sym, ap, _∙_}
+use mathlib.Core.Path.{_≡_, sym, _∙_}
 use native.Mathlib.Nat.{sub-zero}
 use native.Mathlib.Omega.{arith}
 use borrow.Author.Needs.{needs}
-use Rattle.paper.specs.Record.{isFlawed}
 use Rattle.paper.specs.Verdict.{firstFlawed}
 use Rattle.table.proofs.StepLaws.{flawed-here, flawed-later, flawed-done}
 use Rattle.table.proofs.first_flawed.Statement.{statement}
@@ -20,19 +19,8 @@ abbrev μ-loop : tie.MeasureT-loop
 loop-holds : tie.Need-loop-holds Inv-loop μ-loop
 loop-holds c = (omega arith, simp sub-zero)
 
-judge-record-requires : tie.Need-judge-record-requires Inv-loop μ-loop
-judge-record-requires c κs = omega arith
-
-is-flawed-requires : tie.Need-is-flawed-requires Inv-loop μ-loop
-is-flawed-requires c κs = search needs
-
-returns : tie.Need-returns Inv-loop μ-loop
-returns c =
-    let at = c .before .before .before .before in
-    let a = at .before .before .args in
-    let test = c .before .before .before .loop-test .taken in
-    let flawed = sym (c .before .is-flawed .ensures ∙ ap isFlawed (c .before .before .judge-record .ensures)) ∙ c .if1 .taken in
-    sym (at .loop .inv .1 ∙ flawed-here (a .s .now) (a .n) (at .loop .i) test flawed)
+is-sound-requires : tie.Need-is-sound-requires Inv-loop μ-loop
+is-sound-requires c κs = omega arith
 
 add-i : tie.Need-add-i Inv-loop μ-loop
 add-i c = omega arith
@@ -42,11 +30,17 @@ loop-less c = omega arith
 
 loop-again : tie.Need-loop-again Inv-loop μ-loop
 loop-again c =
-    let at = c .before .before .before .before in
+    let at = c .before .before .before in
     let a = at .before .before .args in
-    let test = c .before .before .before .loop-test .taken in
-    let sound = sym (c .before .is-flawed .ensures ∙ ap isFlawed (c .before .before .judge-record .ensures)) ∙ c .if1 .left in
-    (omega arith, at .loop .inv .1 ∙ flawed-later (a .s .now) (a .n) (at .loop .i) test sound)
+    let test = c .before .before .loop-test .taken in
+    (omega arith, at .loop .inv .1 ∙ flawed-later (a .s .now) (a .n) (at .loop .i) test _ (c .before .is-sound .ensures) (c .if1 .taken))
+
+returns : tie.Need-returns Inv-loop μ-loop
+returns c =
+    let at = c .before .before .before in
+    let a = at .before .before .args in
+    let test = c .before .before .loop-test .taken in
+    sym (at .loop .inv .1 ∙ flawed-here (a .s .now) (a .n) (at .loop .i) test _ (c .before .is-sound .ensures) (c .if1 .left))
 
 returns-2 : tie.Need-returns-2 Inv-loop μ-loop
 returns-2 c =
@@ -60,10 +54,9 @@ first-flawed-spec =
     Inv-loop
     μ-loop
     loop-holds
-    judge-record-requires
-    is-flawed-requires
-    returns
+    is-sound-requires
     add-i
     loop-less
     loop-again
+    returns
     returns-2)
