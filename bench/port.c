@@ -12,7 +12,7 @@ static struct { uint8_t *bytes; size_t length; } tables[4096];
 static size_t table_count, used;
 
 static void simplify(size_t i) {
-    uint32_t why = simmergate_simplify(tables[i].bytes, tables[i].length, out, sizeof out, steps, sizeof steps, work, sizeof work, answer, sizeof answer);
+    uint32_t why = simmergate_simplify(1, tables[i].bytes, tables[i].length, out, sizeof out, steps, sizeof steps, work, sizeof work, answer, sizeof answer);
     if (why != 0) { printf("table %zu is refused: %u\n", i, why); exit(1); }
 }
 

@@ -1,7 +1,8 @@
 /* What the controller's loader does: reads the table of a site formula from a file, has it judged and shortened, and evaluates it.
 
-     loader FILE [SYMBOL=NUMBER ...]
+     loader [-e EDITION] FILE [SYMBOL=NUMBER ...]
 
+   The rules are those of edition one, or of the edition that is named.
    It writes the formula, the shortened one, the steps by name, and the value of both with the symbols named set and all others 0.
    Symbols 0 to 25 are a to z, the others s26 to s255. What goes wrong goes to standard error in words; the exit code is then 1.
 
@@ -55,6 +56,7 @@ static int refused(const char *file, size_t length, uint32_t why, uint64_t place
     case 5: fprintf(stderr, "record %llu is an exponent and no integer of at least 1\n", at); break;
     case 6: fprintf(stderr, "an area that this program lends is too small\n"); break;
     case 7: fprintf(stderr, "after %llu steps an integer leaves the signed 64-bit range\n", at); break;
+    case 9: fprintf(stderr, "there is no such edition of the rules\n"); break;
     default: fprintf(stderr, "a refusal that this program does not know\n");
     }
     return 1;
@@ -67,6 +69,9 @@ static const char *step_name(uint8_t step) {
     case 3: return "multiply-zero";
     case 4: return "multiply-one";
     case 6: return "like-factors";
+    case 7: return "power-one";
+    case 8: return "power-constant";
+    case 9: return "power-power";
     default: return "a step that this program does not know";
     }
 }
@@ -149,8 +154,16 @@ static int set_register(const char *text) {
 
 int main(int argc, char **argv) {
     uint8_t answer[SIMMERGATE_SIMPLIFY_BYTES], before[SIMMERGATE_VALUE_BYTES], after[SIMMERGATE_VALUE_BYTES];
+    size_t edition = 1;
+    if (argc > 2 && strcmp(argv[1], "-e") == 0) {
+        char *end;
+        errno = 0;
+        edition = (size_t)strtoull(argv[2], &end, 10);
+        if (*end != 0 || errno != 0) edition = 0; /* which there is not */
+        argv += 2, argc -= 2;
+    }
     if (argc < 2) {
-        fprintf(stderr, "usage: loader FILE [SYMBOL=NUMBER ...]\n");
+        fprintf(stderr, "usage: loader [-e EDITION] FILE [SYMBOL=NUMBER ...]\n");
         return 2;
     }
     for (int i = 2; i < argc; i++) {
@@ -166,7 +179,7 @@ int main(int argc, char **argv) {
     print_formula(table, 0);
     putchar('\n');
 
-    why = simmergate_simplify(table, n, out, sizeof out, steps, sizeof steps, work, sizeof work, answer, sizeof answer);
+    why = simmergate_simplify(edition, table, n, out, sizeof out, steps, sizeof steps, work, sizeof work, answer, sizeof answer);
     if (why != 0) return refused(argv[1], n, why, number(answer, 1), answer + 56);
     size_t shortened = 16 * (size_t)number(answer, 2);
     fputs("shortened  ", stdout);

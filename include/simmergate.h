@@ -7,7 +7,7 @@
    Every call returns the refusal number, 0 where nothing is refused, and writes the numbers of its answer to `answer`, 8 bytes each,
    little-endian, in the order named at the call. The first two are always the refusal number and its place, as the table below says (records
    count from 0); after a refusal all other numbers are 0, but for the one of simmergate_equal that says which table is refused and, after 2,
-   WHAT and BYTE. The lowest number wins; of two tables, the first is judged by 1 to 5 before the second:
+   WHAT and BYTE. The lowest number wins, but 9 comes before all others; of two tables, the first is judged by 1 to 5 before the second:
 
      number   given exactly when                                                               place
      1        the table's length is zero, no multiple of 16, or over 49,152 bytes              0
@@ -21,13 +21,14 @@
               the weight of the table, `out` is under 16 x W bytes, `steps` under W, or
               `work` under 65,536
      7        simplifying meets an integer outside the signed 64-bit range                     steps completed before it
+     9        there is no such edition of the rules: it is neither 1 nor 2                     0
 
    WHAT and BYTE, last in every answer but for the tries, say after 2 what is wrong with the record at that place: WHAT is 1 for its kind, 2
    for a byte other than zero that must be zero, 3 for its count, the lowest of these that is so; BYTE is the lowest such byte, from 1 to
    15, where WHAT is 2. Else both are 0.
 
    Where `answer` is too short for the numbers, a call returns 6 before all else and changes nothing. Bytes of `answer` past the numbers never
-   change. Refusals 1 to 6 change no byte of any other area; of the calls on tables only simmergate_simplify writes to others at all.
+   change. Refusals 1 to 6 and 9 change no byte of any other area; of the calls on tables only simmergate_simplify writes to others at all.
 
    All lengths are in bytes. The areas of one call must not overlap; a pointer may be anything where its length is 0, and needs no alignment.
    Nothing is allocated, nothing is kept between calls, and calls on different areas may run at the same time. */
@@ -37,10 +38,10 @@
 #include <stddef.h>
 #include <stdint.h>
 
-/* Bytes of stack that a call needs at the most. The deepest tables that are accepted, 1,535 nodes one inside the other, were measured, this
-   x86-64 code being run by an emulator, to need 170,328 bytes in simmergate_check, 170,344 in simmergate_weight, 196,824 in simmergate_value,
-   541,784 in simmergate_equal and 514,624 in simmergate_simplify. */
-#define SIMMERGATE_STACK 557056
+/* Bytes of stack that a call needs at the most. The deepest tables that are accepted, 1,535 nodes one inside the other, were measured
+   to need 170,408 bytes in simmergate_check, 170,424 in simmergate_weight, 196,824 in simmergate_value,
+   541,784 in simmergate_equal and 588,328 in simmergate_simplify, by either edition. */
+#define SIMMERGATE_STACK 606208
 
 /* Bytes of `answer` that each call needs. */
 #define SIMMERGATE_CHECK_BYTES 32
@@ -64,13 +65,15 @@ uint32_t simmergate_value(const uint8_t *table, size_t table_bytes, const uint8_
    which table is refused (1, 2, or 0 for neither), yes 1 or no 0 (no after a refusal), WHAT, BYTE. */
 uint32_t simmergate_equal(const uint8_t *a, size_t a_bytes, const uint8_t *b, size_t b_bytes, uint8_t *answer, size_t answer_bytes);
 
-/* Simplifies a table. Where it is accepted, the result's records go to `out` and the numbers of its steps, one byte each, to `steps`, with
+/* Simplifies a table by the rules of an edition, 1 or 2; edition two has those of edition one and besides them the steps 7, 8 and 9, on powers.
+   A result of edition one may be unfinished in edition two: both machines of a takeover must take the same. Where the table is accepted, the result's records go to `out` and the numbers of its steps, one byte each, to `steps`, with
    zeros up to 16 x W and W bytes; after 7 these two stretches are zeros throughout; in both cases the first 65,536 bytes of `work` are zero.
-   Bytes past the stretches never change. Steps: 1 add-zero, 2 like-terms, 3 multiply-zero, 4 multiply-one, 6 like-factors. The answer:
+   Bytes past the stretches never change. Steps: 1 add-zero, 2 like-terms, 3 multiply-zero, 4 multiply-one, 6 like-factors,
+   7 power-one, 8 power-constant, 9 power-power. The answer:
    refusal number, place, records written, steps, openings, weight of the table, weight of the result, WHAT, BYTE, tries. A try is one
    asking, at one node, whether any rule applies; there are at most as many as the cube of the table's weight. */
-uint32_t simmergate_simplify(const uint8_t *table, size_t table_bytes, uint8_t *out, size_t out_bytes, uint8_t *steps, size_t steps_bytes,
-                             uint8_t *work, size_t work_bytes, uint8_t *answer, size_t answer_bytes);
+uint32_t simmergate_simplify(size_t edition, const uint8_t *table, size_t table_bytes, uint8_t *out, size_t out_bytes, uint8_t *steps,
+                             size_t steps_bytes, uint8_t *work, size_t work_bytes, uint8_t *answer, size_t answer_bytes);
 
 /* ---- Settings that survive an upgrade ----
 

@@ -53,6 +53,8 @@ static const char *const names[] = {"simmergate_check", "simmergate_weight", "si
 static const size_t enough[] = {SIMMERGATE_CHECK_BYTES, SIMMERGATE_WEIGHT_BYTES, SIMMERGATE_VALUE_BYTES, SIMMERGATE_EQUAL_BYTES,
                                 SIMMERGATE_EQUAL_BYTES, SIMMERGATE_SIMPLIFY_BYTES};
 
+static size_t edition = 1; /* of the rules that the simplifier is to take */
+
 static uint32_t make(enum entry entry) {
     switch (entry) {
     case CHECK: return simmergate_check(table.start, table.bytes, answer.start, answer.bytes);
@@ -61,8 +63,8 @@ static uint32_t make(enum entry entry) {
     case EQUAL: return simmergate_equal(table.start, table.bytes, copy.start, copy.bytes, answer.start, answer.bytes);
     case SECOND: return simmergate_equal(small.start, small.bytes, table.start, table.bytes, answer.start, answer.bytes);
     default:
-        return simmergate_simplify(table.start, table.bytes, out.start, out.bytes, steps.start, steps.bytes, work.start, work.bytes, answer.start,
-                                   answer.bytes);
+        return simmergate_simplify(edition, table.start, table.bytes, out.start, out.bytes, steps.start, steps.bytes, work.start, work.bytes,
+                                   answer.start, answer.bytes);
     }
 }
 
@@ -126,8 +128,10 @@ static void led_to(enum entry entry, const uint8_t *t, size_t bytes, struct verd
     answers(entry, v, result, numbers);
 }
 
-/* All calls on a table: with room to spare, with just enough, with too little; and with registers of another length. */
+/* All calls on a table: with room to spare, with just enough, with too little; with an edition that there is not, which is 9 whatever the
+   table; and with registers of another length. */
 static void all(const char *name, const uint8_t *t, size_t bytes, struct verdict v) {
+    static const size_t unknown[] = {0, 3, 255, 257, 258, 65537, (size_t)1 << 32 | 1, (size_t)1 << 32 | 2, (size_t)-1};
     static const size_t lengths[] = {0, 1, 8, 16, 2040, 2047, 2049, 2056, 4096};
     uint64_t numbers[MOST_NUMBERS];
     lend_all(name, t, bytes);
@@ -137,6 +141,11 @@ static void all(const char *name, const uint8_t *t, size_t bytes, struct verdict
         call(entry, enough[entry] + 1 + turn % 41, numbers);
         call(entry, turn % enough[entry], numbers);
     }
+    edition = unknown[turn % (sizeof unknown / sizeof *unknown)];
+    answers(SIMPLIFY, (struct verdict){9, 0, 0, 0}, 0, numbers);
+    call(SIMPLIFY, enough[SIMPLIFY] + turn % 5, numbers);
+    call(SIMPLIFY, turn % enough[SIMPLIFY], numbers);
+    edition = 1 + turn % 2;
     lend(&registers, NULL, lengths[turn % (sizeof lengths / sizeof *lengths)]);
     answers(VALUE, v.number ? v : (struct verdict){6, 0, 0, 0}, 0, numbers);
     call(VALUE, enough[VALUE] + turn % 5, numbers);

@@ -1,4 +1,4 @@
-/* The deepest tables that are accepted, 1,535 nodes one inside the other, checked, weighed, evaluated, compared and simplified on a stack of 1 MiB that
+/* The deepest tables that are accepted, 1,535 nodes one inside the other, checked, weighed, evaluated, compared and simplified by both editions on a stack of 1 MiB that
    lies behind a page that nothing may touch. The stack is painted before each call, and what is painted over is what the call needed. The
    widest tables are simplified there, too. */
 #include "../../include/simmergate.h"
@@ -17,7 +17,7 @@ static uint8_t *const stack = area + PAGE;
 
 static uint8_t table[MOST_BYTES], second[MOST_BYTES], registers[8 * REGISTERS], answer[SIMMERGATE_SIMPLIFY_BYTES];
 static uint8_t out[MOST_BYTES], steps[MOST_BYTES / RECORD], work[65536];
-static size_t bytes, second_bytes;
+static size_t bytes, second_bytes, edition = 1;
 static uint32_t returned;
 
 static void *nothing(void *unused) { return unused; }
@@ -27,7 +27,7 @@ static void *evaluate(void *unused) { returned = simmergate_value(table, bytes, 
 static void *compare(void *unused) { returned = simmergate_equal(table, bytes, second, second_bytes, answer, sizeof answer); return unused; }
 
 static void *simplify(void *unused) {
-    returned = simmergate_simplify(table, bytes, out, sizeof out, steps, sizeof steps, work, sizeof work, answer, sizeof answer);
+    returned = simmergate_simplify(edition, table, bytes, out, sizeof out, steps, sizeof steps, work, sizeof work, answer, sizeof answer);
     return unused;
 }
 
@@ -136,9 +136,12 @@ int main(void) {
             if (own_number(answer + 24) != (k < 2)) differ("the comparison", a, b, k < 2, own_number(answer + 24));
         }
         nest(a, b, first, 3);
-        size_t n = simplified(a, b, thread);
-        if (n > most[4]) most[4] = n;
+        for (edition = 1; edition <= 2; edition++) {
+            size_t n = simplified(a, b, thread);
+            if (n > most[4]) most[4] = n;
+        }
     }
+    edition = 1;
     widest(3071, 0, 1, 1, thread);
     widest(1023, 1, 3, 1, thread);
     widest(1000, 2, 3001, 0, thread);

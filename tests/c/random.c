@@ -1,7 +1,7 @@
 /* random SEED COUNT [FROM]: the calls on COUNT random tables beside a checker and an evaluator (own.c), a simplifier (rules.c) and an equality
    test in plain C that share nothing with the port. Of five tables one is damaged. Compared: every number of every answer and every byte that
    is written. Besides, the result by what must hold of it: a good table of the same value under random registers, of the weight that was
-   answered, lighter by at least a unit for each step and opening, after at most the cube of the weight in tries, and simplified again it is itself,
+   answered, lighter by at least a unit for each step and opening, after at most the cube of the weight in tries, and simplified again by the same edition it is itself,
    with no step, no opening and a try for each record. Every lent area is guarded. */
 #include "../../include/simmergate.h"
 #include "lent.h"
@@ -125,7 +125,7 @@ static void damage(uint8_t *t, size_t *n) {
 
 static struct lent lent_table = {.name = "table"}, lent_other = {.name = "other table"}, lent_registers = {.name = "registers"},
                    lent_out = {.name = "out"}, lent_steps = {.name = "steps"}, lent_work = {.name = "work"}, lent_answer = {.name = "answer"};
-static uint64_t counts[8], flaws[4], steps_seen, openings_seen, tries_seen, equal_seen, unequal_seen, calls;
+static uint64_t counts[10], flaws[4], each_step[10], steps_seen, openings_seen, tries_seen, equal_seen, unequal_seen, calls;
 
 /* A size for an area that must have `need` bytes: mostly that, at times more, at times too few. */
 static size_t some_size(size_t need) { return chance(100) && need > 0 ? (size_t)below(need) : chance(3) ? need + (size_t)below(300) : need; }
@@ -191,7 +191,7 @@ static void try_equal(struct judged v) {
 }
 
 /* What an accepted call left: the records and steps that the plain C has, and zeros. */
-static void try_result(struct judged v, const uint64_t *said, struct simplified own, const uint8_t *own_out, const uint8_t *own_steps) {
+static void try_result(size_t edition, struct judged v, const uint64_t *said, struct simplified own, const uint8_t *own_out, const uint8_t *own_steps) {
     static uint8_t result[49152], again[49152], again_steps[3072], again_work[65536], again_answer[SIMMERGATE_SIMPLIFY_BYTES];
     uint64_t records = said[2], given = said[3], opened = said[4], tries = said[9];
     if (said[1] != 0 || records != own.records || given != own.steps || opened != own.openings || tries != own.tries) fail("simplify: other counts than the plain C's");
@@ -209,25 +209,34 @@ static void try_result(struct judged v, const uint64_t *said, struct simplified 
         if (own_value(table, registers) != own_value(result, registers)) fail("simplify: the value is another one");
     }
     try_value(after, result, 16 * records);
-    uint32_t r = simmergate_simplify(result, 16 * records, again, sizeof again, again_steps, sizeof again_steps, again_work, sizeof again_work,
+    uint32_t r = simmergate_simplify(edition, result, 16 * records, again, sizeof again, again_steps, sizeof again_steps, again_work, sizeof again_work,
                                      again_answer, sizeof again_answer);
     calls++;
     uint64_t wanted[10] = {0, 0, records, 0, 0, after.weight, after.weight, 0, 0, records};
     if (r != 0 || memcmp(again_answer, numbers(wanted, 10), sizeof again_answer) != 0 || memcmp(again, result, 16 * records) != 0)
         fail("simplify: the result simplified again is not itself");
     steps_seen += given;
+    for (uint64_t i = 0; i < given; i++) each_step[own_steps[i]]++;
     openings_seen += opened;
     tries_seen += tries;
 }
 
+/* The editions: mostly those that there are, at times another number, among them such as become 1 or 2 where bytes of them are lost. */
+static size_t some_edition(void) {
+    static const size_t unknown[] = {0, 3, 255, 257, 258, 65537, ((size_t)1 << 32) + 1, ((size_t)1 << 32) + 2, (size_t)-1};
+    return chance(50) ? unknown[below(sizeof unknown / sizeof *unknown)] : 1 + below(2);
+}
+
 static void try_simplify(struct judged v) {
+    size_t edition = some_edition();
     size_t w = v.number == 0 ? (size_t)v.weight : (size_t)below(50), room = some_size(SIMMERGATE_SIMPLIFY_BYTES);
     size_t out_size = some_size(16 * w), steps_size = some_size(w), work_size = some_size(65536);
     const uint8_t *t = lend_bytes(&lent_table, table, length);
     uint8_t *o = lend(&lent_out, out_size), *s = lend(&lent_steps, steps_size), *k = lend(&lent_work, work_size), *a = lend(&lent_answer, room);
-    uint32_t number = simmergate_simplify(t, length, o, out_size, s, steps_size, k, work_size, a, room);
+    uint32_t number = simmergate_simplify(edition, t, length, o, out_size, s, steps_size, k, work_size, a, room);
     if (!holds(&lent_table, table, length, length)) fail("simplify: the table changed");
     if (v.number == 0 && (out_size < 16 * w || steps_size < w || work_size < 65536)) v.number = 6;
+    if (edition != 1 && edition != 2) v = (struct judged){.number = 9};
     if (v.number != 0 || room < SIMMERGATE_SIMPLIFY_BYTES) {
         answered(number, (uint64_t[]){v.number, v.place, 0, 0, 0, 0, 0, v.what, v.byte, 0}, 10, "simplify");
         if (!untouched(&lent_out) || !untouched(&lent_steps) || !untouched(&lent_work)) fail("simplify: refused, and a lent byte changed");
@@ -244,9 +253,9 @@ static void try_simplify(struct judged v) {
     if (!holds(&lent_work, lent_zeros, 0, 65536)) fail("simplify: work is not zero, or changed past its stretch");
     counts[number]++;
     static uint8_t own_out[49152], own_steps[3072];
-    struct simplified own = own_simplify(table, own_out, own_steps);
+    struct simplified own = own_simplify((int)edition, table, own_out, own_steps);
     if (number != own.number) fail("simplify: the plain C says otherwise whether an integer leaves the range");
-    if (number == 0) { try_result(v, said, own, own_out, own_steps); return; }
+    if (number == 0) { try_result(edition, v, said, own, own_out, own_steps); return; }
     if (said[1] != own.place) fail("simplify: 7 at another place than the plain C's");
     if (said[2] + said[3] + said[4] + said[5] + said[6] + said[9] != 0) fail("simplify: other numbers than 0 beside 7");
     if (!holds(&lent_out, lent_zeros, 0, 16 * w) || !holds(&lent_steps, lent_zeros, 0, w)) fail("simplify: 7, and out or steps is not zero");
@@ -274,18 +283,22 @@ int main(int argc, char **argv) {
         try_simplify(v);
     }
     if (count >= 10000) {
-        for (int i = 0; i < 8; i++) {
-            if (counts[i] == 0) { printf("random: no table of seed %llu was answered %d: nothing is shown of it\n", (unsigned long long)seed, i); return 1; }
+        for (int i = 0; i < 10; i++) {
+            if (counts[i] == 0 && i != 8) { printf("random: no table of seed %llu was answered %d: nothing is shown of it\n", (unsigned long long)seed, i); return 1; }
         }
         for (int i = 1; i < 4; i++) {
             if (flaws[i] == 0) { printf("random: no table of seed %llu has what is wrong %d: nothing is shown of it\n", (unsigned long long)seed, i); return 1; }
         }
+        for (int i = 1; i < 10; i++) {
+            if (each_step[i] == 0 && i != 5) { printf("random: no table of seed %llu has step %d: nothing is shown of it\n", (unsigned long long)seed, i); return 1; }
+        }
         if (equal_seen == 0 || unequal_seen == 0) { printf("random: no equal or no unequal tables\n"); return 1; }
     }
-    printf("random tables beside plain C: %llu (seed %llu), %llu calls; simplified %llu (%llu steps, %llu openings, %llu tries, all bytes equal, values equal), refused 1 to 7:",
+    printf("random tables beside plain C: %llu (seed %llu), %llu calls; simplified %llu (%llu steps, %llu of them on powers, %llu openings, %llu tries, all bytes equal, values equal), refused 1 to 7:",
            (unsigned long long)count, (unsigned long long)seed, (unsigned long long)calls, (unsigned long long)counts[0],
-           (unsigned long long)steps_seen, (unsigned long long)openings_seen, (unsigned long long)tries_seen);
+           (unsigned long long)steps_seen, (unsigned long long)(each_step[7] + each_step[8] + each_step[9]), (unsigned long long)openings_seen, (unsigned long long)tries_seen);
     for (int i = 1; i < 8; i++) printf(" %llu", (unsigned long long)counts[i]);
+    printf("; 9: %llu", (unsigned long long)counts[9]);
     printf("; of 2 by kind %llu, byte %llu, count %llu; equal %llu, unequal %llu\n", (unsigned long long)flaws[1], (unsigned long long)flaws[2],
            (unsigned long long)flaws[3], (unsigned long long)equal_seen, (unsigned long long)unequal_seen);
     return 0;

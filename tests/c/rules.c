@@ -185,12 +185,33 @@ static enum tried combine(tree *t, unsigned kind, struct part (*part)(tree), int
     return APPLIES;
 }
 
+/* Steps 7 and 8: "exponent 1 gives the base"; "base 0 gives 0 and base 1 gives 1". */
+static enum tried base_alone(tree *t, int applies) {
+    if (!applies) return DOES_NOT_APPLY;
+    *t = (*t)->members[0];
+    return APPLIES;
+}
+
+/* Step 9: "a power of a power gets the product of the exponents" */
+static enum tried power_power(tree *t) {
+    tree base = (*t)->members[0];
+    int64_t n;
+    if (base->kind != POWER) return DOES_NOT_APPLY;
+    if (__builtin_mul_overflow(base->members[1]->number, (*t)->members[1]->number, &n)) return RANGE_EXCEEDED;
+    *t = node(POWER, (tree[]){base->members[0], integer(n)}, 2);
+    return APPLIES;
+}
+
 static enum tried try_step(tree *t, int step) {
+    if (step > 6 && (*t)->kind != POWER) return DOES_NOT_APPLY;
     switch (step) {
     case 1: return drop(t, SUM, 0);
     case 2: return combine(t, SUM, term, join_terms, from_term);
     case 3: return multiply_zero(t);
     case 4: return drop(t, PRODUCT, 1);
+    case 7: return base_alone(t, is((*t)->members[1], 1));
+    case 8: return base_alone(t, is((*t)->members[0], 0) || is((*t)->members[0], 1));
+    case 9: return power_power(t);
     default: return combine(t, PRODUCT, factor, join_factors, from_factor);
     }
 }
@@ -199,12 +220,13 @@ static enum tried try_step(tree *t, int step) {
 
 static struct simplified answer;
 static uint8_t *step_bytes;
+static size_t rules; /* how many of the rules the edition has */
 
-/* Tries the rules in order, which is one try; whether one applied. A range that is exceeded ends the run: answer.number is 7 then. */
+/* Tries the rules of the edition in order, which is one try; whether one applied. A range that is exceeded ends the run: answer.number is 7 then. */
 static int asked(tree *t) {
-    static const uint8_t order[] = {1, 2, 3, 4, 6};
+    static const uint8_t order[] = {1, 2, 3, 4, 6, 7, 8, 9};
     answer.tries++;
-    for (size_t k = 0; k < sizeof order; k++) {
+    for (size_t k = 0; k < rules; k++) {
         enum tried tried = try_step(t, order[k]);
         if (tried == DOES_NOT_APPLY) continue;
         if (tried == RANGE_EXCEEDED) answer.number = 7;
@@ -270,11 +292,12 @@ static uint8_t *write_tree(tree t, uint8_t *at) {
     return at;
 }
 
-struct simplified own_simplify(const uint8_t *table, uint8_t *out, uint8_t *steps) {
+struct simplified own_simplify(int edition, const uint8_t *table, uint8_t *out, uint8_t *steps) {
     int changed = 0;
     used = 0;
     answer = (struct simplified){0};
     step_bytes = steps;
+    rules = edition == 2 ? 8 : 5;
     tree t = driven(read_tree(&table), &changed);
     if (answer.number != 0) return (struct simplified){.number = 7, .place = answer.steps};
     answer.records = (uint64_t)(write_tree(t, out) - out) / RECORD;

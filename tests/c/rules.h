@@ -10,7 +10,7 @@ struct simplified {
     uint64_t number, place, records, steps, openings, tries;
 };
 
-/* Simplifies a table that is not refused; `out` and `steps` have room for its weight, and hold nothing of use after 7. */
-struct simplified own_simplify(const uint8_t *table, uint8_t *out, uint8_t *steps);
+/* Simplifies a table that is not refused by the rules of edition 1 or 2; `out` and `steps` have room for its weight, and hold nothing of use after 7. */
+struct simplified own_simplify(int edition, const uint8_t *table, uint8_t *out, uint8_t *steps);
 
 #endif

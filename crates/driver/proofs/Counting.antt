@@ -10,7 +10,7 @@ use Rattle.paper.specs.Tree.{Tree, weight}
 use Rattle.paper.specs.WellFormed.{WF}
 use Rattle.paper.specs.Driver.{Ran, done, over, Rans, dones, overs, andThen, each, members, gather, simplify}
 use Rattle.paper.proofs.Value.{total, weight-pos}
-use Rattle.paper.proofs.EditionOne.{edition-one-good}
+use Rattle.paper.proofs.EditionTwo.{edition-good}
 use Rattle.paper.proofs.GatherLaws.{members-wf}
 use Rattle.paper.proofs.DriverLaws.{RunsKept, each-kept, gathered-tree}
 use Rattle.paper.proofs.Fuel.{members-lighter}
@@ -40,9 +40,9 @@ cost-small w h =
     omega (arith, ap cost all, cost-both w (65536 - w))
 
 -- ---- the tries of a run, and of a member's
-drives-tries : (t : Tree) → WF t → RunTries t (drives t)
+drives-tries : (ed : ℕ) (t : Tree) → WF t → RunTries t (drives ed t)
 unfolding simplify
-drives-tries t w = run-tries edition-one-good (weight t) t w
+drives-tries ed t w = run-tries (edition-good ed) (weight t) t w
 
 one-tries : (k : ℕ) (t : Tree) (r : Ran) → RunTries t r → (l : List Tree) (ks : List ℕ) (o τ : ℕ)
     → openedRuns (inside k) (andThen r (dones [] [] 0 0)) ≡ dones l ks o τ → τ ≤ cost (weight t)
@@ -50,10 +50,10 @@ unfolding openedRuns andThen cost
 one-tries k t (over j) h l ks o τ e = absurd (let z : _≡_ {A = ℕ} 0 1 = cc in omega arith)
 one-tries k t (done u s n υ) h l ks o τ e = let a : υ + 0 ≡ τ = cc in omega (arith, h)
 
-pub member-tries : (k : ℕ) (t : Tree) → WF t → (l : List Tree) (ks : List ℕ) (o τ : ℕ)
-    → openedRuns (inside k) (each drives (t ∷ [])) ≡ dones l ks o τ → τ ≤ cost (weight t)
+pub member-tries : (ed : ℕ) (k : ℕ) (t : Tree) → WF t → (l : List Tree) (ks : List ℕ) (o τ : ℕ)
+    → openedRuns (inside k) (each (drives ed) (t ∷ [])) ≡ dones l ks o τ → τ ≤ cost (weight t)
 unfolding each
-member-tries k t w l ks o τ e = one-tries k t (drives t) (drives-tries t w) l ks o τ e
+member-tries ed k t w l ks o τ e = one-tries k t (drives ed t) (drives-tries ed t w) l ks o τ e
 
 -- ---- the tries of a pass
 module _ (t : Tree) (w : WF t) where
@@ -95,13 +95,13 @@ module _ (t : Tree) (w : WF t) where
         let b = pass-cost x (total weight l) τ′ (weight u) (members-tries l s′ o′ τ′ h) (omega arith) (omega (arith, is)) in
         omega (arith, ap cost is)
 
-    module _ (e : passed t (each drives (members t)) ≡ done u s o τ) where
-      all-tries : RunsTries x (members t) (each drives (members t))
-      all-tries = each-tries drives x drives-kept drives-tries (members t) (members-wf t w) (omega (arith, members-lighter t))
+    module _ (ed : ℕ) (e : passed t (each (drives ed) (members t)) ≡ done u s o τ) where
+      all-tries : RunsTries x (members t) (each (drives ed) (members t))
+      all-tries = each-tries (drives ed) x (drives-kept ed) (drives-tries ed) (members t) (members-wf t w) (omega (arith, members-lighter t))
 
       pub pass-few : τ + 1 ≤ cost (weight t)
-      pass-few = few (each drives (members t)) e all-tries
+      pass-few = few (each (drives ed) (members t)) e all-tries
 
       -- "begin again": the pass and what may come after it cost no more than the tree
       pub pass-pays : 1 ≤ length s + o → τ + 1 + cost (weight u) ≤ cost (weight t)
-      pass-pays = pays (each drives (members t)) e (each-kept drives drives-kept (members t) (members-wf t w)) all-tries
+      pass-pays = pays (each (drives ed) (members t)) e (each-kept (drives ed) (drives-kept ed) (members t) (members-wf t w)) all-tries

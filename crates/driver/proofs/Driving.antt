@@ -12,7 +12,7 @@ use Rattle.paper.specs.Tree.{Tree, records, weight}
 use Rattle.paper.specs.WellFormed.{WF}
 use Rattle.paper.specs.Table.{encode}
 use Rattle.paper.specs.Verdict.{tableWeight}
-use Rattle.paper.specs.Rules.{editionOne}
+use Rattle.paper.specs.Rules.{rulesOf}
 use Rattle.paper.specs.Driver.{done, over, no-rule, out-of-range, ask, after, each, members}
 use Rattle.paper.specs.Admits.{AdmitsNone}
 use Rattle.paper.proofs.EncodeLaws.{encode-length, records-weight}
@@ -34,7 +34,7 @@ use Rattle.driver.proofs.Counting.{cost-least, cost-step, cost-small, p
 
 -- out₀, work₀, steps₀ at the entry, the tree at record p; out, work, steps now, the tree at record at, n steps noted, o openings;
 -- τ tries; size is the number of the tree's records where it comes from a pass, else 0
-pub record DInv (out₀ work₀ steps₀ : List ℕ) (d p s : ℕ) (out work steps : List ℕ) (at n o τ size : ℕ) : Type 0 where
+pub record DInv (ed : ℕ) (out₀ work₀ steps₀ : List ℕ) (d p s : ℕ) (out work steps : List ℕ) (at n o τ size : ℕ) : Type 0 where
   pub t : Tree
   pub rest : List ℕ
   pub set-up : Set out₀ work₀ steps₀ d p s t rest
@@ -45,17 +45,17 @@ pub record DInv (out₀ work₀ steps₀ : List ℕ) (d p s : ℕ) (out work ste
   pub kept : take (d * 16) out ≡ take (d * 16) out₀
   pub noted-end : n ≡ s + length ks
   pub noted : take n steps ≡ take s steps₀ ++ ks
-  pub goes-on : drives t ≡ after ks o τ (drives u)
+  pub goes-on : drives ed t ≡ after ks o τ (drives ed u)
   pub lighter : length ks + o + weight u ≤ weight t
   pub tried-bound : τ + cost (weight u) ≤ cost (weight t)
-  pub settles : 0 < size → (size ≡ records u) × (ask editionOne u ≡ no-rule → AdmitsNone editionOne u)
+  pub settles : 0 < size → (size ≡ records u) × (ask (rulesOf ed) u ≡ no-rule → AdmitsNone (rulesOf ed) u)
   pub out-long : length out ≡ length out₀
   pub work-long : length work ≡ length work₀
   pub steps-long : length steps ≡ length steps₀
 
-pub start : {out work steps : List ℕ} {d p s : ℕ} {t : Tree} {rest : List ℕ} → Set out work steps d p s t rest
-    → DInv out work steps d p s out work steps p s 0 0 0
-start {steps = steps} {s = s} {t = t} {rest = rest} h =
+pub start : {ed : ℕ} {out work steps : List ℕ} {d p s : ℕ} {t : Tree} {rest : List ℕ} → Set out work steps d p s t rest
+    → DInv ed out work steps d p s out work steps p s 0 0 0
+start {ed = ed} {steps = steps} {s = s} {t = t} {rest = rest} h =
     record {
       t = t;
       rest = rest;
@@ -67,7 +67,7 @@ start {steps = steps} {s = s} {t = t} {rest = rest} h =
       kept = refl;
       noted-end = omega arith;
       noted = sym (append-nil (take s steps));
-      goes-on = sym (after-none (drives t));
+      goes-on = sym (after-none (drives ed t));
       lighter = omega arith;
       tried-bound = omega arith;
       settles = λ z. absurd (omega arith);
@@ -77,9 +77,9 @@ start {steps = steps} {s = s} {t = t} {rest = rest} h =
     }
 
 -- at a turn where no rule applies
-pub record Idle (out₀ work₀ steps₀ : List ℕ) (d p s : ℕ) (out work steps : List ℕ) (at n o τ size : ℕ) : Type 0 where
-  pub inv : DInv out₀ work₀ steps₀ d p s out work steps at n o τ size
-  pub none : ask editionOne (inv .u) ≡ no-rule
+pub record Idle (ed : ℕ) (out₀ work₀ steps₀ : List ℕ) (d p s : ℕ) (out work steps : List ℕ) (at n o τ size : ℕ) : Type 0 where
+  pub inv : DInv ed out₀ work₀ steps₀ d p s out work steps at n o τ size
+  pub none : ask (rulesOf ed) (inv .u) ≡ no-rule
 
 -- where a pass is done, with records up to e in out, what is pending from record q on in work, j steps noted, b openings and υ tries: its
 -- places are in order, and within the areas
@@ -100,8 +100,8 @@ after-over : (ks : List ℕ) (o τ k : ℕ) → after ks o τ (over k) ≡ over 
 unfolding after
 after-over ks o τ k = refl
 
-module _ {out₀ work₀ steps₀ : List ℕ} {d p s : ℕ} {out work steps : List ℕ} {at n o τ size : ℕ}
-    (v : DInv out₀ work₀ steps₀ d p s out work steps at n o τ size) where
+module _ {ed : ℕ} {out₀ work₀ steps₀ : List ℕ} {d p s : ℕ} {out work steps : List ℕ} {at n o τ size : ℕ}
+    (v : DInv ed out₀ work₀ steps₀ d p s out work steps at n o τ size) where
   pub set-now : Set out work steps d at n (v .u) (v .rest)
   set-now =
       let r = v .set-up .ready in
@@ -137,19 +137,19 @@ module _ {out₀ work₀ steps₀ : List ℕ} {d p s : ℕ} {out work steps : Li
   try-fits = omega (arith, tries-fit, weight-pos (v .u))
 
   -- a rule left the range: the steps so far are completed
-  pub burst : ask editionOne (v .u) ≡ out-of-range → (k : ℕ) × (drives (v .t) ≡ over k) × (n ≡ s + k)
+  pub burst : ask (rulesOf ed) (v .u) ≡ out-of-range → (k : ℕ) × (drives ed (v .t) ≡ over k) × (n ≡ s + k)
   burst e = (
     length (v .ks) + 0,
-    v .goes-on ∙ ap (after (v .ks) o τ) (visit-over (v .u) (v .wf) e) ∙ after-over (v .ks) o τ 0,
+    v .goes-on ∙ ap (after (v .ks) o τ) (visit-over ed (v .u) (v .wf) e) ∙ after-over (v .ks) o τ 0,
     omega (arith, v .noted-end),
   )
 
   module _ (out' work' : List ℕ) (lo : length out' ≡ length out) (lw : length work' ≡ length work) where
     -- a rule applied: its step is noted, and the driver goes on at its result
-    module _ (k q : ℕ) (a : AskedIs (v .u) (v .rest) out out' work' d at (Step k q)) where
-      pub stepped : DInv out₀ work₀ steps₀ d p s out' work' (set steps n k) q (n + 1) o (τ + 1) 0
+    module _ (k q : ℕ) (a : AskedIs (rulesOf ed) (v .u) (v .rest) out out' work' d at (Step k q)) where
+      pub stepped : DInv ed out₀ work₀ steps₀ d p s out' work' (set steps n k) q (n + 1) o (τ + 1) 0
       stepped =
-          let h = step-kept (v .u) (v .wf) k (a .0) (a .1) in
+          let h = step-kept ed (v .u) (v .wf) k (a .0) (a .1) in
           let h1 = h .1 in
           record {
             t = v .t;
@@ -163,8 +163,8 @@ module _ {out₀ work₀ steps₀ : List ℕ} {d p s : ℕ} {out work steps : Li
             noted-end = omega (arith, v .noted-end, length-append (v .ks) (k ∷ []));
             noted = noted-one steps n k step-fits ∙ ap (λ (x : List ℕ). x ++ (k ∷ [])) (v .noted) ∙ append-assoc (take s steps₀) (v .ks) (k ∷ []);
             goes-on =
-                v .goes-on ∙ ap (after (v .ks) o τ) (visit-step (v .u) (v .wf) k (a .0) (a .1))
-                ∙ after-after (v .ks) o τ (k ∷ []) 0 1 (drives (a .0)) ∙ ap (λ x. after (v .ks ++ (k ∷ [])) x (τ + 1) (drives (a .0))) (add-zero o);
+                v .goes-on ∙ ap (after (v .ks) o τ) (visit-step ed (v .u) (v .wf) k (a .0) (a .1))
+                ∙ after-after (v .ks) o τ (k ∷ []) 0 1 (drives ed (a .0)) ∙ ap (λ x. after (v .ks ++ (k ∷ [])) x (τ + 1) (drives ed (a .0))) (add-zero o);
             lighter = omega (arith, v .lighter, length-append (v .ks) (k ∷ []));
             tried-bound = omega (arith, v .tried-bound, cost-step (weight (a .0)) (weight (v .u)) h1);
             settles = λ z. absurd (omega arith);
@@ -175,15 +175,15 @@ module _ {out₀ work₀ steps₀ : List ℕ} {d p s : ℕ} {out work steps : Li
 
       pub stepped-less : tableWeight (drop (q * 16) work') < tableWeight (drop (at * 16) work)
       stepped-less =
-          let h1 = step-kept (v .u) (v .wf) k (a .0) (a .1) .1 in
+          let h1 = step-kept ed (v .u) (v .wf) k (a .0) (a .1) .1 in
           let w : tableWeight (drop (q * 16) work') ≡ weight (a .0) + tableWeight (v .rest) = ap tableWeight (a .2) ∙ weighs-tree (a .0) (v .rest) in
           omega (arith, weighs-now)
 
     -- no rule applies: the tree stands as it stood
-    pub idle-weighs : AskedIs (v .u) (v .rest) out out' work' d at Nothing → tableWeight (drop (at * 16) work') ≡ tableWeight (drop (at * 16) work)
+    pub idle-weighs : AskedIs (rulesOf ed) (v .u) (v .rest) out out' work' d at Nothing → tableWeight (drop (at * 16) work') ≡ tableWeight (drop (at * 16) work)
     idle-weighs a = ap tableWeight (a .1 ∙ sym (v .stands))
 
-    pub idle : AskedIs (v .u) (v .rest) out out' work' d at Nothing → Idle out₀ work₀ steps₀ d p s out' work' steps at n o τ size
+    pub idle : AskedIs (rulesOf ed) (v .u) (v .rest) out out' work' d at Nothing → Idle ed out₀ work₀ steps₀ d p s out' work' steps at n o τ size
     idle a =
         record {
           inv =
@@ -209,15 +209,15 @@ module _ {out₀ work₀ steps₀ : List ℕ} {d p s : ℕ} {out work steps : Li
           none = a .0;
         }
 
-module _ {out₀ work₀ steps₀ : List ℕ} {d p s : ℕ} {out work steps : List ℕ} {at n o τ size : ℕ}
-    (w : Idle out₀ work₀ steps₀ d p s out work steps at n o τ size) where
-  abbrev pub v : DInv out₀ work₀ steps₀ d p s out work steps at n o τ size
+module _ {ed : ℕ} {out₀ work₀ steps₀ : List ℕ} {d p s : ℕ} {out work steps : List ℕ} {at n o τ size : ℕ}
+    (w : Idle ed out₀ work₀ steps₀ d p s out work steps at n o τ size) where
+  abbrev pub v : DInv ed out₀ work₀ steps₀ d p s out work steps at n o τ size
   v = w .inv
 
   -- the tree comes from a pass: it is finished, and moves to what is done
   module _ (h : 0 < size) where
     -- the driver would ask each of its records once more
-    finished : drives (v .u) ≡ done (v .u) [] 0 size
+    finished : drives ed (v .u) ≡ done (v .u) [] 0 size
     finished = simplify-again (v .u) (v .wf) (v .settles h .1 (w .none)) ∙ ap (done (v .u) [] 0) (sym (v .settles h .0))
 
     tree-long : length (encode (v .u)) ≡ size * 16
@@ -234,7 +234,7 @@ module _ {out₀ work₀ steps₀ : List ℕ} {d p s : ℕ} {out work steps : Li
         )
 
     pub moved : (out' : List ℕ) → out' ≡ put out (d * 16) (part work (at * 16) (size * 16))
-        → Drove (drives (v .t)) (v .rest) out₀ out' work steps₀ steps d s (d + size) (at + size) n o (τ + size)
+        → Drove (drives ed (v .t)) (v .rest) out₀ out' work steps₀ steps d s (d + size) (at + size) n o (τ + size)
     moved out' e =
         let z = v .settles h .0 in
         let m0 = move-fits .0 in
@@ -258,20 +258,20 @@ module _ {out₀ work₀ steps₀ : List ℕ} {d p s : ℕ} {out work steps : Li
         }
 
   -- the pass was refused
-  pub pass-burst : (m : ℕ) → (k : ℕ) × (passed (v .u) (each drives (members (v .u))) ≡ over k) × (m ≡ n + k)
-      → (k : ℕ) × (drives (v .t) ≡ over k) × (m ≡ s + k)
+  pub pass-burst : (m : ℕ) → (k : ℕ) × (passed (v .u) (each (drives ed) (members (v .u))) ≡ over k) × (m ≡ n + k)
+      → (k : ℕ) × (drives ed (v .t) ≡ over k) × (m ≡ s + k)
   pass-burst m b = (
     length (v .ks) + b .0,
-    v .goes-on ∙ ap (after (v .ks) o τ) (pass-over (v .u) (v .wf) (w .none) (b .0) (b .1)) ∙ after-over (v .ks) o τ (b .0),
+    v .goes-on ∙ ap (after (v .ks) o τ) (pass-over ed (v .u) (v .wf) (w .none) (b .0) (b .1)) ∙ after-over (v .ks) o τ (b .0),
     let b2 = b .2 in omega (arith, v .noted-end),
   )
 
   -- a pass that is done
   module _ {out' work' steps' : List ℕ} {e q j b υ : ℕ}
-      (a : Drove (passed (v .u) (each drives (members (v .u)))) (v .rest) out out' work' steps steps' d n e q j b υ)
+      (a : Drove (passed (v .u) (each (drives ed) (members (v .u)))) (v .rest) out out' work' steps steps' d n e q j b υ)
       (lo : length out' ≡ length out) (lw : length work' ≡ length work) (lz : length steps' ≡ length steps) where
     pub less : WF (a .to) × (length (a .ks) + b + weight (a .to) ≤ weight (v .u))
-    less = run-lighter (v .u) (a .to) (a .ks) b υ _ (pass-kept (v .u) (v .wf)) (a .ran)
+    less = run-lighter (v .u) (a .to) (a .ks) b υ _ (pass-kept ed (v .u) (v .wf)) (a .ran)
 
     pub pass-fits : PassFits out' work' d n o τ e q j b υ
     pass-fits =
@@ -287,18 +287,18 @@ module _ {out₀ work₀ steps₀ : List ℕ} {d p s : ℕ} {out work steps : Li
           few = omega (arith, a .noted-end, v .lighter, v .set-up .ready .light);
           few-tries =
               let most = cost-small (weight (v .t)) (v .set-up .ready .light) in
-              omega (arith, v .tried-bound, pass-few (v .u) (v .wf) (a .to) (a .ks) b υ (a .ran));
+              omega (arith, v .tried-bound, pass-few (v .u) (v .wf) (a .to) (a .ks) b υ ed (a .ran));
         }
 
     -- nothing changed: the node is finished
-    pub nothing-changed : j - n + b < 1 → Drove (drives (v .t)) (v .rest) out₀ out' work' steps₀ steps' d s e q n o (τ + (υ + 1))
+    pub nothing-changed : j - n + b < 1 → Drove (drives ed (v .t)) (v .rest) out₀ out' work' steps₀ steps' d s e q n o (τ + (υ + 1))
     nothing-changed h =
         let z : length (a .ks) + b ≡ 0 = omega (arith, a .noted-end) in
         let jn : j ≡ n = omega (arith, a .noted-end) in
         record {
           to = a .to;
           ks = v .ks;
-          ran = v .goes-on ∙ ap (after (v .ks) o τ) (pass-done (v .u) (v .wf) (w .none) (a .to) (a .ks) b υ (a .ran) z)
+          ran = v .goes-on ∙ ap (after (v .ks) o τ) (pass-done ed (v .u) (v .wf) (w .none) (a .to) (a .ks) b υ (a .ran) z)
               ∙ after-done (v .ks) o τ (a .to) (υ + 1);
           end = a .end;
           wrote = a .wrote ∙ ap (λ (x : List ℕ). x ++ encode (a .to)) (v .kept);
@@ -326,7 +326,7 @@ module _ {out₀ work₀ steps₀ : List ℕ} {d p s : ℕ} {out work steps : Li
           (e * 16) (a .wrote) ends (front-long (set-now v)) l (omega arith)))
           ∙ put-before work' (encode (a .to)) (v .rest) ((q - (e - d)) * 16) (q * 16) room (a .left) (omega arith)
 
-      pub again : length work'' ≡ length work' → DInv out₀ work₀ steps₀ d p s out' work'' steps' (q - (e - d)) j (o + b) (τ + (υ + 1)) (e - d)
+      pub again : length work'' ≡ length work' → DInv ed out₀ work₀ steps₀ d p s out' work'' steps' (q - (e - d)) j (o + b) (τ + (υ + 1)) (e - d)
       again l2 =
           let l = less .1 in
           let f = pass-fits in
@@ -342,13 +342,13 @@ module _ {out₀ work₀ steps₀ : List ℕ} {d p s : ℕ} {out work steps : Li
             noted-end = omega (arith, v .noted-end, a .noted-end, length-append (v .ks) (a .ks));
             noted = a .noted ∙ ap (λ (x : List ℕ). x ++ a .ks) (v .noted) ∙ append-assoc (take s steps₀) (v .ks) (a .ks);
             goes-on =
-                v .goes-on ∙ ap (after (v .ks) o τ) (pass-again (v .u) (v .wf) (w .none) (a .to) (a .ks) b υ (a .ran) (omega (arith, a .noted-end)))
-                ∙ after-after (v .ks) o τ (a .ks) b (υ + 1) (drives (a .to));
+                v .goes-on ∙ ap (after (v .ks) o τ) (pass-again ed (v .u) (v .wf) (w .none) (a .to) (a .ks) b υ (a .ran) (omega (arith, a .noted-end)))
+                ∙ after-after (v .ks) o τ (a .ks) b (υ + 1) (drives ed (a .to));
             lighter = omega (arith, v .lighter, length-append (v .ks) (a .ks));
             tried-bound =
                 let changed : 1 ≤ length (a .ks) + b = omega (arith, a .noted-end) in
-                omega (arith, v .tried-bound, pass-pays (v .u) (v .wf) (a .to) (a .ks) b υ (a .ran) changed);
-            settles = λ z. (omega (arith, a .end), settled (v .u) (a .to) (a .ks) b υ (v .wf) (a .ran));
+                omega (arith, v .tried-bound, pass-pays (v .u) (v .wf) (a .to) (a .ks) b υ ed (a .ran) changed);
+            settles = λ z. (omega (arith, a .end), settled ed (v .u) (a .to) (a .ks) b υ (v .wf) (a .ran));
             out-long = lo ∙ v .out-long;
             work-long = l2 ∙ lw ∙ v .work-long;
             steps-long = lz ∙ v .steps-long;

@@ -13,8 +13,7 @@ use Rattle.paper.specs.Record.{kind, bits, isNode}
 use Rattle.paper.specs.Tree.{Tree, integer, symbol, sum, product, power, records}
 use Rattle.paper.specs.WellFormed.{WF}
 use Rattle.paper.specs.Table.{recordOf, encode}
-use Rattle.paper.specs.Rules.{editionOne, addZero, combineLikeTerms, multiplyZero, multiplyOne, combineLikeFactors, onSumMembers, onProductMembers}
-use Rattle.paper.specs.Driver.{ask, done, each, members, gather}
+use Rattle.paper.specs.Driver.{done, each, members, gather}
 use Rattle.paper.specs.Admits.{admits-none, no-more, openingsAt}
 use Rattle.paper.proofs.Congruence.{word-lt}
 use Rattle.paper.proofs.EncodeLaws.{encode-length, records-weight, kind-there, bits-there}
@@ -24,39 +23,39 @@ use Rattle.stretch.specs.Put.{put}
 use Rattle.stretch.proofs.Laws.{take-put-end}
 use Rattle.driver.specs.Driven.{kindNumber, inside, openedRuns, Set, Drove, Gave}
 use Rattle.driver.proofs.Places.{advance, ends-after}
-use Rattle.driver.proofs.Runs.{drives}
+use Rattle.driver.proofs.Runs.{drives, no-rule-on}
 use Rattle.driver.proofs.FirstRecords.{kind-first}
 use Rattle.driver.proofs.Opening.{member-kind, as-it-is}
 
 -- what is known of a tree whose first record has the kind of a leaf
-record Leaf (work : List ℕ) (p : ℕ) (t : Tree) : Type 0 where
-  finished : drives t ≡ done t [] 0 1
+record Leaf (ed : ℕ) (work : List ℕ) (p : ℕ) (t : Tree) : Type 0 where
+  finished : drives ed t ≡ done t [] 0 1
   written : encode t ≡ recordOf (kind work p) 0 (bits work p)
   one : records t ≡ 1
 
-leaf : (work rest : List ℕ) (p : ℕ) (t : Tree) → WF t → drop (p * 16) work ≡ encode t ++ rest → kind work p < 2 → Leaf work p t
-unfolding encode records kindNumber ask editionOne addZero combineLikeTerms multiplyZero multiplyOne combineLikeFactors members gather openingsAt onSumMembers onProductMembers
-leaf work rest p (integer μ z) w e l =
+leaf : (ed : ℕ) (work rest : List ℕ) (p : ℕ) (t : Tree) → WF t → drop (p * 16) work ≡ encode t ++ rest → kind work p < 2 → Leaf ed work p t
+unfolding encode records kindNumber members gather openingsAt
+leaf ed work rest p (integer μ z) w e l =
     let k = kind-there work p 0 0 (word z) rest e in
     let b = bits-there work p 0 0 (word z) rest e (word-lt z) in
-    record { finished = simplify-again (integer μ z) w (admits-none {t = integer μ z} refl refl no-more); written = rw (k, b) refl; one = refl }
-leaf work rest p (symbol μ v) w e l =
+    record { finished = simplify-again (integer μ z) w (admits-none {t = integer μ z} (no-rule-on ed (integer μ z) (omega arith)) refl no-more); written = rw (k, b) refl; one = refl }
+leaf ed work rest p (symbol μ v) w e l =
     let k = kind-there work p 1 0 v rest e in
     let b = bits-there work p 1 0 v rest e (omega (arith, w .0)) in
-    record { finished = simplify-again (symbol μ v) w (admits-none {t = symbol μ v} refl refl no-more); written = rw (k, b) refl; one = refl }
-leaf work rest p (sum μ f) w e l = absurd (omega (arith, kind-first work p (sum μ f) rest e))
-leaf work rest p (product μ f) w e l = absurd (omega (arith, kind-first work p (product μ f) rest e))
-leaf work rest p (power μ b ξ x) w e l = absurd (omega (arith, kind-first work p (power μ b ξ x) rest e))
+    record { finished = simplify-again (symbol μ v) w (admits-none {t = symbol μ v} (no-rule-on ed (symbol μ v) (omega arith)) refl no-more); written = rw (k, b) refl; one = refl }
+leaf ed work rest p (sum μ f) w e l = absurd (omega (arith, kind-first work p (sum μ f) rest e))
+leaf ed work rest p (product μ f) w e l = absurd (omega (arith, kind-first work p (product μ f) rest e))
+leaf ed work rest p (power μ b ξ x) w e l = absurd (omega (arith, kind-first work p (power μ b ξ x) rest e))
 
-module _ {t : Tree} {rest out work steps : List ℕ} {d p s : ℕ} (h : Set out work steps d p s t rest) (l : kind work p < 2) where
-  this : Leaf work p t
-  this = leaf work rest p t (h .ready .wf) (h .ready .stands) l
+module _ (ed : ℕ) {t : Tree} {rest out work steps : List ℕ} {d p s : ℕ} (h : Set out work steps d p s t rest) (l : kind work p < 2) where
+  this : Leaf ed work p t
+  this = leaf ed work rest p t (h .ready .wf) (h .ready .stands) l
 
   tree-long : length (encode t) ≡ 16
   tree-long = let o = this .one in omega (arith, encode-length t)
 
   leaf-driven : (out' : List ℕ) → out' ≡ put out (d * 16) (recordOf (kind work p) 0 (bits work p))
-      → Drove (drives t) rest out out' work steps steps d s (d + 1) (p + 1) s 0 1
+      → Drove (drives ed t) rest out out' work steps steps d s (d + 1) (p + 1) s 0 1
   leaf-driven out' e =
       let o = this .one in
       let f : d * 16 + 16 ≤ length out = omega (arith, records-weight t, h .ready .out-room) in
@@ -82,9 +81,9 @@ module _ {t : Tree} {rest out work steps : List ℕ} {d p s : ℕ} (h : Set out 
 
   pub leaf-kept : (out' : List ℕ) → out' ≡ put out (d * 16) (recordOf (kind work p) 0 (bits work p)) → length out' ≡ length out
       → (k : ℕ)
-      → Gave (openedRuns (inside k) (each drives (t ∷ []))) rest out out' work steps steps d s (d + 1) (p + 1) s 0 1 1
+      → Gave (openedRuns (inside k) (each (drives ed) (t ∷ []))) rest out out' work steps steps d s (d + 1) (p + 1) s 0 1 1
   unfolding leaf-driven kind
   leaf-kept out' e m k =
       let a = leaf-driven out' e in
-      let same = member-kind h a m ∙ sym (kind-first work p t rest (h .ready .stands)) in
-      as-it-is h a m k (ap (λ (j : ℕ). eqb j k && isNode k) same ∙ unopened k (eqb (kind work p) k) refl)
+      let same = member-kind ed h a m ∙ sym (kind-first work p t rest (h .ready .stands)) in
+      as-it-is ed h a m k (ap (λ (j : ℕ). eqb j k && isNode k) same ∙ unopened k (eqb (kind work p) k) refl)

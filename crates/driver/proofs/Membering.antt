@@ -22,7 +22,7 @@ use Rattle.driver.proofs.Opening.{member-weighs}
 use Rattle.driver.proofs.Counting.{cost-both, cost-small, member-tries}
 
 -- out₀, work₀, steps₀ at the entry, members from record p on; i of the c are driven, and gathered to m up to record e of out
-pub record MInv (out₀ work₀ steps₀ : List ℕ) (k c d p s : ℕ) (out work steps : List ℕ) (i e q n o m τ : ℕ) : Type 0 where
+pub record MInv (ed : ℕ) (out₀ work₀ steps₀ : List ℕ) (k c d p s : ℕ) (out work steps : List ℕ) (i e q n o m τ : ℕ) : Type 0 where
   pub l : List Tree
   pub rest : List ℕ
   pub many : length l ≡ c
@@ -39,17 +39,17 @@ pub record MInv (out₀ work₀ steps₀ : List ℕ) (k c d p s : ℕ) (out work
   pub wrote : take (e * 16) out ≡ take (d * 16) out₀ ++ encodeAll g
   pub noted-end : n ≡ s + length ks
   pub noted : take n steps ≡ take s steps₀ ++ ks
-  pub goes-on : openedRuns (inside k) (each drives l) ≡ before g ks o τ (openedRuns (inside k) (each drives r))
+  pub goes-on : openedRuns (inside k) (each (drives ed) l) ≡ before g ks o τ (openedRuns (inside k) (each (drives ed) r))
   pub lighter : weightAll g + (length ks + o) + weightAll r ≤ weightAll l
   pub tried-bound : τ + cost (weightAll r) ≤ cost (weightAll l)
   pub out-long : length out ≡ length out₀
   pub work-long : length work ≡ length work₀
   pub steps-long : length steps ≡ length steps₀
 
-pub start : {out work steps : List ℕ} {d p s : ℕ} {l : List Tree} {rest : List ℕ} (k c : ℕ) → length l ≡ c → SetAll out work steps d p s l rest
-    → MInv out work steps k c d p s out work steps 0 d p s 0 0 0
+pub start : {ed : ℕ} {out work steps : List ℕ} {d p s : ℕ} {l : List Tree} {rest : List ℕ} (k c : ℕ) → length l ≡ c → SetAll out work steps d p s l rest
+    → MInv ed out work steps k c d p s out work steps 0 d p s 0 0 0
 unfolding encode records weight ofList
-start {out = out} {steps = steps} {d = d} {s = s} {l = l} {rest = rest} k c e h =
+start {ed = ed} {out = out} {steps = steps} {d = d} {s = s} {l = l} {rest = rest} k c e h =
     record {
       l = l;
       rest = rest;
@@ -67,7 +67,7 @@ start {out = out} {steps = steps} {d = d} {s = s} {l = l} {rest = rest} k c e h 
       wrote = sym (append-nil (take (d * 16) out));
       noted-end = omega arith;
       noted = sym (append-nil (take s steps));
-      goes-on = sym (before-none (openedRuns (inside k) (each drives l)));
+      goes-on = sym (before-none (openedRuns (inside k) (each (drives ed) l)));
       lighter = omega arith;
       tried-bound = omega arith;
       out-long = refl;
@@ -85,8 +85,8 @@ first : (r : List Tree) → 0 < length r → First r
 first [] h = absurd (omega arith)
 first (t ∷ l) h = record { x = t; xs = l; is = refl }
 
-module _ {out₀ work₀ steps₀ : List ℕ} {k c d p s : ℕ} {out work steps : List ℕ} {i e q n o m τ : ℕ}
-    (v : MInv out₀ work₀ steps₀ k c d p s out work steps i e q n o m τ) where
+module _ {ed : ℕ} {out₀ work₀ steps₀ : List ℕ} {k c d p s : ℕ} {out work steps : List ℕ} {i e q n o m τ : ℕ}
+    (v : MInv ed out₀ work₀ steps₀ k c d p s out work steps i e q n o m τ) where
   pub for-every : (Q : List Tree → List ℕ → Type 0) → Q (v .l) (v .rest) → (l : List Tree) (rest : List ℕ) → length l ≡ c
       → SetAll out₀ work₀ steps₀ d p s l rest → Q l rest
   for-every Q z l rest a h =
@@ -156,33 +156,33 @@ module _ {out₀ work₀ steps₀ : List ℕ} {k c d p s : ℕ} {out work steps 
           steps-room = omega (arith, u .steps-room, v .lighter, v .noted-end, v .steps-long);
         }
 
-    goes-next : openedRuns (inside k) (each drives (v .l))
-        ≡ before (v .g) (v .ks) o τ (joined (openedRuns (inside k) (each drives (x ∷ []))) (openedRuns (inside k) (each drives (f .xs))))
-    goes-next = v .goes-on ∙ ap (before (v .g) (v .ks) o τ) (ap (λ r. openedRuns (inside k) (each drives r)) (f .is) ∙ gather-first (inside k) x (f .xs))
+    goes-next : openedRuns (inside k) (each (drives ed) (v .l))
+        ≡ before (v .g) (v .ks) o τ (joined (openedRuns (inside k) (each (drives ed) (x ∷ []))) (openedRuns (inside k) (each (drives ed) (f .xs))))
+    goes-next = v .goes-on ∙ ap (before (v .g) (v .ks) o τ) (ap (λ r. openedRuns (inside k) (each (drives ed) r)) (f .is) ∙ gather-first (inside k) ed x (f .xs))
 
     -- the member was refused
-    pub burst : (j : ℕ) → (b : ℕ) × (openedRuns (inside k) (each drives (x ∷ [])) ≡ overs b) × (j ≡ n + b)
-        → (b : ℕ) × (openedRuns (inside k) (each drives (v .l)) ≡ overs b) × (j ≡ s + b)
+    pub burst : (j : ℕ) → (b : ℕ) × (openedRuns (inside k) (each (drives ed) (x ∷ [])) ≡ overs b) × (j ≡ n + b)
+        → (b : ℕ) × (openedRuns (inside k) (each (drives ed) (v .l)) ≡ overs b) × (j ≡ s + b)
     unfolding before joined
     burst j b = (
       length (v .ks) + b .0,
-      goes-next ∙ ap (λ r. before (v .g) (v .ks) o τ (joined r (openedRuns (inside k) (each drives (f .xs))))) (b .1),
+      goes-next ∙ ap (λ r. before (v .g) (v .ks) o τ (joined r (openedRuns (inside k) (each (drives ed) (f .xs))))) (b .1),
       let b2 = b .2 in omega (arith, v .noted-end),
     )
 
     -- the member is gathered
     module _ {out' work' steps' : List ℕ} {e' q' n' o' m' τ' : ℕ}
-        (a : Gave (openedRuns (inside k) (each drives (x ∷ []))) rest-after out out' work' steps steps' e n e' q' n' o' m' τ')
+        (a : Gave (openedRuns (inside k) (each (drives ed) (x ∷ []))) rest-after out out' work' steps steps' e n e' q' n' o' m' τ')
         (lo : length out' ≡ length out) (lw : length work' ≡ length work) (lz : length steps' ≡ length steps) where
       weighs : weightAll (a .to) + (length (a .ks) + o') ≤ weight x
       weighs =
-          member-weighs k x (λ u s o υ r. run-lighter x u s o υ (drives x) (drives-kept x (wf-next .0)) r .1) (a .to) (a .ks) o' τ' (a .ran)
+          member-weighs ed k x (λ u s o υ r. run-lighter x u s o υ (drives ed x) (drives-kept ed x (wf-next .0)) r .1) (a .to) (a .ks) o' τ' (a .ran)
 
       -- what may still come pays for its tries
       paid : τ' + cost (weightAll (f .xs)) ≤ cost (weightAll (v .r))
       paid =
           let both = cost-both (weight x) (weightAll (f .xs)) in
-          omega (arith, ap cost weight-next, member-tries k x (wf-next .0) (a .to) (a .ks) o' τ' (a .ran))
+          omega (arith, ap cost weight-next, member-tries ed k x (wf-next .0) (a .to) (a .ks) o' τ' (a .ran))
 
       pub sums-fit : (o + o' < 65536) × (m + m' < 131072) × (τ + τ' < 2 ^ 63)
       sums-fit =
@@ -195,7 +195,7 @@ module _ {out₀ work₀ steps₀ : List ℕ} {k c d p s : ℕ} {out work steps 
             omega (arith, v .tried-bound, paid, cost-small (weightAll (v .l)) (v .set-up .light)),
           )
 
-      pub next : MInv out₀ work₀ steps₀ k c d p s out' work' steps' (i + 1) e' q' n' (o + o') (m + m') (τ + τ')
+      pub next : MInv ed out₀ work₀ steps₀ k c d p s out' work' steps' (i + 1) e' q' n' (o + o') (m + m') (τ + τ')
       unfolding joined
       next =
           let w = weighs in
@@ -221,8 +221,8 @@ module _ {out₀ work₀ steps₀ : List ℕ} {k c d p s : ℕ} {out work steps 
             noted-end = omega (arith, v .noted-end, a .noted-end, length-append (v .ks) (a .ks));
             noted = a .noted ∙ ap (λ (y : List ℕ). y ++ a .ks) (v .noted) ∙ append-assoc (take s steps₀) (v .ks) (a .ks);
             goes-on =
-                goes-next ∙ ap (λ r. before (v .g) (v .ks) o τ (joined r (openedRuns (inside k) (each drives (f .xs))))) (a .ran)
-                ∙ before-joined (v .g) (v .ks) o τ (a .to) (a .ks) o' τ' (openedRuns (inside k) (each drives (f .xs)));
+                goes-next ∙ ap (λ r. before (v .g) (v .ks) o τ (joined r (openedRuns (inside k) (each (drives ed) (f .xs))))) (a .ran)
+                ∙ before-joined (v .g) (v .ks) o τ (a .to) (a .ks) o' τ' (openedRuns (inside k) (each (drives ed) (f .xs)));
             lighter = omega (arith, v .lighter, weight-both (v .g) (a .to), length-append (v .ks) (a .ks));
             tried-bound = omega (arith, v .tried-bound, paid);
             out-long = lo ∙ v .out-long;
@@ -231,7 +231,7 @@ module _ {out₀ work₀ steps₀ : List ℕ} {k c d p s : ℕ} {out work steps 
           }
 
   -- all members are gathered
-  pub finish : c ≤ i → Gave (openedRuns (inside k) (each drives (v .l))) (v .rest) out₀ out work steps₀ steps d s e q n o m τ
+  pub finish : c ≤ i → Gave (openedRuns (inside k) (each (drives ed) (v .l))) (v .rest) out₀ out work steps₀ steps d s e q n o m τ
   unfolding before encode ofList
   finish h =
       let z : v .r ≡ [] = none-of (v .r) (omega (arith, v .to-go)) in
@@ -239,8 +239,8 @@ module _ {out₀ work₀ steps₀ : List ℕ} {k c d p s : ℕ} {out work steps 
         to = v .g;
         ks = v .ks;
         ran =
-            v .goes-on ∙ ap (λ r. before (v .g) (v .ks) o τ (openedRuns (inside k) (each drives r))) z
-            ∙ ap (before (v .g) (v .ks) o τ) (gather-none (inside k))
+            v .goes-on ∙ ap (λ r. before (v .g) (v .ks) o τ (openedRuns (inside k) (each (drives ed) r))) z
+            ∙ ap (before (v .g) (v .ks) o τ) (gather-none (inside k) ed)
             ∙ same-dones (append-nil (v .g)) (append-nil (v .ks)) (omega arith) (omega arith);
         many = v .gathered;
         end = v .end;

@@ -26,24 +26,24 @@ use Rattle.driver.proofs.Runs.{drives, drives-kept, run-lighter, same-d
 use Rattle.driver.proofs.FirstRecords.{kind-first, Open, is-opened, is-kept, inside-opens}
 
 -- ---- the runs of one member, gathered
-module _ (k : ℕ) (t : Tree) where
-  pub one-over : (j : ℕ) → drives t ≡ over j → openedRuns (inside k) (each drives (t ∷ [])) ≡ overs j
+module _ (ed k : ℕ) (t : Tree) where
+  pub one-over : (j : ℕ) → drives ed t ≡ over j → openedRuns (inside k) (each (drives ed) (t ∷ [])) ≡ overs j
   unfolding openedRuns each andThen
   one-over j e = ap (λ r. openedRuns (inside k) (andThen r (dones [] [] 0 0))) e
 
-  module _ (u : Tree) (ks : List ℕ) (o τ : ℕ) (e : drives t ≡ done u ks o τ) where
+  module _ (u : Tree) (ks : List ℕ) (o τ : ℕ) (e : drives ed t ≡ done u ks o τ) where
     one-done : (x : Option (List Tree)) → inside k u ≡ x
-        → openedRuns (inside k) (each drives (t ∷ [])) ≡ dones (openOne x u ([], 0) .0) (ks ++ []) (o + 0 + openOne x u ([], 0) .1) (τ + 0)
+        → openedRuns (inside k) (each (drives ed) (t ∷ [])) ≡ dones (openOne x u ([], 0) .0) (ks ++ []) (o + 0 + openOne x u ([], 0) .1) (τ + 0)
     unfolding openedRuns each andThen opened
     one-done x h =
         ap (λ r. openedRuns (inside k) (andThen r (dones [] [] 0 0))) e
         ∙ ap (λ x. dones (openOne x u ([], 0) .0) (ks ++ []) (o + 0 + openOne x u ([], 0) .1) (τ + 0)) h
 
-    pub one-kept : inside k u ≡ none → openedRuns (inside k) (each drives (t ∷ [])) ≡ dones (u ∷ []) ks o τ
+    pub one-kept : inside k u ≡ none → openedRuns (inside k) (each (drives ed) (t ∷ [])) ≡ dones (u ∷ []) ks o τ
     unfolding openOne
     one-kept h = one-done none h ∙ same-dones refl (append-nil ks) (omega arith) (omega arith)
 
-    pub one-opened : (l : List Tree) → inside k u ≡ some l → openedRuns (inside k) (each drives (t ∷ [])) ≡ dones l ks (o + 1) τ
+    pub one-opened : (l : List Tree) → inside k u ≡ some l → openedRuns (inside k) (each (drives ed) (t ∷ [])) ≡ dones l ks (o + 1) τ
     unfolding openOne
     one-opened l h = one-done (some l) h ∙ same-dones (append-nil l) (append-nil ks) (omega arith) (omega arith)
 
@@ -64,20 +64,20 @@ one-weighs k t (done u s o υ) h l ks n τ e =
     let g : length ks ≡ length s + 0 = ap length (sym b) ∙ length-append s [] in
     omega arith
 
-pub member-weighs : (k : ℕ) (t : Tree) → ((u : Tree) (s : List ℕ) (o τ : ℕ) → drives t ≡ done u s o τ → length s + o + weight u ≤ weight t)
-    → (l : List Tree) (ks : List ℕ) (n τ : ℕ) → openedRuns (inside k) (each drives (t ∷ [])) ≡ dones l ks n τ
+pub member-weighs : (ed k : ℕ) (t : Tree) → ((u : Tree) (s : List ℕ) (o τ : ℕ) → drives ed t ≡ done u s o τ → length s + o + weight u ≤ weight t)
+    → (l : List Tree) (ks : List ℕ) (n τ : ℕ) → openedRuns (inside k) (each (drives ed) (t ∷ [])) ≡ dones l ks n τ
     → weightAll l + (length ks + n) ≤ weight t
 unfolding each
-member-weighs k t h l ks n τ e = one-weighs k t (drives t) h l ks n τ e
+member-weighs ed k t h l ks n τ e = one-weighs k t (drives ed t) h l ks n τ e
 
 -- ---- the member's result stands at the end of what is done
-module _ {t : Tree} {rest out out' work steps work' steps' : List ℕ} {d p s e q n o τ : ℕ}
-    (h : Set out work steps d p s t rest) (a : Drove (drives t) rest out out' work' steps steps' d s e q n o τ) (lo : length out' ≡ length out) where
+module _ (ed : ℕ) {t : Tree} {rest out out' work steps work' steps' : List ℕ} {d p s e q n o τ : ℕ}
+    (h : Set out work steps d p s t rest) (a : Drove (drives ed t) rest out out' work' steps steps' d s e q n o τ) (lo : length out' ≡ length out) where
   lighter : length (a .ks) + o + weight (a .to) ≤ weight t
-  lighter = run-lighter t (a .to) (a .ks) o τ (drives t) (drives-kept t (h .ready .wf)) (a .ran) .1
+  lighter = run-lighter t (a .to) (a .ks) o τ (drives ed t) (drives-kept ed t (h .ready .wf)) (a .ran) .1
 
   result-wf : WF (a .to)
-  result-wf = run-lighter t (a .to) (a .ks) o τ (drives t) (drives-kept t (h .ready .wf)) (a .ran) .0
+  result-wf = run-lighter t (a .to) (a .ks) o τ (drives ed t) (drives-kept ed t (h .ready .wf)) (a .ran) .0
 
   small : records (a .to) < 65536
   small = omega (arith, lighter, records-weight (a .to), h .ready .light)
@@ -102,13 +102,13 @@ module _ {t : Tree} {rest out out' work steps work' steps' : List ℕ} {d p s e 
   module _ (k : ℕ) where
     -- it is not of the node's kind
     pub as-it-is : (eqb (kind out' d) k && isNode k) ≡ false
-        → Gave (openedRuns (inside k) (each drives (t ∷ []))) rest out out' work' steps steps' d s e q n o 1 τ
+        → Gave (openedRuns (inside k) (each (drives ed) (t ∷ []))) rest out out' work' steps steps' d s e q n o 1 τ
     unfolding encode records ofList
     as-it-is b =
         record {
           to = a .to ∷ [];
           ks = a .ks;
-          ran = one-kept k t (a .to) (a .ks) o τ (a .ran) (is-kept k (a .to) (subst (λ j. (eqb j k && isNode k) ≡ false) member-kind b));
+          ran = one-kept ed k t (a .to) (a .ks) o τ (a .ran) (is-kept k (a .to) (subst (λ j. (eqb j k && isNode k) ≡ false) member-kind b));
           many = refl;
           end = a .end ∙ omega arith;
           wrote = a .wrote ∙ ap (λ (x : List ℕ). take (d * 16) out ++ x) (sym (append-nil (encode (a .to))));
@@ -124,7 +124,7 @@ module _ {t : Tree} {rest out out' work steps work' steps' : List ℕ} {d p s e 
       is-open = is-opened k (a .to) (subst (λ j. (eqb j k && isNode k) ≡ true) member-kind b)
 
       pub opened-up : (out'' : List ℕ) → out'' ≡ put out' (d * 16) (part out' (d * 16 + 16) ((e - d - 1) * 16))
-          → Gave (openedRuns (inside k) (each drives (t ∷ []))) rest out out'' work' steps steps' d s (e - 1) q n (o + 1) (countIn out' d) τ
+          → Gave (openedRuns (inside k) (each (drives ed) (t ∷ []))) rest out out'' work' steps steps' d s (e - 1) q n (o + 1) (countIn out' d) τ
       opened-up out'' c =
           let l : List Tree = members (a .to) in
           let f0 = member-fits .0 in
@@ -141,7 +141,7 @@ module _ {t : Tree} {rest out out' work steps work' steps' : List ℕ} {d p s e 
           record {
             to = l;
             ks = a .ks;
-            ran = one-opened k t (a .to) (a .ks) o τ (a .ran) l (is-open .opens-to);
+            ran = one-opened ed k t (a .to) (a .ks) o τ (a .ran) l (is-open .opens-to);
             many = is-open .counted out' d (drop (e * 16) out') stands small;
             end = omega (arith, a .end);
             wrote =

@@ -83,18 +83,18 @@ module _ {out work steps : List ℕ} {d p s : ℕ} {t : Tree} {rest : List ℕ} 
         }
 
     -- the members were refused
-    pub burst : (k : ℕ) → k ≡ kindNumber t → (n : ℕ) → (b : ℕ) × (openedRuns (inside k) (each drives (members t)) ≡ overs b) × (n ≡ s + b)
-        → (b : ℕ) × (passed t (each drives (members t)) ≡ over b) × (n ≡ s + b)
+    pub burst : (ed k : ℕ) → k ≡ kindNumber t → (n : ℕ) → (b : ℕ) × (openedRuns (inside k) (each (drives ed) (members t)) ≡ overs b) × (n ≡ s + b)
+        → (b : ℕ) × (passed t (each (drives ed) (members t)) ≡ over b) × (n ≡ s + b)
     unfolding closedRuns
-    burst k e n b = (
+    burst ed k e n b = (
       b .0,
-      pass-closed t (each drives (members t)) ∙ ap (λ j. closedRuns t (openedRuns (inside j) (each drives (members t)))) (sym e) ∙ ap (closedRuns t) (b .1),
+      pass-closed t (each (drives ed) (members t)) ∙ ap (λ j. closedRuns t (openedRuns (inside j) (each (drives ed) (members t)))) (sym e) ∙ ap (closedRuns t) (b .1),
       b .2,
     )
 
     -- the members are gathered
-    module _ {k : ℕ} (e : k ≡ kindNumber t) {out'' work'' steps'' : List ℕ} {e' q n o m τ : ℕ}
-        (a : Gave (openedRuns (inside k) (each drives (members t))) rest out' out'' work'' steps steps'' (d + 1) s e' q n o m τ)
+    module _ (ed : ℕ) {k : ℕ} (e : k ≡ kindNumber t) {out'' work'' steps'' : List ℕ} {e' q n o m τ : ℕ}
+        (a : Gave (openedRuns (inside k) (each (drives ed) (members t))) rest out' out'' work'' steps steps'' (d + 1) s e' q n o m τ)
         (lo : length out' ≡ length out) (lo' : length out'' ≡ length out') where
       gathered-all : take (e' * 16) out'' ≡ take (d * 16) out ++ (firstRecord t ++ encodeAll (a .to))
       gathered-all = a .wrote ∙ ap (λ (x : List ℕ). x ++ encodeAll (a .to)) front-now ∙ append-assoc (take (d * 16) out) (firstRecord t) (encodeAll (a .to))
@@ -111,21 +111,21 @@ module _ {out work steps : List ℕ} {d p s : ℕ} {t : Tree} {rest : List ℕ} 
       gathers =
           record {
             kind-is = e;
-            shape = shape t (h .ready .wf) (a .to) (a .ks) o τ (ap (λ j. openedRuns (inside j) (each drives (members t))) (sym e) ∙ a .ran);
+            shape = shape ed t (h .ready .wf) (a .to) (a .ks) o τ (ap (λ j. openedRuns (inside j) (each (drives ed) (members t))) (sym e) ∙ a .ran);
             many = a .many;
             end = a .end;
             there = ap (drop (d * 16)) gathered-all ∙ drop-at (take (d * 16) out) (firstRecord t ++ encodeAll (a .to)) (d * 16) (front-long h);
           }
 
       pub closed-up : {out3 : List ℕ} {r : ℕ} → Closed (closedOver t (a .to)) out'' out3 d r
-          → Drove (passed t (each drives (members t))) rest out out3 work'' steps steps'' d s r q n o τ
+          → Drove (passed t (each (drives ed) (members t))) rest out out3 work'' steps steps'' d s r q n o τ
       unfolding closedRuns
       closed-up b =
           record {
             to = closedOver t (a .to);
             ks = a .ks;
             ran =
-                pass-closed t (each drives (members t)) ∙ ap (λ j. closedRuns t (openedRuns (inside j) (each drives (members t)))) (sym e)
+                pass-closed t (each (drives ed) (members t)) ∙ ap (λ j. closedRuns t (openedRuns (inside j) (each (drives ed) (members t)))) (sym e)
                 ∙ ap (closedRuns t) (a .ran);
             end = b .end;
             wrote =

@@ -3,6 +3,7 @@
 -- changed, or begun again. Assumes nothing.
 use Prim.Native.Nat.{ℕ, _+_, _≤_, _<_}
 use mathlib.Core.Path.{_≡_, refl, sym, ap, _∙_, subst}
+use mathlib.Core.Bool.{Bool, true, false, cond}
 use mathlib.Core.List.{List, [], _∷_, _++_, append-assoc, append-nil}
 use mathlib.Core.Option.{Option, none, some}
 use native.Mathlib.Omega.{arith}
@@ -12,18 +13,33 @@ use lib.Dec.{eqb}
 use borrow.Author.Tests.{eq-eqb, ne-eqb}
 use Rattle.paper.specs.Tree.{Tree, integer, symbol, sum, product, power, weight}
 use Rattle.paper.specs.WellFormed.{WF}
-use Rattle.paper.specs.Rules.{editionOne}
+use Rattle.paper.specs.Rules.{editionOne, editionTwo, rulesOf, addZero, combineLikeTerms, multiplyZero, multiplyOne, combineLikeFactors}
+use Rattle.paper.specs.Rules.{powerOne, powerConstant, powerPower, onSumMembers, onProductMembers, onPowerParts}
 use Rattle.paper.specs.Driver.{no-rule, step, out-of-range, ask, Ran, done, over, Rans, dones, overs, after, tried, andThen, each, members}
 use Rattle.paper.specs.Driver.{openOne, opened, gather, settle, gathered, visit, simplify}
-use Rattle.paper.proofs.EditionOne.{edition-one-good}
+use Rattle.paper.proofs.EditionTwo.{edition-good}
 use Rattle.paper.proofs.GatherLaws.{members-wf}
 use Rattle.paper.proofs.DriverLaws.{RunKept, RunsKept, AskedKept, ask-kept, each-kept, gathered-tree, run-kept}
-use Rattle.paper.proofs.Simplified.{edition-one-visits}
+use Rattle.paper.proofs.Simplified.{edition-visits}
 use Rattle.driver.specs.Driven.{kindNumber, inside, openedRuns, passed, closedOver}
 
--- the driver of edition one
-abbrev pub drives : Tree → Ran
-drives = simplify editionOne
+-- the driver of an edition
+abbrev pub drives : ℕ → Tree → Ran
+drives ed = simplify (rulesOf ed)
+
+-- no rule of either edition is on a leaf
+pub no-rule-on : (ed : ℕ) (t : Tree) → kindNumber t < 2 → ask (rulesOf ed) t ≡ no-rule
+unfolding ask rulesOf editionOne editionTwo addZero combineLikeTerms multiplyZero multiplyOne combineLikeFactors powerOne powerConstant powerPower onSumMembers onProductMembers onPowerParts kindNumber
+no-rule-on ed = go (eqb ed 2)
+  where
+    go : (x : Bool) (t : Tree) → kindNumber t < 2 → ask (cond x editionTwo editionOne) t ≡ no-rule
+    go true (integer μ z) h = refl
+    go false (integer μ z) h = refl
+    go true (symbol μ s) h = refl
+    go false (symbol μ s) h = refl
+    go x (sum μ f) h = absurd (omega arith)
+    go x (product μ f) h = absurd (omega arith)
+    go x (power μ b ξ e) h = absurd (omega arith)
 
 -- ---- members gathered before others
 unfoldable pub before : List Tree → List ℕ → ℕ → ℕ → Rans → Rans
@@ -67,14 +83,14 @@ module _ (ins : Tree → Option (List Tree)) where
       same-dones (f .0) (ap (λ (x : List ℕ). x ++ s′) (sym (append-nil s))) (omega arith) (omega arith)
 
   -- gathering the runs of a list: those of its first tree, and then the rest
-  pub gather-first : (t : Tree) (l : List Tree)
-      → openedRuns ins (each drives (t ∷ l)) ≡ joined (openedRuns ins (each drives (t ∷ []))) (openedRuns ins (each drives l))
+  pub gather-first : (ed : ℕ) (t : Tree) (l : List Tree)
+      → openedRuns ins (each (drives ed) (t ∷ l)) ≡ joined (openedRuns ins (each (drives ed) (t ∷ []))) (openedRuns ins (each (drives ed) l))
   unfolding each
-  gather-first t l = one-first (drives t) (each drives l)
+  gather-first ed t l = one-first (drives ed t) (each (drives ed) l)
 
-  pub gather-none : openedRuns ins (each drives []) ≡ dones [] [] 0 0
+  pub gather-none : (ed : ℕ) → openedRuns ins (each (drives ed) []) ≡ dones [] [] 0 0
   unfolding openedRuns each opened
-  gather-none = refl
+  gather-none ed = refl
 
 opened-nothing : (ins : Tree → Option (List Tree)) → ((t : Tree) → ins t ≡ none) → (l : List Tree) → opened ins l ≡ (l, 0)
 unfolding opened openOne
@@ -101,26 +117,26 @@ pass-closed (power μ b ξ e) (dones l s o τ) =
     ap (λ (r : List Tree × ℕ). done (closedOver (power μ b ξ e) (r .0)) s (o + r .1) τ) (sym (opened-nothing (inside 4) (λ t. refl) l))
 
 -- ---- what a pass keeps, and how the visit goes on from it
-pub drives-kept : (t : Tree) → WF t → RunKept t (drives t)
+pub drives-kept : (ed : ℕ) (t : Tree) → WF t → RunKept t (drives ed t)
 unfolding simplify
-drives-kept t w = run-kept edition-one-good (weight t) t w
+drives-kept ed t w = run-kept (edition-good ed) (weight t) t w
 
 passed-kept : (t : Tree) → WF t → (r : Rans) → RunsKept (members t) r → RunKept t (passed t r)
 unfolding passed
 passed-kept t w (overs k) h = tt
 passed-kept t w (dones l s o τ) h = gathered-tree t l s o τ w h
 
-pub pass-kept : (t : Tree) → WF t → RunKept t (passed t (each drives (members t)))
-pass-kept t w = passed-kept t w (each drives (members t)) (each-kept drives drives-kept (members t) (members-wf t w))
+pub pass-kept : (ed : ℕ) (t : Tree) → WF t → RunKept t (passed t (each (drives ed) (members t)))
+pass-kept ed t w = passed-kept t w (each (drives ed) (members t)) (each-kept (drives ed) (drives-kept ed) (members t) (members-wf t w))
 
-abbrev concluded : Ran → Ran
-concluded (over k) = over k
-concluded (done u s o τ) = settle drives s o τ u (eqb (length s + o) 0)
+abbrev concluded : ℕ → Ran → Ran
+concluded ed (over k) = over k
+concluded ed (done u s o τ) = settle (drives ed) s o τ u (eqb (length s + o) 0)
 
-gathered-passed : (t : Tree) (r : Rans) → gathered drives t r ≡ concluded (passed t r)
+gathered-passed : (ed : ℕ) (t : Tree) (r : Rans) → gathered (drives ed) t r ≡ concluded ed (passed t r)
 unfolding gathered passed settle
-gathered-passed t (overs k) = refl
-gathered-passed t (dones l s o τ) = refl
+gathered-passed ed t (overs k) = refl
+gathered-passed ed t (dones l s o τ) = refl
 
 pub after-none : (r : Ran) → after [] 0 0 r ≡ r
 unfolding after
@@ -143,41 +159,41 @@ unfolding tried
 asked-before s o τ r =
     after-after [] 0 1 s o τ r ∙ ap (λ i. after s i (1 + τ) r) (zero-add o) ∙ ap (λ i. after s o i r) (omega arith)
 
-module _ (t : Tree) (w : WF t) where
-  pub visit-step : (k : ℕ) (u : Tree) → ask editionOne t ≡ step k u → drives t ≡ after (k ∷ []) 0 1 (drives u)
+module _ (ed : ℕ) (t : Tree) (w : WF t) where
+  pub visit-step : (k : ℕ) (u : Tree) → ask (rulesOf ed) t ≡ step k u → drives ed t ≡ after (k ∷ []) 0 1 (drives ed u)
   unfolding visit
-  visit-step k u e = edition-one-visits t w ∙ ap (λ a. tried (visit drives t a)) e ∙ asked-before (k ∷ []) 0 0 (drives u)
+  visit-step k u e = edition-visits ed t w ∙ ap (λ a. tried (visit (drives ed) t a)) e ∙ asked-before (k ∷ []) 0 0 (drives ed u)
 
-  pub visit-over : ask editionOne t ≡ out-of-range → drives t ≡ over 0
+  pub visit-over : ask (rulesOf ed) t ≡ out-of-range → drives ed t ≡ over 0
   unfolding visit tried after
-  visit-over e = edition-one-visits t w ∙ ap (λ a. tried (visit drives t a)) e
+  visit-over e = edition-visits ed t w ∙ ap (λ a. tried (visit (drives ed) t a)) e
 
-  module _ (e : ask editionOne t ≡ no-rule) where
-    visit-pass : drives t ≡ tried (concluded (passed t (each drives (members t))))
+  module _ (e : ask (rulesOf ed) t ≡ no-rule) where
+    visit-pass : drives ed t ≡ tried (concluded ed (passed t (each (drives ed) (members t))))
     unfolding visit
     visit-pass =
-        edition-one-visits t w ∙ ap (λ a. tried (visit drives t a)) e ∙ ap tried (gathered-passed t (each drives (members t)))
+        edition-visits ed t w ∙ ap (λ a. tried (visit (drives ed) t a)) e ∙ ap tried (gathered-passed ed t (each (drives ed) (members t)))
 
-    pub pass-over : (k : ℕ) → passed t (each drives (members t)) ≡ over k → drives t ≡ over k
+    pub pass-over : (k : ℕ) → passed t (each (drives ed) (members t)) ≡ over k → drives ed t ≡ over k
     unfolding tried after
-    pass-over k h = visit-pass ∙ ap (λ r. tried (concluded r)) h ∙ ap over (zero-add k)
+    pass-over k h = visit-pass ∙ ap (λ r. tried (concluded ed r)) h ∙ ap over (zero-add k)
 
-    module _ (u : Tree) (s : List ℕ) (o τ : ℕ) (h : passed t (each drives (members t)) ≡ done u s o τ) where
-      pub pass-done : length s + o ≡ 0 → drives t ≡ done u [] 0 (τ + 1)
+    module _ (u : Tree) (s : List ℕ) (o τ : ℕ) (h : passed t (each (drives ed) (members t)) ≡ done u s o τ) where
+      pub pass-done : length s + o ≡ 0 → drives ed t ≡ done u [] 0 (τ + 1)
       unfolding settle tried after
       pass-done z =
-          visit-pass ∙ ap (λ r. tried (concluded r)) h ∙ ap (λ b. tried (settle drives s o τ u b)) (eq-eqb (length s + o) 0 z)
+          visit-pass ∙ ap (λ r. tried (concluded ed r)) h ∙ ap (λ b. tried (settle (drives ed) s o τ u b)) (eq-eqb (length s + o) 0 z)
           ∙ ap (done u [] 0) (omega arith)
 
-      pub pass-again : 0 < length s + o → drives t ≡ after s o (τ + 1) (drives u)
+      pub pass-again : 0 < length s + o → drives ed t ≡ after s o (τ + 1) (drives ed u)
       unfolding settle
       pass-again z =
-          visit-pass ∙ ap (λ r. tried (concluded r)) h
-          ∙ ap (λ b. tried (settle drives s o τ u b)) (ne-eqb (length s + o) 0 (λ x. omega arith)) ∙ asked-before s o τ (drives u)
+          visit-pass ∙ ap (λ r. tried (concluded ed r)) h
+          ∙ ap (λ b. tried (settle (drives ed) s o τ u b)) (ne-eqb (length s + o) 0 (λ x. omega arith)) ∙ asked-before s o τ (drives ed u)
 
-pub step-kept : (t : Tree) → WF t → (k : ℕ) (u : Tree) → ask editionOne t ≡ step k u → WF u × (weight u + 1 ≤ weight t)
-step-kept t w k u e =
-    let h : AskedKept t (step k u) = subst (AskedKept t) e (ask-kept edition-one-good t w) in
+pub step-kept : (ed : ℕ) (t : Tree) → WF t → (k : ℕ) (u : Tree) → ask (rulesOf ed) t ≡ step k u → WF u × (weight u + 1 ≤ weight t)
+step-kept ed t w k u e =
+    let h : AskedKept t (step k u) = subst (AskedKept t) e (ask-kept (edition-good ed) t w) in
     (h .0, h .1 .lighter)
 
 pub run-lighter : (t u : Tree) (s : List ℕ) (o τ : ℕ) (r : Ran) → RunKept t r → r ≡ done u s o τ → WF u × (length s + o + weight u ≤ weight t)

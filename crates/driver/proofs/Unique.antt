@@ -73,5 +73,5 @@ pub drive-once : (κs : Lfts 3) (a : Dens κs kinds.ps) (t : Tree) (rest : List 
     Set out work steps d p s t rest → length (x .1 .0 .now) ≡ length (x' .1 .0 .now) → reads.Post κs a r x → reads.Post κs a r' x'
     → (r ≡ r') × Left (x .0 .now) (x' .0 .now) (x .1 .0 .now) (x' .1 .0 .now) (x .1 .1 .0 .now) (x' .1 .1 .0 .now) r
 drive-once κs a t rest r r' x x' h l p p' =
-    driven-once (drives t) rest (a .0 .now) (x .0 .now) (x' .0 .now) (x .1 .0 .now) (x' .1 .0 .now)
+    driven-once (drives (a .1 .1 .1 .1 .1 .1 .0) t) rest (a .0 .now) (x .0 .now) (x' .0 .now) (x .1 .0 .now) (x' .1 .0 .now)
     (a .1 .1 .0 .now) (x .1 .1 .0 .now) (x' .1 .1 .0 .now) (a .1 .1 .1 .0) (a .1 .1 .1 .1 .1 .0) l r r' (p t rest h) (p' t rest h)

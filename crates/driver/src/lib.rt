@@ -1,4 +1,4 @@
-// The driver: at a node the rules are asked, then the members are driven and gathered, and it begins again while anything changes.
+// The driver: at a node the rules of an edition are asked, then the members are driven and gathered, and it begins again while anything changes.
 ghost use mathlib.Core.Path.{_≡_};
 ghost use mathlib.Core.List.{List, [], _∷_};
 ghost use Prim.Native.Nat.{ℕ, _+_, _*_, _≤_, _<_};
@@ -7,7 +7,7 @@ ghost use lib.ListN.{length};
 ghost use lib.Dec.{eqb};
 ghost use Rattle.paper.specs.Record.{isNode};
 ghost use Rattle.paper.specs.Tree.{Tree};
-ghost use Rattle.paper.specs.Rules.{editionOne};
+ghost use Rattle.paper.specs.Rules.{rulesOf};
 ghost use Rattle.paper.specs.Driver.{each, members, simplify};
 ghost use Rattle.driver.specs.Driven.{inside, openedRuns, passed, closedOver, Set, SetAll, DrivenIs, GivenIs, Gathers, Closed};
 
@@ -32,10 +32,11 @@ pub fn drive(
     d: usize,
     p: usize,
     s: usize,
+    edition: usize,
 ) -> Driven
     requires { ⌜ ((t : Tree) × (rest : List ℕ) × Set (now out) (now work) (now steps) d p s t rest) ⌝ }
     ensures { λ r. ⌜ ((t : Tree) (rest : List ℕ) → Set (now (out .entry)) (now (work .entry)) (now (steps .entry)) d p s t rest
-        → DrivenIs (simplify editionOne t) rest (now (out .entry)) (now (out .exit)) (now (work .exit))
+        → DrivenIs (simplify (rulesOf edition) t) rest (now (out .entry)) (now (out .exit)) (now (work .exit))
         (now (steps .entry)) (now (steps .exit)) d s r) ⌝ }
 {
     // The tree's record, the steps noted, the openings and the tries so far; and its number of records where it comes from a pass, so
@@ -46,7 +47,7 @@ pub fn drive(
     let mut tries = 0;
     let mut size = 0;
     loop {
-        let asked = rules::ask(out, work, d, at);
+        let asked = rules::ask(out, work, d, at, edition);
         match asked {
             rules::Asked::Over => return Driven::Over(n),
             rules::Asked::Step(k, q) => {
@@ -62,7 +63,7 @@ pub fn drive(
                     stretch::copy_bytes(out, d * 16, work, at * 16, size * 16);
                     return Driven::Done(d + size, at + size, n, o, tries + size);
                 }
-                let g = pass(out, work, steps, d, at, n);
+                let g = pass(out, work, steps, d, at, n, edition);
                 match g {
                     Driven::Over(k) => return Driven::Over(k),
                     Driven::Done(e, q, j, b, asked_below) => {
@@ -83,16 +84,24 @@ pub fn drive(
 }
 
 // Passes once over the members of the tree at record p: its first record goes to done, and its members' results, gathered.
-fn pass(out: &mut [u8], work: &mut [u8], steps: &mut [u8], d: usize, p: usize, s: usize) -> Driven
+fn pass(
+    out: &mut [u8],
+    work: &mut [u8],
+    steps: &mut [u8],
+    d: usize,
+    p: usize,
+    s: usize,
+    edition: usize,
+) -> Driven
     requires { ⌜ ((t : Tree) × (rest : List ℕ) × Set (now out) (now work) (now steps) d p s t rest) ⌝ }
     ensures { λ r. ⌜ ((t : Tree) (rest : List ℕ) → Set (now (out .entry)) (now (work .entry)) (now (steps .entry)) d p s t rest
-        → DrivenIs (passed t (each (simplify editionOne) (members t))) rest (now (out .entry)) (now (out .exit)) (now (work .exit))
+        → DrivenIs (passed t (each (simplify (rulesOf edition)) (members t))) rest (now (out .entry)) (now (out .exit)) (now (work .exit))
         (now (steps .entry)) (now (steps .exit)) d s r) ⌝ }
 {
     let k = record::kind(work, p);
     let c = record::arity(work, p);
     stretch::copy_bytes(out, d * 16, work, p * 16, 16);
-    let g = drive_members(out, work, steps, k, c, d + 1, p + 1, s);
+    let g = drive_members(out, work, steps, k, c, d + 1, p + 1, s, edition);
     match g {
         Given::Over(n) => Driven::Over(n),
         Given::Members(e, q, n, o, m, tries) => {
@@ -112,10 +121,11 @@ fn drive_members(
     d: usize,
     p: usize,
     s: usize,
+    edition: usize,
 ) -> Given
     requires { ⌜ ((l : List Tree) × (rest : List ℕ) × (length l ≡ c) × SetAll (now out) (now work) (now steps) d p s l rest) ⌝ }
     ensures { λ r. ⌜ ((l : List Tree) (rest : List ℕ) → length l ≡ c → SetAll (now (out .entry)) (now (work .entry)) (now (steps .entry)) d p s l rest
-        → GivenIs (openedRuns (inside k) (each (simplify editionOne) l)) rest (now (out .entry)) (now (out .exit)) (now (work .exit))
+        → GivenIs (openedRuns (inside k) (each (simplify (rulesOf edition)) l)) rest (now (out .entry)) (now (out .exit)) (now (work .exit))
         (now (steps .entry)) (now (steps .exit)) d s r) ⌝ }
 {
     let mut i = 0;
@@ -126,7 +136,7 @@ fn drive_members(
     let mut m = 0;
     let mut tries = 0;
     while i < c {
-        let g = drive_member(out, work, steps, k, e, q, n);
+        let g = drive_member(out, work, steps, k, e, q, n, edition);
         match g {
             Given::Over(j) => return Given::Over(j),
             Given::Members(e1, q1, n1, o1, m1, tries1) => {
@@ -153,10 +163,11 @@ fn drive_member(
     d: usize,
     p: usize,
     s: usize,
+    edition: usize,
 ) -> Given
     requires { ⌜ ((t : Tree) × (rest : List ℕ) × Set (now out) (now work) (now steps) d p s t rest) ⌝ }
     ensures { λ r. ⌜ ((t : Tree) (rest : List ℕ) → Set (now (out .entry)) (now (work .entry)) (now (steps .entry)) d p s t rest
-        → GivenIs (openedRuns (inside k) (each (simplify editionOne) (t ∷ []))) rest (now (out .entry)) (now (out .exit)) (now (work .exit))
+        → GivenIs (openedRuns (inside k) (each (simplify (rulesOf edition)) (t ∷ []))) rest (now (out .entry)) (now (out .exit)) (now (work .exit))
         (now (steps .entry)) (now (steps .exit)) d s r) ⌝ }
 {
     let j = record::kind(work, p);
@@ -164,7 +175,7 @@ fn drive_member(
         record::write_record(out, d, j, 0, record::bits(work, p));
         return Given::Members(d + 1, p + 1, s, 0, 1, 1);
     }
-    let g = drive(out, work, steps, d, p, s);
+    let g = drive(out, work, steps, d, p, s, edition);
     match g {
         Driven::Over(n) => Given::Over(n),
         Driven::Done(e, q, n, o, tries) => {

@@ -2,6 +2,7 @@
 -- Assumes nothing.
 use Prim.Native.Nat.{ℕ, _+_, _*_, _≤_, _<_}
 use mathlib.Core.Path.{_≡_, refl, _∙_}
+use mathlib.Core.Bool.{true}
 use mathlib.Core.List.{List}
 use native.Mathlib.Omega.{arith}
 use native.Mathlib.Nat.{ne-of-gt}
@@ -13,7 +14,8 @@ use Rattle.paper.specs.WellFormed.{WF}
 use Rattle.paper.specs.Record.{weightFrom}
 use Rattle.paper.specs.Table.{encode}
 use Rattle.paper.specs.Verdict.{accepted, refused, isAccepted, recordsIn, firstFlawed, tableWeight, judgeRecords, verdict}
-use Rattle.paper.specs.Answers.{Lent, cramped, judgement}
+use Rattle.paper.specs.Rules.{isEdition}
+use Rattle.paper.specs.Answers.{Lent, cramped, judgedCall, judgement}
 use Rattle.paper.specs.Refusals.{Under, out-under, steps-under, work-under}
 use Rattle.paper.specs.Takeover.{Room}
 use Rattle.paper.specs.Bounds.{Weights, Rooms, Cramped, RegisterBytes}
@@ -46,25 +48,25 @@ weight-over t w h r =
 pub weights : Weights
 weights = record { at-most = written-accepted; over = weight-over }
 
-module _ (s : List ℕ) (l : Lent) (v : verdict s ≡ accepted) where
+module _ (ed : ℕ) (known : isEdition ed ≡ true) (s : List ℕ) (l : Lent) (v : verdict s ≡ accepted) where
   -- any of the words of 6 is given as 6
-  under : Under (tableWeight s) l → judgement s l ≡ refused 6 0
-  unfolding judgement isAccepted
-  under u = rw (v, words-cramped (tableWeight s) l u) refl
+  under : Under (tableWeight s) l → judgement ed s l ≡ refused 6 0
+  unfolding judgement judgedCall isAccepted
+  under u = rw (known, v, words-cramped (tableWeight s) l u) refl
 
-  enough : Room (tableWeight s) l → judgement s l ≡ accepted
-  enough r = accepted-judgement s l v (of-room (tableWeight s) l r)
+  enough : Room (tableWeight s) l → judgement ed s l ≡ accepted
+  enough r = accepted-judgement ed s l known v (of-room (tableWeight s) l r)
 
-table-first : (s : List ℕ) (l : Lent) → 0 < verdict s .number → judgement s l ≡ verdict s
-unfolding judgement isAccepted
-table-first s l h = rw (ne-eqb (verdict s .number) 0 (ne-of-gt h)) refl
+table-first : (ed : ℕ) → isEdition ed ≡ true → (s : List ℕ) (l : Lent) → 0 < verdict s .number → judgement ed s l ≡ verdict s
+unfolding judgement judgedCall isAccepted
+table-first ed known s l h = rw (known, ne-eqb (verdict s .number) 0 (ne-of-gt h)) refl
 
 pub rooms : Rooms
 rooms = record {
-  room = λ s l v o t w. enough s l v (record { out-room = o; steps-room = t; work-room = w });
-  out-under = λ s l v h. under s l v (out-under h);
-  steps-under = λ s l v h. under s l v (steps-under h);
-  work-under = λ s l v h. under s l v (work-under h);
+  room = λ ed k s l v o t w. enough ed k s l v (record { out-room = o; steps-room = t; work-room = w });
+  out-under = λ ed k s l v h. under ed k s l v (out-under h);
+  steps-under = λ ed k s l v h. under ed k s l v (steps-under h);
+  work-under = λ ed k s l v h. under ed k s l v (work-under h);
   table-first = table-first;
 }
 

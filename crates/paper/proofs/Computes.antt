@@ -14,9 +14,10 @@ use Rattle.paper.specs.Rules.{appliesIf, addZero, multiplyZero, multiply
 use Rattle.paper.specs.Rules.{term, withInteger, integersOf, withOther, othersOf, timesOne, timesEach, unit, productTerm, termOf, added, addIf, mergeTerms, coefficientTimes, timesUnless}
 use Rattle.paper.specs.Rules.{fromTerm, combineLikeTerms, factor, factorOf, raiseIf, bothIntegers, multiplyIf, mergeFactors}
 use Rattle.paper.specs.Rules.{powerUnless, fromFactor, combineLikeFactors, editionOne}
+use Rattle.paper.specs.Rules.{onPowerParts, powerOne, powerConstant, raisedIf, powerPower, editionTwo, isEdition, rulesOf}
 use Rattle.paper.specs.Driver.{ask, after, tried, andThen, each, members, asSum, asProduct, openOne, opened, baseFrom, gather}
 use Rattle.paper.specs.Driver.{settle, gathered, visit, run, simplify}
-use Rattle.paper.specs.Answers.{measured, weighed, register, treeValue, registersVerdict, valued, cramped, judgement, runOn, outcomeOf}
+use Rattle.paper.specs.Answers.{measured, weighed, register, treeValue, registersVerdict, valued, cramped, judgedCall, judgement, runOn, outcomeOf}
 use Rattle.paper.specs.Answers.{refusedBy, ranAnswer, answerOf, written, noted, outAfter, stepsAfter, workAfter, lentAfter, simplifiedBy, simplified}
 
 unfoldable pub trees-compute : Unit {0}
@@ -47,6 +48,7 @@ unfolding
     onSumMembers onProductMembers asInteger isThe unless dropAll anyOf appliesIf addZero multiplyZero multiplyOne allInRange rebuilt
     outcome combine term withInteger integersOf withOther othersOf timesOne timesEach unit productTerm termOf added addIf mergeTerms coefficientTimes timesUnless fromTerm
     combineLikeTerms factor factorOf raiseIf bothIntegers multiplyIf mergeFactors powerUnless fromFactor combineLikeFactors editionOne
+    onPowerParts powerOne powerConstant raisedIf powerPower editionTwo isEdition rulesOf
 rules-compute = tt
 
 unfoldable pub driver-computes : Unit {0}
@@ -58,5 +60,5 @@ driver-computes = tt
 unfoldable pub answers-compute : Unit {0}
 unfolding
     verdict-computes table-computes driver-computes stretch measured weighed register treeValue registersVerdict valued cramped
-    judgement runOn outcomeOf refusedBy ranAnswer answerOf written noted outAfter stepsAfter workAfter lentAfter simplifiedBy simplified
+    judgedCall judgement runOn outcomeOf refusedBy ranAnswer answerOf written noted outAfter stepsAfter workAfter lentAfter simplifiedBy simplified
 answers-compute = tt

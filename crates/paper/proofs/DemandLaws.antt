@@ -12,7 +12,7 @@ use Rattle.paper.specs.Bytes.{Bytes, stretch}
 use Rattle.paper.specs.Tree.{Tree, weight, value}
 use Rattle.paper.specs.Table.{encode, treeOf}
 use Rattle.paper.specs.Verdict.{Verdict, accepted, refused}
-use Rattle.paper.specs.Rules.{editionOne}
+use Rattle.paper.specs.Rules.{rulesOf}
 use Rattle.paper.specs.Driver.{Ran, done, over, simplify}
 use Rattle.paper.specs.Answers.{Lent, Answer, Given, ran, judgement, refusedBy, refusal, ranAnswer, written, noted, outAfter, stepsAfter}
 use Rattle.paper.specs.Answers.{workAfter}
@@ -22,37 +22,38 @@ use Rattle.paper.proofs.ReadLaws.{tree-of-written}
 use Rattle.paper.proofs.AcceptedLaws.{Holds}
 use Rattle.paper.proofs.CallLaws.{RunOn, Call, is-turned-down, is-run, call, refusal-tells, result-written}
 use Rattle.paper.proofs.CallLaws.{same-tree}
+use Rattle.paper.proofs.EditionTwo.{edition-good}
 use Rattle.paper.proofs.Simplified.{Finished, simplify-finished}
 
 -- ---- the judging half holds around any run
-module _ (run : Tree → Ran) where
-  -- a run's answer is no refusal 1 to 6
-  no-refusal : {A : Type 0} (w : ℕ) (v : Verdict) (r : Ran) → 1 ≤ v .number → v .number ≤ 6 → ranAnswer w r ≡ refusedBy v → A
+module _ (ed : ℕ) (run : Tree → Ran) where
+  -- a run's answer is no refusal but 7
+  no-refusal : {A : Type 0} (w : ℕ) (v : Verdict) (r : Ran) → 1 ≤ v .number → ¬ (v .number ≡ 7) → ranAnswer w r ≡ refusedBy v → A
   unfolding ranAnswer refusedBy
   no-refusal w v (done u ks o n) h g e = absurd (let z : 0 ≡ v .number = ap (λ (a : Answer). a .number) e in omega arith)
-  no-refusal w v (over j) h g e = absurd (let z : 7 ≡ v .number = ap (λ (a : Answer). a .number) e in omega arith)
+  no-refusal w v (over j) h g e = absurd (g (ap (λ (a : Answer). a .number) (sym e)))
 
-  judges : Refuses (simplifiedBy run)
-  judges s b l v h g = (there (call run s l b), back (call run s l b))
+  judges : Refuses ed (simplifiedBy ed run)
+  judges s b l v h g = (there (call ed run s l b), back (call ed run s l b))
     where
-      there : Call run s l → simplifiedBy run s l .answer ≡ refusedBy v → judgement s l ≡ v
-      there (is-turned-down d) e = refusal-tells (judgement s l) v (sym (d .answer) ∙ e)
+      there : Call ed run s l → simplifiedBy ed run s l .answer ≡ refusedBy v → judgement ed s l ≡ v
+      there (is-turned-down d) e = refusal-tells (judgement ed s l) v (sym (d .answer) ∙ e)
       there (is-run r) e = no-refusal _ v _ h g (sym (r .answer) ∙ e)
 
-      back : Call run s l → judgement s l ≡ v → simplifiedBy run s l .answer ≡ refusedBy v
+      back : Call ed run s l → judgement ed s l ≡ v → simplifiedBy ed run s l .answer ≡ refusedBy v
       back (is-turned-down d) e = d .answer ∙ ap refusedBy e
       back (is-run r) e = absurd (let z : 0 ≡ v .number = ap (λ v. v .number) (sym (r .accepts) ∙ e) in omega arith)
 
-  leaves : LeavesAlone (simplifiedBy run)
-  leaves s b l v h g e = go (call run s l b)
+  leaves : LeavesAlone ed (simplifiedBy ed run)
+  leaves s b l v h g e = go (call ed run s l b)
     where
-      go : Call run s l → simplifiedBy run s l .lent ≡ l
+      go : Call ed run s l → simplifiedBy ed run s l .lent ≡ l
       go (is-turned-down d) = d .lent
       go (is-run r) = no-refusal _ v _ h g (sym (r .answer) ∙ e)
 
   -- after 7: the call was accepted, and the run went over
   pub record WentOver (s : List ℕ) (l : Lent) (p : ℕ) : Type 0 where
-    pub on : RunOn run s l
+    pub on : RunOn ed run s l
     pub at : run (on .holds .tree) ≡ over p
 
   ran-over : (w p : ℕ) (r : Ran) → ranAnswer w r ≡ refusal 7 p → r ≡ over p
@@ -60,15 +61,15 @@ module _ (run : Tree → Ran) where
   ran-over w p (done u ks o n) e = absurd (let z : _≡_ {A = ℕ} 0 7 = ap (λ (a : Answer). a .number) e in omega arith)
   ran-over w p (over j) e = ap over (ap (λ (v : Verdict). v .place) (refusal-tells (refused 7 j) (refused 7 p) e))
 
-  went-over : (s : List ℕ) → Bytes s → (l : Lent) (p : ℕ) → simplifiedBy run s l .answer ≡ refusal 7 p → WentOver s l p
-  went-over s b l p e = go (call run s l b)
+  went-over : (s : List ℕ) → Bytes s → (l : Lent) (p : ℕ) → simplifiedBy ed run s l .answer ≡ refusal 7 p → WentOver s l p
+  went-over s b l p e = go (call ed run s l b)
     where
-      go : Call run s l → WentOver s l p
+      go : Call ed run s l → WentOver s l p
       go (is-turned-down d) =
-          absurd (let z : judgement s l .number ≡ 7 = ap (λ (v : Verdict). v .number) (refusal-tells (judgement s l) (refused 7 p) (sym (d .answer) ∙ e)) in omega (arith, d .within))
+          absurd (d .not-7 (ap (λ (v : Verdict). v .number) (refusal-tells (judgement ed s l) (refused 7 p) (sym (d .answer) ∙ e))))
       go (is-run r) = record { on = r; at = ran-over _ p _ (sym (r .answer) ∙ e) }
 
-  clearing : Clears (simplifiedBy run)
+  clearing : Clears ed (simplifiedBy ed run)
   unfolding lentAfter outAfter stepsAfter workAfter written noted
   clearing s b l p e =
       let x = went-over s b l p e in
@@ -77,30 +78,30 @@ module _ (run : Tree → Ran) where
       ∙ ap (λ w. record { out = stretch (16 * w) [] (l .out); steps = stretch w [] (l .steps); work = stretch workBytes [] (l .work) }) (sym (h .weighs))
 
 -- ---- the running half
-runs-over : RunsOver simplified
+runs-over : (ed : ℕ) → RunsOver ed (simplified ed)
 unfolding simplified ranAnswer
-runs-over s b l p = (there, λ x. back (call (simplify editionOne) s l b) (x .0) (x .1 .0) (x .1 .1) (x .1 .2))
+runs-over ed s b l p = (there, λ x. back (call ed (simplify (rulesOf ed)) s l b) (x .0) (x .1 .0) (x .1 .1) (x .1 .2))
   where
-    there : simplified s l .answer ≡ refusal 7 p → (judgement s l ≡ accepted) × ((t : Tree) × (treeOf s ≡ some t) × (simplify editionOne t ≡ over p))
+    there : simplified ed s l .answer ≡ refusal 7 p → (judgement ed s l ≡ accepted) × ((t : Tree) × (treeOf s ≡ some t) × (simplify (rulesOf ed) t ≡ over p))
     there e =
-        let x = went-over (simplify editionOne) s b l p e in
+        let x = went-over ed (simplify (rulesOf ed)) s b l p e in
         (x .on .accepts, (x .on .holds .tree, x .on .holds .read, x .at))
 
-    back : Call (simplify editionOne) s l → judgement s l ≡ accepted → (t : Tree) → treeOf s ≡ some t → simplify editionOne t ≡ over p
-        → simplified s l .answer ≡ refusal 7 p
-    back (is-turned-down d) j t e h = absurd (let z : judgement s l .number ≡ 0 = ap (λ v. v .number) j in omega (arith, d .number))
+    back : Call ed (simplify (rulesOf ed)) s l → judgement ed s l ≡ accepted → (t : Tree) → treeOf s ≡ some t → simplify (rulesOf ed) t ≡ over p
+        → simplified ed s l .answer ≡ refusal 7 p
+    back (is-turned-down d) j t e h = absurd (let z : judgement ed s l .number ≡ 0 = ap (λ v. v .number) j in omega (arith, d .number))
     back (is-run r) j t e h =
-        r .answer ∙ ap (ranAnswer _) (ap (simplify editionOne) (same-tree (r .holds .read) e) ∙ h)
+        r .answer ∙ ap (ranAnswer _) (ap (simplify (rulesOf ed)) (same-tree (r .holds .read) e) ∙ h)
 
-follows : Follows simplified
+follows : (ed : ℕ) → Follows ed (simplified ed)
 unfolding simplified ranAnswer lentAfter outAfter stepsAfter workAfter written noted
-follows s b l j t u ks o n e h = go (call (simplify editionOne) s l b)
+follows ed s b l j t u ks o n e h = go (call ed (simplify (rulesOf ed)) s l b)
   where
     f : Tree → Ran
-    f = simplify editionOne
+    f = simplify (rulesOf ed)
 
-    go : Call f s l → (simplified s l .answer ≡ ranAnswer (weight t) (done u ks o n)) × (simplified s l .lent ≡ lentAfter (ran (weight t) (done u ks o n)) l)
-    go (is-turned-down d) = absurd (let z : judgement s l .number ≡ 0 = ap (λ v. v .number) j in omega (arith, d .number))
+    go : Call ed f s l → (simplified ed s l .answer ≡ ranAnswer (weight t) (done u ks o n)) × (simplified ed s l .lent ≡ lentAfter (ran (weight t) (done u ks o n)) l)
+    go (is-turned-down d) = absurd (let z : judgement ed s l .number ≡ 0 = ap (λ v. v .number) j in omega (arith, d .number))
     go (is-run r) =
         let x : r .holds .tree ≡ t = same-tree (r .holds .read) e in (
           r .answer ∙ ap (λ a. ranAnswer (weight a) (f a)) x ∙ ap (ranAnswer (weight t)) h,
@@ -108,33 +109,33 @@ follows s b l j t u ks o n e h = go (call (simplify editionOne) s l b)
         )
 
 -- ---- an accepted call without refusal 7: its table's tree, the tree of its result, and what holds of the two
-pub record Done (s : List ℕ) (l : Lent) : Type 0 where
+pub record Done (ed : ℕ) (s : List ℕ) (l : Lent) : Type 0 where
   pub holds : Holds s
   pub tree-out : Tree
   pub steps : List ℕ
   pub opened : ℕ
   pub tries : ℕ
-  pub finished : Finished (holds .tree) tree-out steps opened tries
-  pub accepts : judgement s l ≡ accepted
-  pub answer : simplified s l .answer ≡ ranAnswer (weight (holds .tree)) (done tree-out steps opened tries)
-  pub lent : simplified s l .lent ≡ lentAfter (ran (weight (holds .tree)) (done tree-out steps opened tries)) l
-  pub written-bytes : result (simplified s l) ≡ encode tree-out
-  pub read-back : treeOf (result (simplified s l)) ≡ some tree-out
+  pub finished : Finished (rulesOf ed) (holds .tree) tree-out steps opened tries
+  pub accepts : judgement ed s l ≡ accepted
+  pub answer : simplified ed s l .answer ≡ ranAnswer (weight (holds .tree)) (done tree-out steps opened tries)
+  pub lent : simplified ed s l .lent ≡ lentAfter (ran (weight (holds .tree)) (done tree-out steps opened tries)) l
+  pub written-bytes : result (simplified ed s l) ≡ encode tree-out
+  pub read-back : treeOf (result (simplified ed s l)) ≡ some tree-out
 
-pub call-done : (s : List ℕ) → Bytes s → (l : Lent) → simplified s l .answer .number ≡ 0 → Done s l
+pub call-done : (ed : ℕ) (s : List ℕ) → Bytes s → (l : Lent) → simplified ed s l .answer .number ≡ 0 → Done ed s l
 unfolding simplified ranAnswer refusedBy lentAfter outAfter written
-call-done s b l e = go (call (simplify editionOne) s l b)
+call-done ed s b l e = go (call ed (simplify (rulesOf ed)) s l b)
   where
-    by-run : (r : RunOn (simplify editionOne) s l) (x : Ran) → simplify editionOne (r .holds .tree) ≡ x → Done s l
+    by-run : (r : RunOn ed (simplify (rulesOf ed)) s l) (x : Ran) → simplify (rulesOf ed) (r .holds .tree) ≡ x → Done ed s l
     by-run r (over k) h =
         absurd (let z : _≡_ {A = ℕ} 7 0 = sym (ap (λ a. a .number) (r .answer ∙ ap (ranAnswer (weight (r .holds .tree))) h)) ∙ e in omega arith)
     by-run r (done u ks o n) h =
         let t : Tree = r .holds .tree in
-        let f : Finished t u ks o n = simplify-finished t u ks o n (r .holds .wf) h in
-        let a : simplified s l .answer ≡ ranAnswer (weight t) (done u ks o n) = r .answer ∙ ap (ranAnswer (weight t)) h in
-        let g : simplified s l .lent ≡ lentAfter (ran (weight t) (done u ks o n)) l = r .lent ∙ ap (λ x. lentAfter (ran (weight t) x) l) h in
-        let w : result (simplified s l) ≡ encode u =
-        result-written (simplified s l) (weight t) u (l .out) (ap (λ x. x .records-written) a) (ap (λ x. x .out) g) in
+        let f : Finished (rulesOf ed) t u ks o n = simplify-finished (edition-good ed) t u ks o n (r .holds .wf) h in
+        let a : simplified ed s l .answer ≡ ranAnswer (weight t) (done u ks o n) = r .answer ∙ ap (ranAnswer (weight t)) h in
+        let g : simplified ed s l .lent ≡ lentAfter (ran (weight t) (done u ks o n)) l = r .lent ∙ ap (λ x. lentAfter (ran (weight t) x) l) h in
+        let w : result (simplified ed s l) ≡ encode u =
+        result-written (simplified ed s l) (weight t) u (l .out) (ap (λ x. x .records-written) a) (ap (λ x. x .out) g) in
         record {
           holds = r .holds;
           tree-out = u;
@@ -149,33 +150,33 @@ call-done s b l e = go (call (simplify editionOne) s l b)
           read-back = ap treeOf w ∙ tree-of-written u (f .result-wf) (omega (arith, f .lightens, r .holds .light));
         }
 
-    go : Call (simplify editionOne) s l → Done s l
-    go (is-turned-down d) = absurd (let z : judgement s l .number ≡ 0 = sym (ap (λ a. a .number) (d .answer)) ∙ e in omega (arith, d .number))
-    go (is-run r) = by-run r (simplify editionOne (r .holds .tree)) refl
+    go : Call ed (simplify (rulesOf ed)) s l → Done ed s l
+    go (is-turned-down d) = absurd (let z : judgement ed s l .number ≡ 0 = sym (ap (λ a. a .number) (d .answer)) ∙ e in omega (arith, d .number))
+    go (is-run r) = by-run r (simplify (rulesOf ed) (r .holds .tree)) refl
 
 -- the simplifier of the definitions meets the demands
-pub simplified-meets : Demands simplified
+pub simplified-meets : (ed : ℕ) → Demands ed (simplified ed)
 unfolding simplified ranAnswer
-simplified-meets =
+simplified-meets ed =
     record {
-      refuses = judges (simplify editionOne);
-      leaves-alone = leaves (simplify editionOne);
-      clears = clearing (simplify editionOne);
-      runs-over = runs-over;
-      follows = follows;
+      refuses = judges ed (simplify (rulesOf ed));
+      leaves-alone = leaves ed (simplify (rulesOf ed));
+      clears = clearing ed (simplify (rulesOf ed));
+      runs-over = runs-over ed;
+      follows = follows ed;
       lightens = λ s b l e t p.
-          let d = call-done s b l e in
-          let a : simplified s l .answer .steps-taken ≡ length (d .steps) = ap (λ x. x .steps-taken) (d .answer) in
-          let o : simplified s l .answer .openings ≡ d .opened = ap (λ x. x .openings) (d .answer) in
+          let d = call-done ed s b l e in
+          let a : simplified ed s l .answer .steps-taken ≡ length (d .steps) = ap (λ x. x .steps-taken) (d .answer) in
+          let o : simplified ed s l .answer .openings ≡ d .opened = ap (λ x. x .openings) (d .answer) in
           let f = d .finished .lightens in
           (d .tree-out, d .read-back, omega (arith, ap weight (same-tree p (d .holds .read))));
       bounded = λ s b l e t p.
-          let d = call-done s b l e in
-          let a : simplified s l .answer .tries ≡ d .tries = ap (λ x. x .tries) (d .answer) in
-          (d .tree-out, d .read-back, subst (λ i. simplified s l .answer .tries ≤ weight i * (weight i * weight i)) (same-tree (d .holds .read) p) (omega (arith, d .finished .bounded)));
-      finishes = λ s b l e t p. let d = call-done s b l e in (d .tree-out, d .read-back, d .finished .admits-none);
+          let d = call-done ed s b l e in
+          let a : simplified ed s l .answer .tries ≡ d .tries = ap (λ x. x .tries) (d .answer) in
+          (d .tree-out, d .read-back, subst (λ i. simplified ed s l .answer .tries ≤ weight i * (weight i * weight i)) (same-tree (d .holds .read) p) (omega (arith, d .finished .bounded)));
+      finishes = λ s b l e t p. let d = call-done ed s b l e in (d .tree-out, d .read-back, d .finished .admits-none);
       keeps-value = λ s b l e t p.
-          let d = call-done s b l e in
+          let d = call-done ed s b l e in
           (d .tree-out, d .read-back, λ ρ. d .finished .keeps-value ρ ∙ ap (λ x. value x ρ) (same-tree (d .holds .read) p));
     }
 
@@ -183,32 +184,32 @@ given-by : (g h : Given) → g .answer ≡ h .answer → g .lent ≡ h .lent →
 given-by g h x y = ap (λ a. record { answer = a; lent = g .lent }) x ∙ ap (λ a. record { answer = h .answer; lent = a }) y
 
 -- two simplifiers that meet the demands answer alike and leave alike bytes
-pub demands-once : (f g : Simplifier) → Demands f → Demands g → (s : List ℕ) → Bytes s → (l : Lent) → f s l ≡ g s l
+pub demands-once : (ed : ℕ) (f g : Simplifier) → Demands ed f → Demands ed g → (s : List ℕ) → Bytes s → (l : Lent) → f s l ≡ g s l
 unfolding simplified
-demands-once f g p q s b l = alike f p ∙ sym (alike g q)
+demands-once ed f g p q s b l = alike f p ∙ sym (alike g q)
   where
-    ours : Call (simplify editionOne) s l
-    ours = call (simplify editionOne) s l b
+    ours : Call ed (simplify (rulesOf ed)) s l
+    ours = call ed (simplify (rulesOf ed)) s l b
 
-    both : (h : Simplifier) → h s l .answer ≡ simplified s l .answer → h s l .lent ≡ simplified s l .lent → h s l ≡ simplified s l
-    both h x y = given-by (h s l) (simplified s l) x y
+    both : (h : Simplifier) → h s l .answer ≡ simplified ed s l .answer → h s l .lent ≡ simplified ed s l .lent → h s l ≡ simplified ed s l
+    both h x y = given-by (h s l) (simplified ed s l) x y
 
-    by-run : (h : Simplifier) → Demands h → (r : RunOn (simplify editionOne) s l) (x : Ran) → simplify editionOne (r .holds .tree) ≡ x → h s l ≡ simplified s l
+    by-run : (h : Simplifier) → Demands ed h → (r : RunOn ed (simplify (rulesOf ed)) s l) (x : Ran) → simplify (rulesOf ed) (r .holds .tree) ≡ x → h s l ≡ simplified ed s l
     by-run h d r (over k) e =
         let x = d .runs-over s b l k .1 (r .accepts, (r .holds .tree, r .holds .read, e)) in
-        let y = simplified-meets .runs-over s b l k .1 (r .accepts, (r .holds .tree, r .holds .read, e)) in
-        both h (x ∙ sym y) (d .clears s b l k x ∙ sym (simplified-meets .clears s b l k y))
+        let y = simplified-meets ed .runs-over s b l k .1 (r .accepts, (r .holds .tree, r .holds .read, e)) in
+        both h (x ∙ sym y) (d .clears s b l k x ∙ sym (simplified-meets ed .clears s b l k y))
     by-run h d r (done u ks o n) e =
         let x = d .follows s b l (r .accepts) (r .holds .tree) u ks o n (r .holds .read) e in
-        let y = simplified-meets .follows s b l (r .accepts) (r .holds .tree) u ks o n (r .holds .read) e in
+        let y = simplified-meets ed .follows s b l (r .accepts) (r .holds .tree) u ks o n (r .holds .read) e in
         both h (x .0 ∙ sym (y .0)) (x .1 ∙ sym (y .1))
 
-    by-call : (h : Simplifier) → Demands h → Call (simplify editionOne) s l → h s l ≡ simplified s l
+    by-call : (h : Simplifier) → Demands ed h → Call ed (simplify (rulesOf ed)) s l → h s l ≡ simplified ed s l
     by-call h d (is-turned-down t) =
-        let v = judgement s l in
-        let x = d .refuses s b l v (t .number) (t .within) .1 refl in
-        both h (x ∙ sym (t .answer)) (d .leaves-alone s b l v (t .number) (t .within) x ∙ sym (t .lent))
-    by-call h d (is-run r) = by-run h d r (simplify editionOne (r .holds .tree)) refl
+        let v = judgement ed s l in
+        let x = d .refuses s b l v (t .number) (t .not-7) .1 refl in
+        both h (x ∙ sym (t .answer)) (d .leaves-alone s b l v (t .number) (t .not-7) x ∙ sym (t .lent))
+    by-call h d (is-run r) = by-run h d r (simplify (rulesOf ed) (r .holds .tree)) refl
 
-    alike : (h : Simplifier) → Demands h → h s l ≡ simplified s l
+    alike : (h : Simplifier) → Demands ed h → h s l ≡ simplified ed s l
     alike h d = by-call h d ours

@@ -1,5 +1,5 @@
--- Refusals 1 to 6 of a call are given exactly as the paper's table of refusals says, the lowest number winning. 1 to 5 are those of
--- the table (Refusals); the test of 6 is its words; and it is made only where none of 1 to 5 applies. Assumes nothing.
+-- The refusals of a call but 7 are given exactly as the papers say, in their order. 1 to 5 are those of the table (Refusals); the tests
+-- of 6 and 9 are their words; 6 is tested only where none of 1 to 5 applies, and these only where 9 does not. Assumes nothing.
 use Prim.Native.Nat.{ℕ, _*_, _≤_, _<_}
 use mathlib.Core.Path.{_≡_, refl, sym, ap, subst}
 use mathlib.Core.Bool.{Bool, true, false, cond, _||_}
@@ -7,19 +7,20 @@ use mathlib.Core.List.{List}
 use mathlib.Core.Logic.{_⊎_, inl, inr, _↔_}
 use native.Mathlib.Omega.{arith}
 use lib.ListN.{length}
-use lib.Dec.{ltb, lit≤}
-use borrow.Author.Tests.{ne-eqb, lt-ltb, ltb-true}
+use lib.Dec.{eqb, ltb, lit<, lit≤}
+use borrow.Author.Tests.{ne-eqb, eqb-false, lt-ltb, ltb-true}
 use Rattle.paper.specs.Limits.{workBytes}
 use Rattle.paper.specs.Bytes.{Bytes}
 use Rattle.paper.specs.Record.{Flaw}
 use Rattle.paper.specs.Verdict.{Verdict, accepted, told, refused, isAccepted, tableWeight, verdict}
-use Rattle.paper.specs.Answers.{Lent, cramped, judgement, refusedBy}
+use Rattle.paper.specs.Rules.{isEdition}
+use Rattle.paper.specs.Answers.{Lent, cramped, judgedCall, judgement, refusedBy}
 use Rattle.paper.specs.Refusals.{Tells, Applies, refusal-1, refusal-2, refusal-3, refusal-4, refusal-5}
-use Rattle.paper.specs.Refusals.{Under, out-under, steps-under, work-under, AppliesToCall, of-table, refusal-6, Lowest}
+use Rattle.paper.specs.Refusals.{Under, out-under, steps-under, work-under, AppliesToCall, of-table, refusal-6, refusal-9, rank, Lowest}
 use Rattle.paper.specs.Demands.{Simplifier, Refuses}
 use Rattle.paper.specs.Takeover.{Room}
-use Rattle.paper.proofs.Tests.{true-not-false, not-so, or-either, or-left, or-right}
-use Rattle.paper.proofs.Refusals.{verdict-exactly, accepted-exactly}
+use Rattle.paper.proofs.Tests.{true-not-false, not-so, or-neither, or-either, or-left, or-right}
+use Rattle.paper.proofs.Refusals.{verdict-exactly, accepted-exactly, rank-small}
 use Rattle.paper.proofs.CallLaws.{verdict-accepted, judgement-accepted, accepted-judgement}
 
 -- 6: areas are cramped as the paper says
@@ -68,65 +69,116 @@ applies-within (refusal-3 h) = (lit≤ tt, lit≤ tt)
 applies-within (refusal-4 h) = (lit≤ tt, lit≤ tt)
 applies-within (refusal-5 h) = (lit≤ tt, lit≤ tt)
 
-module _ (s : List ℕ) (l : Lent) where
-  -- nothing under 6 applies to the call of an accepted table
-  none-lower : verdict s ≡ accepted → {j q : ℕ} → j < 6 → ¬ AppliesToCall s l j q
-  none-lower v u (of-table x) = accepted-exactly s .0 v _ _ x
-  none-lower v u (refusal-6 x) = omega arith
+-- 9: an edition is unknown as the paper says
+unknown-words : (ed : ℕ) → isEdition ed ≡ false → (¬ (ed ≡ 1)) × (¬ (ed ≡ 2))
+unfolding isEdition
+unknown-words ed h = let x = or-neither (eqb ed 1) (eqb ed 2) h in (eqb-false ed 1 (x .0), eqb-false ed 2 (x .1))
+
+words-unknown : (ed : ℕ) → ¬ (ed ≡ 1) → ¬ (ed ≡ 2) → isEdition ed ≡ false
+unfolding isEdition
+words-unknown ed h g = rw (ne-eqb ed 1 h, ne-eqb ed 2 g)
+
+module _ (ed : ℕ) (s : List ℕ) (l : Lent) where
+  -- nothing before 6 applies to the call of an accepted table in a known edition
+  none-lower : isEdition ed ≡ true → verdict s ≡ accepted → {j q : ℕ} → rank j < rank 6 → ¬ AppliesToCall ed s l j q
+  none-lower n v u (of-table x) = accepted-exactly s .0 v _ _ x
+  none-lower n v u (refusal-6 x) = omega arith
+  none-lower n v u (refusal-9 x y) = true-not-false n (words-unknown ed x y)
 
   -- and what is the table's lowest is the call's
-  still-lowest : {k p : ℕ} → Lowest (Applies s) k p → Lowest (AppliesToCall s l) k p
-  still-lowest {k} {p} h = record { given = of-table (h .given); lowest = λ j q u x. none u x }
+  still-lowest : isEdition ed ≡ true → {k p : ℕ} → Lowest (Applies s) k p → Lowest (AppliesToCall ed s l) k p
+  still-lowest n {k} {p} h = record { given = of-table (h .given); lowest = λ j q u x. none u x }
     where
-      none : {j q : ℕ} → j < k → ¬ AppliesToCall s l j q
+      none : {j q : ℕ} → rank j < rank k → ¬ AppliesToCall ed s l j q
       none u (of-table x) = h .lowest _ _ u x
-      none u (refusal-6 x) = omega (arith, applies-within (h .given) .1)
+      none u (refusal-6 x) =
+          let z = applies-within (h .given) .1 in
+          omega (arith, rank-small 6 (lit< tt), rank-small k (omega arith))
+      none u (refusal-9 x y) = true-not-false n (words-unknown ed x y)
 
-  -- a refusal is given exactly when the paper's table says so, at the place that it says, and tells what is wrong with the record
-  pub judgement-exactly : (v : Verdict) → 0 < v .number → (judgement s l ≡ v) ↔ (Lowest (AppliesToCall s l) (v .number) (v .place) × Tells s v)
-  unfolding judgement isAccepted
+  -- 9 comes before all of these
+  nine-first : {j q : ℕ} → rank j < rank 9 → ¬ AppliesToCall ed s l j q
+  unfolding rank
+  nine-first u x = omega arith
+
+  nine : isEdition ed ≡ false → AppliesToCall ed s l 9 0
+  nine n = let w = unknown-words ed n in refusal-9 (w .0) (w .1)
+
+  nine-under : (k : ℕ) → k ≤ 6 → rank 9 < rank k
+  unfolding rank
+  nine-under k h = omega (arith, rank-small k (omega arith))
+
+  -- what the papers say of a refusal
+  abbrev Says : Verdict → Type 0
+  Says w = Lowest (AppliesToCall ed s l) (w .number) (w .place) × Tells s w
+
+  -- a refusal is given exactly when the papers say so, at the place that they say, and tells what is wrong with the record
+  pub judgement-exactly : (v : Verdict) → 0 < v .number
+      → (judgement ed s l ≡ v) ↔ (Lowest (AppliesToCall ed s l) (v .number) (v .place) × Tells s v)
+  unfolding judgement judgedCall isAccepted
   judgement-exactly v z =
-      (λ e. down (isAccepted (verdict s)) refl (cramped (tableWeight s) l) refl e, λ h. up (v .flaw) (h .0 .given) (h .0 .lowest) (h .1))
+      (λ e. known (isEdition ed) refl e, λ h. up (isEdition ed) refl (v .flaw) (h .0 .given) (h .0 .lowest) (h .1))
     where
-      down : (a : Bool) → isAccepted (verdict s) ≡ a → (c : Bool) → cramped (tableWeight s) l ≡ c
-          → cond a (cond c (refused 6 0) accepted) (verdict s) ≡ v → Lowest (AppliesToCall s l) (v .number) (v .place) × Tells s v
-      down true a true c e =
-          subst (λ (w : Verdict). Lowest (AppliesToCall s l) (w .number) (w .place) × Tells s w) e (
+      down : isEdition ed ≡ true → (a : Bool) → isAccepted (verdict s) ≡ a → (c : Bool) → cramped (tableWeight s) l ≡ c
+          → cond a (cond c (refused 6 0) accepted) (verdict s) ≡ v → Says v
+      down n true a true c e =
+          subst Says e (
             record {
               given = refusal-6 (cramped-words (tableWeight s) l c);
-              lowest = λ j i u x. none-lower (verdict-accepted s a) u x;
+              lowest = λ j i u x. none-lower n (verdict-accepted s a) u x;
             },
             (λ e. absurd (omega arith), λ e. refl),
           )
-      down true a false c e = absurd (let n : 0 ≡ v .number = ap (λ (w : Verdict). w .number) e in omega arith)
-      down false a c i e = let h = verdict-exactly s v z .0 e in (still-lowest (h .0), h .1)
+      down n true a false c e = absurd (let n : 0 ≡ v .number = ap (λ (w : Verdict). w .number) e in omega arith)
+      down n false a c i e = let h = verdict-exactly s v z .0 e in (still-lowest n (h .0), h .1)
 
-      up : {k p : ℕ} (f : Flaw) → AppliesToCall s l k p → ((j q : ℕ) → j < k → ¬ AppliesToCall s l j q) → Tells s (told k p f) → judgement s l ≡ told k p f
-      up {k} {p} f (of-table x) h w =
+      known : (b : Bool) → isEdition ed ≡ b → cond b (judgedCall s l) (refused 9 0) ≡ v → Says v
+      known true n e = down n (isAccepted (verdict s)) refl (cramped (tableWeight s) l) refl e
+      known false n e =
+          let w = unknown-words ed n in
+          subst Says e (
+            record { given = refusal-9 (w .0) (w .1); lowest = λ j i u x. nine-first u x },
+            (λ e. absurd (omega arith), λ e. refl),
+          )
+
+      up : (b : Bool) → isEdition ed ≡ b → {k p : ℕ} (f : Flaw) → AppliesToCall ed s l k p → ((j q : ℕ) → rank j < rank k → ¬ AppliesToCall ed s l j q)
+          → Tells s (told k p f) → judgement ed s l ≡ told k p f
+      up true n {k} {p} f (of-table x) h w =
           let v : verdict s ≡ told k p f =
           verdict-exactly s (told k p f) (applies-within x .0) .1 (record { given = x; lowest = λ j q u y. h j q u (of-table y) }, w) in
-          rw (v, ne-eqb k 0 (λ e. omega (arith, applies-within x .0)))
-      up f (refusal-6 x) h w =
-          let v : verdict s ≡ accepted = accepted-exactly s .1 (λ j q y. h j q (omega (arith, applies-within y .1)) (of-table y)) in
-          rw (v, words-cramped (tableWeight s) l x) (ap (told 6 0) (sym (w .1 (λ e. omega arith))))
+          rw (n, v, ne-eqb k 0 (λ e. omega (arith, applies-within x .0)))
+      up true n f (refusal-6 x) h w =
+          let v : verdict s ≡ accepted =
+          accepted-exactly s .1
+          (λ j q y. h j q (omega (arith, applies-within y .1, rank-small 6 (lit< tt), rank-small j (omega (arith, applies-within y .1)))) (of-table y)) in
+          rw (n, v, words-cramped (tableWeight s) l x) (ap (told 6 0) (sym (w .1 (λ e. omega arith))))
+      up true n f (refusal-9 x y) h w = absurd (true-not-false n (words-unknown ed x y))
+      up false n f (of-table {k} x) h w = absurd (h 9 0 (nine-under k (omega (arith, applies-within x .1))) (nine n))
+      up false n f (refusal-6 x) h w = absurd (h 9 0 (nine-under 6 (lit≤ tt)) (nine n))
+      up false n f (refusal-9 x y) h w = rw n (ap (told 9 0) (sym (w .1 (λ e. omega arith))))
 
   -- and none is given exactly when none applies
-  pub judgement-accepted-exactly : (judgement s l ≡ accepted) ↔ ((k p : ℕ) → ¬ AppliesToCall s l k p)
-  judgement-accepted-exactly = (λ e k p x. down (judgement-accepted s l e) x, up)
+  pub judgement-accepted-exactly : (judgement ed s l ≡ accepted) ↔ ((k p : ℕ) → ¬ AppliesToCall ed s l k p)
+  judgement-accepted-exactly = (λ e k p x. down (judgement-accepted ed s l e) x, up)
     where
-      down : {k p : ℕ} → (verdict s ≡ accepted) × (cramped (tableWeight s) l ≡ false) → ¬ AppliesToCall s l k p
+      down : {k p : ℕ} → (verdict s ≡ accepted) × (cramped (tableWeight s) l ≡ false) × (isEdition ed ≡ true) → ¬ AppliesToCall ed s l k p
       down h (of-table x) = accepted-exactly s .0 (h .0) _ _ x
       down h (refusal-6 x) = true-not-false (words-cramped (tableWeight s) l x) (h .1)
+      down h (refusal-9 x y) = true-not-false (h .2) (words-unknown ed x y)
 
-      up : ((k p : ℕ) → ¬ AppliesToCall s l k p) → judgement s l ≡ accepted
+      up : ((k p : ℕ) → ¬ AppliesToCall ed s l k p) → judgement ed s l ≡ accepted
       up h =
-          accepted-judgement s l (accepted-exactly s .1 (λ k p x. h k p (of-table x)))
+          accepted-judgement ed s l (so (isEdition ed) refl) (accepted-exactly s .1 (λ k p x. h k p (of-table x)))
           (not-so (cramped (tableWeight s) l) (λ e. h 6 0 (refusal-6 (cramped-words (tableWeight s) l e))))
+        where
+          so : (b : Bool) → isEdition ed ≡ b → isEdition ed ≡ true
+          so true e = e
+          so false e = absurd (let w = unknown-words ed e in h 9 0 (refusal-9 (w .0) (w .1)))
 
--- so demand 1 speaks of the paper's words
-pub refuses-in-words : (f : Simplifier) → Refuses f → (s : List ℕ) → Bytes s → (l : Lent) (v : Verdict) → 1 ≤ v .number → v .number ≤ 6
-    → (f s l .answer ≡ refusedBy v) ↔ (Lowest (AppliesToCall s l) (v .number) (v .place) × Tells s v)
-refuses-in-words f r s b l v h g =
+-- so demand 1 speaks of the papers' words
+pub refuses-in-words : (ed : ℕ) (f : Simplifier) → Refuses ed f → (s : List ℕ) → Bytes s → (l : Lent) (v : Verdict) → 1 ≤ v .number → ¬ (v .number ≡ 7)
+    → (f s l .answer ≡ refusedBy v) ↔ (Lowest (AppliesToCall ed s l) (v .number) (v .place) × Tells s v)
+refuses-in-words ed f r s b l v h g =
     let d = r s b l v h g in
-    let w = judgement-exactly s l v h in
+    let w = judgement-exactly ed s l v h in
     (λ e. w .0 (d .0 e), λ x. d .1 (w .1 x))

@@ -20,6 +20,9 @@ pub mod LikeFactorsWF
 pub mod LikeFactorsWeight
 pub mod LikeFactorsGood
 pub mod EditionOne
+pub mod PowerRules
+pub mod EditionTwo
+pub mod Editions
 pub mod KeptLaws
 pub mod GatherLaws
 pub mod DriverLaws

@@ -21,7 +21,7 @@ use Rattle.paper.specs.Verdict.{Verdict, told, flawed, accepted, records
 use Rattle.paper.specs.Verdict.{badExponent, firstBadExponent, judgeRecords, verdict}
 use Rattle.paper.specs.Refusals.{First, BadLength, is-zero, no-multiple, is-over, Flawed, kind-over, byte-other, count-under}
 use Rattle.paper.specs.Refusals.{Stray, Names, names-kind, names-byte, names-count, Tells, BadShape, records-end, tree-ends, Exponent, after-base, AtLeastOne}
-use Rattle.paper.specs.Refusals.{Applies, refusal-1, refusal-2, refusal-3, refusal-4, refusal-5, Lowest}
+use Rattle.paper.specs.Refusals.{Applies, refusal-1, refusal-2, refusal-3, refusal-4, refusal-5, rank, Lowest}
 use Rattle.paper.proofs.Tests.{true-not-false, not-so, and-both, or-either, or-left, or-right}
 use Rattle.paper.proofs.EncodeLaws.{signed-negative}
 use Rattle.paper.proofs.SpanLaws.{spans-end}
@@ -447,6 +447,11 @@ what-told s (suc zero) p f e h = sym (h .1 (λ e. omega arith))
 what-told s (suc (suc zero)) p f e h = ap (flaw s) e ∙ names-flaw s p (h .0 refl)
 what-told s (suc (suc (suc k))) p f e h = sym (h .1 (λ e. omega arith))
 
+-- the numbers of the table are ranked as they come
+pub rank-small : (k : ℕ) → k < 8 → rank k ≡ k + 1
+unfolding rank
+rank-small k h = rw (ne-eqb k 9 (λ e. omega arith), ne-eqb k 8 (λ e. omega arith))
+
 -- the checker refuses exactly as the paper's table says, at the place that it says, and tells what is wrong with the record
 pub verdict-exactly : (s : List ℕ) (v : Verdict) → 0 < v .number → (verdict s ≡ v) ↔ (Lowest (Applies s) (v .number) (v .place) × Tells s v)
 verdict-exactly s v l = (down, λ h. up (h .0) (h .1))
@@ -459,10 +464,12 @@ verdict-exactly s v l = (down, λ h. up (h .0) (h .1))
 
     down : verdict s ≡ v → Lowest (Applies s) k p × Tells s v
     down h =
-        let r = ladder-down (test s) (place s) (what s) 5 1 k p (v .flaw) l (sym (verdict-ladder s) ∙ h) in (
+        let r = ladder-down (test s) (place s) (what s) 5 1 k p (v .flaw) l (sym (verdict-ladder s) ∙ h) in
+        let z = words-test s k (place s k) (test-words s k (r .0)) in (
           record {
             given = subst (λ (q : ℕ). Applies s k q) (r .1) (test-words s k (r .0));
-            lowest = λ j q u x. let y = words-test s j q x in true-not-false (y .0) (r .2 j (y .2) u);
+            lowest = λ j q u x. let y = words-test s j q x in
+                true-not-false (y .0) (r .2 j (y .2) (omega (arith, z .3, y .3, rank-small j (omega arith), rank-small k (omega arith))));
           },
           rw (r .1, r .3) at (tells-what s k (r .0)),
         )
@@ -472,7 +479,7 @@ verdict-exactly s v l = (down, λ h. up (h .0) (h .1))
         let y = words-test s k p (h .given) in
         verdict-ladder s
         ∙ ladder-up (test s) (place s) (what s) 5 1 k (y .2) (y .3) (y .0)
-        (λ j u v. not-so (test s j) (λ e. h .lowest j (place s j) v (test-words s j e)))
+        (λ j u v. not-so (test s j) (λ e. h .lowest j (place s j) (omega (arith, rank-small j (omega (arith, y .3)), rank-small k (omega (arith, y .3)))) (test-words s j e)))
         ∙ ap (λ (q : ℕ). told k q (what s k)) (y .1)
         ∙ ap (told k p) (what-told s k p (v .flaw) (y .1) w)
 

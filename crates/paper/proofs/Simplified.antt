@@ -1,5 +1,4 @@
--- Demand 3 for edition one, at the level of trees: what a finished run of `simplify editionOne` gives. The instances at edition
--- one of the laws that are proved over any list of good rules. Assumes nothing.
+-- Demand 3 at the level of trees, over any list of good rules: what a finished run gives. Assumes nothing.
 use Prim.Native.Nat.{ℕ, _+_, _*_, _≤_}
 use mathlib.Core.Path.{_≡_, subst}
 use mathlib.Core.List.{List, []}
@@ -8,32 +7,33 @@ use lib.ListN.{length}
 use Rattle.paper.specs.Tree.{Tree, weight, value, records}
 use Rattle.paper.specs.WellFormed.{WF}
 use Rattle.paper.specs.Table.{encode}
-use Rattle.paper.specs.Rules.{editionOne}
+use Rattle.paper.specs.Rules.{Rule, rulesOf}
 use Rattle.paper.specs.Driver.{done, tried, ask, visit, simplify}
 use Rattle.paper.specs.Admits.{AdmitsNone}
 use Rattle.paper.proofs.EncodeLaws.{encode-length, records-weight}
-use Rattle.paper.proofs.EditionOne.{edition-one-good}
+use Rattle.paper.specs.Good.{Goods}
+use Rattle.paper.proofs.EditionTwo.{edition-good}
 use Rattle.paper.proofs.DriverLaws.{RunKept, run-kept}
 use Rattle.paper.proofs.TryLaws.{tries-cube}
 use Rattle.paper.proofs.Fuel.{simplify-visits}
 use Rattle.paper.proofs.FinishedLaws.{Ended, simplify-ended, run-finished}
 
 -- what holds of a tree t and the result u of a run on it, with its steps ks and o openings
-pub record Finished (t u : Tree) (ks : List ℕ) (o n : ℕ) : Type 0 where
+pub record Finished (rs : List Rule) (t u : Tree) (ks : List ℕ) (o n : ℕ) : Type 0 where
   pub result-wf : WF u
   pub lightens : length ks + o + weight u ≤ weight t
   pub keeps-value : (ρ : ℕ → ℕ) → value u ρ ≡ value t ρ
-  pub admits-none : AdmitsNone editionOne u
+  pub admits-none : AdmitsNone rs u
   -- so `16 x W` bytes and W steps always suffice
   pub out-suffices : length (encode u) ≤ 16 * weight t
   pub steps-suffice : length ks ≤ weight t
   pub bounded : n ≤ weight t * (weight t * weight t)
 
-pub simplify-finished : (t u : Tree) (ks : List ℕ) (o n : ℕ) → WF t → simplify editionOne t ≡ done u ks o n → Finished t u ks o n
+pub simplify-finished : {rs : List Rule} → Goods rs → (t u : Tree) (ks : List ℕ) (o n : ℕ) → WF t → simplify rs t ≡ done u ks o n → Finished rs t u ks o n
 unfolding simplify
-simplify-finished t u ks o n w e =
-    let kept : RunKept t (done u ks o n) = subst (RunKept t) e (run-kept edition-one-good (weight t) t w) in
-    let ended : Ended editionOne (done u ks o n) = subst (Ended editionOne) e (simplify-ended editionOne edition-one-good t w) in
+simplify-finished {rs} gs t u ks o n w e =
+    let kept : RunKept t (done u ks o n) = subst (RunKept t) e (run-kept gs (weight t) t w) in
+    let ended : Ended rs (done u ks o n) = subst (Ended rs) e (simplify-ended rs gs t w) in
     record {
       result-wf = kept .0;
       lightens = omega (arith, kept .1 .lighter);
@@ -41,14 +41,14 @@ simplify-finished t u ks o n w e =
       admits-none = ended;
       out-suffices = omega (arith, kept .1 .lighter, encode-length u, records-weight u);
       steps-suffice = omega (arith, kept .1 .lighter);
-      bounded = tries-cube edition-one-good t u ks o n w e;
+      bounded = tries-cube gs t u ks o n w e;
     }
 
 -- a result is simplified to itself, with no step and no opening
-pub simplify-again : (u : Tree) → WF u → AdmitsNone editionOne u → simplify editionOne u ≡ done u [] 0 (records u)
+pub simplify-again : {rs : List Rule} (u : Tree) → WF u → AdmitsNone rs u → simplify rs u ≡ done u [] 0 (records u)
 unfolding simplify
 simplify-again u w a = run-finished a w (weight u) (omega arith)
 
--- the driver of edition one in the paper's words
-pub edition-one-visits : (t : Tree) → WF t → simplify editionOne t ≡ tried (visit (simplify editionOne) t (ask editionOne t))
-edition-one-visits = simplify-visits edition-one-good
+-- the driver of an edition in the paper's words
+pub edition-visits : (ed : ℕ) (t : Tree) → WF t → simplify (rulesOf ed) t ≡ tried (visit (simplify (rulesOf ed)) t (ask (rulesOf ed) t))
+edition-visits ed = simplify-visits (edition-good ed)

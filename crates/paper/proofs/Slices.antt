@@ -54,9 +54,9 @@ slices = record {
   weight = λ s. tells-in measureBytes _ _ (omega (arith, measured-count (weighed s)));
   value = λ s regs. tells-in measureBytes _ _ (omega (arith, measured-count (valued s regs)));
   equal = λ s t. tells-in equalBytes _ _ (omega (arith, compared-count (compared s t)));
-  simplify = λ s l. tells-in simplifyBytes _ _ (omega (arith, answer-count (simplified s l .answer)));
-  areas = λ s l slice.
-      let ns = answerNumbers (simplified s l .answer) in
-      let q = answer-count (simplified s l .answer) in
+  simplify = λ ed s l. tells-in simplifyBytes _ _ (omega (arith, answer-count (simplified ed s l .answer)));
+  areas = λ ed s l slice.
+      let ns = answerNumbers (simplified ed s l .answer) in
+      let q = answer-count (simplified ed s l .answer) in
       (λ h. rw (lt-ltb (length slice) (8 * length ns) (omega arith)) refl, λ h. rw (le-ltb (length slice) (8 * length ns) (omega arith)) refl);
 }

@@ -1,29 +1,35 @@
 -- The starred examples: one table, one statement, by computation; and the bytes of example 1's result. Assumes nothing.
 use mathlib.Core.Path.{_≡_, refl}
 use mathlib.Core.List.{map}
-use Rattle.paper.specs.Examples.{exampleOne, exampleOneBytes, examples, lookalikes, edges, counts, triesOf, counted, outWeight, untried, computed}
+use Rattle.paper.specs.Examples.{exampleOne, exampleOneBytes, examples, lookalikes, edges, examplesTwo, counts, triesOf, counted, outWeight, untried, computed}
+use Rattle.paper.specs.Rules.{editionOne, editionTwo}
 use Rattle.paper.specs.Answers.{written}
 use Rattle.paper.proofs.Computes.{table-computes, driver-computes}
 
 -- the definitions give each starred example as the paper has it
-pub starred : map (λ e. computed (e .given)) examples ≡ examples
+pub starred : map (λ e. computed editionOne (e .given)) examples ≡ examples
 unfolding exampleOne examples outWeight untried computed driver-computes
 starred = refl
 
 -- and those that tell the rules from programs that would look right
-pub no-lookalike : map (λ e. computed (e .given)) lookalikes ≡ lookalikes
+pub no-lookalike : map (λ e. computed editionOne (e .given)) lookalikes ≡ lookalikes
 unfolding lookalikes outWeight untried computed driver-computes
 no-lookalike = refl
 
 -- what is written for example 1, as the paper prints it
-pub example-one-bytes : written (computed (exampleOne .given) .answer) ≡ exampleOneBytes
+pub example-one-bytes : written (computed editionOne (exampleOne .given) .answer) ≡ exampleOneBytes
 unfolding exampleOne exampleOneBytes untried computed written driver-computes table-computes
 example-one-bytes = refl
 
 -- and what neither table tells
-pub at-the-edges : map (λ e. computed (e .given)) edges ≡ edges
+pub at-the-edges : map (λ e. computed editionOne (e .given)) edges ≡ edges
 unfolding edges outWeight untried computed driver-computes
 at-the-edges = refl
+
+-- edition two, by its own rules
+pub starred-two : map (λ e. computed editionTwo (e .given)) examplesTwo ≡ examplesTwo
+unfolding examplesTwo outWeight untried computed driver-computes
+starred-two = refl
 
 -- the tries, which the paper's examples do not name
 pub tries-counted : map (λ e. counted (e .given)) counts ≡ counts

@@ -16,16 +16,16 @@ use Rattle.paper.specs.WellFormed.{WF}
 use Rattle.paper.specs.Record.{kind, countIn, isNode, stray, Flaw, sound, bad-kind, bad-byte, bad-count, flaw, flawNumbers, weightFrom}
 use Rattle.paper.specs.Verdict.{Verdict, accepted, refused, flawed, isAccepted, recordsIn, badLength, firstFlawed, tableWeight, treeEnd}
 use Rattle.paper.specs.Verdict.{firstBadExponent, judgeRecords, verdict}
-use Rattle.paper.specs.Rules.{editionOne}
+use Rattle.paper.specs.Rules.{isEdition, rulesOf}
 use Rattle.paper.specs.Driver.{Ran, done, over, simplify}
-use Rattle.paper.specs.Answers.{Lent, Answer, cramped, judgement, refusedBy, ranAnswer, simplified}
+use Rattle.paper.specs.Answers.{Lent, Answer, cramped, judgedCall, judgement, refusedBy, ranAnswer, simplified}
 use Rattle.paper.specs.Calls.{answerNumbers, eights}
 use Rattle.paper.specs.Told.{flawFrom, answerIn, FitEight}
 use Rattle.paper.proofs.Slices.{answer-count}
 use Rattle.paper.proofs.BytesLaws.{le-bytes, length-bytes, le8-append, le8-append-add}
 use Rattle.paper.proofs.EncodeLaws.{records-weight}
 use Rattle.paper.proofs.VerdictLaws.{length-good}
-use Rattle.paper.proofs.EditionOne.{edition-one-good}
+use Rattle.paper.proofs.EditionTwo.{edition-good}
 use Rattle.paper.proofs.PlaceOfSeven.{Within, run-within}
 use Rattle.paper.proofs.Simplified.{simplify-finished}
 use Rattle.paper.proofs.TryLaws.{tries-cube}
@@ -33,6 +33,7 @@ use Rattle.paper.proofs.CallLaws.{RunOn, Call, is-turned-down, is-run, 
 
 -- ---- places, and what is wrong with a record
 record PlaceIn (n : ℕ) (v : Verdict) : Type 0 where
+  named : v .number ≤ 9
   most : v .place ≤ n
   fits : FitEight (flawNumbers (v .flaw))
 
@@ -41,9 +42,9 @@ either n true w v h k = h refl
 either n false w v h k = k
 
 -- a refusal that says nothing of a record
-plain : (n k p : ℕ) → p ≤ n → PlaceIn n (refused k p)
+plain : (n k p : ℕ) → k ≤ 9 → p ≤ n → PlaceIn n (refused k p)
 unfolding flawNumbers
-plain n k p h = record { most = h; fits = (omega arith, (omega arith, tt)) }
+plain n k p j h = record { named = j; most = h; fits = (omega arith, (omega arith, tt)) }
 
 -- a byte of a record is one of sixteen
 flaw-fits : (s : List ℕ) (i : ℕ) → FitEight (flawNumbers (flaw s i))
@@ -75,31 +76,35 @@ records-place s n =
     let m : min (treeEnd s n 0) n ≤ n = omega arith in
     let i = firstFlawed s 0 n in
     let e = firstBadExponent s n 0 n in
-    either n (ltb i n) (flawed i (flaw s i)) _ (λ h. record { most = under i n h; fits = flaw-fits s i })
-    (either n (ltb maxWeight (weightFrom s 0 n)) (refused 3 0) _ (λ h. plain n 3 0 z)
-    (either n (not (eqb (treeEnd s n 0) n)) (refused 4 (min (treeEnd s n 0) n)) _ (λ h. plain n 4 _ m)
-    (either n (ltb e n) (refused 5 e) accepted (λ h. plain n 5 e (under e n h))
-    (plain n 0 0 z))))
+    either n (ltb i n) (flawed i (flaw s i)) _ (λ h. record { named = omega arith; most = under i n h; fits = flaw-fits s i })
+    (either n (ltb maxWeight (weightFrom s 0 n)) (refused 3 0) _ (λ h. plain n 3 0 (omega arith) z)
+    (either n (not (eqb (treeEnd s n 0) n)) (refused 4 (min (treeEnd s n 0) n)) _ (λ h. plain n 4 _ (omega arith) m)
+    (either n (ltb e n) (refused 5 e) accepted (λ h. plain n 5 e (omega arith) (under e n h))
+    (plain n 0 0 (omega arith) z))))
 
 verdict-place : (s : List ℕ) → PlaceIn maxWeight (verdict s)
 unfolding verdict recordsIn
 verdict-place s = go (badLength (length s)) refl
   where
     go : (b : Bool) → badLength (length s) ≡ b → PlaceIn maxWeight (cond b (refused 1 0) (judgeRecords s (recordsIn s)))
-    go true e = plain maxWeight 1 0 (omega arith)
+    go true e = plain maxWeight 1 0 (omega arith) (omega arith)
     go false e =
         let p = records-place s (recordsIn s) in
-        record { most = omega (arith, p .most, length-good (length s) e .short); fits = p .fits }
+        record { named = p .named; most = omega (arith, p .most, length-good (length s) e .short); fits = p .fits }
 
-judgement-place : (s : List ℕ) (l : Lent) → PlaceIn maxWeight (judgement s l)
-unfolding judgement
-judgement-place s l = go (isAccepted (verdict s))
+judgement-place : (ed : ℕ) (s : List ℕ) (l : Lent) → PlaceIn maxWeight (judgement ed s l)
+unfolding judgement judgedCall
+judgement-place ed s l = known (isEdition ed) (go (isAccepted (verdict s)))
   where
     go : (b : Bool) → PlaceIn maxWeight (cond b (cond (cramped (tableWeight s) l) (refused 6 0) accepted) (verdict s))
     go true =
         let z : 0 ≤ maxWeight = omega arith in
-        either maxWeight (cramped (tableWeight s) l) (refused 6 0) accepted (λ e. plain maxWeight 6 0 z) (plain maxWeight 0 0 z)
+        either maxWeight (cramped (tableWeight s) l) (refused 6 0) accepted (λ e. plain maxWeight 6 0 (omega arith) z) (plain maxWeight 0 0 (omega arith) z)
     go false = verdict-place s
+
+    known : (b : Bool) {v : Verdict} → PlaceIn maxWeight v → PlaceIn maxWeight (cond b v (refused 9 0))
+    known true p = p
+    known false p = plain maxWeight 9 0 (omega arith) (omega arith)
 
 -- and none of the tries
 with-none : (f : Flaw) → FitEight (flawNumbers f) → FitEight (flawNumbers f ++ (0 ∷ []))
@@ -117,28 +122,28 @@ cube-small w n h k =
     omega arith
 
 -- ---- all numbers of an answer
-run-fit : (t : Tree) → WF t → weight t ≤ maxWeight → (x : Ran) → simplify editionOne t ≡ x → FitEight (answerNumbers (ranAnswer (weight t) x))
+run-fit : (ed : ℕ) (t : Tree) → WF t → weight t ≤ maxWeight → (x : Ran) → simplify (rulesOf ed) t ≡ x → FitEight (answerNumbers (ranAnswer (weight t) x))
 unfolding answerNumbers ranAnswer refusedBy flawNumbers simplify
-run-fit t w h (done u ks o n) e =
-    let f = simplify-finished t u ks o n w e .lightens in
-    let m : n < 2 ^ 64 = cube-small (weight t) n h (tries-cube edition-one-good t u ks o n w e) in
+run-fit ed t w h (done u ks o n) e =
+    let f = simplify-finished (edition-good ed) t u ks o n w e .lightens in
+    let m : n < 2 ^ 64 = cube-small (weight t) n h (tries-cube (edition-good ed) t u ks o n w e) in
     let r = records-weight u in
     (omega arith, (omega arith, (omega arith, (omega arith, (omega arith, (omega arith, (omega arith, (omega arith, (omega arith, (omega arith, tt))))))))))
-run-fit t w h (over k) e =
-    let x : Within t (over k) = subst (Within t) e (run-within edition-one-good (weight t) t w) in
+run-fit ed t w h (over k) e =
+    let x : Within t (over k) = subst (Within t) e (run-within (edition-good ed) (weight t) t w) in
     (omega arith, (omega arith, (omega arith, (omega arith, (omega arith, (omega arith, (omega arith, (omega arith, (omega arith, (omega arith, tt))))))))))
 
-pub numbers-fit : (s : List ℕ) → Bytes s → (l : Lent) → FitEight (answerNumbers (simplified s l .answer))
+pub numbers-fit : (ed : ℕ) (s : List ℕ) → Bytes s → (l : Lent) → FitEight (answerNumbers (simplified ed s l .answer))
 unfolding simplified answerNumbers refusedBy
-numbers-fit s b l = go (call (simplify editionOne) s l b)
+numbers-fit ed s b l = go (call ed (simplify (rulesOf ed)) s l b)
   where
-    small : (v : Verdict) → v .number ≤ 6 → PlaceIn maxWeight v → FitEight (answerNumbers (refusedBy v))
-    small v h p = let m = p .most in (omega arith, (omega arith, (omega arith, (omega arith, (omega arith, (omega arith, (omega arith, with-none (v .flaw) (p .fits))))))))
+    small : (v : Verdict) → PlaceIn maxWeight v → FitEight (answerNumbers (refusedBy v))
+    small v p = let h = p .named in let m = p .most in (omega arith, (omega arith, (omega arith, (omega arith, (omega arith, (omega arith, (omega arith, with-none (v .flaw) (p .fits))))))))
 
-    go : Call (simplify editionOne) s l → FitEight (answerNumbers (simplified s l .answer))
-    go (is-turned-down d) = subst (λ a. FitEight (answerNumbers a)) (sym (d .answer)) (small (judgement s l) (d .within) (judgement-place s l))
+    go : Call ed (simplify (rulesOf ed)) s l → FitEight (answerNumbers (simplified ed s l .answer))
+    go (is-turned-down d) = subst (λ a. FitEight (answerNumbers a)) (sym (d .answer)) (small (judgement ed s l) (judgement-place ed s l))
     go (is-run r) =
-        subst (λ a. FitEight (answerNumbers a)) (sym (r .answer)) (run-fit (r .holds .tree) (r .holds .wf) (r .holds .light) _ refl)
+        subst (λ a. FitEight (answerNumbers a)) (sym (r .answer)) (run-fit ed (r .holds .tree) (r .holds .wf) (r .holds .light) _ refl)
 
 -- ---- reading them back
 first-eight : (n : ℕ) (rest : List ℕ) → n < 2 ^ 64 → le8 (bytes 8 n ++ rest) 0 ≡ n

@@ -22,11 +22,11 @@ valued-alike : (s r regs : List ℕ) (t u : Tree) → verdict s ≡ accepted →
 unfolding valued registersVerdict treeValue
 valued-alike s r regs t u a b p q e = rw (a, b, p, q, e) refl
 
-pub value-after : (s : List ℕ) → Bytes s → (l : Lent) → simplified s l .answer .number ≡ 0
-    → (regs : List ℕ) → valued (result (simplified s l)) regs ≡ valued s regs
-value-after s b l e regs =
-    let d = call-done s b l e in
+pub value-after : (ed : ℕ) (s : List ℕ) → Bytes s → (l : Lent) → simplified ed s l .answer .number ≡ 0
+    → (regs : List ℕ) → valued (result (simplified ed s l)) regs ≡ valued s regs
+value-after ed s b l e regs =
+    let d = call-done ed s b l e in
     let light : weight (d .tree-out) ≤ maxWeight = omega (arith, d .finished .lightens, d .holds .light) in
-    valued-alike s _ regs (d .holds .tree) (d .tree-out) (judgement-accepted s l (d .accepts) .0)
+    valued-alike s _ regs (d .holds .tree) (d .tree-out) (judgement-accepted ed s l (d .accepts) .0)
     (ap verdict (d .written-bytes) ∙ written-accepted (d .tree-out) (d .finished .result-wf) light)
     (d .holds .read) (d .read-back) (d .finished .keeps-value (register regs))

@@ -12,7 +12,7 @@ use Rattle.paper.specs.Tree.{Tree, weight, records, value}
 use Rattle.paper.specs.Equal.{equal}
 use Rattle.paper.specs.Table.{encode, treeOf}
 use Rattle.paper.specs.Verdict.{Verdict, accepted, refused, isAccepted, tableWeight, verdict}
-use Rattle.paper.specs.Rules.{editionOne}
+use Rattle.paper.specs.Rules.{isEdition, rulesOf}
 use Rattle.paper.specs.Driver.{Ran, done, over, simplify}
 
 -- ---- the checker of tables answers `verdict`
@@ -93,10 +93,14 @@ unfoldable pub cramped : ℕ → Lent → Bool
 cramped w l = ltb (length (l .out)) (16 * w) || ltb (length (l .steps)) w || ltb (length (l .work)) workBytes
 
 -- 1 to 6: "The lowest number wins."
-unfoldable pub judgement : List ℕ → Lent → Verdict
-judgement s l = cond (isAccepted (verdict s)) (cond (cramped (tableWeight s) l) (refused 6 0) accepted) (verdict s)
+unfoldable pub judgedCall : List ℕ → Lent → Verdict
+judgedCall s l = cond (isAccepted (verdict s)) (cond (cramped (tableWeight s) l) (refused 6 0) accepted) (verdict s)
 
--- what becomes of a call: refused by 1 to 6; or W, and the run on the table's tree
+-- "an unknown edition, before 8 and 1, number 9"; ed is the edition
+unfoldable pub judgement : ℕ → List ℕ → Lent → Verdict
+judgement ed s l = cond (isEdition ed) (judgedCall s l) (refused 9 0)
+
+-- what becomes of a call: refused, but not with 7; or W, and the run on the table's tree
 pub data Outcome : Type 0 where
   turned-down : Verdict → Outcome
   ran : ℕ → Ran → Outcome
@@ -106,8 +110,8 @@ unfoldable pub runOn : (Tree → Ran) → ℕ → Option Tree → Outcome
 runOn run w none = turned-down (refused 4 0)
 runOn run w (some t) = ran w (run t)
 
-unfoldable pub outcomeOf : (Tree → Ran) → List ℕ → Lent → Outcome
-outcomeOf run s l = cond (isAccepted (judgement s l)) (runOn run (tableWeight s) (treeOf s)) (turned-down (judgement s l))
+unfoldable pub outcomeOf : ℕ → (Tree → Ran) → List ℕ → Lent → Outcome
+outcomeOf ed run s l = cond (isAccepted (judgement ed s l)) (runOn run (tableWeight s) (treeOf s)) (turned-down (judgement ed s l))
 
 -- "A refusal returns number and place, all other numbers zero", and after 2 what is wrong with the record
 unfoldable pub refusedBy : Verdict → Answer
@@ -180,9 +184,9 @@ pub record Given : Type 0 where
   pub lent : Lent
 
 -- a simplifier that judges, reads and writes as the paper says, around any run
-unfoldable pub simplifiedBy : (Tree → Ran) → List ℕ → Lent → Given
-simplifiedBy run s l = record { answer = answerOf (outcomeOf run s l); lent = lentAfter (outcomeOf run s l) l }
+unfoldable pub simplifiedBy : ℕ → (Tree → Ran) → List ℕ → Lent → Given
+simplifiedBy ed run s l = record { answer = answerOf (outcomeOf ed run s l); lent = lentAfter (outcomeOf ed run s l) l }
 
--- the simplifier: the run is the driver's, over the rules of edition one
-unfoldable pub simplified : List ℕ → Lent → Given
-simplified = simplifiedBy (simplify editionOne)
+-- the simplifier: the run is the driver's, over the rules of the edition
+unfoldable pub simplified : ℕ → List ℕ → Lent → Given
+simplified ed = simplifiedBy ed (simplify (rulesOf ed))

@@ -9,6 +9,7 @@ use Rattle.paper.specs.Tree.{Tree, symbol, records, weight}
 use Rattle.paper.specs.WellFormed.{WF}
 use Rattle.paper.specs.Table.{encode}
 use Rattle.paper.specs.Verdict.{accepted, refused, tableWeight, verdict}
+use Rattle.paper.specs.Rules.{isEdition}
 use Rattle.paper.specs.Answers.{Lent, valued, cramped, judgement}
 
 abbrev a : Tree
@@ -22,14 +23,14 @@ pub record Weights : Type 0 where
   pub at-most : (t : Tree) → WF t → weight t ≤ 3072 → verdict (encode t) ≡ accepted
   pub over : (t : Tree) → WF t → 3072 < weight t → records t ≤ 3072 → verdict (encode t) ≡ refused 3 0
 
--- 6: "`out` under 16 x W bytes, `steps` under W, or `work` under 65,536", after 1 to 5
+-- 6: "`out` under 16 x W bytes, `steps` under W, or `work` under 65,536", after 1 to 5, in each edition
 pub record Rooms : Type 0 where
-  pub room : (s : List ℕ) (l : Lent) → verdict s ≡ accepted
-      → 16 * tableWeight s ≤ length (l .out) → tableWeight s ≤ length (l .steps) → 65536 ≤ length (l .work) → judgement s l ≡ accepted
-  pub out-under : (s : List ℕ) (l : Lent) → verdict s ≡ accepted → length (l .out) < 16 * tableWeight s → judgement s l ≡ refused 6 0
-  pub steps-under : (s : List ℕ) (l : Lent) → verdict s ≡ accepted → length (l .steps) < tableWeight s → judgement s l ≡ refused 6 0
-  pub work-under : (s : List ℕ) (l : Lent) → verdict s ≡ accepted → length (l .work) < 65536 → judgement s l ≡ refused 6 0
-  pub table-first : (s : List ℕ) (l : Lent) → 0 < verdict s .number → judgement s l ≡ verdict s
+  pub room : (ed : ℕ) → isEdition ed ≡ true → (s : List ℕ) (l : Lent) → verdict s ≡ accepted
+      → 16 * tableWeight s ≤ length (l .out) → tableWeight s ≤ length (l .steps) → 65536 ≤ length (l .work) → judgement ed s l ≡ accepted
+  pub out-under : (ed : ℕ) → isEdition ed ≡ true → (s : List ℕ) (l : Lent) → verdict s ≡ accepted → length (l .out) < 16 * tableWeight s → judgement ed s l ≡ refused 6 0
+  pub steps-under : (ed : ℕ) → isEdition ed ≡ true → (s : List ℕ) (l : Lent) → verdict s ≡ accepted → length (l .steps) < tableWeight s → judgement ed s l ≡ refused 6 0
+  pub work-under : (ed : ℕ) → isEdition ed ≡ true → (s : List ℕ) (l : Lent) → verdict s ≡ accepted → length (l .work) < 65536 → judgement ed s l ≡ refused 6 0
+  pub table-first : (ed : ℕ) → isEdition ed ≡ true → (s : List ℕ) (l : Lent) → 0 < verdict s .number → judgement ed s l ≡ verdict s
 
 -- the same of areas for a weight of 2: 32 bytes of `out` and 2 of `steps`, or one fewer
 pub record Cramped : Type 0 where

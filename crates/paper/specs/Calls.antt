@@ -72,12 +72,12 @@ equalReturns a b slice = returned (comparedNumbers (compared a b)) (compared a b
 unfoldable pub equalAnswers : List ℕ → List ℕ → List ℕ → List ℕ
 equalAnswers a b slice = answered (comparedNumbers (compared a b)) slice
 
--- simmergate_simplify: the three areas, too, are as they were where the slice is too short
-unfoldable pub simplifyReturns : List ℕ → Lent → List ℕ → ℕ
-simplifyReturns s l slice = returned (answerNumbers (simplified s l .answer)) (simplified s l .answer .number) slice
+-- simmergate_simplify: the edition comes first; the three areas, too, are as they were where the slice is too short
+unfoldable pub simplifyReturns : ℕ → List ℕ → Lent → List ℕ → ℕ
+simplifyReturns ed s l slice = returned (answerNumbers (simplified ed s l .answer)) (simplified ed s l .answer .number) slice
 
-unfoldable pub simplifyAnswers : List ℕ → Lent → List ℕ → List ℕ
-simplifyAnswers s l slice = answered (answerNumbers (simplified s l .answer)) slice
+unfoldable pub simplifyAnswers : ℕ → List ℕ → Lent → List ℕ → List ℕ
+simplifyAnswers ed s l slice = answered (answerNumbers (simplified ed s l .answer)) slice
 
-unfoldable pub simplifyLeaves : List ℕ → Lent → List ℕ → Lent
-simplifyLeaves s l slice = cond (tooShort (answerNumbers (simplified s l .answer)) slice) l (simplified s l .lent)
+unfoldable pub simplifyLeaves : ℕ → List ℕ → Lent → List ℕ → Lent
+simplifyLeaves ed s l slice = cond (tooShort (answerNumbers (simplified ed s l .answer)) slice) l (simplified ed s l .lent)

@@ -1,4 +1,4 @@
--- The three demands as one record with named fields, over the behaviour of any simplifier: what it answers, and what it leaves
+-- The three demands as one record with named fields, over an edition and the behaviour of any simplifier: what it answers, and what it leaves
 -- in the lent areas, for every table of bytes and all lent areas.
 use Prim.Native.Nat.{ℕ, _+_, _*_, _≤_}
 use mathlib.Core.Path.{_≡_}
@@ -12,7 +12,7 @@ use Rattle.paper.specs.Record.{sound}
 use Rattle.paper.specs.Tree.{Tree, weight, value, records}
 use Rattle.paper.specs.Table.{encode, treeOf}
 use Rattle.paper.specs.Verdict.{Verdict, accepted, tableWeight}
-use Rattle.paper.specs.Rules.{editionOne}
+use Rattle.paper.specs.Rules.{rulesOf}
 use Rattle.paper.specs.Driver.{done, over, simplify}
 use Rattle.paper.specs.Admits.{AdmitsNone}
 use Rattle.paper.specs.Answers.{Lent, refusedBy, refusal, Given, judgement}
@@ -24,17 +24,18 @@ Simplifier = List ℕ → Lent → Given
 unfoldable pub result : Given → List ℕ
 result g = take (16 * g .answer .records-written) (g .lent .out)
 
-module _ (f : Simplifier) where
-  -- ---- demand 1: "gives each refusal exactly when the paper says so": 1 to 6, with its place, and after 2 what is wrong
+-- a simplifier for the edition ed
+module _ (ed : ℕ) (f : Simplifier) where
+  -- ---- demand 1: "gives each refusal exactly when the paper says so": each but 7, with its place, and after 2 what is wrong
   abbrev pub Refuses : Type 0
   Refuses =
-      (s : List ℕ) → Bytes s → (l : Lent) (v : Verdict) → 1 ≤ v .number → v .number ≤ 6
-      → (f s l .answer ≡ refusedBy v) ↔ (judgement s l ≡ v)
+      (s : List ℕ) → Bytes s → (l : Lent) (v : Verdict) → 1 ≤ v .number → ¬ (v .number ≡ 7)
+      → (f s l .answer ≡ refusedBy v) ↔ (judgement ed s l ≡ v)
 
-  -- "refusals 1 to 6 change no lent byte"
+  -- "refusals 1 to 6 change no lent byte", and a number "that a later request adds" changes none
   abbrev pub LeavesAlone : Type 0
   LeavesAlone =
-      (s : List ℕ) → Bytes s → (l : Lent) (v : Verdict) → 1 ≤ v .number → v .number ≤ 6 → f s l .answer ≡ refusedBy v
+      (s : List ℕ) → Bytes s → (l : Lent) (v : Verdict) → 1 ≤ v .number → ¬ (v .number ≡ 7) → f s l .answer ≡ refusedBy v
       → f s l .lent ≡ l
 
   -- "7 leaves the stated zeros", and bytes past the stretches as they were
@@ -52,13 +53,13 @@ module _ (f : Simplifier) where
   abbrev pub RunsOver : Type 0
   RunsOver =
       (s : List ℕ) → Bytes s → (l : Lent) (p : ℕ)
-      → (f s l .answer ≡ refusal 7 p) ↔ ((judgement s l ≡ accepted) × ((t : Tree) × (treeOf s ≡ some t) × (simplify editionOne t ≡ over p)))
+      → (f s l .answer ≡ refusal 7 p) ↔ ((judgement ed s l ≡ accepted) × ((t : Tree) × (treeOf s ≡ some t) × (simplify (rulesOf ed) t ≡ over p)))
 
   -- "Records and trees translate as the paper says, both ways. Tree, steps and openings are those of its rules, followed in order."
   abbrev pub Follows : Type 0
   Follows =
-      (s : List ℕ) → Bytes s → (l : Lent) → judgement s l ≡ accepted
-      → (t u : Tree) (ks : List ℕ) (o n : ℕ) → treeOf s ≡ some t → simplify editionOne t ≡ done u ks o n
+      (s : List ℕ) → Bytes s → (l : Lent) → judgement ed s l ≡ accepted
+      → (t u : Tree) (ks : List ℕ) (o n : ℕ) → treeOf s ≡ some t → simplify (rulesOf ed) t ≡ done u ks o n
       → (f s l .answer
       ≡ record {
         number = 0;
@@ -94,19 +95,19 @@ module _ (f : Simplifier) where
 
   -- "the output admits no rule and no opening"
   abbrev pub Finishes : Type 0
-  Finishes = Accepted (λ s l t u. AdmitsNone editionOne u)
+  Finishes = Accepted (λ s l t u. AdmitsNone (rulesOf ed) u)
 
   -- "the value modulo 2^64 is kept under every assignment"
   abbrev pub KeepsValue : Type 0
   KeepsValue = Accepted (λ s l t u. (ρ : ℕ → ℕ) → value u ρ ≡ value t ρ)
 
-pub record Demands (f : Simplifier) : Type 0 where
-  pub refuses : Refuses f
-  pub leaves-alone : LeavesAlone f
-  pub clears : Clears f
-  pub runs-over : RunsOver f
-  pub follows : Follows f
-  pub lightens : Lightens f
-  pub bounded : Bounded f
-  pub finishes : Finishes f
-  pub keeps-value : KeepsValue f
+pub record Demands (ed : ℕ) (f : Simplifier) : Type 0 where
+  pub refuses : Refuses ed f
+  pub leaves-alone : LeavesAlone ed f
+  pub clears : Clears ed f
+  pub runs-over : RunsOver ed f
+  pub follows : Follows ed f
+  pub lightens : Lightens ed f
+  pub bounded : Bounded ed f
+  pub finishes : Finishes ed f
+  pub keeps-value : KeepsValue ed f

@@ -4,7 +4,7 @@ use Prim.Native.Nat.{ℕ, _-_}
 use mathlib.Core.List.{List, [], _∷_}
 use lib.IntN.{pos, negsuc}
 use Rattle.paper.specs.Tree.{Tree, Forest, integer, symbol, sum, product, power, ofList, weight}
-use Rattle.paper.specs.Rules.{editionOne}
+use Rattle.paper.specs.Rules.{Rule, editionOne}
 use Rattle.paper.specs.Driver.{Ran, done, over, simplify}
 
 -- a tree, what the driver makes of it, and both weights (0 after a refusal)
@@ -164,6 +164,42 @@ edges =
     ∷ gives (raised a 1) 5 (raised a 1) ([]) 0 5
     ∷ []
 
+-- Edition two: "Operators see a^1 and (a^2)^3 and call them unfinished."
+unfoldable pub examplesTwo : List Example
+examplesTwo =
+    -- step 7, "exponent 1 gives the base", also where the base is 0
+    gives (raised a 1) 5 a (7 ∷ []) 0 3
+    ∷ gives (raised (i 0) 1) 3 (i 0) (7 ∷ []) 0 1
+    -- step 8, "base 0 gives 0 and base 1 gives 1"; 2^4 and (-1)^2 stay
+    ∷ gives (raised (i 0) 2) 3 (i 0) (8 ∷ []) 0 1
+    ∷ gives (raised (i 1) 9) 3 (i 1) (8 ∷ []) 0 1
+    ∷ gives (raised (i 2) 4) 3 (raised (i 2) 4) [] 0 3
+    ∷ gives (raised (minus 1) 2) 3 (raised (minus 1) 2) [] 0 3
+    -- step 9, "a power of a power gets the product of the exponents", at the outer power first
+    ∷ gives (raised (raised a 2) 3) 7 (raised a 6) (9 ∷ []) 0 5
+    ∷ gives (raised (raised a 1) 3) 7 (raised a 3) (9 ∷ []) 0 5
+    ∷ gives (raised (raised (raised a 2) 3) 4) 9 (raised a 24) (9 ∷ 9 ∷ []) 0 5
+    ∷ gives (raised (raised (i 0) 2) 3) 5 (i 0) (9 ∷ 8 ∷ []) 0 1
+    -- "7 for an exponent product": (a^(2^62))^2, and one less; (a^(2^63 - 1))^1 is step 7
+    ∷ record { given = raised (raised a 4611686018427387904) 2; answer = over 0; weight-in = 7; weight-out = 0 }
+    ∷ gives (raised (raised a 4611686018427387903) 2) 7 (raised a 9223372036854775806) (9 ∷ []) 0 5
+    ∷ gives (raised (raised a 9223372036854775807) 1) 7 (raised a 9223372036854775807) (7 ∷ []) 0 5
+    -- (a+b)^1 + c is opened; (a*b)^1 * a is steps 7 and 6; (a*1)^1 is steps 7 and 4: the node before its base
+    ∷ gives (plus (raised (plus (a ∷ b ∷ [])) 1 ∷ c ∷ [])) 13 (plus (a ∷ b ∷ c ∷ [])) (7 ∷ []) 1 10
+    ∷ gives (times (raised (times (a ∷ b ∷ [])) 1 ∷ a ∷ [])) 13 (times (raised a 2 ∷ b ∷ [])) (7 ∷ 6 ∷ []) 1 9
+    ∷ gives (raised (times (a ∷ i 1 ∷ [])) 1) 7 a (7 ∷ 4 ∷ []) 0 3
+    -- what the other rules leave: (a*a)^3 is steps 6 and 9, (a + (-1)*a)^2 steps 2, 3 and 8, 0^5 * a steps 8 and 3
+    ∷ gives (raised (times (a ∷ a ∷ [])) 3) 9 (raised a 6) (6 ∷ 9 ∷ []) 0 5
+    ∷ gives (raised (plus (a ∷ times (minus 1 ∷ a ∷ []) ∷ [])) 2) 11 (i 0) (2 ∷ 3 ∷ 8 ∷ []) 0 1
+    ∷ gives (times (raised (i 0) 5 ∷ a ∷ [])) 7 (i 0) (8 ∷ 3 ∷ []) 0 1
+    -- a^1 + a is steps 7 and 2; a^1 * a is step 6 as in edition one; (a^2)^3 + (a^3)^2 gives 2*a^6
+    ∷ gives (plus (raised a 1 ∷ a ∷ [])) 9 (times (i 2 ∷ a ∷ [])) (7 ∷ 2 ∷ []) 0 5
+    ∷ gives (times (raised a 1 ∷ a ∷ [])) 9 (raised a 2) (6 ∷ []) 0 5
+    ∷ gives (plus (raised (raised a 2) 3 ∷ raised (raised a 3) 2 ∷ [])) 15 (times (i 2 ∷ raised a 6 ∷ [])) (9 ∷ 9 ∷ 2 ∷ []) 0 7
+    -- example 10 as in edition one: step 6 at the product comes first
+    ∷ gives (times (raised (times (a ∷ b ∷ [])) 1 ∷ c ∷ c ∷ a ∷ [])) 19 (times (raised a 2 ∷ b ∷ raised c 2 ∷ [])) (6 ∷ 6 ∷ []) 1 14
+    ∷ []
+
 -- "A try is one asking, at one node, whether any rule applies": the tries of small trees, of which the paper's examples say nothing
 pub record Count : Type 0 where
   pub given : Tree
@@ -206,12 +242,12 @@ unfoldable pub untried : Ran → Ran
 untried (done t s o n) = done t s o 0
 untried (over k) = over k
 
--- what the definitions give for a tree
-unfoldable pub computed : Tree → Example
-computed t =
+-- what the definitions give for a tree, by a list of rules
+unfoldable pub computed : List Rule → Tree → Example
+computed rs t =
     record {
       given = t;
-      answer = untried (simplify editionOne t);
+      answer = untried (simplify rs t);
       weight-in = weight t;
-      weight-out = outWeight (simplify editionOne t);
+      weight-out = outWeight (simplify rs t);
     }

@@ -1,10 +1,12 @@
--- "What is refused, and in which order": refusals 1 to 5 of a table, and 6 of the simplifier, in the paper's words, without the
--- functions that find them.
+-- "What is refused, and in which order": refusals 1 to 5 of a table, and 6 and 9 of the simplifier, in the papers' words, without
+-- the functions that find them.
 use Prim.Native.Nat.{ℕ, suc, _+_, _*_, _<_, _≤_}
 use mathlib.Core.Path.{_≡_}
+use mathlib.Core.Bool.{cond}
 use mathlib.Core.List.{List}
 use mathlib.Core.Logic.{_⊎_}
 use lib.ListN.{length, getD}
+use lib.Dec.{eqb}
 use lib.IntN.{pos}
 use lib.Signed.{_≤ℤ_}
 use Rattle.paper.specs.Limits.{maxWeight, maxBytes, workBytes}
@@ -76,12 +78,17 @@ pub data Under (w : ℕ) (l : Lent) : Type 0 where
   steps-under : length (l .steps) < w → Under w l
   work-under : length (l .work) < workBytes → Under w l
 
--- the same table of refusals with 6, for the simplifier, which is lent areas besides
-pub data AppliesToCall (s : List ℕ) (l : Lent) : ℕ → ℕ → Type 0 where
-  of-table : {k p : ℕ} → Applies s k p → AppliesToCall s l k p
-  refusal-6 : Under (tableWeight s) l → AppliesToCall s l 6 0
+-- the same table of refusals with 6, for the simplifier, which is lent areas besides, and with 9, "an unknown edition"
+pub data AppliesToCall (ed : ℕ) (s : List ℕ) (l : Lent) : ℕ → ℕ → Type 0 where
+  of-table : {k p : ℕ} → Applies s k p → AppliesToCall ed s l k p
+  refusal-6 : Under (tableWeight s) l → AppliesToCall ed s l 6 0
+  refusal-9 : ¬ (ed ≡ 1) → ¬ (ed ≡ 2) → AppliesToCall ed s l 9 0
 
--- "The lowest number wins": of the refusals that apply, k at p is the one with the lowest number
+-- the order of the refusals: "The lowest number wins", but 9 comes "before 8 and 1"
+unfoldable pub rank : ℕ → ℕ
+rank k = cond (eqb k 9) 0 (cond (eqb k 8) 1 (k + 1))
+
+-- of the refusals that apply, k at p is the first in that order
 pub record Lowest (Apply : ℕ → ℕ → Type 0) (k p : ℕ) : Type 0 where
   pub given : Apply k p
-  pub lowest : (j q : ℕ) → j < k → ¬ Apply j q
+  pub lowest : (j q : ℕ) → rank j < rank k → ¬ Apply j q

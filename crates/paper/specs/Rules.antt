@@ -1,10 +1,10 @@
--- "The rules, each tried on one node": steps 1, 2, 3, 4 and 6.
-use Prim.Native.Nat.{ℕ, zero, suc, _+_, _^_}
-use mathlib.Core.Bool.{Bool, true, false, _&&_, _||_}
+-- "The rules, each tried on one node": steps 1, 2, 3, 4 and 6 of edition one, and with them 7, 8 and 9 of edition two.
+use Prim.Native.Nat.{ℕ, zero, suc, _+_, _*_, _^_}
+use mathlib.Core.Bool.{Bool, true, false, cond, _&&_, _||_}
 use mathlib.Core.List.{List, [], _∷_, _++_, map}
 use mathlib.Core.Option.{Option, none, some}
 use lib.ListN.{length}
-use lib.IntN.{ℤ, pos, negsuc, _+ℤ_, _*ℤ_}
+use lib.IntN.{ℤ, pos, _+ℤ_, _*ℤ_}
 use lib.Signed.{mag}
 use lib.Dec.{eqb, ltb}
 use Rattle.paper.specs.Tree.{Tree, Forest, integer, symbol, sum, product, power, toList, ofList}
@@ -265,3 +265,43 @@ editionOne =
     ∷ record { number = 4; try = multiplyOne }
     ∷ record { number = 6; try = combineLikeFactors }
     ∷ []
+
+-- ---- edition two: "adds at a power, in this order": a rule on a power
+unfoldable pub onPowerParts : (Tree → ℕ → Tried) → Tree → Tried
+onPowerParts k (integer μ z) = does-not-apply
+onPowerParts k (symbol μ s) = does-not-apply
+onPowerParts k (sum μ f) = does-not-apply
+onPowerParts k (product μ f) = does-not-apply
+onPowerParts k (power μ b ξ e) = k b e
+
+-- step 7: "exponent 1 gives the base"
+unfoldable pub powerOne : Tree → Tried
+powerOne = onPowerParts (λ b e. appliesIf (eqb e 1) b)
+
+-- step 8: "base 0 gives 0 and base 1 gives 1": the integers, not trees that would become them
+unfoldable pub powerConstant : Tree → Tried
+powerConstant = onPowerParts (λ b e. appliesIf (isThe (pos 0) b || isThe (pos 1) b) b)
+
+-- step 9: "a power of a power gets the product of the exponents", which must be in range
+unfoldable pub raisedIf : Bool → Tree → ℕ → Tried
+raisedIf true b e = applies (power 0 b 0 e)
+raisedIf false b e = range-exceeded
+
+unfoldable pub powerPower : Tree → Tried
+powerPower = onPowerParts (λ b f. onPowerParts (λ c e. raisedIf (ltb (e * f) (2 ^ 63)) c (e * f)) b)
+
+-- edition one's rules, which are on no power, and these three
+unfoldable pub editionTwo : List Rule
+editionTwo =
+    editionOne
+    ++ (record { number = 7; try = powerOne }
+    ∷ record { number = 8; try = powerConstant }
+    ∷ record { number = 9; try = powerPower }
+    ∷ [])
+
+-- ---- "chosen by the caller": the editions that there are, and the rules of one (no rule of an unknown edition is ever tried)
+unfoldable pub isEdition : ℕ → Bool
+isEdition ed = eqb ed 1 || eqb ed 2
+
+unfoldable pub rulesOf : ℕ → List Rule
+rulesOf ed = cond (eqb ed 2) editionTwo editionOne

@@ -37,8 +37,8 @@ pub record Slices : Type 0 where
       → TellsIn measureBytes (valued s regs .number) (measuredNumbers (valued s regs)) (valueReturns s regs) (valueAnswers s regs)
   pub equal : (s t : List ℕ)
       → TellsIn equalBytes (compared s t .number) (comparedNumbers (compared s t)) (equalReturns s t) (equalAnswers s t)
-  pub simplify : (s : List ℕ) (l : Lent)
-      → TellsIn simplifyBytes (simplified s l .answer .number) (answerNumbers (simplified s l .answer)) (simplifyReturns s l) (simplifyAnswers s l)
+  pub simplify : (ed : ℕ) (s : List ℕ) (l : Lent)
+      → TellsIn simplifyBytes (simplified ed s l .answer .number) (answerNumbers (simplified ed s l .answer)) (simplifyReturns ed s l) (simplifyAnswers ed s l)
   -- and the three areas
-  pub areas : (s : List ℕ) (l : Lent) (slice : List ℕ)
-      → (length slice < simplifyBytes → simplifyLeaves s l slice ≡ l) × (simplifyBytes ≤ length slice → simplifyLeaves s l slice ≡ simplified s l .lent)
+  pub areas : (ed : ℕ) (s : List ℕ) (l : Lent) (slice : List ℕ)
+      → (length slice < simplifyBytes → simplifyLeaves ed s l slice ≡ l) × (simplifyBytes ≤ length slice → simplifyLeaves ed s l slice ≡ simplified ed s l .lent)

@@ -1,5 +1,5 @@
 -- "Four worthless simplifiers must be turned away", and invented steps and openings too, one that never enters a member, and one that
--- hides a try. Each is refuted at the field that the paper names for it (proofs/WorthlessLaws).
+-- hides a try. Each is refuted at the field that the paper names for it (proofs/WorthlessLaws), in each edition ed.
 use Prim.Native.Nat.{ℕ, zero, suc, _+_, _-_, _≤_}
 use mathlib.Core.Path.{_≡_}
 use mathlib.Core.Logic.{_⊎_}
@@ -8,29 +8,29 @@ use lib.IntN.{pos}
 use Rattle.paper.specs.Bytes.{Bytes}
 use Rattle.paper.specs.Tree.{Tree, integer, weight}
 use Rattle.paper.specs.Verdict.{Verdict}
-use Rattle.paper.specs.Rules.{Rule, editionOne}
+use Rattle.paper.specs.Rules.{Rule, rulesOf}
 use Rattle.paper.specs.Driver.{Ran, done, over, Rans, dones, overs, ask, step, out-of-range, no-rule, after, tried, each, members, gather}
 use Rattle.paper.specs.Driver.{simplify}
 use Rattle.paper.specs.Answers.{Lent, refusedBy, refusal, simplifiedBy}
 use Rattle.paper.specs.Demands.{Simplifier}
 
--- one that refuses everything: each call, with one of the refusals 1 to 6, whatever it says, or with 7 at some place
+-- one that refuses everything: each call, with a refusal other than 7, whatever it says, or with 7 at some place
 abbrev pub RefusesEverything : Simplifier → Type 0
 RefusesEverything f =
     (s : List ℕ) → Bytes s → (l : Lent)
-    → ((v : Verdict) × (1 ≤ v .number) × (v .number ≤ 6) × (f s l .answer ≡ refusedBy v)) ⊎ ((p : ℕ) × (f s l .answer ≡ refusal 7 p))
+    → ((v : Verdict) × (1 ≤ v .number) × (¬ (v .number ≡ 7)) × (f s l .answer ≡ refusedBy v)) ⊎ ((p : ℕ) × (f s l .answer ≡ refusal 7 p))
 
 -- the plainest of these: always k, at place 0
 unfoldable pub refusesAll : ℕ → Simplifier
 refusesAll k s l = record { answer = refusal k 0; lent = l }
 
 -- one that returns 0 for all
-unfoldable pub returnsZero : Simplifier
-returnsZero = simplifiedBy (λ t. done (integer 0 (pos 0)) [] 0 0)
+unfoldable pub returnsZero : ℕ → Simplifier
+returnsZero ed = simplifiedBy ed (λ t. done (integer 0 (pos 0)) [] 0 0)
 
 -- one that returns its input
-unfoldable pub returnsInput : Simplifier
-returnsInput = simplifiedBy (λ t. done t [] 0 0)
+unfoldable pub returnsInput : ℕ → Simplifier
+returnsInput ed = simplifiedBy ed (λ t. done t [] 0 0)
 
 -- one that makes a first pass and then stops: it never begins again
 unfoldable pub gatheredOnce : Tree → Rans → Ran
@@ -46,8 +46,8 @@ firstPass rs (suc n) t =
       | no-rule ↦ gatheredOnce t (each (λ u. firstPass rs n u) (members t))
     ]
 
-unfoldable pub passesOnce : Simplifier
-passesOnce = simplifiedBy (λ t. firstPass editionOne (weight t) t)
+unfoldable pub passesOnce : ℕ → Simplifier
+passesOnce ed = simplifiedBy ed (λ t. firstPass (rulesOf ed) (weight t) t)
 
 -- one that never enters a member: it tries the rules at the root alone, as often as one applies
 unfoldable pub rootOnly : List Rule → ℕ → Tree → Ran
@@ -60,8 +60,8 @@ rootOnly rs (suc n) t =
       | no-rule ↦ done t [] 0 0
     ])
 
-unfoldable pub staysAtRoot : Simplifier
-staysAtRoot = simplifiedBy (λ t. rootOnly editionOne (weight t) t)
+unfoldable pub staysAtRoot : ℕ → Simplifier
+staysAtRoot ed = simplifiedBy ed (λ t. rootOnly (rulesOf ed) (weight t) t)
 
 -- invented steps, invented openings
 unfoldable pub oneStepMore : Ran → Ran
@@ -72,16 +72,16 @@ unfoldable pub oneOpeningMore : Ran → Ran
 oneOpeningMore (done u ks o n) = done u ks (suc o) n
 oneOpeningMore (over k) = over k
 
-unfoldable pub inventsSteps : Simplifier
-inventsSteps = simplifiedBy (λ t. oneStepMore (simplify editionOne t))
+unfoldable pub inventsSteps : ℕ → Simplifier
+inventsSteps ed = simplifiedBy ed (λ t. oneStepMore (simplify (rulesOf ed) t))
 
-unfoldable pub inventsOpenings : Simplifier
-inventsOpenings = simplifiedBy (λ t. oneOpeningMore (simplify editionOne t))
+unfoldable pub inventsOpenings : ℕ → Simplifier
+inventsOpenings ed = simplifiedBy ed (λ t. oneOpeningMore (simplify (rulesOf ed) t))
 
 -- and one that hides a try
 unfoldable pub oneTryLess : Ran → Ran
 oneTryLess (done u ks o n) = done u ks o (n - 1)
 oneTryLess (over k) = over k
 
-unfoldable pub hidesTries : Simplifier
-hidesTries = simplifiedBy (λ t. oneTryLess (simplify editionOne t))
+unfoldable pub hidesTries : ℕ → Simplifier
+hidesTries ed = simplifiedBy ed (λ t. oneTryLess (simplify (rulesOf ed) t))

@@ -11,45 +11,45 @@ use Rattle.paper.specs.Bytes.{Bytes}
 use Rattle.paper.specs.Tree.{Tree, integer, weight}
 use Rattle.paper.specs.Table.{encode, treeOf}
 use Rattle.paper.specs.Verdict.{accepted}
-use Rattle.paper.specs.Rules.{editionOne}
+use Rattle.paper.specs.Rules.{rulesOf}
 use Rattle.paper.specs.Driver.{done, no-rule, ask, simplify}
 use Rattle.paper.specs.Answers.{Lent, judgement}
 use Rattle.paper.specs.Demands.{Simplifier, result}
 use Rattle.paper.specs.Worthless.{firstPass}
 
--- f accepts each call that 1 to 6 let pass where the table's tree is t and P t u holds, and its result is the records of u
-abbrev pub Makes : (Tree → Tree → Type 0) → Simplifier → Type 0
-Makes P f =
-    (s : List ℕ) → Bytes s → (l : Lent) → judgement s l ≡ accepted → (t u : Tree) → treeOf s ≡ some t → P t u
+-- in the edition ed, f accepts each call that 1 to 6 and 9 let pass where the table's tree is t and P t u holds, and its result is the records of u
+abbrev pub Makes : ℕ → (Tree → Tree → Type 0) → Simplifier → Type 0
+Makes ed P f =
+    (s : List ℕ) → Bytes s → (l : Lent) → judgement ed s l ≡ accepted → (t u : Tree) → treeOf s ≡ some t → P t u
     → (f s l .answer .number ≡ 0) × (result (f s l) ≡ encode u)
 
 -- "One that returns 0 for all"
-abbrev pub ReturnsZero : Simplifier → Type 0
-ReturnsZero = Makes (λ t u. u ≡ integer 0 (pos 0))
+abbrev pub ReturnsZero : ℕ → Simplifier → Type 0
+ReturnsZero ed = Makes ed (λ t u. u ≡ integer 0 (pos 0))
 
 -- "One that returns its input"
-abbrev pub ReturnsInput : Simplifier → Type 0
-ReturnsInput = Makes (λ t u. u ≡ t)
+abbrev pub ReturnsInput : ℕ → Simplifier → Type 0
+ReturnsInput ed = Makes ed (λ t u. u ≡ t)
 
 -- "One that makes a first pass and then stops"
-abbrev pub StopsAfterPass : Simplifier → Type 0
-StopsAfterPass = Makes (λ t u. (ks : List ℕ) × (o : ℕ) × (n : ℕ) × (firstPass editionOne (weight t) t ≡ done u ks o n))
+abbrev pub StopsAfterPass : ℕ → Simplifier → Type 0
+StopsAfterPass ed = Makes ed (λ t u. (ks : List ℕ) × (o : ℕ) × (n : ℕ) × (firstPass (rulesOf ed) (weight t) t ≡ done u ks o n))
 
 -- one that never enters a node's members: where no rule applies at the root, it returns its input
-abbrev pub NeverEnters : Simplifier → Type 0
-NeverEnters = Makes (λ t u. (ask editionOne t ≡ no-rule) × (u ≡ t))
+abbrev pub NeverEnters : ℕ → Simplifier → Type 0
+NeverEnters ed = Makes ed (λ t u. (ask (rulesOf ed) t ≡ no-rule) × (u ≡ t))
 
 -- "Invented steps or openings": on some accepted call it tells another number of steps, or of openings, than the driver has
-pub record Invents (f : Simplifier) (told : ℕ → ℕ → ℕ) : Type 0 where
+pub record Invents (ed : ℕ) (f : Simplifier) (told : ℕ → ℕ → ℕ) : Type 0 where
   pub table : List ℕ
   pub bytes : Bytes table
   pub areas : Lent
-  pub accepts : judgement table areas ≡ accepted
+  pub accepts : judgement ed table areas ≡ accepted
   pub tree : Tree
   pub read : treeOf table ≡ some tree
   pub end : Tree
   pub steps : List ℕ
   pub openings : ℕ
   pub tries : ℕ
-  pub ran : simplify editionOne tree ≡ done end steps openings tries
+  pub ran : simplify (rulesOf ed) tree ≡ done end steps openings tries
   pub other : ¬ (told (f table areas .answer .steps-taken) (f table areas .answer .openings) ≡ told (length steps) openings)

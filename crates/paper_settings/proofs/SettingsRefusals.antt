@@ -8,12 +8,12 @@ use mathlib.Core.List.{List, [], _∷_}
 use mathlib.Core.Option.{Option, none, some}
 use mathlib.Core.Logic.{_⊎_, inl, inr, _↔_}
 use native.Mathlib.Omega.{arith}
-use borrow.Author.Tests.{eq-eqb, eqb-true, eqb-false, ltb-true, not-true}
+use borrow.Author.Tests.{eq-eqb, eqb-true, eqb-false, ltb-true, not-true, ne-eqb}
 use lib.Dec.{eqb, ltb}
 use lib.ListN.{length, getD}
 use Rattle.paper.specs.Bytes.{le2}
 use Rattle.paper.specs.Verdict.{Verdict, refused, accepted}
-use Rattle.paper.specs.Refusals.{Lowest}
+use Rattle.paper.specs.Refusals.{rank, Lowest}
 use Rattle.paper_settings.specs.Settings.{version, keyIn, mayBe, strays, isMalformed, isFree, holds, Setting, settingOf, slotsOf, shown, known, used, anyNewer}
 use Rattle.paper_settings.specs.Settings.{allFree, inOrder, isDisordered, areaVerdict, Op, to-store, to-fetch, to-remove, only, fetchReply, replies}
 use Rattle.paper_settings.specs.Settings.{isFull, slotOf, put, takeOut, onSlots, called, fetched, fetchedOld, joined, FreeAt, KeyAt, Disorder, malformed, key-twice}
@@ -406,6 +406,11 @@ words-test newest op a k p (fetch-absent {k = j} h) = (ap not (words-absent a j 
 words-test newest op a k p (remove-absent {k = j} h) = (ap not (words-absent a j h), refl, omega arith, omega arith)
 words-test newest op a k p (full {k = j} h f) = (words-full a j h f, refl, omega arith, omega arith)
 
+-- from 10 on the order of the refusals is that of their numbers
+in-order-of-numbers : (k : ℕ) → 10 ≤ k → rank k ≡ k + 1
+unfolding rank
+in-order-of-numbers k h = rw (ne-eqb k 9 (λ e. omega arith), ne-eqb k 8 (λ e. omega arith))
+
 -- a number that they give is a refusal's exactly when the request says so, and 0 exactly when no refusal applies
 module _ (newest : ℕ) (op : Op) (a : List ℕ) (n : ℕ) (tested : Tested newest op a n) where
   exactly : (k : ℕ) → 0 < k → (n ≡ k) ↔ Lowest (Refuses newest a op) k 0
@@ -414,9 +419,11 @@ module _ (newest : ℕ) (op : Op) (a : List ℕ) (n : ℕ) (tested : Tested newe
       down : n ≡ k → Lowest (Refuses newest a op) k 0
       down h =
           let r = ladder-down (test newest op a) (λ j. 0) (λ j. sound) 4 10 k 0 sound l (sym tested ∙ ap (λ (m : ℕ). refused m 0) h) in
+          let z = words-test newest op a k 0 (test-words newest op a k (r .0)) in
           record {
             given = test-words newest op a k (r .0);
-            lowest = λ j q u x. let y = words-test newest op a j q x in true-not-false (y .0) (r .2 j (y .2) u);
+            lowest = λ j q u x. let y = words-test newest op a j q x in
+                true-not-false (y .0) (r .2 j (y .2) (omega (arith, in-order-of-numbers j (y .2), in-order-of-numbers k (z .2))));
           }
 
       up : Lowest (Refuses newest a op) k 0 → n ≡ k
@@ -425,7 +432,7 @@ module _ (newest : ℕ) (op : Op) (a : List ℕ) (n : ℕ) (tested : Tested newe
           ap (λ (v : Verdict). v .number)
           (tested
           ∙ ladder-up (test newest op a) (λ j. 0) (λ j. sound) 4 10 k (y .2) (y .3) (y .0)
-          (λ j u v. not-so (test newest op a j) (λ e. h .lowest j 0 v (test-words newest op a j e))))
+          (λ j u v. not-so (test newest op a j) (λ e. h .lowest j 0 (omega (arith, in-order-of-numbers j u, in-order-of-numbers k (y .2))) (test-words newest op a j e))))
 
   none-exactly : (n ≡ 0) ↔ ((k p : ℕ) → ¬ Refuses newest a op k p)
   none-exactly = (

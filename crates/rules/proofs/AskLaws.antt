@@ -1,22 +1,23 @@
 -- The rules, asked one after the other: as long as none applies, asking all of them is asking those that are left, and all is ready for
 -- the next; the first that applies, or leaves the range, gives the answer. The i-th that is asked is the rule of the i-th step of the
--- paper's order. To begin, only the rules for the tree's kind are left, for those before them do not apply to it; and when these are
--- done no rule applies, for those after them do not either: the paper gives each rule for sums alone, or for products alone. Assumes
--- nothing.
+-- paper's order, in both editions. To begin, only the rules for the tree's kind are left, for those before them do not apply to it; and
+-- when these are done no rule applies, for those after them do not either: the paper gives each rule for sums alone, for products alone or
+-- for powers alone. Assumes nothing.
 use Prim.Native.Nat.{ℕ, zero, suc, _+_, _*_, _<_, _≤_}
 use mathlib.Core.Path.{_≡_, refl, sym, ap, _∙_}
 use mathlib.Core.Bool.{Bool, true, false, cond}
 use mathlib.Core.List.{List, [], _∷_}
 use native.Mathlib.Omega.{arith}
-use borrow.Author.Tests.{ne-eqb}
+use borrow.Author.Tests.{eqb-true, ne-eqb}
 use lib.Dec.{eqb}
 use lib.ListN.{length, take, drop, getD}
 use Rattle.paper.specs.Tree.{Tree}
 use Rattle.paper.specs.Record.{kind}
 use Rattle.paper.specs.Rules as paper
-use Rattle.paper.specs.Rules.{editionOne, onSumMembers, onProductMembers}
-use Rattle.paper.specs.Rules.{addZero, combineLikeTerms, multiplyZero, multiplyOne, combineLikeFactors}
+use Rattle.paper.specs.Rules.{editionOne, editionTwo, rulesOf, onSumMembers, onProductMembers, onPowerParts}
+use Rattle.paper.specs.Rules.{addZero, combineLikeTerms, multiplyZero, multiplyOne, combineLikeFactors, powerOne, powerConstant, powerPower}
 use Rattle.paper.specs.Driver.{Asked, no-rule, step, out-of-range, ask}
+use Rattle.paper.proofs.Tests.{never}
 use Rattle.paper.proofs.Seen.{Seen, an-integer, a-symbol, a-sum, a-product, a-power}
 use Rattle.rules.specs.Alike.{numbered, ruleOf, firstFor, endFor}
 use Rattle.rules.specs.Asked.{Ready, AskedIs}
@@ -25,75 +26,137 @@ use Rattle.rules.specs.declared.Asked.the-variants.{Nothing, Step}
 use Rattle.rules.specs.declared.Tried.the-variants as tried
 use Rattle.rules.proofs.RuleLaws.{ready-seen, ready-again}
 
--- the i-th step of the paper's order, and its rule
+-- the i-th step of the paper's order, and its rule; how many rules an edition has
 abbrev pub stepAt : ℕ → ℕ
-stepAt i = getD (1 ∷ 2 ∷ 3 ∷ 4 ∷ 6 ∷ []) i 0
+stepAt i = getD (1 ∷ 2 ∷ 3 ∷ 4 ∷ 6 ∷ 7 ∷ 8 ∷ 9 ∷ []) i 0
 
-first-left : (i : ℕ) → i < 5 → drop i editionOne ≡ record { number = stepAt i; try = ruleOf (stepAt i) } ∷ drop (i + 1) editionOne
-unfolding editionOne ruleOf numbered
-first-left zero h = refl
-first-left (suc zero) h = refl
-first-left (suc (suc zero)) h = refl
-first-left (suc (suc (suc zero))) h = refl
-first-left (suc (suc (suc (suc zero)))) h = refl
-first-left (suc (suc (suc (suc (suc i))))) h = absurd (omega arith)
+abbrev manyOf : Bool → ℕ
+manyOf x = cond x 8 5
+
+abbrev pub rulesIn : ℕ → ℕ
+rulesIn ed = manyOf (eqb ed 2)
+
+pub rules-in : (ed : ℕ) → rulesIn ed ≤ 8
+rules-in ed = go (eqb ed 2)
+  where
+    go : (x : Bool) → manyOf x ≤ 8
+    go true = omega arith
+    go false = omega arith
+
+abbrev chosenBy : Bool → List paper.Rule
+chosenBy x = cond x editionTwo editionOne
+
+abbrev FirstLeft : Bool → ℕ → Type 0
+FirstLeft x i = drop i (chosenBy x) ≡ record { number = stepAt i; try = ruleOf (stepAt i) } ∷ drop (i + 1) (chosenBy x)
+
+first-of-one : (i : ℕ) → i < 5 → FirstLeft false i
+unfolding editionOne editionTwo ruleOf numbered
+first-of-one zero h = refl
+first-of-one (suc zero) h = refl
+first-of-one (suc (suc zero)) h = refl
+first-of-one (suc (suc (suc zero))) h = refl
+first-of-one (suc (suc (suc (suc zero)))) h = refl
+first-of-one (suc (suc (suc (suc (suc i))))) h = absurd (omega arith)
+
+first-of-two : (i : ℕ) → i < 8 → FirstLeft true i
+unfolding editionOne editionTwo ruleOf numbered
+first-of-two zero h = refl
+first-of-two (suc zero) h = refl
+first-of-two (suc (suc zero)) h = refl
+first-of-two (suc (suc (suc zero))) h = refl
+first-of-two (suc (suc (suc (suc zero)))) h = refl
+first-of-two (suc (suc (suc (suc (suc zero))))) h = refl
+first-of-two (suc (suc (suc (suc (suc (suc zero)))))) h = refl
+first-of-two (suc (suc (suc (suc (suc (suc (suc zero))))))) h = refl
+first-of-two (suc (suc (suc (suc (suc (suc (suc (suc i)))))))) h = absurd (omega arith)
+
+first-left : (ed i : ℕ) → i < rulesIn ed → drop i (rulesOf ed) ≡ record { number = stepAt i; try = ruleOf (stepAt i) } ∷ drop (i + 1) (rulesOf ed)
+unfolding rulesOf
+first-left ed i = go (eqb ed 2)
+  where
+    go : (x : Bool) → i < manyOf x → FirstLeft x i
+    go true h = first-of-two i h
+    go false h = first-of-one i h
 
 -- a step that none of the rules has
-pub no-rule-of : (k : ℕ) (t : Tree) → (k ≡ 1 → ⊥) → (k ≡ 2 → ⊥) → (k ≡ 3 → ⊥) → (k ≡ 4 → ⊥) → (k ≡ 6 → ⊥) → ruleOf k t ≡ paper.does-not-apply
-unfolding editionOne ruleOf numbered
-no-rule-of k t a b c d e = simp (ne-eqb k 1 a, ne-eqb k 2 b, ne-eqb k 3 c, ne-eqb k 4 d, ne-eqb k 6 e)
+pub no-rule-of : (k : ℕ) (t : Tree) → (k ≡ 1 → ⊥) → (k ≡ 2 → ⊥) → (k ≡ 3 → ⊥) → (k ≡ 4 → ⊥) → (k ≡ 6 → ⊥) → (k ≡ 7 → ⊥) → (k ≡ 8 → ⊥)
+    → (k ≡ 9 → ⊥) → ruleOf k t ≡ paper.does-not-apply
+unfolding editionOne editionTwo ruleOf numbered
+no-rule-of k t a b c d e f g h =
+    simp
+    (ne-eqb k 1 a, ne-eqb k 2 b, ne-eqb k 3 c, ne-eqb k 4 d, ne-eqb k 6 e, ne-eqb k 7 f, ne-eqb k 8 g, ne-eqb k 9 h)
 
 -- which rules can apply to a tree, by the kind of its record: none before the first for that kind, and none from their end on. By cases
 -- on the tree, where the rules compute
-only-its-own : {w : List ℕ} {p : ℕ} {t : Tree} → Seen w p t
-    → let k = kind w p in (ask editionOne t ≡ ask (drop (firstFor k) editionOne) t) × (ask (drop (endFor k) editionOne) t ≡ no-rule)
-unfolding ask editionOne addZero combineLikeTerms multiplyZero multiplyOne combineLikeFactors onSumMembers onProductMembers
-only-its-own (an-integer e b w) = rw e (refl, refl)
-only-its-own (a-symbol e v w) = rw e (refl, refl)
-only-its-own (a-sum e m c w s) = rw e (refl, refl)
-only-its-own (a-product e m c w s) = rw e (refl, refl)
-only-its-own (a-power e w b p q x y z) = rw e (refl, refl)
-
--- the first for a kind is not after their end, and that is not after the last of the five
-pub in-order : (k : ℕ) → (firstFor k ≤ endFor k) × (endFor k ≤ 5)
-in-order k = go (eqb k 2) (eqb k 3)
+only-its-own : (ed : ℕ) {w : List ℕ} {p : ℕ} {t : Tree} → Seen w p t
+    → let k = kind w p in
+    (ask (rulesOf ed) t ≡ ask (drop (firstFor k) (rulesOf ed)) t) × (ask (drop (endFor k ed) (rulesOf ed)) t ≡ no-rule)
+unfolding ask rulesOf editionOne editionTwo addZero combineLikeTerms multiplyZero multiplyOne combineLikeFactors powerOne powerConstant powerPower onSumMembers onProductMembers onPowerParts
+only-its-own ed {w} {p} {t} s = go (eqb ed 2) s
   where
-    go : (a b : Bool) → (cond b 2 0 ≤ cond a 2 (cond b 5 0)) × (cond a 2 (cond b 5 0) ≤ 5)
-    go true true = (omega arith, omega arith)
-    go true false = (omega arith, omega arith)
-    go false true = (omega arith, omega arith)
-    go false false = (omega arith, omega arith)
+    go : (x : Bool) {t : Tree} → Seen w p t
+        → let k = kind w p in
+        let rs = chosenBy x in
+        (ask rs t ≡ ask (drop (firstFor k) rs) t)
+        × (ask (drop (cond (eqb k 2) 2 (cond (eqb k 3) 5 (cond (eqb k 4) (cond x 8 5) 0))) rs) t ≡ no-rule)
+    go true (an-integer e b w) = rw e (refl, refl)
+    go true (a-symbol e v w) = rw e (refl, refl)
+    go true (a-sum e m c w s) = rw e (refl, refl)
+    go true (a-product e m c w s) = rw e (refl, refl)
+    go true (a-power e w b p q x y z) = rw e (refl, refl)
+    go false (an-integer e b w) = rw e (refl, refl)
+    go false (a-symbol e v w) = rw e (refl, refl)
+    go false (a-sum e m c w s) = rw e (refl, refl)
+    go false (a-product e m c w s) = rw e (refl, refl)
+    go false (a-power e w b p q x y z) = rw e (refl, refl)
+
+-- the first for a kind is not after their end, and that is not after the last of the edition's rules
+pub in-order : (k ed : ℕ) → (firstFor k ≤ endFor k ed) × (endFor k ed ≤ rulesIn ed)
+in-order k ed = go (eqb k 2) (eqb k 3) (eqb k 4) (rulesIn ed) (five (eqb ed 2)) (λ e. let two = eqb-true k 2 e in ne-eqb k 4 (λ f. omega arith))
+  where
+    five : (x : Bool) → 5 ≤ manyOf x
+    five true = omega arith
+    five false = omega arith
+
+    go : (a b c : Bool) (n : ℕ) → 5 ≤ n → (a ≡ true → c ≡ false)
+        → (cond b 2 (cond c 5 0) ≤ cond a 2 (cond b 5 (cond c n 0))) × (cond a 2 (cond b 5 (cond c n 0)) ≤ n)
+    go true true c n h o = (omega arith, omega arith)
+    go true false true n h o = never (sym (o refl))
+    go true false false n h o = (omega arith, omega arith)
+    go false true c n h o = (omega arith, omega arith)
+    go false false true n h o = (omega arith, omega arith)
+    go false false false n h o = (omega arith, omega arith)
 
 -- those from the i-th on are left to ask, and all is ready for them
-pub record Going (t : Tree) (rest o : List ℕ) (d p i : ℕ) (o' w' : List ℕ) : Type 0 where
-  pub same : ask editionOne t ≡ ask (drop i editionOne) t
+pub record Going (ed : ℕ) (t : Tree) (rest o : List ℕ) (d p i : ℕ) (o' w' : List ℕ) : Type 0 where
+  pub same : ask (rulesOf ed) t ≡ ask (drop i (rulesOf ed)) t
   pub ready : Ready o' w' d p t rest
   pub done : take (d * 16) o' ≡ take (d * 16) o
 
-pub begins : {t : Tree} {rest o w : List ℕ} {d p i : ℕ} → Ready o w d p t rest → i ≡ firstFor (kind w p) → Going t rest o d p i o w
-begins {t} h e =
-    record { same = only-its-own (ready-seen h) .0 ∙ ap (λ n. ask (drop n editionOne) t) (sym e); ready = h; done = refl }
+pub begins : {ed : ℕ} {t : Tree} {rest o w : List ℕ} {d p i : ℕ} → Ready o w d p t rest → i ≡ firstFor (kind w p) → Going ed t rest o d p i o w
+begins {ed} {t} h e =
+    record { same = only-its-own ed (ready-seen h) .0 ∙ ap (λ n. ask (drop n (rulesOf ed)) t) (sym e); ready = h; done = refl }
 
-pub ends : {t : Tree} {rest o w : List ℕ} {d p i : ℕ} {o₁ w₁ : List ℕ} → Ready o w d p t rest → i ≡ endFor (kind w p)
-    → Going t rest o d p i o₁ w₁ → AskedIs t rest o o₁ w₁ d p Nothing
-ends {t} h e g = (g .same ∙ ap (λ n. ask (drop n editionOne) t) e ∙ only-its-own (ready-seen h) .1, g .ready .stands, g .done)
+pub ends : {ed : ℕ} {t : Tree} {rest o w : List ℕ} {d p i : ℕ} {o₁ w₁ : List ℕ} → Ready o w d p t rest → i ≡ endFor (kind w p) ed
+    → Going ed t rest o d p i o₁ w₁ → AskedIs (rulesOf ed) t rest o o₁ w₁ d p Nothing
+ends {ed} {t} h e g = (g .same ∙ ap (λ n. ask (drop n (rulesOf ed)) t) e ∙ only-its-own ed (ready-seen h) .1, g .ready .stands, g .done)
 
 -- the i-th is asked
-module _ {t : Tree} {rest o : List ℕ} {d p i : ℕ} {o₁ w₁ : List ℕ} (g : Going t rest o d p i o₁ w₁) (l : i < 5) where
+module _ {ed : ℕ} {t : Tree} {rest o : List ℕ} {d p i : ℕ} {o₁ w₁ : List ℕ} (g : Going ed t rest o d p i o₁ w₁) (l : i < rulesIn ed) where
   abbrev chosen : paper.Tried → Asked
   chosen x =
-      elim x [ paper.does-not-apply ↦ ask (drop (i + 1) editionOne) t | paper.applies u ↦ step (stepAt i) u | paper.range-exceeded ↦ out-of-range ]
+      elim x [ paper.does-not-apply ↦ ask (drop (i + 1) (rulesOf ed)) t | paper.applies u ↦ step (stepAt i) u | paper.range-exceeded ↦ out-of-range ]
 
-  answered : (x : paper.Tried) → ruleOf (stepAt i) t ≡ x → ask editionOne t ≡ chosen x
+  answered : (x : paper.Tried) → ruleOf (stepAt i) t ≡ x → ask (rulesOf ed) t ≡ chosen x
   unfolding ask
-  answered x e = g .same ∙ ap (λ rs. ask rs t) (first-left i l) ∙ ap chosen e
+  answered x e = g .same ∙ ap (λ rs. ask rs t) (first-left ed i l) ∙ ap chosen e
 
-  pub leaves : ruleOf (stepAt i) t ≡ paper.range-exceeded → ask editionOne t ≡ out-of-range
+  pub leaves : ruleOf (stepAt i) t ≡ paper.range-exceeded → ask (rulesOf ed) t ≡ out-of-range
   leaves e = answered paper.range-exceeded e
 
   module _ (o₂ w₂ : List ℕ) where
     pub goes-on : length o₂ ≡ length o₁ → length w₂ ≡ length w₁ → Answers (ruleOf (stepAt i) t) rest o₁ o₂ w₁ w₂ d p tried.Idle
-        → Going t rest o d p (i + 1) o₂ w₂
+        → Going ed t rest o d p (i + 1) o₂ w₂
     goes-on a b x =
         record {
           same = answered paper.does-not-apply (x .0);
@@ -101,5 +164,5 @@ module _ {t : Tree} {rest o : List ℕ} {d p i : ℕ} {o₁ w₁ : List ℕ} (g 
           done = x .2 ∙ g .done;
         }
 
-    pub steps : (q : ℕ) → Answers (ruleOf (stepAt i) t) rest o₁ o₂ w₁ w₂ d p (tried.Applied q) → AskedIs t rest o o₂ w₂ d p (Step (stepAt i) q)
+    pub steps : (q : ℕ) → Answers (ruleOf (stepAt i) t) rest o₁ o₂ w₁ w₂ d p (tried.Applied q) → AskedIs (rulesOf ed) t rest o o₂ w₂ d p (Step (stepAt i) q)
     steps q x = (x .0, answered (paper.applies (x .0)) (x .1), x .2, x .3 ∙ g .done)

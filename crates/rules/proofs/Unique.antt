@@ -11,6 +11,7 @@ use denote.Triple.Clauses.{AtExit}
 use lib.ListN.{length, take, drop, length-append, length-drop}
 use Rattle.paper.specs.Tree.{Tree, records}
 use Rattle.paper.specs.Table.{encode}
+use Rattle.paper.specs.Rules.{Rule, rulesOf}
 use Rattle.paper.specs.Driver.{step}
 use Rattle.paper.proofs.EncodeLaws.{encode-length, records-pos}
 use Rattle.rules.specs.Asked.{Ready, AskedIs}
@@ -32,8 +33,8 @@ place w q u rest e =
     sym (length-drop (q * 16) w) ∙ ap length e ∙ length-append (encode u) rest in
     omega (arith, encode-length u, records-pos u)
 
-module _ (t : Tree) (rest s o o' w w' : List ℕ) (d p : ℕ) (long : length w ≡ length w') where
-  stepped : (k k' q q' : ℕ) → AskedIs t rest s o w d p (Step k q) → AskedIs t rest s o' w' d p (Step k' q')
+module _ (rs : List Rule) (t : Tree) (rest s o o' w w' : List ℕ) (d p : ℕ) (long : length w ≡ length w') where
+  stepped : (k k' q q' : ℕ) → AskedIs rs t rest s o w d p (Step k q) → AskedIs rs t rest s o' w' d p (Step k' q')
       → (Step k q ≡ Step k' q') × Left d p o o' w w' (Step k q)
   stepped k k' q q' h h' =
       let e : step k (h .0) ≡ step k' (h' .0) = sym (h .1) ∙ h' .1 in
@@ -47,7 +48,7 @@ module _ (t : Tree) (rest s o o' w w' : List ℕ) (d p : ℕ) (long : length w �
         (h .2 ∙ ap (λ u. encode u ++ rest) tree ∙ sym (h' .2) ∙ ap (λ n. drop (n * 16) w') (sym same), h .3 ∙ sym (h' .3)),
       )
 
-  answered-once : (r r' : Asked) → AskedIs t rest s o w d p r → AskedIs t rest s o' w' d p r' → (r ≡ r') × Left d p o o' w w' r
+  answered-once : (r r' : Asked) → AskedIs rs t rest s o w d p r → AskedIs rs t rest s o' w' d p r' → (r ≡ r') × Left d p o o' w w' r
   answered-once Nothing Nothing h h' = (refl, (h .1 ∙ sym (h' .1), h .2 ∙ sym (h' .2)))
   answered-once Nothing (Step k q) h h' = let a = h .0 in let b = h' .1 in absurd (let z : _≡_ {A = ℕ} 0 1 = cc in omega arith)
   answered-once Nothing Over h h' = let a = h .0 in absurd (let z : _≡_ {A = ℕ} 0 1 = cc in omega arith)
@@ -66,5 +67,5 @@ pub ask-once : (κs : Lfts 2) (a : Dens κs kinds.ps) (t : Tree) (rest : List �
     Ready (a .0 .now) (a .1 .0 .now) d p t rest → length work ≡ length work' → reads.Post κs a r x → reads.Post κs a r' x'
     → (r ≡ r') × Left d p (x .0 .now) (x' .0 .now) work work' r
 ask-once κs a t rest r r' x x' h l p p' =
-    answered-once t rest (a .0 .now) (x .0 .now) (x' .0 .now) (x .1 .0 .now) (x' .1 .0 .now) (a .1 .1 .0) (a .1 .1 .1 .0) l r r'
+    answered-once (rulesOf (a .1 .1 .1 .1 .0)) t rest (a .0 .now) (x .0 .now) (x' .0 .now) (x .1 .0 .now) (x' .1 .0 .now) (a .1 .1 .0) (a .1 .1 .1 .0) l r r'
     (p t rest h) (p' t rest h)

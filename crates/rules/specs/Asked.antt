@@ -6,7 +6,7 @@ use lib.ListN.{length, take, drop}
 use Rattle.paper.specs.Tree.{Tree, weight}
 use Rattle.paper.specs.WellFormed.{WF}
 use Rattle.paper.specs.Table.{encode}
-use Rattle.paper.specs.Rules.{editionOne}
+use Rattle.paper.specs.Rules.{Rule}
 use Rattle.paper.specs.Driver.{ask, no-rule, step, out-of-range}
 use Rattle.rules.specs.declared.Asked.{Asked}
 use Rattle.rules.specs.declared.Asked.the-variants.{Nothing, Step, Over}
@@ -21,11 +21,11 @@ pub record Ready (out work : List ℕ) (d p : ℕ) (t : Tree) (rest : List ℕ) 
   pub out-room : 16 * (d + weight t) ≤ length out
   pub work-room : 20 * weight t + length rest ≤ length work
 
--- what each answer says of t: `Nothing`, no rule applies and t is pending as it was; `Step k q`, the step k applies and its result is
+-- what each answer says of t, by the rules rs: `Nothing`, no rule applies and t is pending as it was; `Step k q`, the step k applies and its result is
 -- pending from record q on in place of t; `Over`, a rule "meets an integer outside the signed 64-bit range". What is done stays.
-abbrev pub AskedIs : (t : Tree) (rest out out' work' : List ℕ) (d p : ℕ) → Asked → Type 0
-AskedIs t rest out out' work' d p Nothing =
-    (ask editionOne t ≡ no-rule) × (drop (p * 16) work' ≡ encode t ++ rest) × (take (d * 16) out' ≡ take (d * 16) out)
-AskedIs t rest out out' work' d p (Step k q) =
-    (u : Tree) × (ask editionOne t ≡ step k u) × (drop (q * 16) work' ≡ encode u ++ rest) × (take (d * 16) out' ≡ take (d * 16) out)
-AskedIs t rest out out' work' d p Over = ask editionOne t ≡ out-of-range
+abbrev pub AskedIs : (rs : List Rule) (t : Tree) (rest out out' work' : List ℕ) (d p : ℕ) → Asked → Type 0
+AskedIs rs t rest out out' work' d p Nothing =
+    (ask rs t ≡ no-rule) × (drop (p * 16) work' ≡ encode t ++ rest) × (take (d * 16) out' ≡ take (d * 16) out)
+AskedIs rs t rest out out' work' d p (Step k q) =
+    (u : Tree) × (ask rs t ≡ step k u) × (drop (q * 16) work' ≡ encode u ++ rest) × (take (d * 16) out' ≡ take (d * 16) out)
+AskedIs rs t rest out out' work' d p Over = ask rs t ≡ out-of-range

@@ -3,6 +3,7 @@ ghost use mathlib.Core.Path.{_≡_};
 ghost use mathlib.Core.List.{List};
 ghost use Prim.Native.Nat.{ℕ};
 ghost use Rattle.paper.specs.Tree.{Tree};
+ghost use Rattle.paper.specs.Rules.{rulesOf};
 ghost use Rattle.rules.specs.Alike.{ruleOf, firstFor, endFor};
 ghost use Rattle.rules.specs.Asked.{Ready, AskedIs};
 ghost use Rattle.rules.specs.Tried.{Answers};
@@ -11,6 +12,7 @@ mod add;
 mod combine;
 mod members;
 mod multiply;
+mod power;
 
 // What the rules answer: none applies; the step that does, and the record that its result is pending from; the range is exceeded.
 pub enum Asked {
@@ -26,8 +28,8 @@ pub enum Tried {
     Over,
 }
 
-// The steps, in the paper's order: those for a sum, and after them those for a product.
-const STEPS: [u8; 5] = [1, 2, 3, 4, 6];
+// The steps, in the paper's order: those for a sum, after them those for a product, and those for a power, which edition two adds.
+const STEPS: [u8; 8] = [1, 2, 3, 4, 6, 7, 8, 9];
 
 // Tries the rule of one step on the node at record p of work. A number that no rule has never applies.
 fn try_step(out: &mut [u8], work: &mut [u8], d: usize, p: usize, step: u8) -> Tried
@@ -41,6 +43,9 @@ fn try_step(out: &mut [u8], work: &mut [u8], d: usize, p: usize, step: u8) -> Tr
         3 => multiply::multiply_zero(out, work, d, p),
         4 => multiply::multiply_one(out, work, d, p),
         6 => multiply::combine_like_factors(out, work, d, p),
+        7 => power::power_one(out, work, d, p),
+        8 => power::power_constant(out, work, d, p),
+        9 => power::power_power(out, work, d, p),
         _ => Tried::Idle,
     }
 }
@@ -49,12 +54,18 @@ fn try_step(out: &mut [u8], work: &mut [u8], d: usize, p: usize, step: u8) -> Tr
 fn first_for(kind: u8) -> usize
     ensures { λ r. ⌜ r ≡ firstFor kind ⌝ }
 {
-    if kind == 3 { 2 } else { 0 }
+    if kind == 3 {
+        return 2;
+    }
+    if kind == 4 {
+        return 5;
+    }
+    0
 }
 
-// Where in STEPS they end. For a tree that is neither a sum nor a product there are none.
-fn end_for(kind: u8) -> usize
-    ensures { λ r. ⌜ r ≡ endFor kind ⌝ }
+// Where in STEPS they end, in this edition. For a leaf there are none, and for a power there are some in edition two alone.
+fn end_for(kind: u8, edition: usize) -> usize
+    ensures { λ r. ⌜ r ≡ endFor kind edition ⌝ }
 {
     if kind == 2 {
         return 2;
@@ -62,19 +73,25 @@ fn end_for(kind: u8) -> usize
     if kind == 3 {
         return 5;
     }
+    if kind == 4 {
+        if edition == 2 {
+            return 8;
+        }
+        return 5;
+    }
     0
 }
 
-// Tries the rules, in the paper's order, on the node at record p of work; those for another kind of node are passed over, for none of
-// them applies. A rule builds its result in out, from record d on.
-pub fn ask(out: &mut [u8], work: &mut [u8], d: usize, p: usize) -> Asked
+// Tries the rules of the edition, in the paper's order, on the node at record p of work; those for another kind of node are passed over,
+// for none of them applies. A rule builds its result in out, from record d on.
+pub fn ask(out: &mut [u8], work: &mut [u8], d: usize, p: usize, edition: usize) -> Asked
     requires { ⌜ ((t : Tree) × (rest : List ℕ) × Ready (now out) (now work) d p t rest) ⌝ }
     ensures { λ r. ⌜ ((t : Tree) (rest : List ℕ) → Ready (now (out .entry)) (now (work .entry)) d p t rest
-        → AskedIs t rest (now (out .entry)) (now (out .exit)) (now (work .exit)) d p r) ⌝ }
+        → AskedIs (rulesOf edition) t rest (now (out .entry)) (now (out .exit)) (now (work .exit)) d p r) ⌝ }
 {
     let kind = record::kind(work, p);
     let mut i = first_for(kind);
-    let end = end_for(kind);
+    let end = end_for(kind, edition);
     while i < end {
         let step = STEPS[i];
         let tried = try_step(out, work, d, p, step);

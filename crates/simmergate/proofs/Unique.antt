@@ -39,10 +39,10 @@ pub record Left : Type 0 where
 
 abbrev pub left : (κs : Lfts 5) → AtExit (endedOf 5 simplify-kinds.ps simplify-kinds.r) κs → Left
 left κs x =
-    let out = x .1 .0 .now in
-    let steps = x .1 .1 .0 .now in
-    let work = x .1 .1 .1 .0 .now in
-    let answer = x .1 .1 .1 .1 .0 .now in
+    let out = x .1 .1 .0 .now in
+    let steps = x .1 .1 .1 .0 .now in
+    let work = x .1 .1 .1 .1 .0 .now in
+    let answer = x .1 .1 .1 .1 .1 .0 .now in
     record { slice = answer; areas = lent out steps work }
 
 pub simplify-once : OnceLeft 5 simplify-kinds.ps simplify-kinds.r simplify-reads.Pre simplify-reads.Post Left left

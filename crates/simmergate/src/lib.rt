@@ -118,25 +118,26 @@ pub extern "C" fn simmergate_equal(a: &[u8], b: &[u8], answer: &mut [u8]) -> u32
     c.number
 }
 
-// Simplifies a table in lent memory. The answer: number, place, records written, steps, openings, weight in, weight out, what is wrong
+// Simplifies a table in lent memory, by the rules of an edition. The answer: number, place, records written, steps, openings, weight in, weight out, what is wrong
 // with the record, which byte, tries.
 #[no_mangle]
 pub extern "C" fn simmergate_simplify(
+    edition: usize,
     table: &[u8],
     out: &mut [u8],
     steps: &mut [u8],
     work: &mut [u8],
     answer: &mut [u8],
 ) -> u32
-    ensures { λ r. ⌜ r ≡ simplifyReturns (now (table .entry)) (lent (now (out .entry)) (now (steps .entry)) (now (work .entry))) (now (answer .entry)) ⌝ }
-    ensures { λ _. ⌜ now (answer .exit) ≡ simplifyAnswers (now (table .entry)) (lent (now (out .entry)) (now (steps .entry)) (now (work .entry))) (now (answer .entry)) ⌝ }
+    ensures { λ r. ⌜ r ≡ simplifyReturns edition (now (table .entry)) (lent (now (out .entry)) (now (steps .entry)) (now (work .entry))) (now (answer .entry)) ⌝ }
+    ensures { λ _. ⌜ now (answer .exit) ≡ simplifyAnswers edition (now (table .entry)) (lent (now (out .entry)) (now (steps .entry)) (now (work .entry))) (now (answer .entry)) ⌝ }
     ensures { λ _. ⌜ lent (now (out .exit)) (now (steps .exit)) (now (work .exit))
-        ≡ simplifyLeaves (now (table .entry)) (lent (now (out .entry)) (now (steps .entry)) (now (work .entry))) (now (answer .entry)) ⌝ }
+        ≡ simplifyLeaves edition (now (table .entry)) (lent (now (out .entry)) (now (steps .entry)) (now (work .entry))) (now (answer .entry)) ⌝ }
 {
     if answer.len() < 80 {
         return 6;
     }
-    let a = simplify::simplify(table, out, steps, work);
+    let a = simplify::simplify(edition, table, out, steps, work);
     let flaw = a.flaw;
     let wrong = record::flaw_numbers(flaw);
     let numbers = [

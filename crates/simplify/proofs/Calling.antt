@@ -15,8 +15,10 @@ use Rattle.paper.specs.Bytes.{Bytes, stretch}
 use Rattle.paper.specs.Tree.{Tree, weight}
 use Rattle.paper.specs.Verdict.{accepted, told, isAccepted, tableWeight, verdict}
 use Rattle.paper.specs.Answers as paper
-use Rattle.paper.specs.Answers.{simplifiedBy, outcomeOf, judgement, answerOf, lentAfter, outAfter, stepsAfter, workAfter}
+use Rattle.paper.specs.Rules.{isEdition}
+use Rattle.paper.specs.Answers.{simplifiedBy, outcomeOf, judgedCall, judgement, answerOf, lentAfter, outAfter, stepsAfter, workAfter}
 use Rattle.paper.proofs.AcceptedLaws.{Holds, accepted-holds}
+use Rattle.paper.proofs.Editions.{unknown-edition}
 use Rattle.paper.proofs.CallLaws.{verdict-accepted, accepted-judgement, Call, is-turned-down, is-run, RunOn, call}
 use Rattle.record.specs.Flaw.{flawOf}
 use Rattle.table.specs.declared.Measured.{Measured}
@@ -55,6 +57,11 @@ same-given e f = cc
 same-lent : {a b c d e f : List ℕ} → a ≡ b → c ≡ d → e ≡ f → lent a c e ≡ lent b d f
 same-lent p q r = cc
 
+-- refusal 9
+pub unknown : (ed : ℕ) (s : List ℕ) (a : Answer) (out steps work : List ℕ) → isEdition ed ≡ false → says a ≡ paper.refusal 9 0
+    → gives a out steps work ≡ paper.simplified ed s (lent out steps work)
+unknown ed s a out steps work e q = same-given q refl ∙ sym (unknown-edition ed s (lent out steps work) e)
+
 module _ (s : List ℕ) (m : Measured) (e : table.says m ≡ paper.weighed s) where
   number-is : m .number ≡ verdict s .number
   unfolding paper.weighed paper.measured
@@ -65,12 +72,12 @@ module _ (s : List ℕ) (m : Measured) (e : table.says m ≡ paper.weighed s) wh
   verdict-is = ap (λ x. told (x .number) (x .place) (x .flaw)) e
 
   -- refusals 1 to 5
-  pub turned-down : (a : Answer) (out steps work : List ℕ) → 0 < m .number → says a ≡ paper.refusedBy (told (m .number) (m .place) (flawOf (m .flaw)))
-      → gives a out steps work ≡ paper.simplified s (lent out steps work)
-  unfolding paper.simplified simplifiedBy outcomeOf judgement answerOf lentAfter outAfter stepsAfter workAfter isAccepted
-  turned-down a out steps work h q =
+  pub turned-down : (ed : ℕ) → isEdition ed ≡ true → (a : Answer) (out steps work : List ℕ) → 0 < m .number → says a ≡ paper.refusedBy (told (m .number) (m .place) (flawOf (m .flaw)))
+      → gives a out steps work ≡ paper.simplified ed s (lent out steps work)
+  unfolding paper.simplified simplifiedBy outcomeOf judgement judgedCall answerOf lentAfter outAfter stepsAfter workAfter isAccepted
+  turned-down ed known a out steps work h q =
       let n : eqb (verdict s .number) 0 ≡ false = ne-eqb (verdict s .number) 0 (λ z. omega (arith, number-is)) in
-      rw (n, n) (same-given (q ∙ ap paper.refusedBy verdict-is) refl)
+      rw (known, n, n) (same-given (q ∙ ap paper.refusedBy verdict-is) refl)
 
   module _ (h : m .number ≤ 0) where
     pub fine : verdict s ≡ accepted
@@ -88,15 +95,16 @@ module _ (s : List ℕ) (m : Measured) (e : table.says m ≡ paper.weighed s) wh
     light b = omega (arith, weight-is, holds b .weighs, holds b .light)
 
     -- refusal 6
-    pub cramped : (a : Answer) (out steps work : List ℕ) → paper.cramped (m .result) (lent out steps work) ≡ true → says a ≡ paper.refusal 6 0
-        → gives a out steps work ≡ paper.simplified s (lent out steps work)
-    unfolding paper.simplified simplifiedBy outcomeOf judgement answerOf lentAfter outAfter stepsAfter workAfter isAccepted
-    cramped a out steps work c q =
+    pub cramped : (ed : ℕ) → isEdition ed ≡ true → (a : Answer) (out steps work : List ℕ) → paper.cramped (m .result) (lent out steps work) ≡ true → says a ≡ paper.refusal 6 0
+        → gives a out steps work ≡ paper.simplified ed s (lent out steps work)
+    unfolding paper.simplified simplifiedBy outcomeOf judgement judgedCall answerOf lentAfter outAfter stepsAfter workAfter isAccepted
+    cramped ed known a out steps work c q =
         let k : paper.cramped (tableWeight s) (lent out steps work) ≡ true = ap (λ i. paper.cramped i (lent out steps work)) (sym weight-is) ∙ c in
-        rw (fine, k) (same-given q refl)
+        rw (known, fine, k) (same-given q refl)
 
--- a call that is accepted: the table is fine, and the areas have room
-pub record Accepted (s : List ℕ) (m : Measured) (out steps work : List ℕ) : Type 0 where
+-- a call that is accepted: the edition is known, the table is fine, and the areas have room
+pub record Accepted (ed : ℕ) (s : List ℕ) (m : Measured) (out steps work : List ℕ) : Type 0 where
+  pub known : isEdition ed ≡ true
   pub says-so : table.says m ≡ paper.weighed s
   pub none-refused : m .number ≤ 0
   pub bytes : Bytes s
@@ -104,7 +112,7 @@ pub record Accepted (s : List ℕ) (m : Measured) (out steps work : List ℕ) : 
   pub steps-room : m .result ≤ length steps
   pub work-room : 65536 ≤ length work
 
-module _ {s : List ℕ} {m : Measured} {out steps work : List ℕ} (c : Accepted s m out steps work) where
+module _ {ed : ℕ} {s : List ℕ} {m : Measured} {out steps work : List ℕ} (c : Accepted ed s m out steps work) where
   weighs : m .result ≡ tableWeight s
   weighs = weight-is s m (c .says-so) (c .none-refused)
 
@@ -118,13 +126,13 @@ module _ {s : List ℕ} {m : Measured} {out steps work : List ℕ} (c : Accepted
         le-ltb (length work) 65536 (c .work-room),
       ) refl
 
-  pub on : RunOn drives s (lent out steps work)
-  on = go (call drives s (lent out steps work) (c .bytes))
+  pub on : RunOn ed (drives ed) s (lent out steps work)
+  on = go (call ed (drives ed) s (lent out steps work) (c .bytes))
     where
-      go : Call drives s (lent out steps work) → RunOn drives s (lent out steps work)
+      go : Call ed (drives ed) s (lent out steps work) → RunOn ed (drives ed) s (lent out steps work)
       go (is-run r) = r
       go (is-turned-down d) =
-          let j = accepted-judgement s (lent out steps work) (fine s m (c .says-so) (c .none-refused)) uncramped in
+          let j = accepted-judgement ed s (lent out steps work) (c .known) (fine s m (c .says-so) (c .none-refused)) uncramped in
           absurd (let z = ap (λ v. v .number) j in omega (arith, d .number))
 
   abbrev pub tree : Tree
@@ -152,17 +160,17 @@ module _ {s : List ℕ} {m : Measured} {out steps work : List ℕ} (c : Accepted
 
   -- the run's answer, and the areas with their stretches back
   pub ran : (a : Answer) (out' steps' work' : List ℕ)
-      → Leaves (drives tree) (m .result) a (take (16 * m .result - 0) (drop 0 out)) out' (take (m .result - 0) (drop 0 steps)) steps'
+      → Leaves (drives ed tree) (m .result) a (take (16 * m .result - 0) (drop 0 out)) out' (take (m .result - 0) (drop 0 steps)) steps'
       (take (65536 - 0) (drop 0 work)) work'
       → gives a (putMid 0 (16 * m .result - 0) out out') (putMid 0 (m .result - 0) steps steps') (putMid 0 (65536 - 0) work work')
-      ≡ paper.simplified s (lent out steps work)
+      ≡ paper.simplified ed s (lent out steps work)
   unfolding paper.simplified simplifiedBy lentAfter outAfter stepsAfter workAfter
   ran a out' steps' work' r =
       let w : m .result ≡ weight tree = weighs ∙ on .holds .weighs in
       same-given
-      (r .answer ∙ ap (λ i. paper.ranAnswer i (drives tree)) w ∙ sym (on .answer))
+      (r .answer ∙ ap (λ i. paper.ranAnswer i (drives ed tree)) w ∙ sym (on .answer))
       (same-lent
-      (lent-stretch (16 * m .result) out out' (paper.written (drives tree)) (c .out-room) (r .out-is))
-      (lent-stretch (m .result) steps steps' (paper.noted (drives tree)) (c .steps-room) (r .steps-is))
+      (lent-stretch (16 * m .result) out out' (paper.written (drives ed tree)) (c .out-room) (r .out-is))
+      (lent-stretch (m .result) steps steps' (paper.noted (drives ed tree)) (c .steps-room) (r .steps-is))
       (lent-stretch 65536 work work' [] (c .work-room) (r .work-is))
-      ∙ ap (λ i. paper.lentAfter (paper.ran i (drives tree)) (lent out steps work)) w ∙ sym (on .lent))
+      ∙ ap (λ i. paper.lentAfter (paper.ran i (drives ed tree)) (lent out steps work)) w ∙ sym (on .lent))

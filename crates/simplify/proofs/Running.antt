@@ -1,6 +1,6 @@
 -- A run in areas of its own: the table's tree stands at the end of `work`, the driver takes it from there, and clearing leaves the
 -- result, the steps, and zeros after them; after a refusal, zeros alone. Assumes nothing.
-use Prim.Native.Nat.{ℕ, _+_, _-_, _*_, _/_, _≤_}
+use Prim.Native.Nat.{ℕ, _+_, _-_, _*_, _/_, _<_, _≤_}
 use mathlib.Core.Path.{_≡_, refl, sym, ap, _∙_, subst}
 use mathlib.Core.List.{List, [], _++_, append-nil}
 use native.Mathlib.Omega.{arith}
@@ -76,14 +76,14 @@ module _ {table out steps work : List ℕ} {w : ℕ} {t : Tree} (h : Lending tab
       }
 
   -- the run was refused, k steps being completed
-  pub left-over : (a : Answer) (k : ℕ) (out' steps' work' : List ℕ) {out'' steps'' work'' : List ℕ}
-      → (b : ℕ) × (drives t ≡ over b) × (k ≡ 0 + b) → says a ≡ paper.refusal 7 k
+  pub left-over : (ed : ℕ) (a : Answer) (k : ℕ) (out' steps' work' : List ℕ) {out'' steps'' work'' : List ℕ}
+      → (b : ℕ) × (drives ed t ≡ over b) × (k ≡ 0 + b) → says a ≡ paper.refusal 7 k
       → out'' ≡ put out' 0 (replicate (length out') 0) → steps'' ≡ put steps' 0 (replicate (length steps') 0)
       → work'' ≡ put work' 0 (replicate (length work') 0)
       → length out' ≡ length out → length steps' ≡ length steps → length work' ≡ length work
-      → Leaves (drives t) w a out out'' steps steps'' work work''
+      → Leaves (drives ed t) w a out out'' steps steps'' work work''
   unfolding paper.ranAnswer paper.written paper.noted
-  left-over a k out' steps' work' b s o z x lo lz lw =
+  left-over ed a k out' steps' work' b s o z x lo lz lw =
       let b2 = b .2 in
       let kb : k ≡ b .0 = omega arith in
       record {
@@ -94,16 +94,16 @@ module _ {table out steps work : List ℕ} {w : ℕ} {t : Tree} (h : Lending tab
       }
 
   -- the run is done
-  module _ {out' steps' work' : List ℕ} {e q n o τ : ℕ} (a : Drove (drives t) [] out out' work' steps steps' 0 0 e q n o τ)
+  module _ (ed : ℕ) {out' steps' work' : List ℕ} {e q n o τ : ℕ} (a : Drove (drives ed t) [] out out' work' steps steps' 0 0 e q n o τ)
       (lo : length out' ≡ length out) (lz : length steps' ≡ length steps) (lw : length work' ≡ length work) where
     lighter : length (a .ks) + o + weight (a .to) ≤ weight t
-    lighter = run-lighter t (a .to) (a .ks) o τ (drives t) (drives-kept t (h .wf)) (a .ran) .1
+    lighter = run-lighter t (a .to) (a .ks) o τ (drives ed t) (drives-kept ed t (h .wf)) (a .ran) .1
 
-    pub done-fits : (e * 16 ≤ length out') × (n ≤ length steps')
+    pub done-fits : (e * 16 ≤ length out') × (n ≤ length steps') × (e < 65536)
     done-fits =
         let l = lighter in
         let r = records-weight (a .to) in
-        (omega (arith, a .end, h .out-room, h .weighs), omega (arith, a .noted-end, h .steps-room, h .weighs))
+        (omega (arith, a .end, h .out-room, h .weighs), omega (arith, a .noted-end, h .steps-room, h .weighs), omega (arith, a .end, h .light))
 
     out-cleared : put out' (e * 16) (replicate (length out' - e * 16) 0) ≡ filled (length out) (encode (a .to))
     out-cleared =
@@ -119,7 +119,7 @@ module _ {table out steps work : List ℕ} {w : ℕ} {t : Tree} (h : Lending tab
     pub left-done : (out'' steps'' work'' : List ℕ) (x : ℕ)
         → out'' ≡ put out' (e * 16) (replicate (length out' - e * 16) 0) → steps'' ≡ put steps' n (replicate (length steps' - n) 0)
         → work'' ≡ put work' 0 (replicate (length work') 0) → x ≡ weightFrom out'' 0 e
-        → Leaves (drives t) w
+        → Leaves (drives ed t) w
         (record { number = 0; place = 0; flaw = Sound; records = e; steps = n; openings = o; «weight_in» = w; «weight_out» = x; tries = τ })
         out out'' steps steps'' work work''
     unfolding paper.ranAnswer paper.written paper.noted

@@ -4,7 +4,7 @@ ghost use mathlib.Core.Path.{_≡_};
 ghost use mathlib.Core.List.{List};
 ghost use Prim.Native.Nat.{ℕ};
 ghost use Rattle.paper.specs.Tree.{Tree};
-ghost use Rattle.paper.specs.Rules.{editionOne};
+ghost use Rattle.paper.specs.Rules.{isEdition, rulesOf};
 ghost use Rattle.paper.specs.Driver.{simplify};
 ghost use Rattle.paper.specs.Verdict.{told};
 ghost use Rattle.paper.specs.Answers.{refusedBy, simplified};
@@ -42,17 +42,34 @@ fn refusal(number: u32, place: usize, flaw: Flaw) -> Answer
     }
 }
 
-// Runs the driver on the tree of the table, of weight w, in areas that are its own: the table is copied to the end of work, and
+// There is such an edition.
+fn is_edition(edition: usize) -> bool
+    ensures { λ r. ⌜ r ≡ isEdition edition ⌝ }
+{
+    if edition == 1 {
+        return true;
+    }
+    edition == 2
+}
+
+// Runs the driver, with the rules of the edition, on the tree of the table, of weight w, in areas that are its own: the table is copied to the end of work, and
 // what is past the result and the steps is cleared, all of it after a refusal.
-fn run(table: &[u8], out: &mut [u8], steps: &mut [u8], work: &mut [u8], w: usize) -> Answer
+fn run(
+    edition: usize,
+    table: &[u8],
+    out: &mut [u8],
+    steps: &mut [u8],
+    work: &mut [u8],
+    w: usize,
+) -> Answer
     requires { ⌜ ((t : Tree) × Lending (now table) (now out) (now steps) (now work) w t) ⌝ }
     ensures { λ r. ⌜ ((t : Tree) → Lending (now (table .entry)) (now (out .entry)) (now (steps .entry)) (now (work .entry)) w t
-        → Leaves (simplify editionOne t) w r (now (out .entry)) (now (out .exit)) (now (steps .entry)) (now (steps .exit))
+        → Leaves (simplify (rulesOf edition) t) w r (now (out .entry)) (now (out .exit)) (now (steps .entry)) (now (steps .exit))
         (now (work .entry)) (now (work .exit))) ⌝ }
 {
     let p = work.len() / 16 - table.len() / 16;
     stretch::copy_bytes(work, p * 16, table, 0, table.len());
-    let g = driver::drive(out, work, steps, 0, p, 0);
+    let g = driver::drive(out, work, steps, 0, p, 0, edition);
     stretch::clear(work, 0, work.len());
     match g {
         driver::Driven::Over(k) => {
@@ -78,12 +95,21 @@ fn run(table: &[u8], out: &mut [u8], steps: &mut [u8], work: &mut [u8], w: usize
     }
 }
 
-// The simplifier: refusals 1 to 5 of the table, 6 of the areas, and then the run, lent 16 bytes of `out` and one of `steps` for each
+// The simplifier: refusal 9 of the edition, 1 to 5 of the table, 6 of the areas, and then the run, lent 16 bytes of `out` and one of `steps` for each
 // unit of the weight, and 65,536 bytes of `work`.
-pub fn simplify(table: &[u8], out: &mut [u8], steps: &mut [u8], work: &mut [u8]) -> Answer
+pub fn simplify(
+    edition: usize,
+    table: &[u8],
+    out: &mut [u8],
+    steps: &mut [u8],
+    work: &mut [u8],
+) -> Answer
     ensures { λ r. ⌜ gives r (now (out .exit)) (now (steps .exit)) (now (work .exit))
-        ≡ simplified (now (table .entry)) (lent (now (out .entry)) (now (steps .entry)) (now (work .entry))) ⌝ }
+        ≡ simplified edition (now (table .entry)) (lent (now (out .entry)) (now (steps .entry)) (now (work .entry))) ⌝ }
 {
+    if !is_edition(edition) {
+        return refusal(9, 0, Flaw::Sound);
+    }
     let m = table::weight(table);
     let flaw = m.flaw;
     if 0 < m.number {
@@ -102,6 +128,7 @@ pub fn simplify(table: &[u8], out: &mut [u8], steps: &mut [u8], work: &mut [u8])
     }
     let end = 16 * w;
     run(
+        edition,
         table,
         &mut out[0..end],
         &mut steps[0..w],

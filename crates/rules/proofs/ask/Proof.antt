@@ -16,19 +16,19 @@ use Rattle.rules.specs.Tried.{Answers}
 use Rattle.rules.specs.declared.Tried.{Tried}
 use Rattle.paper.proofs.StandingLaws.{record-within}
 use Rattle.rules.proofs.RuleLaws.{ready-tree}
-use Rattle.rules.proofs.AskLaws.{stepAt, in-order, Going, begins, goes-on, steps, leaves, ends}
+use Rattle.rules.proofs.AskLaws.{stepAt, rulesIn, rules-in, in-order, Going, begins, goes-on, steps, leaves, ends}
 use Rattle.rules.proofs.ask.Statement.{statement}
 use Rattle.rules.proofs.ask.Tie as tie
 
 abbrev Inv-loop : tie.InvT-loop
-Inv-loop out₀ work₀ d p kind i₀ end out work i =
+Inv-loop out₀ work₀ d p edition kind i₀ end out work i =
     (i ≤ end)
     × (length out ≡ length out₀)
     × (length work ≡ length work₀)
-    × ((t : Tree) (rest : List ℕ) → Ready out₀ work₀ d p t rest → Going t rest out₀ d p i out work)
+    × ((t : Tree) (rest : List ℕ) → Ready out₀ work₀ d p t rest → Going edition t rest out₀ d p i out work)
 
 abbrev μ-loop : tie.MeasureT-loop
-μ-loop out₀ work₀ d p kind i₀ end out work i = end - i
+μ-loop out₀ work₀ d p edition kind i₀ end out work i = end - i
 
 -- places on the way through the code, and from each the one before it: the entry, where it is known which rules are tried, the loop's
 -- head, where a rule is left, where it was tried, and where its answer is asked for
@@ -70,25 +70,27 @@ Pending c t rest = let g = c .args in Ready (g .out .now) (g .work .now) (g .d) 
 first-of : (c : Chosen) → let g = chosen-from c .args in c .before .first-for .result ≡ firstFor (kind (g .work .now) (g .p))
 first-of c = c .before .first-for .ensures ∙ ap firstFor (c .before .before .kind .ensures)
 
-end-of : (c : Chosen) → let g = chosen-from c .args in c .end-for .result ≡ endFor (kind (g .work .now) (g .p))
-end-of c = c .end-for .ensures ∙ ap endFor (c .before .before .kind .ensures)
+end-of : (c : Chosen) → let g = chosen-from c .args in c .end-for .result ≡ endFor (kind (g .work .now) (g .p)) (g .edition)
+end-of c =
+    let g = chosen-from c .args in
+    c .end-for .ensures ∙ ap (λ k. endFor k (g .edition)) (c .before .before .kind .ensures)
 
--- the first of them is not after their end, and that is not after the last of the five
-ordered : (c : Chosen) → (c .before .first-for .result ≤ c .end-for .result) × (c .end-for .result ≤ 5)
+-- the first of them is not after their end, and that is not after the last of the edition's
+ordered : (c : Chosen) → (c .before .first-for .result ≤ c .end-for .result) × (c .end-for .result ≤ rulesIn (chosen-from c .args .edition))
 ordered c =
     let g = chosen-from c .args in
-    let o = in-order (kind (g .work .now) (g .p)) in
+    let o = in-order (kind (g .work .now) (g .p)) (g .edition) in
     (omega (arith, o .0, first-of c, end-of c), omega (arith, o .1, end-of c))
 
--- the i-th is one of the five
-within : (c : Left) → c .before .loop .i < 5
+-- the i-th is one of the edition's
+within : (c : Left) → c .before .loop .i < rulesIn (entry-of (c .before) .args .edition)
 within c = omega (arith, c .loop-test .taken, ordered (c .before .before) .1)
 
 -- those from the i-th on are left
 going : (c : Head) {t : Tree} {rest : List ℕ} → Pending (entry-of c) t rest
     → let g = entry-of c .args in
     let u = c .loop in
-    Going t rest (g .out .now) (g .d) (g .p) (u .i) (u .out) (u .work)
+    Going (g .edition) t rest (g .out .now) (g .d) (g .p) (u .i) (u .out) (u .work)
 going c h = c .loop .inv .3 _ _ h
 
 -- what the answer x of the i-th says
@@ -125,7 +127,7 @@ loop-holds : tie.Need-loop-holds Inv-loop μ-loop
 loop-holds c = (ordered c .0, refl, refl, λ t rest h. begins h (first-of c))
 
 array-read-step : tie.Need-array-read-step Inv-loop μ-loop
-array-read-step c = within c
+array-read-step c = omega (arith, within c, rules-in (entry-of (c .before) .args .edition))
 
 try-step-requires : tie.Need-try-step-requires Inv-loop μ-loop
 try-step-requires c κs =

@@ -1,13 +1,16 @@
--- `rules::first_for` meets its contract: each return is one case of the definition, by the test before it. Assumes nothing.
+-- `rules::first_for` meets its contract: each return is one case of the definition, by the tests before it. Assumes nothing.
 use borrow.Author.Tests.{eq-eqb, ne-eqb}
 use Rattle.rules.proofs.first_for.Statement.{statement}
 use Rattle.rules.proofs.first_for.Tie as tie
 
 returns : tie.Need-returns
-returns c = rw (eq-eqb (c .before .args .kind) 3 (c .if1 .taken))
+returns c = simp (eq-eqb _ _ (c .if1 .taken))
 
 returns-2 : tie.Need-returns-2
-returns-2 c = rw (ne-eqb (c .before .args .kind) 3 (c .if1 .left))
+returns-2 c = simp (ne-eqb _ _ (c .before .if1 .left), eq-eqb _ _ (c .if2 .taken))
+
+returns-3 : tie.Need-returns-3
+returns-3 c = simp (ne-eqb _ _ (c .before .if1 .left), ne-eqb _ _ (c .if2 .left))
 
 pub first-for-spec : {M : Type 1} → statement M
-first-for-spec = tie.close (tie.spec returns returns-2)
+first-for-spec = tie.close (tie.spec returns returns-2 returns-3)

@@ -1,6 +1,6 @@
 -- `simplify::run` meets its contract: each need is one law of Running, for the tree that the table holds. That places fit where the run
 -- is done follows from `done-bounds`. Assumes nothing.
-use Prim.Native.Nat.{_-_, _*_, _/_, _≤_}
+use Prim.Native.Nat.{_-_, _*_, _/_, _<_, _≤_}
 use mathlib.Core.Path.{_≡_, _∙_, subst}
 use mathlib.Core.List.{[]}
 use native.Mathlib.Omega.{arith}
@@ -75,14 +75,14 @@ result : (c : Driven) (x : Answer)
     let entry = entry-of (moved-of (copied-of called)) in
     let g = entry .args in
     let r = called .drive in
-    r .result ≡ x → DrivenIs (drives (entry .pre .0)) [] (g .out .now) (r .last .0) (r .last .1 .0) (g .steps .now) (r .last .1 .1 .0) 0 0 x
+    r .result ≡ x → DrivenIs (drives (entry .args .edition) (entry .pre .0)) [] (g .out .now) (r .last .0) (r .last .1 .0) (g .steps .now) (r .last .1 .1 .0) 0 0 x
 result c x e =
     let called = called-of c in
     let copied = copied-of called in
     let entry = entry-of (moved-of copied) in
     let g = entry .args in
     let r = called .drive in
-    subst (DrivenIs (drives (entry .pre .0)) [] (g .out .now) (r .last .0) (r .last .1 .0) (g .steps .now) (r .last .1 .1 .0) 0 0) e
+    subst (DrivenIs (drives (entry .args .edition) (entry .pre .0)) [] (g .out .now) (r .last .0) (r .last .1 .0) (g .steps .now) (r .last .1 .1 .0) 0 0) e
     (r .ensures (entry .pre .0) [] (set copied))
 
 drove : (c : Finished)
@@ -91,20 +91,20 @@ drove : (c : Finished)
     let g = entry .args in
     let r = called .drive in
     let n = c .before .g2 .given .0 in
-    Drove (drives (entry .pre .0)) [] (g .out .now) (r .last .0) (r .last .1 .0) (g .steps .now) (r .last .1 .1 .0) 0 0
+    Drove (drives (entry .args .edition) (entry .pre .0)) [] (g .out .now) (r .last .0) (r .last .1 .0) (g .steps .now) (r .last .1 .1 .0) 0 0
     (n .0) (n .1 .0) (n .1 .1 .0) (n .1 .1 .1 .0) (n .1 .1 .1 .1 .0)
 drove c = result (driven-of (cleared-of c)) _ (c .before .g2 .given .1)
 
--- the result and its steps end within the areas
+-- the result and its steps end within the areas, and the result has few records
 done-bounds : (c : Finished)
     → let r = called-of (driven-of (cleared-of c)) .drive in
     let n = c .before .g2 .given .0 in
-    (n .0 * 16 ≤ length (r .last .0)) × (n .1 .1 .0 ≤ length (r .last .1 .1 .0))
+    (n .0 * 16 ≤ length (r .last .0)) × (n .1 .1 .0 ≤ length (r .last .1 .1 .0)) × (n .0 < 65536)
 done-bounds c =
     let called = called-of (driven-of (cleared-of c)) in
     let moved = moved-of (copied-of called) in
     let k = called .drive .kept in
-    done-fits (entry-of moved .pre .1) (drove c) (k .0) (k .1 .1 .0) (k .1 .0 ∙ moved .copy-bytes .kept .0)
+    done-fits (entry-of moved .pre .1) (entry-of moved .args .edition) (drove c) (k .0) (k .1 .1 .0) (k .1 .0 ∙ moved .copy-bytes .kept .0)
 
 sub-p : tie.Need-sub-p
 sub-p c =
@@ -197,8 +197,8 @@ returns c =
     let steps = c .before .before .before .clear3 in
     let work = cleared .clear in
     for-every (entry .pre .1)
-    (λ u. Leaves (drives u) (g .w) (c .refusal .result) (g .out .now) (out .last .0) (g .steps .now) (steps .last .0) (g .work .now) (work .last .0))
-    (left-over (entry .pre .1) (c .refusal .result) (told .0 .0) (r .last .0) (r .last .1 .1 .0) (r .last .1 .0)
+    (λ u. Leaves (drives (entry .args .edition) u) (g .w) (c .refusal .result) (g .out .now) (out .last .0) (g .steps .now) (steps .last .0) (g .work .now) (work .last .0))
+    (left-over (entry .pre .1) (entry .args .edition) (c .refusal .result) (told .0 .0) (r .last .0) (r .last .1 .1 .0) (r .last .1 .0)
     (result driven (driven-as.Over (told .0 .0)) (told .1))
     (c .refusal .ensures) (out .ensures) (steps .ensures) (work .ensures) (r .kept .0) (r .kept .1 .1 .0) long)
 
@@ -227,7 +227,7 @@ returns-2 c =
     let work = cleared .clear in
     let x = c .weight-of .result in
     for-every (entry .pre .1)
-    (λ u. Leaves (drives u) (g .w)
+    (λ u. Leaves (drives (entry .args .edition) u) (g .w)
     (record {
       number = 0;
       place = 0;
@@ -240,7 +240,7 @@ returns-2 c =
       tries = n .1 .1 .1 .1 .0;
     })
     (g .out .now) (out .last .0) (g .steps .now) (steps .last .0) (g .work .now) (work .last .0))
-    (left-done (entry .pre .1) (drove finished) (r .kept .0) (r .kept .1 .1 .0) long (out .last .0) (steps .last .0) (work .last .0) x
+    (left-done (entry .pre .1) (entry .args .edition) (drove finished) (r .kept .0) (r .kept .1 .1 .0) long (out .last .0) (steps .last .0) (work .last .0) x
     (out .ensures) (steps .ensures) (work .ensures) (c .weight-of .ensures))
 
 pub run-spec : {M : Type 1} → statement M

@@ -1,41 +1,51 @@
 -- `simplify::simplify` meets its contract: each return is one law of Calling, on the checker's answer and the tests of the areas.
 -- Assumes nothing.
+use mathlib.Core.Path.{_≡_, sym, _∙_}
+use mathlib.Core.Bool.{true}
 use native.Mathlib.Omega.{arith}
+use borrow.Author.Tests.{not-true, not-false}
 use borrow.Author.Needs.{needs}
 use Rattle.paper.specs.Bytes.{Bytes}
+use Rattle.paper.specs.Rules.{isEdition}
 use Rattle.paper.proofs.BytesLaws.{are-bytes}
-use Rattle.simplify.proofs.Calling.{Accepted, turned-down, light, cramped, tight-out, tight-steps, tight-work, tree, lending, ran}
+use Rattle.simplify.proofs.Calling.{Accepted, unknown, turned-down, light, cramped, tight-out, tight-steps, tight-work, tree, lending, ran}
 use Rattle.simplify.proofs.simplify.Statement.{statement}
 use Rattle.simplify.proofs.simplify.Tie as tie
 
--- places on the way through the code, and from each the one before it: the entry, after the table was weighed, where it is accepted, and
--- where `out`, `steps` and `work` have room
+-- places on the way through the code, and from each the one before it: the entry, after the edition was asked for, after the table was
+-- weighed, where it is accepted, and where `out`, `steps` and `work` have room
 abbrev Entry : Type 0
 Entry = tie.Start
 
 abbrev Known : Type 0
 Known = tie.After-shared-slice-known
 
+abbrev Asked : Type 0
+Asked = tie.After-is-edition
+
 abbrev Weighed : Type 0
 Weighed = tie.After-weight
 
 abbrev Fine : Type 0
-Fine = tie.Else1
+Fine = tie.Else2
 
 abbrev Roomy : Type 0
-Roomy = tie.Else2
+Roomy = tie.Else3
 
 abbrev Spacious : Type 0
-Spacious = tie.Else3
+Spacious = tie.Else4
 
 abbrev Able : Type 0
-Able = tie.Else4
+Able = tie.Else5
 
 abbrev entry-of : Known → Entry
 entry-of c = c .before
 
+abbrev known-asked : Asked → Known
+known-asked c = c .before .before .before .before
+
 abbrev known-of : Weighed → Known
-known-of c = c .before .before .before .before
+known-of c = known-asked (c .before .before)
 
 abbrev weighed-of : Fine → Weighed
 weighed-of c = c .before .before
@@ -52,78 +62,81 @@ spacious-of c = c .before
 bytes : (c : Known) → let entry = entry-of c in Bytes (entry .args .table .now)
 bytes c = let entry = entry-of c in are-bytes (entry .args .table .now) (c .shared-slice-known .given)
 
+-- the edition is known
+known-edition : (c : Weighed) → isEdition (entry-of (known-of c) .args .edition) ≡ true
+known-edition c = let here = c .before in sym (here .before .is-edition .ensures) ∙ not-false _ (here .if1 .left)
+
 -- where the call is accepted: what was found so far
 accepted : (c : Able)
     → let weighed = weighed-of (fine-of (roomy-of (spacious-of c))) in
     let g = entry-of (known-of weighed) .args in
-    Accepted (g .table .now) (weighed .weight .result) (g .out .now) (g .steps .now) (g .work .now)
+    Accepted (g .edition) (g .table .now) (weighed .weight .result) (g .out .now) (g .steps .now) (g .work .now)
 accepted c =
     let spacious = spacious-of c in
     let roomy = roomy-of spacious in
     let fine = fine-of roomy in
     let weighed = weighed-of fine in
     record {
+      known = known-edition weighed;
       says-so = weighed .weight .ensures;
-      none-refused = fine .if1 .left;
+      none-refused = fine .if2 .left;
       bytes = bytes (known-of weighed);
-      out-room = roomy .if2 .left;
-      steps-room = spacious .if3 .left;
-      work-room = c .if4 .left;
+      out-room = roomy .if3 .left;
+      steps-room = spacious .if4 .left;
+      work-room = c .if5 .left;
     }
 
-weight-requires : tie.Need-weight-requires
-weight-requires c κs = search needs
+is-edition-requires : tie.Need-is-edition-requires
+is-edition-requires c κs = search needs
 
 refusal-requires : tie.Need-refusal-requires
 refusal-requires c κs = search needs
 
 returns : tie.Need-returns
 returns c =
-    let weighed = c .before .before .before in
-    let entry = entry-of (known-of weighed) in
-    let g = entry .args in
-    let m = weighed .weight in
-    turned-down (g .table .now) (m .result) (m .ensures) (c .refusal .result) (g .out .now) (g .steps .now) (g .work .now)
-    (c .before .if1 .taken) (c .refusal .ensures)
+    let asked = c .before .before in
+    let g = entry-of (known-asked asked) .args in
+    unknown (g .edition) (g .table .now) (c .refusal .result) (g .out .now) (g .steps .now) (g .work .now)
+    (sym (asked .is-edition .ensures) ∙ not-true _ (c .before .if1 .taken)) (c .refusal .ensures)
 
-mul-if2 : tie.Need-mul-if2
-mul-if2 c =
-    let fine = c in
-    let weighed = weighed-of fine in
-    let known = known-of weighed in
-    let entry = entry-of known in
-    let g = entry .args in
-    let m = weighed .weight in
-    let small = light (g .table .now) (m .result) (m .ensures) (fine .if1 .left) (bytes known) in
-    omega arith
+weight-requires : tie.Need-weight-requires
+weight-requires c κs = search needs
 
 refusal-requires-2 : tie.Need-refusal-requires-2
 refusal-requires-2 c κs = search needs
 
 returns-2 : tie.Need-returns-2
 returns-2 c =
-    let fine = c .before .before in
-    let weighed = weighed-of fine in
+    let weighed = c .before .before .before in
     let entry = entry-of (known-of weighed) in
     let g = entry .args in
     let m = weighed .weight in
-    cramped (g .table .now) (m .result) (m .ensures) (fine .if1 .left) (c .refusal2 .result) (g .out .now) (g .steps .now) (g .work .now)
-    (tight-out (m .result .result) (g .out .now) (g .steps .now) (g .work .now) (c .before .if2 .taken))
-    (c .refusal2 .ensures)
+    turned-down (g .table .now) (m .result) (m .ensures) (g .edition) (known-edition weighed) (c .refusal2 .result) (g .out .now) (g .steps .now) (g .work .now)
+    (c .before .if2 .taken) (c .refusal2 .ensures)
+
+mul-if3 : tie.Need-mul-if3
+mul-if3 c =
+    let fine = c in
+    let weighed = weighed-of fine in
+    let known = known-of weighed in
+    let entry = entry-of known in
+    let g = entry .args in
+    let m = weighed .weight in
+    let small = light (g .table .now) (m .result) (m .ensures) (fine .if2 .left) (bytes known) in
+    omega arith
 
 refusal-requires-3 : tie.Need-refusal-requires-3
 refusal-requires-3 c κs = search needs
 
 returns-3 : tie.Need-returns-3
 returns-3 c =
-    let roomy = c .before .before in
-    let fine = fine-of roomy in
+    let fine = c .before .before in
     let weighed = weighed-of fine in
     let entry = entry-of (known-of weighed) in
     let g = entry .args in
     let m = weighed .weight in
-    cramped (g .table .now) (m .result) (m .ensures) (fine .if1 .left) (c .refusal3 .result) (g .out .now) (g .steps .now) (g .work .now)
-    (tight-steps (m .result .result) (g .out .now) (g .steps .now) (g .work .now) (roomy .if2 .left) (c .before .if3 .taken))
+    cramped (g .table .now) (m .result) (m .ensures) (fine .if2 .left) (g .edition) (known-edition weighed) (c .refusal3 .result) (g .out .now) (g .steps .now) (g .work .now)
+    (tight-out (m .result .result) (g .out .now) (g .steps .now) (g .work .now) (c .before .if3 .taken))
     (c .refusal3 .ensures)
 
 refusal-requires-4 : tie.Need-refusal-requires-4
@@ -131,6 +144,21 @@ refusal-requires-4 c κs = search needs
 
 returns-4 : tie.Need-returns-4
 returns-4 c =
+    let roomy = c .before .before in
+    let fine = fine-of roomy in
+    let weighed = weighed-of fine in
+    let entry = entry-of (known-of weighed) in
+    let g = entry .args in
+    let m = weighed .weight in
+    cramped (g .table .now) (m .result) (m .ensures) (fine .if2 .left) (g .edition) (known-edition weighed) (c .refusal4 .result) (g .out .now) (g .steps .now) (g .work .now)
+    (tight-steps (m .result .result) (g .out .now) (g .steps .now) (g .work .now) (roomy .if3 .left) (c .before .if4 .taken))
+    (c .refusal4 .ensures)
+
+refusal-requires-5 : tie.Need-refusal-requires-5
+refusal-requires-5 c κs = search needs
+
+returns-5 : tie.Need-returns-5
+returns-5 c =
     let spacious = c .before .before in
     let roomy = roomy-of spacious in
     let fine = fine-of roomy in
@@ -138,9 +166,9 @@ returns-4 c =
     let entry = entry-of (known-of weighed) in
     let g = entry .args in
     let m = weighed .weight in
-    cramped (g .table .now) (m .result) (m .ensures) (fine .if1 .left) (c .refusal4 .result) (g .out .now) (g .steps .now) (g .work .now)
-    (tight-work (m .result .result) (g .out .now) (g .steps .now) (g .work .now) (roomy .if2 .left) (spacious .if3 .left) (c .before .if4 .taken))
-    (c .refusal4 .ensures)
+    cramped (g .table .now) (m .result) (m .ensures) (fine .if2 .left) (g .edition) (known-edition weighed) (c .refusal5 .result) (g .out .now) (g .steps .now) (g .work .now)
+    (tight-work (m .result .result) (g .out .now) (g .steps .now) (g .work .now) (roomy .if3 .left) (spacious .if4 .left) (c .before .if5 .taken))
+    (c .refusal5 .ensures)
 
 mul-end : tie.Need-mul-end
 mul-end c = search needs
@@ -186,26 +214,29 @@ same-length-2 c = search needs
 same-length-3 : tie.Need-same-length-3
 same-length-3 c = search needs
 
-returns-5 : tie.Need-returns-5
-returns-5 c =
+returns-6 : tie.Need-returns-6
+returns-6 c =
     let call = accepted (c .before .before .before .before .before .before .before .before .before .before) in
     let r = c .before .before .before .before .before .before .run in
-    ran call (r .result) (r .last .1 .0) (r .last .1 .1 .0) (r .last .1 .1 .1 .0) (r .ensures (tree call) (lending call))
+    ran call (r .result) (r .last .1 .1 .0) (r .last .1 .1 .1 .0) (r .last .1 .1 .1 .1 .0) (r .ensures (tree call) (lending call))
 
 pub simplify-spec : {M : Type 1} → statement M
 simplify-spec =
     tie.close
     (tie.spec
-    weight-requires
+    is-edition-requires
     refusal-requires
     returns
-    mul-if2
+    weight-requires
     refusal-requires-2
     returns-2
+    mul-if3
     refusal-requires-3
     returns-3
     refusal-requires-4
     returns-4
+    refusal-requires-5
+    returns-5
     mul-end
     sub-run
     part-run-start
@@ -220,4 +251,4 @@ simplify-spec =
     same-length
     same-length-2
     same-length-3
-    returns-5)
+    returns-6)

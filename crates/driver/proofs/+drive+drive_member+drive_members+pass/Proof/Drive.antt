@@ -7,6 +7,7 @@ use native.Mathlib.Omega.{arith}
 use lib.ListN.{length, drop}
 use borrow.Author.Needs.{needs}
 use Rattle.paper.specs.Verdict.{tableWeight}
+use Rattle.paper.specs.Rules.{rulesOf}
 use Rattle.paper.specs.Driver.{over, each, members}
 use Rattle.rules.specs.declared.Asked.{Asked as Answer}
 use Rattle.rules.specs.declared.Asked.the-variants.{Nothing, Step, Over}
@@ -29,10 +30,10 @@ abbrev pub claims : ℕ → lts.Claims
 claims t = (ask-reads.Asked, ask-reads.Learnt, copy-bytes-reads.Asked, copy-bytes-reads.Learnt, pass-below t, pass.Post)
 
 abbrev pub Inv : lts.InvT-loop
-Inv out₀ work₀ steps₀ d p s at₀ n₀ o₀ τ₀ size₀ out work steps at n o τ size = DInv out₀ work₀ steps₀ d p s out work steps at n o τ size
+Inv out₀ work₀ steps₀ d p s edition at₀ n₀ o₀ τ₀ size₀ out work steps at n o τ size = DInv edition out₀ work₀ steps₀ d p s out work steps at n o τ size
 
 abbrev pub μ : lts.MeasureT-loop
-μ out₀ work₀ steps₀ d p s at₀ n₀ o₀ τ₀ size₀ out work steps at n o τ size = tableWeight (drop (at * 16) work)
+μ out₀ work₀ steps₀ d p s edition at₀ n₀ o₀ τ₀ size₀ out work steps at n o τ size = tableWeight (drop (at * 16) work)
 
 module _ (t : ℕ) where
   -- places on the way through the code, and from each the one before it: the entry, the head of the loop, after the rules were asked,
@@ -91,14 +92,14 @@ module _ (t : ℕ) where
       let head = head-of asked in
       let entry = entry-of head in
       let v = head .loop .inv in let a = asked .ask in
-      a .result ≡ x → AskedIs (v .u) (v .rest) (head .loop .out) (a .last .0) (a .last .1 .0) (entry .args .d) (head .loop .at) x
+      a .result ≡ x → AskedIs (rulesOf (entry .args .edition)) (v .u) (v .rest) (head .loop .out) (a .last .0) (a .last .1 .0) (entry .args .d) (head .loop .at) x
   answer c x e =
       let asked = asked-of c in
       let head = head-of asked in
       let entry = entry-of head in
       let v = head .loop .inv in
       let a = asked .ask in
-      subst (AskedIs (v .u) (v .rest) (head .loop .out) (a .last .0) (a .last .1 .0) (entry .args .d) (head .loop .at)) e
+      subst (AskedIs (rulesOf (entry .args .edition)) (v .u) (v .rest) (head .loop .out) (a .last .0) (a .last .1 .0) (entry .args .d) (head .loop .at)) e
       (a .ensures (v .u) (v .rest) (set-now v .ready))
 
   -- the state where no rule applies
@@ -107,7 +108,7 @@ module _ (t : ℕ) where
       let head = head-of asked in
       let entry = entry-of head in
       let g = entry .args in let l = head .loop in let a = asked .ask in
-      Idle (g .out .now) (g .work .now) (g .steps .now) (g .d) (g .p) (g .s) (a .last .0) (a .last .1 .0) (l .steps) (l .at) (l .n) (l .o) (l .tries) (l .size)
+      Idle (g .edition) (g .out .now) (g .work .now) (g .steps .now) (g .d) (g .p) (g .s) (a .last .0) (a .last .1 .0) (l .steps) (l .at) (l .n) (l .o) (l .tries) (l .size)
   state c =
       let answered = answered-of c in
       let asked = asked-of answered in
@@ -123,7 +124,7 @@ module _ (t : ℕ) where
       let head = head-of asked in
       let entry = entry-of head in
       let w = state quiet .inv in let r = called .pass in
-      r .result ≡ x → DrivenIs (after-pass (w .u) (each drives (members (w .u)))) (w .rest) (asked .ask .last .0) (r .last .0) (r .last .1 .0)
+      r .result ≡ x → DrivenIs (after-pass (w .u) (each (drives (entry .args .edition)) (members (w .u)))) (w .rest) (asked .ask .last .0) (r .last .0) (r .last .1 .0)
       (head .loop .steps) (r .last .1 .1 .0) (entry .args .d) (head .loop .n) x
   result c x e =
       let called = called-of c in
@@ -133,7 +134,7 @@ module _ (t : ℕ) where
       let entry = entry-of head in
       let w = state quiet .inv in
       let r = called .pass in
-      subst (DrivenIs (after-pass (w .u) (each drives (members (w .u)))) (w .rest) (asked .ask .last .0) (r .last .0) (r .last .1 .0)
+      subst (DrivenIs (after-pass (w .u) (each (drives (entry .args .edition)) (members (w .u)))) (w .rest) (asked .ask .last .0) (r .last .0) (r .last .1 .0)
       (head .loop .steps) (r .last .1 .1 .0) (entry .args .d) (head .loop .n)) e
       (r .ensures (w .u) (w .rest) (set-now w))
 
@@ -144,7 +145,7 @@ module _ (t : ℕ) where
       let head = head-of asked in
       let entry = entry-of head in
       let w = state quiet .inv in let r = called .pass in let n = c .before .g2 .given .0 in
-      Drove (after-pass (w .u) (each drives (members (w .u)))) (w .rest) (asked .ask .last .0) (r .last .0) (r .last .1 .0)
+      Drove (after-pass (w .u) (each (drives (entry .args .edition)) (members (w .u)))) (w .rest) (asked .ask .last .0) (r .last .0) (r .last .1 .0)
       (head .loop .steps) (r .last .1 .1 .0) (entry .args .d) (head .loop .n) (n .0) (n .1 .0) (n .1 .1 .0) (n .1 .1 .1 .0) (n .1 .1 .1 .1 .0)
   drove c = result (passed-of c) _ (c .before .g2 .given .1)
 
@@ -203,7 +204,7 @@ module _ (t : ℕ) where
       let head = head-of (asked-of answered) in
       let entry = entry-of head in
       let l = head .loop in
-      for-every (l .inv .set-up) (λ u r. (b : ℕ) × (drives u ≡ over b) × (l .n ≡ entry .args .s + b))
+      for-every (l .inv .set-up) (λ u r. (b : ℕ) × (drives (entry .args .edition) u ≡ over b) × (l .n ≡ entry .args .s + b))
       (burst (l .inv) (answer answered Over (c .enum-told .given .1)))
 
   pub enum-known-asked : lts.Need-enum-known-asked (claims t) (drive-at t) reads.Post Inv μ
@@ -261,14 +262,14 @@ module _ (t : ℕ) where
   pub copy-bytes-requires : lts.Need-copy-bytes-requires (claims t) (drive-at t) reads.Post Inv μ
   copy-bytes-requires c κs = let fits = move-room (c .before .before) in (omega (arith, fits), omega (arith, fits))
 
-  pub add-t31 : lts.Need-add-t31 (claims t) (drive-at t) reads.Post Inv μ
-  add-t31 c = omega (arith, move-room (c .before .before .before .before .before))
+  pub add-t32 : lts.Need-add-t32 (claims t) (drive-at t) reads.Post Inv μ
+  add-t32 c = omega (arith, move-room (c .before .before .before .before .before))
+
+  pub add-t36 : lts.Need-add-t36 (claims t) (drive-at t) reads.Post Inv μ
+  add-t36 c = omega (arith, move-room (c .before .before .before .before .before))
 
   pub add-t35 : lts.Need-add-t35 (claims t) (drive-at t) reads.Post Inv μ
   add-t35 c = omega (arith, move-room (c .before .before .before .before .before))
-
-  pub add-t34 : lts.Need-add-t34 (claims t) (drive-at t) reads.Post Inv μ
-  add-t34 c = omega (arith, move-room (c .before .before .before .before .before))
 
   pub same-length-4 : lts.Need-same-length-4 (claims t) (drive-at t) reads.Post Inv μ
   same-length-4 c = search needs
@@ -289,7 +290,7 @@ module _ (t : ℕ) where
       let l = head .loop in
       let copied = c .before .before .copy-bytes in
       for-every (state quiet .inv .set-up)
-      (λ u r. Drove (drives u) r (g .out .now) (copied .last .0) (asked .ask .last .1 .0) (g .steps .now) (l .steps) (g .d) (g .s)
+      (λ u r. Drove (drives (entry .args .edition) u) r (g .out .now) (copied .last .0) (asked .ask .last .1 .0) (g .steps .now) (l .steps) (g .d) (g .s)
       (g .d + l .size) (l .at + l .size) (l .n) (l .o) (l .tries + l .size))
       (moved (state quiet) (c .before .before .before .before .before .if1 .taken) (copied .last .0) (copied .ensures))
 
@@ -320,7 +321,7 @@ module _ (t : ℕ) where
       let quiet = quiet-of (called-of passed) in
       let entry = entry-of (head-of (asked-of (answered-of quiet))) in
       let given = c .before .g .given in
-      for-every (state quiet .inv .set-up) (λ u r. (b : ℕ) × (drives u ≡ over b) × (given .0 .0 ≡ entry .args .s + b))
+      for-every (state quiet .inv .set-up) (λ u r. (b : ℕ) × (drives (entry .args .edition) u ≡ over b) × (given .0 .0 ≡ entry .args .s + b))
       (pass-burst (state quiet) (given .0 .0) (result passed (driven.Over (given .0 .0)) (given .1)))
 
   pub enum-known-g-2 : lts.Need-enum-known-g-2 (claims t) (drive-at t) reads.Post Inv μ
@@ -359,7 +360,7 @@ module _ (t : ℕ) where
       let r = called .pass in
       let n = c .before .before .g2 .given .0 in
       for-every (state quiet .inv .set-up)
-      (λ u x. Drove (drives u) x (g .out .now) (r .last .0) (r .last .1 .0) (g .steps .now) (r .last .1 .1 .0) (g .d) (g .s) (n .0) (n .1 .0) (l .n) (l .o)
+      (λ u x. Drove (drives (entry .args .edition) u) x (g .out .now) (r .last .0) (r .last .1 .0) (g .steps .now) (r .last .1 .1 .0) (g .d) (g .s) (n .0) (n .1 .0) (l .n) (l .o)
       (l .tries + (n .1 .1 .1 .1 .0 + 1)))
       (nothing-changed (state quiet) (drove gathered) (r .kept .0) (r .kept .1 .0) (r .kept .1 .1 .0) (c .if2 .taken))
 

@@ -88,14 +88,14 @@ module _ (t : ℕ) where
       → let called = called-of c in
       let entry = entry-of called in
       let g = entry .args in let r = called .drive in
-      r .result ≡ x → DrivenIs (drives (entry .pre .1 .0)) (entry .pre .1 .1) (g .out .now) (r .last .0) (r .last .1 .0) (g .steps .now) (r .last .1 .1 .0)
+      r .result ≡ x → DrivenIs (drives (entry .args .edition) (entry .pre .1 .0)) (entry .pre .1 .1) (g .out .now) (r .last .0) (r .last .1 .0) (g .steps .now) (r .last .1 .1 .0)
       (g .d) (g .s) x
   result c x e =
       let called = called-of c in
       let entry = entry-of called in
       let g = entry .args in
       let r = called .drive in
-      subst (DrivenIs (drives (entry .pre .1 .0)) (entry .pre .1 .1) (g .out .now) (r .last .0) (r .last .1 .0) (g .steps .now) (r .last .1 .1 .0)
+      subst (DrivenIs (drives (entry .args .edition) (entry .pre .1 .0)) (entry .pre .1 .1) (g .out .now) (r .last .0) (r .last .1 .0) (g .steps .now) (r .last .1 .1 .0)
       (g .d) (g .s)) e
       (r .ensures (entry .pre .1 .0) (entry .pre .1 .1) (entry .pre .1 .2))
 
@@ -103,7 +103,7 @@ module _ (t : ℕ) where
       → let called = called-of (driven-of c) in
       let entry = entry-of called in
       let g = entry .args in let r = called .drive in let n = c .before .g2 .given .0 in
-      Drove (drives (entry .pre .1 .0)) (entry .pre .1 .1) (g .out .now) (r .last .0) (r .last .1 .0) (g .steps .now) (r .last .1 .1 .0)
+      Drove (drives (entry .args .edition) (entry .pre .1 .0)) (entry .pre .1 .1) (g .out .now) (r .last .0) (r .last .1 .0) (g .steps .now) (r .last .1 .1 .0)
       (g .d) (g .s) (n .0) (n .1 .0) (n .1 .1 .0) (n .1 .1 .1 .0) (n .1 .1 .1 .1 .0)
   drove c = result (driven-of c) _ (c .before .g2 .given .1)
 
@@ -114,7 +114,7 @@ module _ (t : ℕ) where
       (entry-of called .args .d + 1 ≤ n .0) × (n .0 * 16 ≤ length (called .drive .last .0)) × (n .1 .1 .1 .0 < 65536)
   bounds c =
       let called = called-of (driven-of c) in
-      member-fits (entry-of called .pre .1 .2) (drove c) (called .drive .kept .0)
+      member-fits (entry-of called .args .edition) (entry-of called .pre .1 .2) (drove c) (called .drive .kept .0)
 
   -- ---- a leaf
   abbrev Kept : Type 0
@@ -132,11 +132,11 @@ module _ (t : ℕ) where
   pub write-record-requires : lts.Need-write-record-requires (claims t) (drive-member-at t) reads.Post
   write-record-requires c κs = let entry = unread-entry (c .before .before .before .before .before .before) in record-fits (entry .pre .1 .2) .1
 
-  pub add-t26 : lts.Need-add-t26 (claims t) (drive-member-at t) reads.Post
-  add-t26 c = omega (arith, record-fits (leaf-entry c .pre .1 .2) .1)
-
   pub add-t27 : lts.Need-add-t27 (claims t) (drive-member-at t) reads.Post
-  add-t27 c = omega (arith, record-fits (leaf-entry c .pre .1 .2) .0)
+  add-t27 c = omega (arith, record-fits (leaf-entry c .pre .1 .2) .1)
+
+  pub add-t28 : lts.Need-add-t28 (claims t) (drive-member-at t) reads.Post
+  add-t28 c = omega (arith, record-fits (leaf-entry c .pre .1 .2) .0)
 
   pub same-length : lts.Need-same-length (claims t) (drive-member-at t) reads.Post
   same-length c = search needs
@@ -153,7 +153,7 @@ module _ (t : ℕ) where
       let first = c .before .before .before .before .before .before .before in
       let k = first .kind .ensures in
       let leaf : kind (g .work .now) (g .p) < 2 = subst (λ (j : ℕ). j < 2) k (c .before .before .before .before .before .before .if1 .taken) in
-      leaf-kept set leaf (wrote .last .0) (rw (k, number) at (wrote .ensures)) (wrote .kept .0) (g .k)
+      leaf-kept (g .edition) set leaf (wrote .last .0) (rw (k, number) at (wrote .ensures)) (wrote .kept .0) (g .k)
 
   -- ---- any other tree
   pub drive-requires : lts.Need-drive-requires (claims t) (drive-member-at t) reads.Post
@@ -198,11 +198,11 @@ module _ (t : ℕ) where
   pub shift-left-requires : lts.Need-shift-left-requires (claims t) (drive-member-at t) reads.Post
   shift-left-requires c κs = let fits = bounds (gathered-of (c .before .before .before .before .before)) in (omega (arith, fits), omega (arith, fits))
 
-  pub sub-t44 : lts.Need-sub-t44 (claims t) (drive-member-at t) reads.Post
-  sub-t44 c = omega (arith, bounds (gathered-of (c .before .before .before .before .before .before .before .before)))
+  pub sub-t45 : lts.Need-sub-t45 (claims t) (drive-member-at t) reads.Post
+  sub-t45 c = omega (arith, bounds (gathered-of (c .before .before .before .before .before .before .before .before)))
 
-  pub add-t49 : lts.Need-add-t49 (claims t) (drive-member-at t) reads.Post
-  add-t49 c = omega (arith, bounds (gathered-of (c .before .before .before .before .before .before .before .before)))
+  pub add-t50 : lts.Need-add-t50 (claims t) (drive-member-at t) reads.Post
+  add-t50 c = omega (arith, bounds (gathered-of (c .before .before .before .before .before .before .before .before)))
 
   pub same-length-3 : lts.Need-same-length-3 (claims t) (drive-member-at t) reads.Post
   same-length-3 c = search needs
@@ -226,9 +226,9 @@ module _ (t : ℕ) where
       let count = c .before .before .before .before .count in
       let shifted = c .before .before .shift-left in
       for-every (entry .pre .1 .2)
-      (λ u x. Gave (openedRuns (inside k) (each drives (u ∷ []))) x (g .out .now) (shifted .last .0) (r .last .1 .0) (g .steps .now) (r .last .1 .1 .0)
+      (λ u x. Gave (openedRuns (inside k) (each (drives (entry .args .edition)) (u ∷ []))) x (g .out .now) (shifted .last .0) (r .last .1 .0) (g .steps .now) (r .last .1 .1 .0)
       (g .d) (g .s) (n .0 - 1) (n .1 .0) (n .1 .1 .0) (n .1 .1 .1 .0 + 1) (count .result) (n .1 .1 .1 .1 .0))
-      (rw (count .ensures .0) (opened-up (entry .pre .1 .2) (drove gathered) (r .kept .0) k
+      (rw (count .ensures .0) (opened-up (entry .args .edition) (entry .pre .1 .2) (drove gathered) (r .kept .0) k
       (ap (λ j. eqb j k && isNode k) (sym (kinded .kind2 .ensures)) ∙ sym (c .before .before .before .before .before .before .before .opens .ensures)
       ∙ c .before .before .before .before .before .before .if2 .taken)
       (shifted .last .0) (shifted .ensures)))
@@ -249,8 +249,8 @@ module _ (t : ℕ) where
       let told = c .before .g .given in
       let over = result driven (driven-as.Over (told .0 .0)) (told .1) in
       for-every (entry .pre .1 .2)
-      (λ u r. (b : ℕ) × (openedRuns (inside (entry .args .k)) (each drives (u ∷ [])) ≡ overs b) × (told .0 .0 ≡ entry .args .s + b))
-      (over .0, one-over (entry .args .k) (entry .pre .1 .0) (over .0) (over .1), over .2)
+      (λ u r. (b : ℕ) × (openedRuns (inside (entry .args .k)) (each (drives (entry .args .edition)) (u ∷ [])) ≡ overs b) × (told .0 .0 ≡ entry .args .s + b))
+      (over .0, one-over (entry .args .edition) (entry .args .k) (entry .pre .1 .0) (over .0) (over .1), over .2)
 
   pub same-length-9 : lts.Need-same-length-9 (claims t) (drive-member-at t) reads.Post
   same-length-9 c = search needs
@@ -272,8 +272,8 @@ module _ (t : ℕ) where
       let r = called .drive in
       let n = c .before .before .before .before .before .g2 .given .0 in
       for-every (entry .pre .1 .2)
-      (λ u x. Gave (openedRuns (inside k) (each drives (u ∷ []))) x (g .out .now) (r .last .0) (r .last .1 .0) (g .steps .now) (r .last .1 .1 .0)
+      (λ u x. Gave (openedRuns (inside k) (each (drives (entry .args .edition)) (u ∷ []))) x (g .out .now) (r .last .0) (r .last .1 .0) (g .steps .now) (r .last .1 .1 .0)
       (g .d) (g .s) (n .0) (n .1 .0) (n .1 .1 .0) (n .1 .1 .1 .0) 1 (n .1 .1 .1 .1 .0))
-      (as-it-is (entry .pre .1 .2) (drove gathered) (r .kept .0) k
+      (as-it-is (entry .args .edition) (entry .pre .1 .2) (drove gathered) (r .kept .0) k
       (ap (λ j. eqb j k && isNode k) (sym (kinded .kind2 .ensures)) ∙ sym (c .before .opens .ensures)
       ∙ c .if2 .left))

@@ -20,10 +20,10 @@ abbrev pub claims : ℕ → lts.Claims
 claims t = (drive-member-below t, drive-member.Post)
 
 abbrev pub Inv : lts.InvT-loop
-Inv out₀ work₀ steps₀ k c d p s i₀ e₀ q₀ n₀ o₀ m₀ τ₀ out work steps i e q n o m τ = MInv out₀ work₀ steps₀ k c d p s out work steps i e q n o m τ
+Inv out₀ work₀ steps₀ k c d p s edition i₀ e₀ q₀ n₀ o₀ m₀ τ₀ out work steps i e q n o m τ = MInv edition out₀ work₀ steps₀ k c d p s out work steps i e q n o m τ
 
 abbrev pub μ : lts.MeasureT-loop
-μ out₀ work₀ steps₀ k c d p s i₀ e₀ q₀ n₀ o₀ m₀ τ₀ out work steps i e q n o m τ = c - i
+μ out₀ work₀ steps₀ k c d p s edition i₀ e₀ q₀ n₀ o₀ m₀ τ₀ out work steps i e q n o m τ = c - i
 
 module _ (t : ℕ) where
   -- places on the way through the code, and from each the one before it: the entry, the head of the loop, a turn of it, after the member
@@ -69,7 +69,7 @@ module _ (t : ℕ) where
       let entry = entry-of head in
       let h = turn .loop-test .taken in let l = head .loop in let m = called .drive-member in
       m .result ≡ r
-      → GivenIs (openedRuns (inside (entry .args .k)) (each drives (x (l .inv) h ∷ []))) (rest-after (l .inv) h) (l .out) (m .last .0) (m .last .1 .0)
+      → GivenIs (openedRuns (inside (entry .args .k)) (each (drives (entry .args .edition)) (x (l .inv) h ∷ []))) (rest-after (l .inv) h) (l .out) (m .last .0) (m .last .1 .0)
       (l .steps) (m .last .1 .1 .0) (l .e) (l .n) r
   result c r e =
       let called = called-of c in
@@ -79,7 +79,7 @@ module _ (t : ℕ) where
       let h = turn .loop-test .taken in
       let l = head .loop in
       let m = called .drive-member in
-      subst (GivenIs (openedRuns (inside (entry .args .k)) (each drives (x (l .inv) h ∷ []))) (rest-after (l .inv) h) (l .out) (m .last .0) (m .last .1 .0)
+      subst (GivenIs (openedRuns (inside (entry .args .k)) (each (drives (entry .args .edition)) (x (l .inv) h ∷ []))) (rest-after (l .inv) h) (l .out) (m .last .0) (m .last .1 .0)
       (l .steps) (m .last .1 .1 .0) (l .e) (l .n)) e
       (m .ensures (x (l .inv) h) (rest-after (l .inv) h) (set-next (l .inv) h))
 
@@ -89,7 +89,7 @@ module _ (t : ℕ) where
       let head = head-of turn in
       let entry = entry-of head in
       let h = turn .loop-test .taken in let l = head .loop in let m = called .drive-member in let n = c .before .g2 .given .0 in
-      Gave (openedRuns (inside (entry .args .k)) (each drives (x (l .inv) h ∷ []))) (rest-after (l .inv) h) (l .out) (m .last .0) (m .last .1 .0)
+      Gave (openedRuns (inside (entry .args .k)) (each (drives (entry .args .edition)) (x (l .inv) h ∷ []))) (rest-after (l .inv) h) (l .out) (m .last .0) (m .last .1 .0)
       (l .steps) (m .last .1 .1 .0) (l .e) (l .n) (n .0) (n .1 .0) (n .1 .1 .0) (n .1 .1 .1 .0) (n .1 .1 .1 .1 .0)
       (n .1 .1 .1 .1 .1 .0)
   gave c = result (driven-of c) _ (c .before .g2 .given .1)
@@ -139,7 +139,7 @@ module _ (t : ℕ) where
       let head = head-of turn in
       let entry = entry-of head in
       let told = c .before .g .given in
-      for-every (head .loop .inv) (λ m r. (b : ℕ) × (openedRuns (inside (entry .args .k)) (each drives m) ≡ overs b) × (told .0 .0 ≡ entry .args .s + b))
+      for-every (head .loop .inv) (λ m r. (b : ℕ) × (openedRuns (inside (entry .args .k)) (each (drives (entry .args .edition)) m) ≡ overs b) × (told .0 .0 ≡ entry .args .s + b))
       (burst (head .loop .inv) (turn .loop-test .taken) (told .0 .0) (result driven (given.Over (told .0 .0)) (told .1)))
 
   pub enum-known-g-2 : lts.Need-enum-known-g-2 (claims t) (drive-members-at t) reads.Post Inv μ
@@ -189,6 +189,6 @@ module _ (t : ℕ) where
       let g = entry .args in
       let l = head .loop in
       for-every (l .inv)
-      (λ m r. Gave (openedRuns (inside (g .k)) (each drives m)) r (g .out .now) (l .out) (l .work) (g .steps .now) (l .steps) (g .d) (g .s)
+      (λ m r. Gave (openedRuns (inside (g .k)) (each (drives (entry .args .edition)) m)) r (g .out .now) (l .out) (l .work) (g .steps .now) (l .steps) (g .d) (g .s)
       (l .e) (l .q) (l .n) (l .o) (l .m) (l .tries))
       (finish (l .inv) (c .loop-test .left))

@@ -119,7 +119,7 @@ module _ (t : ℕ) where
       let kinded = kinded-of (counted-of moved) in
       let entry = entry-of kinded in
       let g = entry .args in let r = called .drive-members in
-      r .result ≡ x → GivenIs (openedRuns (inside (kinded .kind .result)) (each drives (members (entry .pre .1 .0)))) (entry .pre .1 .1)
+      r .result ≡ x → GivenIs (openedRuns (inside (kinded .kind .result)) (each (drives (entry .args .edition)) (members (entry .pre .1 .0)))) (entry .pre .1 .1)
       (moved .copy-bytes .last .0) (r .last .0) (r .last .1 .0) (g .steps .now) (r .last .1 .1 .0) (g .d + 1) (g .s) x
   result c x e =
       let called = called-of c in
@@ -129,7 +129,7 @@ module _ (t : ℕ) where
       let entry = entry-of kinded in
       let g = entry .args in
       let r = called .drive-members in
-      subst (GivenIs (openedRuns (inside (kinded .kind .result)) (each drives (members (entry .pre .1 .0)))) (entry .pre .1 .1)
+      subst (GivenIs (openedRuns (inside (kinded .kind .result)) (each (drives (entry .args .edition)) (members (entry .pre .1 .0)))) (entry .pre .1 .1)
       (moved .copy-bytes .last .0) (r .last .0) (r .last .1 .0) (g .steps .now) (r .last .1 .1 .0) (g .d + 1) (g .s)) e
       (r .ensures (members (entry .pre .1 .0)) (entry .pre .1 .1) (many copied) (set-up copied))
 
@@ -139,7 +139,7 @@ module _ (t : ℕ) where
       let kinded = kinded-of (counted-of moved) in
       let entry = entry-of kinded in
       let g = entry .args in let r = called .drive-members in let n = c .before .g2 .given .0 in
-      Gave (openedRuns (inside (kinded .kind .result)) (each drives (members (entry .pre .1 .0)))) (entry .pre .1 .1)
+      Gave (openedRuns (inside (kinded .kind .result)) (each (drives (entry .args .edition)) (members (entry .pre .1 .0)))) (entry .pre .1 .1)
       (moved .copy-bytes .last .0) (r .last .0) (r .last .1 .0) (g .steps .now) (r .last .1 .1 .0) (g .d + 1) (g .s)
       (n .0) (n .1 .0) (n .1 .1 .0) (n .1 .1 .1 .0) (n .1 .1 .1 .1 .0) (n .1 .1 .1 .1 .1 .0)
   gave c = result (driven-of c) _ (c .before .g2 .given .1)
@@ -211,8 +211,8 @@ module _ (t : ℕ) where
       let entry = entry-of kinded in
       let m = moved .copy-bytes in
       let told = c .before .g .given in
-      for-every (entry .pre .1 .2) (λ u r. (b : ℕ) × (passed u (each drives (members u)) ≡ over b) × (told .0 .0 ≡ entry .args .s + b))
-      (burst (entry .pre .1 .2) (m .last .0) (m .ensures) (kinded .kind .result) (kind-of copied) (told .0 .0)
+      for-every (entry .pre .1 .2) (λ u r. (b : ℕ) × (passed u (each (drives (entry .args .edition)) (members u)) ≡ over b) × (told .0 .0 ≡ entry .args .s + b))
+      (burst (entry .pre .1 .2) (m .last .0) (m .ensures) (entry .args .edition) (kinded .kind .result) (kind-of copied) (told .0 .0)
       (result driven (given.Over (told .0 .0)) (told .1)))
 
   pub same-length-4 : lts.Need-same-length-4 (claims t) (pass-at t) reads.Post
@@ -236,10 +236,10 @@ module _ (t : ℕ) where
       let r = called .drive-members in
       let n = c .before .before .before .before .before .g2 .given .0 in
       let closing = c .before .before .close-up in
-      let fits = close-fits (entry .pre .1 .2) (m .last .0) (m .ensures) (kind-of copied) (gave gathered) (m .kept .0) (r .kept .0) in
-      let there = gathers (entry .pre .1 .2) (m .last .0) (m .ensures) (kind-of copied) (gave gathered) (m .kept .0) (r .kept .0) in
+      let fits = close-fits (entry .pre .1 .2) (m .last .0) (m .ensures) (entry .args .edition) (kind-of copied) (gave gathered) (m .kept .0) (r .kept .0) in
+      let there = gathers (entry .pre .1 .2) (m .last .0) (m .ensures) (entry .args .edition) (kind-of copied) (gave gathered) (m .kept .0) (r .kept .0) in
       for-every (entry .pre .1 .2)
-      (λ u x. Drove (passed u (each drives (members u))) x (g .out .now) (closing .last .0) (r .last .1 .0) (g .steps .now) (r .last .1 .1 .0)
+      (λ u x. Drove (passed u (each (drives (entry .args .edition)) (members u))) x (g .out .now) (closing .last .0) (r .last .1 .0) (g .steps .now) (r .last .1 .1 .0)
       (g .d) (g .s) (n .0) (n .1 .0) (n .1 .1 .0) (n .1 .1 .1 .0) (n .1 .1 .1 .1 .1 .0))
-      (closed-up (entry .pre .1 .2) (m .last .0) (m .ensures) (kind-of copied) (gave gathered) (m .kept .0) (r .kept .0)
+      (closed-up (entry .pre .1 .2) (m .last .0) (m .ensures) (entry .args .edition) (kind-of copied) (gave gathered) (m .kept .0) (r .kept .0)
       (closing .ensures (entry .pre .1 .0) (gave gathered .to) (n .0) there fits))

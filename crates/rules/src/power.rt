@@ -1,0 +1,71 @@
+// The rules on a power, which edition two adds. A result ends where the power ended.
+ghost use mathlib.Core.List.{List};
+ghost use Prim.Native.Nat.{ℕ};
+ghost use Rattle.paper.specs.Tree.{Tree};
+ghost use Rattle.paper.specs.Rules.{powerOne, powerConstant, powerPower};
+ghost use Rattle.rules.specs.Asked.{Ready};
+ghost use Rattle.rules.specs.Tried.{Answers};
+use crate::Tried;
+use number::Num;
+
+// Step 7: a^1 = a. The base moves one record to the right.
+pub fn power_one(out: &mut [u8], work: &mut [u8], d: usize, p: usize) -> Tried
+    requires { ⌜ ((t : Tree) × (rest : List ℕ) × Ready (now out) (now work) d p t rest) ⌝ }
+    ensures { λ r. ⌜ ((t : Tree) (rest : List ℕ) → Ready (now (out .entry)) (now (work .entry)) d p t rest
+        → Answers (powerOne t) rest (now (out .entry)) (now (out .exit)) (now (work .entry)) (now (work .exit)) d p r) ⌝ }
+{
+    if record::kind(work, p) != 4 {
+        return Tried::Idle;
+    }
+    let x = split::skip_tree(work, p + 1);
+    if record::bits(work, x) != 1 {
+        return Tried::Idle;
+    }
+    stretch::shift_right(work, (p + 2) * 16, (p + 1) * 16, (x - (p + 1)) * 16);
+    Tried::Applied(p + 2)
+}
+
+// Step 8: 0^n = 0 and 1^n = 1.
+pub fn power_constant(out: &mut [u8], work: &mut [u8], d: usize, p: usize) -> Tried
+    requires { ⌜ ((t : Tree) × (rest : List ℕ) × Ready (now out) (now work) d p t rest) ⌝ }
+    ensures { λ r. ⌜ ((t : Tree) (rest : List ℕ) → Ready (now (out .entry)) (now (work .entry)) d p t rest
+        → Answers (powerConstant t) rest (now (out .entry)) (now (out .exit)) (now (work .entry)) (now (work .exit)) d p r) ⌝ }
+{
+    if record::kind(work, p) != 4 {
+        return Tried::Idle;
+    }
+    if 0 < record::kind(work, p + 1) {
+        return Tried::Idle;
+    }
+    let v = record::bits(work, p + 1);
+    if 1 < v {
+        return Tried::Idle;
+    }
+    record::write_record(work, p + 2, 0, 0, v);
+    Tried::Applied(p + 2)
+}
+
+// Step 9: (a^m)^n = a^(m*n). The base moves one record to the right, between the power's record and the product of the exponents.
+pub fn power_power(out: &mut [u8], work: &mut [u8], d: usize, p: usize) -> Tried
+    requires { ⌜ ((t : Tree) × (rest : List ℕ) × Ready (now out) (now work) d p t rest) ⌝ }
+    ensures { λ r. ⌜ ((t : Tree) (rest : List ℕ) → Ready (now (out .entry)) (now (work .entry)) d p t rest
+        → Answers (powerPower t) rest (now (out .entry)) (now (out .exit)) (now (work .entry)) (now (work .exit)) d p r) ⌝ }
+{
+    if record::kind(work, p) != 4 {
+        return Tried::Idle;
+    }
+    if record::kind(work, p + 1) != 4 {
+        return Tried::Idle;
+    }
+    let y = split::skip_tree(work, p + 2);
+    let product = number::mul(record::bits(work, y), record::bits(work, y + 1));
+    match product {
+        Num::Is(n) => {
+            stretch::shift_right(work, (p + 3) * 16, (p + 2) * 16, (y - (p + 2)) * 16);
+            record::write_record(work, y + 1, 0, 0, n);
+            record::write_record(work, p + 2, 4, 0, 0);
+            Tried::Applied(p + 2)
+        }
+        Num::Out => Tried::Over,
+    }
+}
