@@ -34,7 +34,7 @@ int main(int arguments, char **words) {
     chain(one, words[1][0] == 'f');
     chain(other, words[2][0] == 'f');
     while (times--)
-        if (simmergate_equal(one, sizeof one, other, sizeof other, answer, sizeof answer) != 0 || answer[24] != 1) {
+        if (simmergate_equal(3072, one, sizeof one, other, sizeof other, answer, sizeof answer) != 0 || answer[24] != 1) {
             printf("equal: two equal trees, %s and %s: the answer is %d, %d\n", words[1], words[2], answer[0], answer[24]);
             return 1;
         }

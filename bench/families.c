@@ -127,7 +127,7 @@ int main(int argc, char **argv) {
     for (size_t i = 0; argc == 3 && i < FAMILIES; i++) {
         if (strcmp(argv[1], families[i].name) != 0) continue;
         uint64_t most = decimal(argv[2]);
-        if (most > 3072) { printf("no table weighs over 3072\n"); return 2; }
+        if (most > 16384) { printf("no table weighs over 16384\n"); return 2; }
         unsigned n = 2;
         do {
             making.records = 0;

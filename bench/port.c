@@ -1,18 +1,18 @@
 /* Tables on standard input, a line of hexadecimal digits each, decoded first; then
      port N         simplifies all of them N times, bytes to bytes, and writes how long that took
-     port fill N    clears 65,536 bytes N times, the part of a call that is a library fill
+     port fill N    clears `work` N times, the part of a call that is a library fill
      port stack     the stack that the most demanding of them took
-   A table that is refused ends the program. */
+   All at the limit 3,072, or with the word `higher` before the others at 16,384. A table that is refused ends the program. */
 #include "../include/simmergate.h"
 #include "../tests/c/text.h"
 #include <time.h>
 
-static uint8_t store[64 << 20], out[49152], steps[3072], work[65536], answer[SIMMERGATE_SIMPLIFY_BYTES];
+static uint8_t store[64 << 20], out[262144], steps[16384], work[524288], answer[SIMMERGATE_SIMPLIFY_BYTES];
 static struct { uint8_t *bytes; size_t length; } tables[4096];
-static size_t table_count, used;
+static size_t table_count, used, limit = 3072;
 
 static void simplify(size_t i) {
-    uint32_t why = simmergate_simplify(1, tables[i].bytes, tables[i].length, out, sizeof out, steps, sizeof steps, work, sizeof work, answer, sizeof answer);
+    uint32_t why = simmergate_simplify(limit, 1, tables[i].bytes, tables[i].length, out, sizeof out, steps, sizeof steps, work, SIMMERGATE_WORK_BYTES(limit), answer, sizeof answer);
     if (why != 0) { printf("table %zu is refused: %u\n", i, why); exit(1); }
 }
 
@@ -36,10 +36,11 @@ static __attribute__((noinline)) size_t painted(void) {
 }
 
 int main(int argc, char **argv) {
+    if (argc > 1 && strcmp(argv[1], "higher") == 0) limit = 16384, argc--, argv++;
     while (next_line()) {
         if (table_count == 4096 || used + LINE_ROOM > sizeof store) { printf("too many tables\n"); return 2; }
         tables[table_count].bytes = store + used;
-        tables[table_count].length = unhex(line, store + used, 49152);
+        tables[table_count].length = unhex(line, store + used, 262144);
         used += tables[table_count++].length;
     }
     if (argc == 2 && strcmp(argv[1], "stack") == 0) {
@@ -54,12 +55,12 @@ int main(int argc, char **argv) {
         return 0;
     }
     int fill = argc == 3 && strcmp(argv[1], "fill") == 0;
-    if (argc != 2 && !fill) { printf("usage: port N | fill N | stack\n"); return 2; }
+    if (argc != 2 && !fill) { printf("usage: port [higher] N | fill N | stack\n"); return 2; }
     uint64_t times = decimal(argv[argc - 1]);
     double start = seconds();
     for (uint64_t n = 0; n < times; n++) {
         if (fill) {
-            memset(work, 0, sizeof work);
+            memset(work, 0, SIMMERGATE_WORK_BYTES(limit));
             __asm__ volatile("" : : "r"(work) : "memory");
         } else {
             for (size_t i = 0; i < table_count; i++) simplify(i);

@@ -11,7 +11,7 @@ BEGIN {
     FS = "\t"
     print "# Instructions, port beside Rust and GiNaC\n"
     print "Written by `bench/run` (what is measured and how: its heading). Counted by " counter " on " machine ". \"beyond the fill\" is the port without the"
-    print "clearing of `work`, a library fill that is measured apart. `-`: left out, or it would have taken over " most " million instructions. How each"
+    print "clearing of `work`, a library fill that is measured apart. Over the weight 3,072 the limit is 16,384. `-`: left out, or it would have taken over " most " million instructions. How each"
     print "grows: `growth.svg`.\n"
     print "| family | weight | port | beyond the fill | Rust | GiNaC | Rust / port beyond the fill |"
     print "|---|---|---|---|---|---|---|"
@@ -33,6 +33,7 @@ NR == 1 { next }
         if (least == "" || times + 0 < least) { least = times + 0; least_at = $1 "/" $2 }
     } else apart++
     if ($1 == "site") { site = $3; site_rust = $5; site_ginac = $6; next }
+    if ($2 > 3072) next # the aims below are those of the lower limit
     if ($3 == "-" || $3 > 1000000000) heavy = heavy ", " $1 "/" $2 " " short($3)
     if ($3 != "-" && $3 + 0 > heaviest) { heaviest = $3 + 0; heaviest_at = $1 "/" $2 }
     if ($1 ~ /terms|unlike-products|tree-opens/ && $3 != "-") {

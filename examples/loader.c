@@ -1,8 +1,8 @@
 /* What the controller's loader does: reads the table of a site formula from a file, has it judged and shortened, and evaluates it.
 
-     loader [-e EDITION] FILE [SYMBOL=NUMBER ...]
+     loader [-l LIMIT] [-e EDITION] FILE [SYMBOL=NUMBER ...]
 
-   The rules are those of edition one, or of the edition that is named.
+   The limit is 3,072, or the one that is named; the rules are those of edition one, or of the edition that is named.
    It writes the formula, the shortened one, the steps by name, and the value of both with the symbols named set and all others 0.
    Symbols 0 to 25 are a to z, the others s26 to s255. What goes wrong goes to standard error in words; the exit code is then 1.
 
@@ -13,10 +13,11 @@
 #include <stdlib.h>
 #include <string.h>
 
-#define MOST_BYTES 49152 /* of a table; one that is accepted weighs at most 3,072 */
+#define HIGHEST 16384 /* of the limits; a program that keeps to 3,072 has areas a fifth as long, and an eighth of the work */
 
-static uint8_t table[MOST_BYTES + 1];                  /* one byte more, to see that a file is too long */
-static uint8_t out[MOST_BYTES], steps[3072], work[65536]; /* enough for every table that is accepted */
+static uint8_t table[SIMMERGATE_TABLE_BYTES(HIGHEST) + 1]; /* one byte more, to see that a file is too long */
+static uint8_t out[SIMMERGATE_TABLE_BYTES(HIGHEST)], steps[HIGHEST], work[SIMMERGATE_WORK_BYTES(HIGHEST)]; /* enough for every table that is accepted */
+static size_t limit = 3072;
 static uint8_t registers[2048];
 
 /* Number i of an answer. */
@@ -40,15 +41,15 @@ static int refused(const char *file, size_t length, uint32_t why, uint64_t place
     switch (why) {
     case 1:
         if (length == 0) fprintf(stderr, "the file is empty\n");
-        else if (length % 16 != 0 && length <= MOST_BYTES) fprintf(stderr, "%zu bytes are no whole number of records of 16 bytes\n", length);
-        else fprintf(stderr, "it is longer than %d bytes\n", MOST_BYTES);
+        else if (length % 16 != 0 && length <= SIMMERGATE_TABLE_BYTES(limit)) fprintf(stderr, "%zu bytes are no whole number of records of 16 bytes\n", length);
+        else fprintf(stderr, "it is longer than %zu bytes\n", SIMMERGATE_TABLE_BYTES(limit));
         break;
     case 2:
         if (what == 1) fprintf(stderr, "record %llu has the unknown kind %u\n", at, table[16 * place]);
         else if (what == 2) fprintf(stderr, "byte %llu of record %llu is %u and must be zero\n", byte, at, table[16 * place + byte]);
         else fprintf(stderr, "record %llu has fewer than two members\n", at);
         break;
-    case 3: fprintf(stderr, "its weight is over 3,072\n"); break;
+    case 3: fprintf(stderr, "its weight is over %zu\n", limit); break;
     case 4:
         if (place == length / 16) fprintf(stderr, "the records end before the formula does\n");
         else fprintf(stderr, "the formula ends before record %llu\n", at);
@@ -57,6 +58,7 @@ static int refused(const char *file, size_t length, uint32_t why, uint64_t place
     case 6: fprintf(stderr, "an area that this program lends is too small\n"); break;
     case 7: fprintf(stderr, "after %llu steps an integer leaves the signed 64-bit range\n", at); break;
     case 9: fprintf(stderr, "there is no such edition of the rules\n"); break;
+    case 19: fprintf(stderr, "there is no such limit: it is 3072 or 16384\n"); break;
     default: fprintf(stderr, "a refusal that this program does not know\n");
     }
     return 1;
@@ -152,18 +154,21 @@ static int set_register(const char *text) {
     return 1;
 }
 
+/* The number that a word of the command line is; 0, which is no limit and no edition, where it is none. */
+static size_t option(const char *word) {
+    char *end;
+    errno = 0;
+    size_t n = (size_t)strtoull(word, &end, 10);
+    return *end != 0 || errno != 0 ? 0 : n;
+}
+
 int main(int argc, char **argv) {
     uint8_t answer[SIMMERGATE_SIMPLIFY_BYTES], before[SIMMERGATE_VALUE_BYTES], after[SIMMERGATE_VALUE_BYTES];
     size_t edition = 1;
-    if (argc > 2 && strcmp(argv[1], "-e") == 0) {
-        char *end;
-        errno = 0;
-        edition = (size_t)strtoull(argv[2], &end, 10);
-        if (*end != 0 || errno != 0) edition = 0; /* which there is not */
-        argv += 2, argc -= 2;
-    }
+    for (; argc > 2 && (strcmp(argv[1], "-e") == 0 || strcmp(argv[1], "-l") == 0); argv += 2, argc -= 2)
+        *(argv[1][1] == 'e' ? &edition : &limit) = option(argv[2]);
     if (argc < 2) {
-        fprintf(stderr, "usage: loader [-e EDITION] FILE [SYMBOL=NUMBER ...]\n");
+        fprintf(stderr, "usage: loader [-l LIMIT] [-e EDITION] FILE [SYMBOL=NUMBER ...]\n");
         return 2;
     }
     for (int i = 2; i < argc; i++) {
@@ -173,13 +178,13 @@ int main(int argc, char **argv) {
     if (length < 0) return 1;
     size_t n = (size_t)length;
 
-    uint32_t why = simmergate_value(table, n, registers, sizeof registers, before, sizeof before);
+    uint32_t why = simmergate_value(limit, table, n, registers, sizeof registers, before, sizeof before);
     if (why != 0) return refused(argv[1], n, why, number(before, 1), before + 24);
     fputs("formula    ", stdout);
     print_formula(table, 0);
     putchar('\n');
 
-    why = simmergate_simplify(edition, table, n, out, sizeof out, steps, sizeof steps, work, sizeof work, answer, sizeof answer);
+    why = simmergate_simplify(limit, edition, table, n, out, sizeof out, steps, sizeof steps, work, sizeof work, answer, sizeof answer);
     if (why != 0) return refused(argv[1], n, why, number(answer, 1), answer + 56);
     size_t shortened = 16 * (size_t)number(answer, 2);
     fputs("shortened  ", stdout);
@@ -189,7 +194,7 @@ int main(int argc, char **argv) {
     printf("tries      %llu\n", (unsigned long long)number(answer, 9));
     for (uint64_t i = 0; i < number(answer, 3); i++) printf("step %-5llu %s\n", (unsigned long long)i + 1, step_name(steps[i]));
 
-    why = simmergate_value(out, shortened, registers, sizeof registers, after, sizeof after);
+    why = simmergate_value(limit, out, shortened, registers, sizeof registers, after, sizeof after);
     if (why != 0) return refused(argv[1], n, why, number(after, 1), after + 24);
     printf("value      %lld\n", (long long)number(after, 2));
     if (number(before, 2) != number(after, 2)) {

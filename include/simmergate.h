@@ -4,31 +4,37 @@
    kind (0 integer, 1 symbol, 2 sum, 3 product, 4 power), bytes 2-3 the number of members of a sum or a product, bytes 8-15 the integer,
    byte 8 the symbol; all other bytes are zero. A power has its base and then its exponent, an integer of at least 1.
 
+   Every call takes the limit L first, the greatest weight that it accepts: 3,072 or 16,384. At 16,384 a table has up to 262,144 bytes; a table up to
+   the lower limit has the same answers and the same bytes at both. Both machines of a takeover take the same limit, or a heavy result is
+   refused with 1 or 3 by the one that has the lower, never misread.
+
    Every call returns the refusal number, 0 where nothing is refused, and writes the numbers of its answer to `answer`, 8 bytes each,
    little-endian, in the order named at the call. The first two are always the refusal number and its place, as the table below says (records
    count from 0); after a refusal all other numbers are 0, but for the one of simmergate_equal that says which table is refused and, after 2,
-   WHAT and BYTE. The lowest number wins, but 9 comes before all others; of two tables, the first is judged by 1 to 5 before the second:
+   WHAT and BYTE. The lowest number wins, but 19 comes before all others and 9 after it; of two tables, the first is judged by 1 to 5 before the
+   second:
 
      number   given exactly when                                                               place
-     1        the table's length is zero, no multiple of 16, or over 49,152 bytes              0
+     1        the table's length is zero, no multiple of 16, or over 16 x L bytes              0
      2        a record has a kind over 4, a byte other than zero that must be zero, or a       first such record
               sum or product count under 2
-     3        the table weighs over 3,072                                                      0
+     3        the table weighs over L                                                          0
      4        the records end before the tree, or the tree before the records                  number of records; or
                                                                                                first record too many
      5        an exponent is no integer record of at least 1                                   first such exponent record
      6        a lent area has the wrong length: the registers are not 2,048 bytes; W being     0
               the weight of the table, `out` is under 16 x W bytes, `steps` under W, or
-              `work` under 65,536
+              `work` under 65,536 at L = 3,072 and under 524,288 at L = 16,384
      7        simplifying meets an integer outside the signed 64-bit range                     steps completed before it
      9        there is no such edition of the rules: it is neither 1 nor 2                     0
+     19       there is no such limit: it is neither 3,072 nor 16,384                           0
 
    WHAT and BYTE, last in every answer but for the tries, say after 2 what is wrong with the record at that place: WHAT is 1 for its kind, 2
    for a byte other than zero that must be zero, 3 for its count, the lowest of these that is so; BYTE is the lowest such byte, from 1 to
    15, where WHAT is 2. Else both are 0.
 
    Where `answer` is too short for the numbers, a call returns 6 before all else and changes nothing. Bytes of `answer` past the numbers never
-   change. Refusals 1 to 6 and 9 change no byte of any other area; of the calls on tables only simmergate_simplify writes to others at all.
+   change. Refusals 1 to 6, 9 and 19 change no byte of any other area; of the calls on tables only simmergate_simplify writes to others at all.
 
    All lengths are in bytes. The areas of one call must not overlap; a pointer may be anything where its length is 0, and needs no alignment.
    Nothing is allocated, nothing is kept between calls, and calls on different areas may run at the same time. */
@@ -38,10 +44,21 @@
 #include <stddef.h>
 #include <stdint.h>
 
-/* Bytes of stack that a call needs at the most. The deepest tables that are accepted, 1,535 nodes one inside the other, were measured
-   to need 170,408 bytes in simmergate_check, 170,424 in simmergate_weight, 196,824 in simmergate_value,
-   541,784 in simmergate_equal and 588,328 in simmergate_simplify, by either edition. */
+/* Bytes of stack that a call needs at the most, at the limit 3,072 and at 16,384. The deepest tables that are accepted, 1,535 nodes one inside the
+   other at the one and 8,191 at the other, were measured to need
+
+     simmergate_check        170,408      915,880
+     simmergate_weight       170,424      915,896
+     simmergate_value        196,840    1,048,808
+     simmergate_equal        555,176    2,898,088
+     simmergate_simplify     588,568    3,144,472     by either edition */
 #define SIMMERGATE_STACK 606208
+#define SIMMERGATE_STACK_16384 3211264
+
+/* Bytes of the longest table that a limit lets pass, and of the `work` that it asks for. Every area `out` of SIMMERGATE_TABLE_BYTES(L) bytes
+   and every area `steps` of L bytes is long enough. */
+#define SIMMERGATE_TABLE_BYTES(limit) (16 * (limit))
+#define SIMMERGATE_WORK_BYTES(limit) ((limit) == 3072 ? 65536 : 524288)
 
 /* Bytes of `answer` that each call needs. */
 #define SIMMERGATE_CHECK_BYTES 32
@@ -51,28 +68,29 @@
 #define SIMMERGATE_SIMPLIFY_BYTES 80
 
 /* Judges a table. The answer: refusal number, place, WHAT, BYTE. */
-uint32_t simmergate_check(const uint8_t *table, size_t table_bytes, uint8_t *answer, size_t answer_bytes);
+uint32_t simmergate_check(size_t limit, const uint8_t *table, size_t table_bytes, uint8_t *answer, size_t answer_bytes);
 
 /* Weighs a table: its number of records, and 2 for each symbol record. The answer: refusal number, place, weight, WHAT, BYTE. */
-uint32_t simmergate_weight(const uint8_t *table, size_t table_bytes, uint8_t *answer, size_t answer_bytes);
+uint32_t simmergate_weight(size_t limit, const uint8_t *table, size_t table_bytes, uint8_t *answer, size_t answer_bytes);
 
 /* Evaluates a table modulo 2^64. `registers` is 256 numbers of 8 bytes, symbol 0 first: 2,048 bytes, any other length being refused by 6 after
    1 to 5. The answer: refusal number, place, value, WHAT, BYTE. */
-uint32_t simmergate_value(const uint8_t *table, size_t table_bytes, const uint8_t *registers, size_t registers_bytes, uint8_t *answer, size_t answer_bytes);
+uint32_t simmergate_value(size_t limit, const uint8_t *table, size_t table_bytes, const uint8_t *registers, size_t registers_bytes, uint8_t *answer, size_t answer_bytes);
 
 /* Compares the trees of two tables: integers and symbols by number, powers by base and exponent, sums and products by their members in any order,
    each as often in the one as in the other; nothing is opened first. The first table is judged before the second. The answer: refusal number, place,
    which table is refused (1, 2, or 0 for neither), yes 1 or no 0 (no after a refusal), WHAT, BYTE. */
-uint32_t simmergate_equal(const uint8_t *a, size_t a_bytes, const uint8_t *b, size_t b_bytes, uint8_t *answer, size_t answer_bytes);
+uint32_t simmergate_equal(size_t limit, const uint8_t *a, size_t a_bytes, const uint8_t *b, size_t b_bytes, uint8_t *answer, size_t answer_bytes);
 
 /* Simplifies a table by the rules of an edition, 1 or 2; edition two has those of edition one and besides them the steps 7, 8 and 9, on powers.
    A result of edition one may be unfinished in edition two: both machines of a takeover must take the same. Where the table is accepted, the result's records go to `out` and the numbers of its steps, one byte each, to `steps`, with
-   zeros up to 16 x W and W bytes; after 7 these two stretches are zeros throughout; in both cases the first 65,536 bytes of `work` are zero.
+   zeros up to 16 x W and W bytes; after 7 these two stretches are zeros throughout; in both cases the first SIMMERGATE_WORK_BYTES(L) bytes of
+   `work` are zero.
    Bytes past the stretches never change. Steps: 1 add-zero, 2 like-terms, 3 multiply-zero, 4 multiply-one, 6 like-factors,
    7 power-one, 8 power-constant, 9 power-power. The answer:
    refusal number, place, records written, steps, openings, weight of the table, weight of the result, WHAT, BYTE, tries. A try is one
    asking, at one node, whether any rule applies; there are at most as many as the cube of the table's weight. */
-uint32_t simmergate_simplify(size_t edition, const uint8_t *table, size_t table_bytes, uint8_t *out, size_t out_bytes, uint8_t *steps,
+uint32_t simmergate_simplify(size_t limit, size_t edition, const uint8_t *table, size_t table_bytes, uint8_t *out, size_t out_bytes, uint8_t *steps,
                              size_t steps_bytes, uint8_t *work, size_t work_bytes, uint8_t *answer, size_t answer_bytes);
 
 /* ---- Settings that survive an upgrade ----

@@ -1,12 +1,12 @@
-/* calls LINES: the five entry points against the stored answers and against the plain reading in own.c: every line of standard input, lengths
-   around the edges, each kind with each byte set, tables of 3,072 records, and random trees, whole and damaged. Every lent area has canary
+/* calls LINES: the five entry points against the stored answers and against the plain reading in own.c, at both limits and at limits that there
+   are not: every line of standard input, lengths around the edges, each kind with each byte set, tables of 3,072 and of 16,384 records, and random trees, whole and damaged. Every lent area has canary
    bytes on both sides and a length of its own. Equality is asked of a table and itself, and of a small good table and it; the simplifier is
    lent areas of no byte, so that it judges alone, and for each kind with each byte areas that are large enough. */
 #include "../../include/simmergate.h"
 #include "own.h"
 #include "text.h"
 
-enum { GUARD = 64, WORK = 65536, LONGEST = WORK + 4 * RECORD, REGISTER_BYTES = 8 * REGISTERS, MOST_NUMBERS = 10 };
+enum { GUARD = 64, LONGEST = 524288 + 4 * RECORD, REGISTER_BYTES = 8 * REGISTERS, MOST_NUMBERS = 10 };
 
 /* An area that is lent to a call: canary bytes, the area, canary bytes; and what the area held before. */
 struct room {
@@ -53,17 +53,17 @@ static const char *const names[] = {"simmergate_check", "simmergate_weight", "si
 static const size_t enough[] = {SIMMERGATE_CHECK_BYTES, SIMMERGATE_WEIGHT_BYTES, SIMMERGATE_VALUE_BYTES, SIMMERGATE_EQUAL_BYTES,
                                 SIMMERGATE_EQUAL_BYTES, SIMMERGATE_SIMPLIFY_BYTES};
 
-static size_t edition = 1; /* of the rules that the simplifier is to take */
+static size_t limit = LOWER, edition = 1; /* the limit of every call, and of the rules that the simplifier is to take */
 
 static uint32_t make(enum entry entry) {
     switch (entry) {
-    case CHECK: return simmergate_check(table.start, table.bytes, answer.start, answer.bytes);
-    case WEIGHT: return simmergate_weight(table.start, table.bytes, answer.start, answer.bytes);
-    case VALUE: return simmergate_value(table.start, table.bytes, registers.start, registers.bytes, answer.start, answer.bytes);
-    case EQUAL: return simmergate_equal(table.start, table.bytes, copy.start, copy.bytes, answer.start, answer.bytes);
-    case SECOND: return simmergate_equal(small.start, small.bytes, table.start, table.bytes, answer.start, answer.bytes);
+    case CHECK: return simmergate_check(limit, table.start, table.bytes, answer.start, answer.bytes);
+    case WEIGHT: return simmergate_weight(limit, table.start, table.bytes, answer.start, answer.bytes);
+    case VALUE: return simmergate_value(limit, table.start, table.bytes, registers.start, registers.bytes, answer.start, answer.bytes);
+    case EQUAL: return simmergate_equal(limit, table.start, table.bytes, copy.start, copy.bytes, answer.start, answer.bytes);
+    case SECOND: return simmergate_equal(limit, small.start, small.bytes, table.start, table.bytes, answer.start, answer.bytes);
     default:
-        return simmergate_simplify(edition, table.start, table.bytes, out.start, out.bytes, steps.start, steps.bytes, work.start, work.bytes,
+        return simmergate_simplify(limit, edition, table.start, table.bytes, out.start, out.bytes, steps.start, steps.bytes, work.start, work.bytes,
                                    answer.start, answer.bytes);
     }
 }
@@ -77,7 +77,8 @@ static void answers(enum entry entry, struct verdict v, uint64_t result, uint64_
     memset(numbers, 0, MOST_NUMBERS * sizeof *numbers);
     numbers[0] = v.number, numbers[1] = v.place, numbers[n] = v.what, numbers[n + 1] = v.byte;
     if (entry == WEIGHT || entry == VALUE) numbers[2] = v.number ? 0 : result;
-    if (entry == EQUAL || entry == SECOND) numbers[2] = v.number ? (entry == EQUAL ? 1 : 2) : 0, numbers[3] = v.number ? 0 : result;
+    int refused = v.number != 0 && v.number != 19; /* 19 is of the limit, and of neither table */
+    if (entry == EQUAL || entry == SECOND) numbers[2] = refused ? (entry == EQUAL ? 1 : 2) : 0, numbers[3] = v.number ? 0 : result;
 }
 
 /* A call with `room` bytes for its answer must return and write these numbers; 6, and nothing, where they do not fit. */
@@ -128,12 +129,13 @@ static void led_to(enum entry entry, const uint8_t *t, size_t bytes, struct verd
     answers(entry, v, result, numbers);
 }
 
-/* All calls on a table: with room to spare, with just enough, with too little; with an edition that there is not, which is 9 whatever the
-   table; and with registers of another length. */
-static void all(const char *name, const uint8_t *t, size_t bytes, struct verdict v) {
+/* All calls on a table at a limit, where its verdict is v: with room to spare, with just enough, with too little; with an edition that there is
+   not, which is 9 whatever the table; and with registers of another length. */
+static void at_limit(size_t at, const char *name, const uint8_t *t, size_t bytes, struct verdict v) {
     static const size_t unknown[] = {0, 3, 255, 257, 258, 65537, (size_t)1 << 32 | 1, (size_t)1 << 32 | 2, (size_t)-1};
     static const size_t lengths[] = {0, 1, 8, 16, 2040, 2047, 2049, 2056, 4096};
     uint64_t numbers[MOST_NUMBERS];
+    limit = at;
     lend_all(name, t, bytes);
     for (enum entry entry = 0; entry < ENTRIES; entry++) {
         led_to(entry, t, bytes, v, numbers);
@@ -151,11 +153,31 @@ static void all(const char *name, const uint8_t *t, size_t bytes, struct verdict
     call(VALUE, enough[VALUE] + turn % 5, numbers);
 }
 
-/* The simplifier on a table with areas that are large enough: it says of the table what v says, and of one that is good no more than that
-   nothing is wrong. */
+/* All calls on a table, whose verdict at the lower limit is v: at both limits, where a table up to the lower one says the same at both, and at a
+   limit that there is not, which is 19 whatever else is handed in. */
+static void all(const char *name, const uint8_t *t, size_t bytes, struct verdict v) {
+    struct verdict higher = own_check(HIGHER, t, bytes);
+    uint64_t numbers[MOST_NUMBERS];
+    at_limit(LOWER, name, t, bytes, v);
+    if (v.number != 1 && v.number != 3 && memcmp(&v, &higher, sizeof v)) fail("the test's own reading", "the refusal at the higher limit", v.number, higher.number);
+    at_limit(HIGHER, name, t, bytes, higher);
+    limit = own_no_limit(turn / 2);
+    edition = turn / 2 % 4;
+    lend_all(name, t, bytes);
+    for (enum entry entry = 0; entry < ENTRIES; entry++) {
+        answers(entry, (struct verdict){19, 0, 0, 0}, 0, numbers);
+        call(entry, enough[entry] + turn % 5, numbers);
+        call(entry, turn % enough[entry], numbers);
+    }
+    limit = LOWER, edition = 1 + turn % 2;
+}
+
+/* The simplifier on a table, which is one for both limits, with areas that are large enough: it says of the table what v says, and of one that is
+   good no more than that nothing is wrong. */
 static void simplified(const uint8_t *t, size_t bytes, struct verdict v) {
     uint64_t numbers[MOST_NUMBERS];
-    lend(&out, NULL, MOST_BYTES), lend(&steps, NULL, MOST_WEIGHT), lend(&work, NULL, WORK);
+    limit = turn % 8 ? LOWER : HIGHER;
+    lend(&out, NULL, RECORD * limit), lend(&steps, NULL, limit), lend(&work, NULL, own_work(limit));
     if (v.number) {
         answers(SIMPLIFY, v, 0, numbers);
         call(SIMPLIFY, enough[SIMPLIFY], numbers);
@@ -205,7 +227,7 @@ static void stored(void) {
         size_t n = unhex(parts[1], t, sizeof t);
         struct verdict v = {numbers[0], numbers[1], 0, 0};
         if (v.number == 7) v = (struct verdict){0, 0, 0, 0};
-        struct verdict own = own_check(t, n);
+        struct verdict own = own_check(LOWER, t, n);
         if (own.number != v.number || own.place != v.place) fail("the test's own reading", "the refusal", v.number, own.number);
         v = own;
         if (numbers[0] == 0) {
@@ -222,16 +244,17 @@ static void stored(void) {
 static unsigned long lengths(void) {
     unsigned long n = 0;
     memset(t, 0, sizeof t);
-    for (size_t bytes = 0; bytes <= 3 * RECORD; bytes++, n++) all("a length near 0 and 16", t, bytes, own_check(t, bytes));
-    for (size_t bytes = MOST_BYTES - 33; bytes <= MOST_BYTES + 33; bytes++, n++) all("a length near 49,152 and 49,168", t, bytes, own_check(t, bytes));
+    for (size_t bytes = 0; bytes <= 3 * RECORD; bytes++, n++) all("a length near 0 and 16", t, bytes, own_check(LOWER, t, bytes));
+    for (size_t bytes = MOST_BYTES - 33; bytes <= MOST_BYTES + 33; bytes++, n++) all("a length near 49,152 and 49,168", t, bytes, own_check(LOWER, t, bytes));
+    for (size_t bytes = RECORD * HIGHER - 17; bytes <= RECORD * HIGHER + 17; bytes++, n++) all("a length near 262,144 and 262,160", t, bytes, own_check(LOWER, t, bytes));
     uint8_t room[SIMMERGATE_VALUE_BYTES];
     now = "areas of no byte, at no address";
-    if (simmergate_check(NULL, 0, NULL, 0) != 6 || simmergate_weight(NULL, 0, NULL, 0) != 6 || simmergate_value(NULL, 0, NULL, 0, NULL, 0) != 6)
+    if (simmergate_check(0, NULL, 0, NULL, 0) != 6 || simmergate_weight(0, NULL, 0, NULL, 0) != 6 || simmergate_value(0, NULL, 0, NULL, 0, NULL, 0) != 6)
         fail("a call without an answer slice", "the return", 6, 0);
-    if (simmergate_check(NULL, 0, room, sizeof room) != 1 || simmergate_weight(NULL, 0, room, sizeof room) != 1
-        || simmergate_value(NULL, 0, NULL, 0, room, sizeof room) != 1)
+    if (simmergate_check(LOWER, NULL, 0, room, sizeof room) != 1 || simmergate_weight(HIGHER, NULL, 0, room, sizeof room) != 1
+        || simmergate_value(LOWER, NULL, 0, NULL, 0, room, sizeof room) != 1)
         fail("a call without a table", "the return", 1, 0);
-    if (simmergate_value(t, RECORD, NULL, 0, room, sizeof room) != 6) fail("a call without registers", "the return", 6, 0);
+    if (simmergate_value(HIGHER, t, RECORD, NULL, 0, room, sizeof room) != 6) fail("a call without registers", "the return", 6, 0);
     calls += 7;
     return n;
 }
@@ -245,7 +268,7 @@ static unsigned long short_slices(void) {
         lend_all("an answer slice that is too short", t, RECORD);
         for (enum entry entry = 0; entry < ENTRIES; entry++) {
             uint64_t numbers[MOST_NUMBERS];
-            led_to(entry, t, RECORD, own_check(t, RECORD), numbers);
+            led_to(entry, t, RECORD, own_check(LOWER, t, RECORD), numbers);
             for (size_t room = 0; room < enough[entry]; room++, n++) call(entry, room, numbers);
             call(entry, enough[entry], numbers);
         }
@@ -265,13 +288,13 @@ static unsigned long kinds(void) {
                 record(i++, kind, kind == 2 || kind == 3 ? 2 : 0, kind == 0 ? 9 : kind == 1 ? 7 : 0);
                 if (kind >= 2) record(i++, 1, 0, 200), record(i++, 0, 0, 3);
                 t[RECORD * 2 + j] = values[x];
-                struct verdict own = own_check(t, RECORD * i);
+                struct verdict own = own_check(LOWER, t, RECORD * i);
                 all("a kind with a byte set", t, RECORD * i, own);
                 simplified(t, RECORD * i, own);
                 by_flaw[own.what]++;
                 record(i, kind, kind == 2 || kind == 3 ? 2 : 0, 0);
                 t[RECORD * i + j] = values[x];
-                all("a record too many, with a byte set", t, RECORD * (i + 1), own_check(t, RECORD * (i + 1)));
+                all("a record too many, with a byte set", t, RECORD * (i + 1), own_check(LOWER, t, RECORD * (i + 1)));
             }
     return n;
 }
@@ -286,16 +309,53 @@ static unsigned long several(void) {
                 for (int second = 0; second < 2; second++, n++) {
                     record(0, 2, 2, 0), record(1, 0, 0, 5), record(2, kind, 1, 0), record(3, second ? 9 : 0, 0, 0);
                     t[RECORD * 2 + j] = (uint8_t)(1 + dice(255)), t[RECORD * 2 + k] = (uint8_t)(1 + dice(255));
-                    all("a record with two bytes set", t, RECORD * 4, own_check(t, RECORD * 4));
+                    all("a record with two bytes set", t, RECORD * 4, own_check(LOWER, t, RECORD * 4));
                 }
     return n;
 }
 
-static void expect(const char *name, size_t records, uint64_t number, uint64_t place) {
-    struct verdict own = own_check(t, RECORD * records);
+/* The table must be refused so at the lower limit, and so at the higher. */
+static void expect_both(const char *name, size_t records, uint64_t number, uint64_t place, uint64_t higher, uint64_t higher_place) {
+    struct verdict own = own_check(LOWER, t, RECORD * records), above = own_check(HIGHER, t, RECORD * records);
     now = name;
     if (own.number != number || own.place != place) fail("the test's own reading", "the refusal", number, own.number);
+    if (above.number != higher || above.place != higher_place) fail("the test's own reading", "the refusal at the higher limit", higher, above.number);
     all(name, t, RECORD * records, own);
+}
+
+static void expect(const char *name, size_t records, uint64_t number, uint64_t place) { expect_both(name, records, number, place, number, place); }
+
+/* Tables over the lower limit, at the edges of the higher one. */
+static unsigned long larger(void) {
+    unsigned long n = 0;
+    for (unsigned kind = 0; kind <= 4; kind++, n++) {
+        static const char *const names[] = {"16,384 integers", "16,384 symbols", "16,384 sums", "16,384 products", "16,384 powers"};
+        for (size_t i = 0; i < HIGHER; i++) record(i, kind, kind == 2 || kind == 3 ? 2 : 0, 0);
+        expect_both(names[kind], HIGHER, 1, 0, kind == 1 ? 3 : 4, kind == 0 ? 1 : kind == 1 ? 0 : HIGHER);
+    }
+    for (size_t i = 0; i < HIGHER; i++) record(i, 2, 65535, 0);
+    expect_both("16,384 sums of 65,535 members", HIGHER, 1, 0, 4, HIGHER), n++;
+    record(0, 2, 16383, 0);
+    for (size_t i = 1; i < HIGHER; i++) record(i, 0, 0, i);
+    expect_both("a sum of 16,383 integers", HIGHER, 1, 0, 0, 0), n++;
+    record(HIGHER - 1, 1, 0, 0);
+    expect_both("the same with a symbol", HIGHER, 1, 0, 3, 0), n++;
+    record(HIGHER, 0, 0, 0);
+    expect_both("16,385 records", HIGHER + 1, 1, 0, 1, 0), n++;
+    record(0, 3, 5461, 0);
+    for (size_t i = 1; i <= 5461; i++) record(i, 1, 0, i % 256);
+    expect_both("a product of 5,461 symbols", 5462, 1, 0, 0, 0), n++;
+    record(0, 3, 1024, 0);
+    expect_both("a product of 1,024 symbols", 1025, 3, 0, 0, 0), n++;
+    record(0, 2, 3071, 0);
+    record(3071, 7, 0, 0);
+    expect("heavy, and a bad record last", 3072, 2, 3071), n++;
+    for (size_t i = 0; i < 8191; i++) record(i, 4, 0, 0);
+    for (size_t i = 8191; i < 16383; i++) record(i, 0, 0, 3);
+    expect_both("8,191 powers one inside the other", 16383, 1, 0, 0, 0), n++;
+    record(16382, 0, 0, 0);
+    expect_both("the same with an exponent 0 at the outermost", 16383, 1, 0, 5, 16382), n++;
+    return n;
 }
 
 /* Tables at the edges of weight, shape and exponents. */
@@ -304,7 +364,7 @@ static unsigned long large(void) {
     for (unsigned kind = 0; kind <= 4; kind++, n++) {
         static const char *const names[] = {"3,072 integers", "3,072 symbols", "3,072 sums", "3,072 products", "3,072 powers"};
         for (size_t i = 0; i < 3072; i++) record(i, kind, kind == 2 || kind == 3 ? 2 : 0, 0);
-        expect(names[kind], 3072, kind == 1 ? 3 : 4, kind == 0 ? 1 : kind == 1 ? 0 : 3072);
+        expect_both(names[kind], 3072, kind == 1 ? 3 : 4, kind == 0 ? 1 : kind == 1 ? 0 : 3072, 4, kind < 2 ? 1 : 3072);
     }
     for (size_t i = 0; i < 3072; i++) record(i, 2, 65535, 0);
     expect("3,072 sums of 65,535 members", 3072, 4, 3072), n++;
@@ -312,7 +372,7 @@ static unsigned long large(void) {
     for (size_t i = 1; i < 3072; i++) record(i, 0, 0, i);
     expect("a sum of 3,071 integers", 3072, 0, 0), n++;
     record(3071, 1, 0, 0);
-    expect("the same with a symbol", 3072, 3, 0), n++;
+    expect_both("the same with a symbol", 3072, 3, 0, 0, 0), n++;
     record(0, 3, 1023, 0);
     for (size_t i = 1; i < 1024; i++) record(i, 1, 0, i % 256);
     expect("a product of 1,023 symbols", 1024, 0, 0), n++;
@@ -332,7 +392,7 @@ static unsigned long large(void) {
     expect("the same with an exponent 0 at the outermost", 3071, 5, 3070), n++;
     record(1536, 0, 0, 0);
     expect("and at the innermost", 3071, 5, 1536), n++;
-    return n;
+    return n + larger();
 }
 
 /* A random tree from record i on; gives the record after it. */
@@ -371,7 +431,7 @@ static unsigned long random_trees(void) {
         case 6: memset(t + i, 0, RECORD), t[i] = 1; break;
         default: break;
         }
-        struct verdict v = own_check(t, bytes);
+        struct verdict v = own_check(LOWER, t, bytes);
         all("a random table", t, bytes, v);
         damaged_and_whole[v.number]++;
     }

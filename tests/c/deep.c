@@ -1,5 +1,5 @@
-/* The deepest tables that are accepted, 1,535 nodes one inside the other, checked, weighed, evaluated, compared and simplified by both editions on a stack of 1 MiB that
-   lies behind a page that nothing may touch. The stack is painted before each call, and what is painted over is what the call needed. The
+/* The deepest tables that are accepted, 1,535 nodes one inside the other at the limit 3,072 and 8,191 at 16,384, checked, weighed, evaluated,
+   compared and simplified by both editions on a stack of 1 MiB, and of 4 MiB, that lies behind a page that nothing may touch. The stack is painted before each call, and what is painted over is what the call needed. The
    widest tables are simplified there, too. */
 #include "../../include/simmergate.h"
 #include "own.h"
@@ -10,24 +10,29 @@
 
 int mprotect(void *, size_t, int);
 
-enum { PAGE = 4096, STACK = 1 << 20, PAINT = 0xe5, DEPTH = 1535 };
+enum { PAGE = 4096, STACK = 4 << 20, PAINT = 0xe5 };
 
 static uint8_t area[PAGE + STACK] __attribute__((aligned(PAGE)));
 static uint8_t *const stack = area + PAGE;
 
-static uint8_t table[MOST_BYTES], second[MOST_BYTES], registers[8 * REGISTERS], answer[SIMMERGATE_SIMPLIFY_BYTES];
-static uint8_t out[MOST_BYTES], steps[MOST_BYTES / RECORD], work[65536];
+/* A limit, how deep its deepest tables are, the stack that they are tried on, and what the header says that they need. */
+struct level { size_t limit, stack, said; int depth; };
+static const struct level levels[] = {{LOWER, 1 << 20, SIMMERGATE_STACK, 1535}, {HIGHER, STACK, SIMMERGATE_STACK_16384, 8191}};
+static struct level at;
+
+static uint8_t table[RECORD * HIGHER], second[RECORD * HIGHER], registers[8 * REGISTERS], answer[SIMMERGATE_SIMPLIFY_BYTES];
+static uint8_t out[RECORD * HIGHER], steps[HIGHER], work[524288];
 static size_t bytes, second_bytes, edition = 1;
 static uint32_t returned;
 
 static void *nothing(void *unused) { return unused; }
-static void *check(void *unused) { returned = simmergate_check(table, bytes, answer, sizeof answer); return unused; }
-static void *weigh(void *unused) { returned = simmergate_weight(table, bytes, answer, sizeof answer); return unused; }
-static void *evaluate(void *unused) { returned = simmergate_value(table, bytes, registers, sizeof registers, answer, sizeof answer); return unused; }
-static void *compare(void *unused) { returned = simmergate_equal(table, bytes, second, second_bytes, answer, sizeof answer); return unused; }
+static void *check(void *unused) { returned = simmergate_check(at.limit, table, bytes, answer, sizeof answer); return unused; }
+static void *weigh(void *unused) { returned = simmergate_weight(at.limit, table, bytes, answer, sizeof answer); return unused; }
+static void *evaluate(void *unused) { returned = simmergate_value(at.limit, table, bytes, registers, sizeof registers, answer, sizeof answer); return unused; }
+static void *compare(void *unused) { returned = simmergate_equal(at.limit, table, bytes, second, second_bytes, answer, sizeof answer); return unused; }
 
 static void *simplify(void *unused) {
-    returned = simmergate_simplify(edition, table, bytes, out, sizeof out, steps, sizeof steps, work, sizeof work, answer, sizeof answer);
+    returned = simmergate_simplify(at.limit, edition, table, bytes, out, sizeof out, steps, sizeof steps, work, sizeof work, answer, sizeof answer);
     return unused;
 }
 
@@ -35,15 +40,15 @@ static void *simplify(void *unused) {
 static size_t used(void *(*call)(void *)) {
     pthread_attr_t attributes;
     pthread_t thread;
-    memset(stack, PAINT, STACK);
-    if (pthread_attr_init(&attributes) || pthread_attr_setstack(&attributes, stack, STACK)
+    memset(stack, PAINT, at.stack);
+    if (pthread_attr_init(&attributes) || pthread_attr_setstack(&attributes, stack, at.stack)
         || pthread_create(&thread, &attributes, call, NULL) || pthread_join(thread, NULL)) {
-        printf("deep: no thread on a stack of %d bytes\n", STACK);
+        printf("deep: no thread on a stack of %zu bytes\n", at.stack);
         exit(1);
     }
     size_t i = 0;
     while (stack[i] == PAINT) i++;
-    return STACK - i;
+    return at.stack - i;
 }
 
 static void put(unsigned kind, unsigned count, uint64_t number) {
@@ -56,23 +61,23 @@ static void put(unsigned kind, unsigned count, uint64_t number) {
     bytes += RECORD;
 }
 
-/* DEPTH nodes of the kinds a and b by turns, each the first member of the one around it, or the last; and the innermost leaf. */
+/* The deepest nest of nodes of the kinds a and b by turns, each the first member of the one around it, or the last; and the innermost leaf. */
 static void nest(unsigned a, unsigned b, int first, uint64_t innermost) {
     bytes = 0;
-    for (int d = 0; d < DEPTH; d++) {
+    for (int d = 0; d < at.depth; d++) {
         unsigned k = d % 2 ? b : a;
         put(k, k == 4 ? 0 : 2, 0);
         if (k != 4 && !first) put(0, 0, 3 + (uint64_t)d);
     }
     put(0, 0, innermost);
-    for (int d = DEPTH - 1; d >= 0; d--) {
+    for (int d = at.depth - 1; d >= 0; d--) {
         unsigned k = d % 2 ? b : a;
         if (k == 4 || first) put(0, 0, 3 + (uint64_t)d);
     }
 }
 
 static void differ(const char *call, unsigned a, unsigned b, uint64_t expected, uint64_t got) {
-    printf("deep: %s of %d nested nodes of kinds %u and %u gives %llu, not %llu\n", call, DEPTH, a, b, (unsigned long long)got, (unsigned long long)expected);
+    printf("deep: %s of %d nested nodes of kinds %u and %u gives %llu, not %llu\n", call, at.depth, a, b, (unsigned long long)got, (unsigned long long)expected);
     exit(1);
 }
 
@@ -101,14 +106,11 @@ static void widest(unsigned n, int which, size_t records, size_t taken, size_t t
     if (own_number(answer + 24) != taken) differ("the steps of a wide sum", 2, 2, taken, own_number(answer + 24));
 }
 
-int main(void) {
+/* All calls on the deepest tables of the level; says what each needed at the most. */
+static void deepest(void) {
     static const unsigned kinds[][3] = {{4, 4, 0}, {2, 2, 0}, {2, 2, 1}, {3, 3, 0}, {3, 3, 1}, {2, 3, 0}, {3, 2, 1}, {4, 2, 0}, {4, 3, 1}};
     size_t shapes = sizeof kinds / sizeof *kinds, most[5] = {0, 0, 0, 0, 0}, need = 0;
     uint64_t own_registers[REGISTERS] = {0};
-    if (mprotect(area, PAGE, 0)) {
-        printf("deep: no page to guard the stack\n");
-        return 1;
-    }
     used(nothing);
     size_t thread = used(nothing);
     for (size_t i = 0; i < shapes; i++) {
@@ -142,16 +144,30 @@ int main(void) {
         }
     }
     edition = 1;
-    widest(3071, 0, 1, 1, thread);
-    widest(1023, 1, 3, 1, thread);
-    widest(1000, 2, 3001, 0, thread);
     for (int k = 0; k < 5; k++)
         if (most[k] > need) need = most[k];
-    if (need > SIMMERGATE_STACK) {
-        printf("deep: a call needs %zu bytes of stack, and the header says %d\n", need, SIMMERGATE_STACK);
+    if (need > at.said) {
+        printf("deep: a call needs %zu bytes of stack at the limit %zu, and the header says %zu\n", need, at.limit, at.said);
+        exit(1);
+    }
+    printf("deep: at the limit %zu, %zu shapes of %d nested nodes on a stack of %zu MiB: check needs %zu bytes of it, weight %zu, value %zu, equal %zu, simplify %zu; the header says %zu\n",
+           at.limit, shapes, at.depth, at.stack >> 20, most[0], most[1], most[2], most[3], most[4], at.said);
+}
+
+int main(void) {
+    if (mprotect(area, PAGE, 0)) {
+        printf("deep: no page to guard the stack\n");
         return 1;
     }
-    printf("deep: %zu shapes of %d nested nodes on a stack of 1 MiB: check needs %zu bytes of it, weight %zu, value %zu, equal %zu, simplify %zu; the header says %d; three widest sums\n",
-           shapes, DEPTH, most[0], most[1], most[2], most[3], most[4], SIMMERGATE_STACK);
+    for (size_t i = 0; i < sizeof levels / sizeof *levels; i++) {
+        at = levels[i];
+        deepest();
+        unsigned all = (unsigned)at.limit - 1, threes = (unsigned)(at.limit - 1) / 3;
+        size_t thread = used(nothing);
+        widest(all, 0, 1, 1, thread);
+        widest(threes, 1, 3, 1, thread);
+        widest(1000, 2, 3001, 0, thread);
+    }
+    printf("deep: the widest sums of both limits\n");
     return 0;
 }

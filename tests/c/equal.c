@@ -1,11 +1,12 @@
 /* equal LINES: simmergate_equal against the stored answers, every line of standard input, and on pairs that are built here, whose answer is
-   known by construction: the deepest trees, sums of 1,000 and of 3,071 members, and ten levels of pairs. Each pair is also exchanged, and each
+   known by construction: the deepest trees, sums of 1,000 and of 3,071 members, and ten levels of pairs; at the limit 3,072, and all of it that is
+   up to that limit at 16,384 too; and there the deepest trees and the longest sums that only it accepts. Each pair is also exchanged, and each
    stored table compared with a copy of itself. Every lent area has canary bytes on both sides and a length of its own. */
 #include "../../include/simmergate.h"
 #include "own.h"
 #include "text.h"
 
-enum { GUARD = 64, LONGEST = MOST_BYTES + 4 * RECORD, ANSWER = SIMMERGATE_EQUAL_BYTES, NUMBERS = ANSWER / 8, DEPTH = 1535, MOST_MEMBERS = 3071, LEVELS = 10, LEAVES = 1 << LEVELS };
+enum { GUARD = 64, LONGEST = RECORD * (HIGHER + 4), ANSWER = SIMMERGATE_EQUAL_BYTES, NUMBERS = ANSWER / 8, MOST_MEMBERS = 16383, LEVELS = 10, LEAVES = 1 << LEVELS };
 
 /* An area that is lent to a call: canary bytes, the area, canary bytes; and what the area held before. */
 struct room {
@@ -16,6 +17,8 @@ struct room {
 static struct room first, second, answer;
 static const char *now, *but = "";
 static unsigned long calls, turn;
+static size_t limit = LOWER;
+static int depth = 1535; /* of the deepest trees that the limit accepts */
 
 static uint8_t canary(size_t i) { return (uint8_t)(0xa5 ^ (i * 7)); }
 
@@ -30,8 +33,8 @@ static void lend(struct room *r, const uint8_t *given, size_t bytes, unsigned lo
 }
 
 static void fail(const char *what, uint64_t expected, uint64_t got) {
-    printf("equal: %s%s: two tables of %zu and %zu bytes, %zu bytes for the answer: %s is %llu, and should be %llu\n", now, but, first.bytes, second.bytes,
-           answer.bytes, what, (unsigned long long)got, (unsigned long long)expected);
+    printf("equal: %s%s: two tables of %zu and %zu bytes at the limit %zu, %zu bytes for the answer: %s is %llu, and should be %llu\n", now, but, first.bytes, second.bytes,
+           limit, answer.bytes, what, (unsigned long long)got, (unsigned long long)expected);
     exit(1);
 }
 
@@ -56,7 +59,7 @@ static void call(size_t room, struct numbers expected) {
     static const char *const names[] = {"the number", "the place", "the table refused", "yes or no", "what is wrong", "which byte"};
     size_t written = room < ANSWER ? 0 : ANSWER;
     lend(&answer, NULL, room, turn / 3);
-    uint32_t r = simmergate_equal(first.start, first.bytes, second.start, second.bytes, answer.start, answer.bytes);
+    uint32_t r = simmergate_equal(limit, first.start, first.bytes, second.start, second.bytes, answer.start, answer.bytes);
     if (r != (written ? expected.is[0] : 6)) fail("the return", written ? expected.is[0] : 6, r);
     for (size_t i = 0; i < written / 8; i++) {
         uint64_t got = own_number(answer.start + 8 * i);
@@ -70,7 +73,7 @@ static void call(size_t room, struct numbers expected) {
 
 /* The answer that the test's own reading of two tables leads to, trees that are not refused being equal or not. */
 static struct numbers led_to(const uint8_t *a, size_t a_bytes, const uint8_t *b, size_t b_bytes, uint64_t yes) {
-    struct verdict v = own_check(a, a_bytes), w = own_check(b, b_bytes);
+    struct verdict v = own_check(limit, a, a_bytes), w = own_check(limit, b, b_bytes);
     if (v.number) return (struct numbers){{v.number, v.place, 1, 0, v.what, v.byte}};
     if (w.number) return (struct numbers){{w.number, w.place, 2, 0, w.what, w.byte}};
     return (struct numbers){{0, 0, 0, yes, 0, 0}};
@@ -82,12 +85,18 @@ static void lend_both(const uint8_t *a, size_t a_bytes, const uint8_t *b, size_t
     lend(&second, b, b_bytes, 3 * turn + 1);
 }
 
-/* A pair: with just enough room for the answer, with room to spare, and with too little. */
+/* A pair: with just enough room for the answer, with room to spare, and with too little; the answer at the higher limit, which is the same where
+   both tables are up to the lower; and 19 at a limit that there is not. */
 static void pair(const uint8_t *a, size_t a_bytes, const uint8_t *b, size_t b_bytes, struct numbers expected) {
+    size_t now_at = limit;
     lend_both(a, a_bytes, b, b_bytes);
     call(ANSWER, expected);
     call(turn % ANSWER, expected);
     if (turn % 4 == 0) call(ANSWER + 1 + turn % 41, expected);
+    if (limit == LOWER && expected.is[0] != 1 && expected.is[0] != 3) limit = HIGHER, call(ANSWER, expected);
+    limit = own_no_limit(turn);
+    if (turn % 4 == 1) call(ANSWER, (struct numbers){{19, 0, 0, 0, 0, 0}});
+    limit = now_at;
 }
 
 /* A pair, whose first four numbers are these, and the pair exchanged; what is wrong with a record is as own.c says. */
@@ -163,28 +172,28 @@ static void built(const char *name, const char *difference) {
 }
 
 /* The leaves of a chain from the outermost to the innermost. */
-static uint64_t leaf[DEPTH + 1];
+static uint64_t leaf[HIGHER];
 
-/* DEPTH nodes of one kind, each the first member of the one around it, or the last; the innermost node may be of another kind. */
+/* As many nodes of one kind as the limit accepts, each the first member of the one around it, or the last; the innermost node may be of another kind. */
 static void chain(int w, unsigned kind, unsigned innermost, int deep_first) {
     bytes[w] = 0;
-    for (int d = 0; d < DEPTH; d++) {
-        unsigned k = d == DEPTH - 1 ? innermost : kind;
+    for (int d = 0; d < depth; d++) {
+        unsigned k = d == depth - 1 ? innermost : kind;
         put(w, k, k == 4 ? 0 : 2, 0);
         if (k != 4 && !deep_first) put(w, 0, 0, leaf[d]);
     }
-    put(w, 0, 0, leaf[DEPTH]);
-    for (int d = DEPTH - 1; d >= 0; d--)
+    put(w, 0, 0, leaf[depth]);
+    for (int d = depth - 1; d >= 0; d--)
         if (kind == 4 || deep_first) put(w, 0, 0, leaf[d]);
 }
 
 static void chains(void) {
-    static const char *const kinds[] = {"1,535 sums one inside the other", "1,535 products one inside the other", "1,535 powers one inside the other"};
-    static const int leaves[] = {0, 1, DEPTH / 2, DEPTH - 1, DEPTH};
+    static const char *const kinds[] = {"the deepest sums", "the deepest products", "the deepest powers"};
+    const int leaves[] = {0, 1, depth / 2, depth - 1, depth};
     for (unsigned kind = 2; kind <= 4; kind++)
         for (int order = 0; order < (kind == 4 ? 1 : 4); order++) {
             int one = order / 2, other = order % 2;
-            for (int d = 0; d <= DEPTH; d++) leaf[d] = 3 + (uint64_t)d;
+            for (int d = 0; d <= depth; d++) leaf[d] = 3 + (uint64_t)d;
             chain(0, kind, kind, one), chain(1, kind, kind, other);
             built(kinds[kind - 2], "");
             if (kind != 4) chain(1, kind, 5 - kind, other), built(kinds[kind - 2], ", the innermost of the other kind");
@@ -195,7 +204,7 @@ static void chains(void) {
                 built(kinds[kind - 2], ", one leaf changed");
                 leaf[d] -= 5000;
             }
-            for (int d = 0; d < DEPTH - 1; d += DEPTH - 2) {
+            for (int d = 0; d < depth - 1; d += depth - 2) {
                 uint64_t x = leaf[d];
                 leaf[d] = leaf[d + 1], leaf[d + 1] = x;
                 chain(1, kind, kind, other);
@@ -203,6 +212,20 @@ static void chains(void) {
                 leaf[d + 1] = leaf[d], leaf[d] = x;
             }
         }
+}
+
+/* Of the deepest trees of the higher limit fewer: the deep member on the same side and on the other, and another innermost leaf. */
+static void deepest(void) {
+    static const char *const kinds[] = {"8,191 sums one inside the other", "8,191 products one inside the other", "8,191 powers one inside the other"};
+    for (unsigned kind = 2; kind <= 4; kind++) {
+        for (int d = 0; d <= depth; d++) leaf[d] = 3 + (uint64_t)d;
+        chain(0, kind, kind, 1), chain(1, kind, kind, 1);
+        built(kinds[kind - 2], "");
+        if (kind != 4) chain(1, kind, kind, 0), built(kinds[kind - 2], "");
+        leaf[depth] = 9999;
+        chain(1, kind, kind, 1);
+        built(kinds[kind - 2], ", the innermost leaf changed");
+    }
 }
 
 /* A sum or a product of so many integers, symbols, or powers of integers. */
@@ -238,6 +261,16 @@ static void sums(const char *name, unsigned kind, unsigned of, unsigned n) {
     if (n > 1000) return;
     wide(1, kind, of, members, n - 1);
     built(name, ", one member fewer");
+}
+
+/* The longest sum, and the same with its first member last: each member is found where it was looked for first or next. */
+static void wide_and_shifted(const char *name) {
+    static uint64_t members[MOST_MEMBERS];
+    for (unsigned i = 0; i < MOST_MEMBERS; i++) members[i] = i;
+    wide(0, 2, 0, members, MOST_MEMBERS);
+    for (unsigned i = 0; i < MOST_MEMBERS; i++) members[i] = (i + 1) % MOST_MEMBERS;
+    wide(1, 2, 0, members, MOST_MEMBERS);
+    built(name, "");
 }
 
 /* Ten levels of pairs over the leaves from `from` on, sums and products by turns, in any order. */
@@ -283,11 +316,11 @@ static void lengths(void) {
     pairs("a record too many, and a length that is refused", t[0], 2 * RECORD, t[1], 1, (struct numbers){{4, 1, 1, 0, 0, 0}});
     pairs("one record, and 3,072 of them", t[0], RECORD, t[1], MOST_BYTES, (struct numbers){{4, 1, 2, 0, 0, 0}});
     now = "areas of no byte, at no address";
-    if (simmergate_equal(NULL, 0, NULL, 0, NULL, 0) != 6) fail("the return without an answer slice", 6, 0);
+    if (simmergate_equal(0, NULL, 0, NULL, 0, NULL, 0) != 6) fail("the return without an answer slice", 6, 0);
     lend(&answer, NULL, ANSWER, 0);
-    if (simmergate_equal(NULL, 0, NULL, 0, answer.start, ANSWER) != 1) fail("the return without tables", 1, 0);
+    if (simmergate_equal(LOWER, NULL, 0, NULL, 0, answer.start, ANSWER) != 1) fail("the return without tables", 1, 0);
     if (own_number(answer.start + 16) != 1) fail("the table refused", 1, own_number(answer.start + 16));
-    if (simmergate_equal(t[0], RECORD, NULL, 0, answer.start, ANSWER) != 1) fail("the return without a second table", 1, 0);
+    if (simmergate_equal(HIGHER, t[0], RECORD, NULL, 0, answer.start, ANSWER) != 1) fail("the return without a second table", 1, 0);
     if (own_number(answer.start + 16) != 2) fail("the table refused", 2, own_number(answer.start + 16));
     calls += 3;
 }
@@ -301,10 +334,14 @@ int main(int argc, char **argv) {
     sums("a sum of 1,000 symbols, shuffled", 2, 1, 1000);
     sums("a sum of 1,000 powers, shuffled", 2, 4, 1000);
     sums("a product of 1,000 powers, shuffled", 3, 4, 1000);
-    sums("a sum of 3,071 integers, shuffled", 2, 0, MOST_MEMBERS);
+    sums("a sum of 3,071 integers, shuffled", 2, 0, 3071);
     trees("ten levels of pairs, shuffled", LEAVES);
     trees("ten levels of pairs over one leaf", 1);
     trees("ten levels of pairs over three leaves, shuffled", 3);
+    limit = HIGHER, depth = 8191;
+    deepest();
+    sums("a sum of 3,276 powers, shuffled", 2, 4, 3276);
+    wide_and_shifted("a sum of 16,383 integers, and the same turned by one");
     printf("equal: %lu stored lines agree (%lu yes, %lu no, refused 1: %lu, 2: %lu, 3: %lu, 4: %lu, 5: %lu), and %lu deep and wide pairs (%lu yes, %lu no); "
            "%lu calls\n",
            lines, yes_lines, by_number[0] - yes_lines, by_number[1], by_number[2], by_number[3], by_number[4], by_number[5], yes_built + no_built, yes_built,

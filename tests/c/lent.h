@@ -5,7 +5,9 @@
 #include <string.h>
 
 #define GUARD 64
+#ifndef LENT_ROOM /* a program that lends more says so before */
 #define LENT_ROOM (1 << 17)
+#endif
 
 struct lent {
     const char *name;

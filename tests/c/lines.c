@@ -1,4 +1,4 @@
-/* Tables on standard input, a line of hexadecimal digits each; the simplifier's answer to each, by edition one, on standard output:
+/* Tables on standard input, a line of hexadecimal digits each; the simplifier's answer to each, by edition one at the limit 3,072, on standard output:
    `0 OPENINGS STEPS RECORDS`, the steps a digit each (`-` for none), or `NUMBER PLACE` for a refusal. */
 #include "../../include/simmergate.h"
 #include "text.h"
@@ -13,7 +13,7 @@ int main(void) {
     static uint8_t table[65536], out[49152], steps[3072], work[65536], answer[SIMMERGATE_SIMPLIFY_BYTES];
     while (next_line()) {
         size_t n = unhex(line, table, sizeof table);
-        uint32_t r = simmergate_simplify(1, table, n, out, sizeof out, steps, sizeof steps, work, sizeof work, answer, sizeof answer);
+        uint32_t r = simmergate_simplify(3072, 1, table, n, out, sizeof out, steps, sizeof steps, work, sizeof work, answer, sizeof answer);
         if (r != 0) {
             printf("%u %llu\n", r, (unsigned long long)number(answer, 1));
             continue;

@@ -52,14 +52,22 @@ static size_t after(const uint8_t *table, size_t n, size_t i) {
     return i;
 }
 
-struct verdict own_check(const uint8_t *table, size_t bytes) {
-    if (bytes == 0 || bytes % RECORD != 0 || bytes > MOST_BYTES) return (struct verdict){1, 0, 0, 0};
+size_t own_work(size_t limit) { return limit == LOWER ? 65536 : 524288; }
+
+size_t own_no_limit(uint64_t turn) {
+    static const size_t none[] = {0, 1, LOWER - 1, LOWER + 1, HIGHER - 1, HIGHER + 1, 65536, (size_t)1 << 32 | LOWER, (size_t)1 << 32 | HIGHER, (size_t)-1};
+    return none[turn % (sizeof none / sizeof *none)];
+}
+
+struct verdict own_check(size_t limit, const uint8_t *table, size_t bytes) {
+    if (limit != LOWER && limit != HIGHER) return (struct verdict){19, 0, 0, 0};
+    if (bytes == 0 || bytes % RECORD != 0 || bytes > RECORD * limit) return (struct verdict){1, 0, 0, 0};
     size_t n = bytes / RECORD, end;
     for (size_t i = 0; i < n; i++) {
         struct verdict v = wrong(table, i);
         if (v.number) return v;
     }
-    if (own_weight(table, bytes) > MOST_WEIGHT) return (struct verdict){3, 0, 0, 0};
+    if (own_weight(table, bytes) > limit) return (struct verdict){3, 0, 0, 0};
     end = after(table, n, 0);
     if (end > n) return (struct verdict){4, n, 0, 0};
     if (end < n) return (struct verdict){4, end, 0, 0};

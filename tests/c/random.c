@@ -1,9 +1,10 @@
-/* random SEED COUNT [FROM]: the calls on COUNT random tables beside a checker and an evaluator (own.c), a simplifier (rules.c) and an equality
+/* random SEED COUNT [FROM]: the calls on COUNT random tables, at a limit of its own each, beside a checker and an evaluator (own.c), a simplifier (rules.c) and an equality
    test in plain C that share nothing with the port. Of five tables one is damaged. Compared: every number of every answer and every byte that
    is written. Besides, the result by what must hold of it: a good table of the same value under random registers, of the weight that was
    answered, lighter by at least a unit for each step and opening, after at most the cube of the weight in tries, and simplified again by the same edition it is itself,
    with no step, no opening and a try for each record. Every lent area is guarded. */
 #include "../../include/simmergate.h"
+#define LENT_ROOM (524288 + 4096)
 #include "lent.h"
 #include "own.h"
 #include "rules.h"
@@ -14,8 +15,10 @@
 
 struct judged { uint64_t number, place, what, byte, weight; };
 
+static size_t limit; /* of the calls on the table at hand */
+
 static struct judged judge(const uint8_t *t, size_t bytes) {
-    struct verdict v = own_check(t, bytes);
+    struct verdict v = own_check(limit, t, bytes);
     return (struct judged){v.number, v.place, v.what, v.byte, v.number == 0 ? own_weight(t, bytes) : 0};
 }
 
@@ -24,7 +27,7 @@ static uint64_t members(const uint8_t *r) { return r[0] < 2 ? 0 : r[0] == 4 ? 2 
 
 /* Equality by sorting: two trees with all members of sums and products in order are equal when they are the same. */
 struct tree { uint8_t kind; uint64_t content; size_t count; struct tree **members; };
-static struct tree trees[2 * TABLE_RECORDS], *links[2 * TABLE_RECORDS];
+static struct tree trees[2 * HIGHER], *links[2 * HIGHER];
 static size_t trees_used, links_used;
 
 static int order(const struct tree *a, const struct tree *b) {
@@ -62,14 +65,14 @@ static int equal_trees(const uint8_t *a, const uint8_t *b) {
 
 /* ---- Tables to try. ---- */
 
-static uint8_t table[65536], other[65536];
+static uint8_t table[RECORD * (HIGHER + 4)], other[RECORD * (HIGHER + 4)];
 static size_t length, other_length;
 static uint64_t seed, at_table;
 
 static void fail(const char *what) {
     printf("random: %s: table %llu of seed %llu (again by: random %llu 1 %llu), %zu bytes: ", what, (unsigned long long)at_table,
            (unsigned long long)seed, (unsigned long long)seed, (unsigned long long)at_table, length);
-    if (length <= 49152) put_hex(table, length);
+    if (length <= RECORD * HIGHER) put_hex(table, length);
     printf("\n");
     exit(1);
 }
@@ -88,7 +91,7 @@ static void shuffled(const uint8_t **from, uint8_t **to) {
         shuffled(from, to);
         /* the new member trades places with all that is before it, or with nothing */
         if (r[0] != 4 && i > 0 && chance(2)) {
-            static uint8_t held[65536];
+            static uint8_t held[RECORD * HIGHER];
             size_t before = (size_t)(start - first), mine = (size_t)(*to - start);
             memcpy(held, start, mine);
             memmove(first + mine, first, before);
@@ -96,6 +99,9 @@ static void shuffled(const uint8_t **from, uint8_t **to) {
         }
     }
 }
+
+/* The lower limit, or, seldom, since tables and areas are longer there, the higher. */
+static size_t some_limit(void) { return chance(10) ? HIGHER : LOWER; }
 
 /* One damage, of those that a wire, a disk or a wrong program do. */
 static void damage(uint8_t *t, size_t *n) {
@@ -114,9 +120,9 @@ static void damage(uint8_t *t, size_t *n) {
     case 9: memset(r, 0, 16); r[0] = 4; break;
     case 10: memset(r, 0, 16); r[0] = 1; r[8] = (uint8_t)any(); break;
     default: /* longer than any table, or heavier */
-        if (chance(8)) { *n = 49152 + below(40); memset(t, 0, *n); }
-        else if (chance(4)) { *n = 16 * (1 + below(3072)); memset(t, 0, *n); for (size_t i = 0; i < *n; i += 16) t[i] = 1; }
-        else if (chance(4)) { *n = 49152 - 16 * below(2); memset(t, 0, *n); for (size_t i = 0; i < *n; i += 16) t[i] = 4; }
+        if (chance(8)) { *n = 16 * some_limit() + below(40); memset(t, 0, *n); }
+        else if (chance(4)) { *n = 16 * (1 + below(some_limit())); memset(t, 0, *n); for (size_t i = 0; i < *n; i += 16) t[i] = 1; }
+        else if (chance(4)) { *n = 16 * some_limit() - 16 * below(2); memset(t, 0, *n); for (size_t i = 0; i < *n; i += 16) t[i] = 4; }
         else r[1 + below(15)] = 1;
     }
 }
@@ -125,7 +131,7 @@ static void damage(uint8_t *t, size_t *n) {
 
 static struct lent lent_table = {.name = "table"}, lent_other = {.name = "other table"}, lent_registers = {.name = "registers"},
                    lent_out = {.name = "out"}, lent_steps = {.name = "steps"}, lent_work = {.name = "work"}, lent_answer = {.name = "answer"};
-static uint64_t counts[10], flaws[4], each_step[10], steps_seen, openings_seen, tries_seen, equal_seen, unequal_seen, calls;
+static uint64_t counts[20], at_higher, flaws[4], each_step[10], steps_seen, openings_seen, tries_seen, equal_seen, unequal_seen, calls;
 
 /* A size for an area that must have `need` bytes: mostly that, at times more, at times too few. */
 static size_t some_size(size_t need) { return chance(100) && need > 0 ? (size_t)below(need) : chance(3) ? need + (size_t)below(300) : need; }
@@ -144,10 +150,10 @@ static const uint8_t *lend_bytes(struct lent *area, const uint8_t *bytes, size_t
 static void try_check_and_weight(struct judged v) {
     size_t n = some_size(SIMMERGATE_CHECK_BYTES);
     uint8_t *a = lend(&lent_answer, n);
-    answered(simmergate_check(lend_bytes(&lent_table, table, length), length, a, n), (uint64_t[]){v.number, v.place, v.what, v.byte}, 4, "check");
+    answered(simmergate_check(limit, lend_bytes(&lent_table, table, length), length, a, n), (uint64_t[]){v.number, v.place, v.what, v.byte}, 4, "check");
     n = some_size(SIMMERGATE_WEIGHT_BYTES);
     a = lend(&lent_answer, n);
-    answered(simmergate_weight(lend_bytes(&lent_table, table, length), length, a, n), (uint64_t[]){v.number, v.place, v.weight, v.what, v.byte}, 5,
+    answered(simmergate_weight(limit, lend_bytes(&lent_table, table, length), length, a, n), (uint64_t[]){v.number, v.place, v.weight, v.what, v.byte}, 5,
              "weight");
     if (!holds(&lent_table, table, length, length)) fail("check or weight: the table changed");
 }
@@ -168,7 +174,7 @@ static void try_value(struct judged v, const uint8_t *t, size_t n) {
     if (wanted[0] == 0) wanted[2] = own_value(t, registers);
     uint8_t *a = lend(&lent_answer, room);
     const uint8_t *r = lend_bytes(&lent_registers, bytes, lent), *lent_t = lend_bytes(&lent_table, t, n);
-    answered(simmergate_value(lent_t, n, r, lent, a, room), wanted, 5, "value");
+    answered(simmergate_value(limit, lent_t, n, r, lent, a, room), wanted, 5, "value");
     if (!holds(&lent_table, t, n, n) || !holds(&lent_registers, bytes, lent, lent)) fail("value: the table or the registers changed");
 }
 
@@ -177,7 +183,7 @@ static void try_equal(struct judged v) {
     uint64_t wanted[6] = {0, 0, 0, 0, 0, 0};
     if (v.number != 0 || w.number != 0) {
         struct judged bad = v.number != 0 ? v : w;
-        wanted[0] = bad.number, wanted[1] = bad.place, wanted[2] = v.number != 0 ? 1 : 2, wanted[4] = bad.what, wanted[5] = bad.byte;
+        wanted[0] = bad.number, wanted[1] = bad.place, wanted[2] = v.number == 19 ? 0 : v.number != 0 ? 1 : 2, wanted[4] = bad.what, wanted[5] = bad.byte;
     } else {
         wanted[3] = (uint64_t)equal_trees(table, other);
         if (wanted[3] == 1) equal_seen++;
@@ -186,13 +192,13 @@ static void try_equal(struct judged v) {
     size_t room = some_size(SIMMERGATE_EQUAL_BYTES);
     uint8_t *a = lend(&lent_answer, room);
     const uint8_t *s = lend_bytes(&lent_table, table, length), *t = lend_bytes(&lent_other, other, other_length);
-    answered(simmergate_equal(s, length, t, other_length, a, room), wanted, 6, "equal");
+    answered(simmergate_equal(limit, s, length, t, other_length, a, room), wanted, 6, "equal");
     if (!holds(&lent_table, table, length, length) || !holds(&lent_other, other, other_length, other_length)) fail("equal: a table changed");
 }
 
 /* What an accepted call left: the records and steps that the plain C has, and zeros. */
 static void try_result(size_t edition, struct judged v, const uint64_t *said, struct simplified own, const uint8_t *own_out, const uint8_t *own_steps) {
-    static uint8_t result[49152], again[49152], again_steps[3072], again_work[65536], again_answer[SIMMERGATE_SIMPLIFY_BYTES];
+    static uint8_t result[RECORD * HIGHER], again[RECORD * HIGHER], again_steps[HIGHER], again_work[524288], again_answer[SIMMERGATE_SIMPLIFY_BYTES];
     uint64_t records = said[2], given = said[3], opened = said[4], tries = said[9];
     if (said[1] != 0 || records != own.records || given != own.steps || opened != own.openings || tries != own.tries) fail("simplify: other counts than the plain C's");
     memcpy(result, own_out, 16 * records);
@@ -209,7 +215,7 @@ static void try_result(size_t edition, struct judged v, const uint64_t *said, st
         if (own_value(table, registers) != own_value(result, registers)) fail("simplify: the value is another one");
     }
     try_value(after, result, 16 * records);
-    uint32_t r = simmergate_simplify(edition, result, 16 * records, again, sizeof again, again_steps, sizeof again_steps, again_work, sizeof again_work,
+    uint32_t r = simmergate_simplify(limit, edition, result, 16 * records, again, sizeof again, again_steps, sizeof again_steps, again_work, sizeof again_work,
                                      again_answer, sizeof again_answer);
     calls++;
     uint64_t wanted[10] = {0, 0, records, 0, 0, after.weight, after.weight, 0, 0, records};
@@ -230,13 +236,13 @@ static size_t some_edition(void) {
 static void try_simplify(struct judged v) {
     size_t edition = some_edition();
     size_t w = v.number == 0 ? (size_t)v.weight : (size_t)below(50), room = some_size(SIMMERGATE_SIMPLIFY_BYTES);
-    size_t out_size = some_size(16 * w), steps_size = some_size(w), work_size = some_size(65536);
+    size_t out_size = some_size(16 * w), steps_size = some_size(w), work_size = limit == HIGHER && chance(30) ? own_work(LOWER) : some_size(own_work(limit));
     const uint8_t *t = lend_bytes(&lent_table, table, length);
     uint8_t *o = lend(&lent_out, out_size), *s = lend(&lent_steps, steps_size), *k = lend(&lent_work, work_size), *a = lend(&lent_answer, room);
-    uint32_t number = simmergate_simplify(edition, t, length, o, out_size, s, steps_size, k, work_size, a, room);
+    uint32_t number = simmergate_simplify(limit, edition, t, length, o, out_size, s, steps_size, k, work_size, a, room);
     if (!holds(&lent_table, table, length, length)) fail("simplify: the table changed");
-    if (v.number == 0 && (out_size < 16 * w || steps_size < w || work_size < 65536)) v.number = 6;
-    if (edition != 1 && edition != 2) v = (struct judged){.number = 9};
+    if (v.number == 0 && (out_size < 16 * w || steps_size < w || work_size < own_work(limit))) v.number = 6;
+    if (v.number != 19 && edition != 1 && edition != 2) v = (struct judged){.number = 9};
     if (v.number != 0 || room < SIMMERGATE_SIMPLIFY_BYTES) {
         answered(number, (uint64_t[]){v.number, v.place, 0, 0, 0, 0, 0, v.what, v.byte, 0}, 10, "simplify");
         if (!untouched(&lent_out) || !untouched(&lent_steps) || !untouched(&lent_work)) fail("simplify: refused, and a lent byte changed");
@@ -250,9 +256,10 @@ static void try_simplify(struct judged v) {
     if (!holds(&lent_answer, a, SIMMERGATE_SIMPLIFY_BYTES, SIMMERGATE_SIMPLIFY_BYTES)) fail("simplify: changed past the answer");
     if (said[7] != 0 || said[8] != 0) fail("simplify: a good table, and something is wrong with a record");
     if (said[0] != number || (number != 0 && number != 7)) fail("simplify: a good table refused by another number than 7");
-    if (!holds(&lent_work, lent_zeros, 0, 65536)) fail("simplify: work is not zero, or changed past its stretch");
+    if (!holds(&lent_work, lent_zeros, 0, own_work(limit))) fail("simplify: work is not zero, or changed past its stretch");
     counts[number]++;
-    static uint8_t own_out[49152], own_steps[3072];
+    at_higher += limit == HIGHER;
+    static uint8_t own_out[RECORD * HIGHER], own_steps[HIGHER];
     struct simplified own = own_simplify((int)edition, table, own_out, own_steps);
     if (number != own.number) fail("simplify: the plain C says otherwise whether an integer leaves the range");
     if (number == 0) { try_result(edition, v, said, own, own_out, own_steps); return; }
@@ -267,7 +274,9 @@ int main(int argc, char **argv) {
     uint64_t count = decimal(argv[2]), from = argc > 3 ? decimal(argv[3]) : 0;
     lent_begin();
     for (at_table = from; at_table < from + count; at_table++) {
-        length = 16 * random_table(table, seed, at_table, at_table % 5000 == 0 ? TABLE_RECORDS : 200);
+        int large = at_table % 5000 == 0, larger = at_table % 5000 == 2500;
+        limit = larger ? HIGHER : LOWER;
+        length = 16 * random_table(table, seed, at_table, large ? LOWER : larger ? HIGHER : 200, limit);
         const uint8_t *source = table;
         uint8_t *end = other;
         shuffled(&source, &end);
@@ -276,6 +285,7 @@ int main(int argc, char **argv) {
         if (!equal_trees(table, other)) fail("the shuffled table is not equal");
         if (chance(5)) damage(table, &length);
         if (chance(4)) damage(other, &other_length);
+        if (limit == LOWER) limit = chance(50) ? own_no_limit(any()) : some_limit();
         struct judged v = judge(table, length);
         try_check_and_weight(v);
         try_value(v, table, length);
@@ -284,7 +294,7 @@ int main(int argc, char **argv) {
     }
     if (count >= 10000) {
         for (int i = 0; i < 10; i++) {
-            if (counts[i] == 0 && i != 8) { printf("random: no table of seed %llu was answered %d: nothing is shown of it\n", (unsigned long long)seed, i); return 1; }
+            if (counts[i == 8 ? 19 : i] == 0) { printf("random: no table of seed %llu was answered %d: nothing is shown of it\n", (unsigned long long)seed, i == 8 ? 19 : i); return 1; }
         }
         for (int i = 1; i < 4; i++) {
             if (flaws[i] == 0) { printf("random: no table of seed %llu has what is wrong %d: nothing is shown of it\n", (unsigned long long)seed, i); return 1; }
@@ -292,13 +302,14 @@ int main(int argc, char **argv) {
         for (int i = 1; i < 10; i++) {
             if (each_step[i] == 0 && i != 5) { printf("random: no table of seed %llu has step %d: nothing is shown of it\n", (unsigned long long)seed, i); return 1; }
         }
+        if (at_higher == 0) { printf("random: no table was simplified at the limit 16,384\n"); return 1; }
         if (equal_seen == 0 || unequal_seen == 0) { printf("random: no equal or no unequal tables\n"); return 1; }
     }
-    printf("random tables beside plain C: %llu (seed %llu), %llu calls; simplified %llu (%llu steps, %llu of them on powers, %llu openings, %llu tries, all bytes equal, values equal), refused 1 to 7:",
+    printf("random tables beside plain C: %llu (seed %llu), %llu calls; simplified %llu (%llu of them or of those out of range at the limit 16,384; %llu steps, %llu of them on powers, %llu openings, %llu tries, all bytes equal, values equal), refused 1 to 7:",
            (unsigned long long)count, (unsigned long long)seed, (unsigned long long)calls, (unsigned long long)counts[0],
-           (unsigned long long)steps_seen, (unsigned long long)(each_step[7] + each_step[8] + each_step[9]), (unsigned long long)openings_seen, (unsigned long long)tries_seen);
+           (unsigned long long)at_higher, (unsigned long long)steps_seen, (unsigned long long)(each_step[7] + each_step[8] + each_step[9]), (unsigned long long)openings_seen, (unsigned long long)tries_seen);
     for (int i = 1; i < 8; i++) printf(" %llu", (unsigned long long)counts[i]);
-    printf("; 9: %llu", (unsigned long long)counts[9]);
+    printf("; 9: %llu, 19: %llu", (unsigned long long)counts[9], (unsigned long long)counts[19]);
     printf("; of 2 by kind %llu, byte %llu, count %llu; equal %llu, unequal %llu\n", (unsigned long long)flaws[1], (unsigned long long)flaws[2],
            (unsigned long long)flaws[3], (unsigned long long)equal_seen, (unsigned long long)unequal_seen);
     return 0;

@@ -17,25 +17,6 @@ static void fail(const char *what, const char *op) {
     exit(1);
 }
 
-/* The bytes that `text` spells: pieces joined by `+`, each hexadecimal digits or digits*TIMES; `-` is none. */
-static size_t spelt(char *text, uint8_t *to) {
-    size_t n = 0;
-    if (strcmp(text, "-") == 0) return 0;
-    while (text != NULL) {
-        char *next = strchr(text, '+'), *star;
-        if (next != NULL) *next++ = 0;
-        star = strchr(text, '*');
-        uint64_t times = 1;
-        if (star != NULL) *star = 0, times = decimal(star + 1);
-        size_t one = unhex(text, to + n, LENT_ROOM - n);
-        if (times == 0 || one == 0 || times > (LENT_ROOM - n) / one) fail("no bytes, or too many", text);
-        for (uint64_t i = 1; i < times; i++) memcpy(to + n + i * one, to + n, one);
-        n += times * one;
-        text = next;
-    }
-    return n;
-}
-
 /* The numbers that follow the word; as many as there should be, and nothing else. */
 static void numbers_in(const char *text, uint64_t *to, int count) {
     char *end = (char *)text;
@@ -120,7 +101,7 @@ int main(int argc, char **argv) {
         char *parts[5];
         name = line;
         if (cut(line, parts, 5) != 5) fail("not five parts", "");
-        bytes = spelt(parts[1], held);
+        bytes = spelt(parts[1], held, LENT_ROOM);
         char *op = parts[2], *said = parts[3];
         while (op != NULL && said != NULL) {
             char *next_op = rest_of(op), *next_said = rest_of(said);
@@ -129,7 +110,7 @@ int main(int argc, char **argv) {
             operations++;
         }
         if (op != NULL || said != NULL) fail("not as many answers as operations", "");
-        if (spelt(parts[4], wanted_area) != bytes || memcmp(wanted_area, held, bytes) != 0) fail("the area afterwards is another one", "all operations");
+        if (spelt(parts[4], wanted_area, LENT_ROOM) != bytes || memcmp(wanted_area, held, bytes) != 0) fail("the area afterwards is another one", "all operations");
         lines++;
     }
     if (argc != 2 || (uint64_t)lines != decimal(argv[1])) { printf("settings: %ld stored lines on standard input, not as many as they should be\n", lines); return 1; }

@@ -1,6 +1,6 @@
 /* Writes tables, a line of hexadecimal digits each:
      tables small RECORDS [FROM COUNT]    all trees of at most RECORDS records with leaves -1, 0, 1, 2, a, b and exponents 1, 2
-     tables random SEED FROM COUNT MOST   the random tables FROM, FROM + 1, .. of SEED, of at most MOST records each
+     tables random SEED FROM COUNT MOST   the random tables FROM, FROM + 1, .. of SEED, of at most MOST records and the weight 3,072 each
    With the one word `count` before RECORDS instead, the number of small trees. */
 #include "text.h"
 #include "tables.h"
@@ -89,9 +89,9 @@ int main(int argc, char **argv) {
     }
     if (argc == 6 && strcmp(argv[1], "random") == 0) {
         uint64_t seed = decimal(argv[2]), from = decimal(argv[3]), count = decimal(argv[4]), most = decimal(argv[5]);
-        if (most < 1 || most > TABLE_RECORDS) { printf("MOST is 1 to %d\n", TABLE_RECORDS); return 2; }
+        if (most < 1 || most > 3072) { printf("MOST is 1 to 3072\n"); return 2; }
         for (uint64_t i = from; i < from + count; i++) {
-            put_hex(table, 16 * random_table(table, seed, i, (size_t)most));
+            put_hex(table, 16 * random_table(table, seed, i, (size_t)most, 3072));
             putchar('\n');
         }
         return 0;

@@ -5,7 +5,7 @@
 #include <stdint.h>
 #include <string.h>
 
-#define TABLE_RECORDS 3072
+#define TABLE_RECORDS 16384
 
 static uint64_t random_state;
 
@@ -107,9 +107,9 @@ static inline uint64_t weight_of_records(const uint8_t *table, size_t records) {
     return w;
 }
 
-/* Table number `index` of `seed` into `table`, which holds TABLE_RECORDS records: a tree of at most `most` records and of weight at
-   most 3,072. The answer is its number of records. */
-static inline size_t random_table(uint8_t *table, uint64_t seed, uint64_t index, size_t most) {
+/* Table number `index` of `seed` into `table`, which holds TABLE_RECORDS records: a tree of at most `most` records and of at most that weight.
+   The answer is its number of records. */
+static inline size_t random_table(uint8_t *table, uint64_t seed, uint64_t index, size_t most, uint64_t heaviest) {
     random_state = seed * 0xD1342543DE82EF95u + index;
     random_state = any() ^ index << 20;
     for (;;) {
@@ -124,6 +124,6 @@ static inline size_t random_table(uint8_t *table, uint64_t seed, uint64_t index,
         making.members = chance(10) ? room : 2 + below(4);
         if (making.members < 2) making.members = 2;
         random_tree(1 + below(room), chance(10) ? 40 : 6, 0);
-        if (weight_of_records(table, making.records) <= 3072) return making.records;
+        if (weight_of_records(table, making.records) <= heaviest) return making.records;
     }
 }

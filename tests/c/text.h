@@ -39,9 +39,9 @@ static inline size_t unhex(const char *text, uint8_t *bytes, size_t room) {
     return n / 2;
 }
 
-/* The digits of at most 49,152 bytes to standard output. */
+/* The digits of at most 262,144 bytes to standard output. */
 static inline void put_hex(const uint8_t *bytes, size_t n) {
-    static char text[2 * 49152 + 1];
+    static char text[2 * 262144 + 1];
     for (size_t i = 0; i < n; i++) {
         text[2 * i] = "0123456789abcdef"[bytes[i] / 16];
         text[2 * i + 1] = "0123456789abcdef"[bytes[i] % 16];
@@ -56,6 +56,26 @@ static inline uint64_t decimal(const char *text) {
     uint64_t x = strtoull(text, &end, 10);
     if (end == text || *end != 0) { printf("not a number: %s\n", text); exit(2); }
     return x;
+}
+
+/* The bytes that `text`, which is cut up, spells: pieces joined by `+`, each hexadecimal digits or digits*TIMES; nothing or `-` is none. Ends the program
+   where they do not fit in `room`. */
+static inline size_t spelt(char *text, uint8_t *bytes, size_t room) {
+    size_t n = 0;
+    if (*text == 0 || strcmp(text, "-") == 0) return 0;
+    while (text != NULL) {
+        char *next = strchr(text, '+'), *star;
+        if (next != NULL) *next++ = 0;
+        star = strchr(text, '*');
+        uint64_t times = 1;
+        if (star != NULL) *star = 0, times = decimal(star + 1);
+        size_t one = unhex(text, bytes + n, room - n);
+        if (times == 0 || one == 0 || times > (room - n) / one) { printf("no bytes, or too many: %.60s\n", text); exit(2); }
+        for (uint64_t i = 1; i < times; i++) memcpy(bytes + n + i * one, bytes + n, one);
+        n += times * one;
+        text = next;
+    }
+    return n;
 }
 
 /* Cuts the text at its tabs; the answer is how many parts it has, at most `most` of them cut. */

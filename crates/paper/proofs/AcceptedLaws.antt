@@ -12,7 +12,7 @@ use native.Mathlib.Omega.{arith}
 use borrow.Author.Tests.{lt-ltb}
 use lib.Dec.{lit<}
 use lib.ListN.{length, drop, length-append}
-use Rattle.paper.specs.Limits.{maxWeight}
+use Rattle.paper.specs.Limits.{isLimit}
 use Rattle.paper.specs.Bytes.{Bytes, word, signed}
 use Rattle.paper.specs.Tree.{Tree, Forest, integer, symbol, sum, product, power, nil, cons, count, records, recordses, weight}
 use Rattle.paper.specs.Record.{kind, countIn, bits, symbolIn, isNode, sound, flaw, arity}
@@ -32,6 +32,7 @@ use Rattle.paper.proofs.SpanLaws.{spans-within, spans-skip, spans-end}
 use Rattle.paper.proofs.FirstLaws.{All}
 use Rattle.paper.proofs.RecordLaws.{positive-kind, bits-lt, symbol-lt, sound-kind, sound-count, sound-integer, sound-symbol, sound-sum}
 use Rattle.paper.proofs.RecordLaws.{sound-product, sound-power}
+use Rattle.paper.proofs.LimitLaws.{limit-small}
 use Rattle.paper.proofs.VerdictLaws.{Fine, accepted-passes}
 use Rattle.paper.proofs.TableLaws.{end-leaf, encode-end, encode-weight, written-accepted}
 
@@ -199,10 +200,11 @@ module _ (s : List ℕ) (n : ℕ) (b : Bytes s) (l : n * 16 ≤ length s) (small
       tree-at i m h (end-step s n i h ∙ spans-skip s n x) (spans-within s n x (omega arith) .1) (trees-at x (omega arith))
 
 -- a table that holds a tree
-pub record Holds (s : List ℕ) : Type 0 where
+pub record Holds (lim : ℕ) (s : List ℕ) : Type 0 where
+  pub known : isLimit lim ≡ true
   pub tree : Tree
   pub wf : WF tree
-  pub light : weight tree ≤ maxWeight
+  pub light : weight tree ≤ lim
   pub written : s ≡ encode tree
   pub read : treeOf s ≡ some tree
   pub weighs : tableWeight s ≡ weight tree
@@ -219,43 +221,43 @@ all-written s n l t = k .there ∙ nothing-left (encode (t .tree)) (k .after) (o
     k : Stands s 0 (encode (t .tree))
     k = t .stands
 
-holds : (s : List ℕ) (t : Tree) → WF t → s ≡ encode t → tableWeight s ≤ maxWeight → Holds s
-holds s t w e l =
+holds : (lim : ℕ) → isLimit lim ≡ true → (s : List ℕ) (t : Tree) → WF t → s ≡ encode t → tableWeight s ≤ lim → Holds lim s
+holds lim known s t w e l =
     let weighs : tableWeight s ≡ weight t = ap tableWeight e ∙ encode-weight t in
-    let light : weight t ≤ maxWeight = omega arith in
-    record { tree = t; wf = w; light = light; written = e; read = ap treeOf e ∙ tree-of-written t w light; weighs = weighs }
+    let light : weight t ≤ lim = omega arith in
+    record { known = known; tree = t; wf = w; light = light; written = e; read = ap treeOf e ∙ tree-of-written t w (omega (arith, limit-small lim known)); weighs = weighs }
 
-records-hold : (s : List ℕ) (n : ℕ) → Bytes s → length s ≡ 16 * n → n < 65536 → All (Fine s n) 0 n → treeEnd s n 0 ≡ n
-    → tableWeight s ≤ maxWeight → Holds s
-records-hold s n b q l f e w =
+records-hold : (lim : ℕ) → isLimit lim ≡ true → (s : List ℕ) (n : ℕ) → Bytes s → length s ≡ 16 * n → n < 65536 → All (Fine s n) 0 n → treeEnd s n 0 ≡ n
+    → tableWeight s ≤ lim → Holds lim s
+records-hold lim known s n b q l f e w =
     let t : TreeAt s 0 n = one-tree-at s n b (omega arith) l f (spans-end s n 0 n (omega arith) .1 (e, omega arith)) in
-    holds s (t .tree) (t .wf) (all-written s n q t) w
+    holds lim known s (t .tree) (t .wf) (all-written s n q t) w
 
 -- every accepted table holds a tree, well-formed and not too heavy, which is read from it and whose records it is
-pub accepted-holds : (s : List ℕ) → Bytes s → verdict s ≡ accepted → Holds s
+pub accepted-holds : (lim : ℕ) (s : List ℕ) → Bytes s → verdict lim s ≡ accepted → Holds lim s
 unfolding recordsIn
-accepted-holds s b h =
-    let p = accepted-passes s h in
+accepted-holds lim s b h =
+    let p = accepted-passes lim s h in
     let l = p .long in
-    records-hold s (recordsIn s) b (omega (arith, l .sixteens)) (omega (arith, l .short)) (p .fine) (p .ends) (p .light)
+    records-hold lim (p .known) s (recordsIn s) b (omega (arith, l .sixteens)) (omega (arith, l .short, limit-small lim (p .known))) (p .fine) (p .ends) (p .light)
 
--- "fine" exactly when the bytes are the records of a well-formed tree that weighs at most 3,072
-pub fine-exactly : (s : List ℕ) → Bytes s
-    → (verdict s ≡ accepted) ↔ ((t : Tree) × WF t × (weight t ≤ maxWeight) × (s ≡ encode t))
-fine-exactly s b = (
-  λ h. let k = accepted-holds s b h in (k .tree, k .wf, k .light, k .written),
-  λ k. ap verdict (k .3) ∙ written-accepted (k .0) (k .1) (k .2),
+-- "fine" exactly when the bytes are the records of a well-formed tree that weighs at most the limit
+pub fine-exactly : (lim : ℕ) → isLimit lim ≡ true → (s : List ℕ) → Bytes s
+    → (verdict lim s ≡ accepted) ↔ ((t : Tree) × WF t × (weight t ≤ lim) × (s ≡ encode t))
+fine-exactly lim known s b = (
+  λ h. let k = accepted-holds lim s b h in (k .tree, k .wf, k .light, k .written),
+  λ k. ap (verdict lim) (k .3) ∙ written-accepted lim known (k .0) (k .1) (k .2),
 )
 
 -- "reading, then writing": the records of the tree that an accepted table is read as are the table
-pub written-read : (s : List ℕ) → Bytes s → verdict s ≡ accepted → (t : Tree) → treeOf s ≡ some t → encode t ≡ s
-written-read s b h t r =
-    let k = accepted-holds s b h in
+pub written-read : (lim : ℕ) (s : List ℕ) → Bytes s → verdict lim s ≡ accepted → (t : Tree) → treeOf s ≡ some t → encode t ≡ s
+written-read lim s b h t r =
+    let k = accepted-holds lim s b h in
     let q : treeOf s ≡ some (k .tree) = k .read in
     let e : t ≡ k .tree = cc in
     ap encode e ∙ sym (k .written)
 
 -- the tree that an accepted table holds stands in it
-pub holds-tree : (s : List ℕ) (h : Holds s) → TreeIn s 0 (h .tree)
-holds-tree s h =
-    record { wf = h .wf; few = omega (arith, h .light, records-weight (h .tree)); stands = rw (h .written) (stands-whole _) }
+pub holds-tree : (lim : ℕ) (s : List ℕ) (h : Holds lim s) → TreeIn s 0 (h .tree)
+holds-tree lim s h =
+    record { wf = h .wf; few = omega (arith, h .light, limit-small lim (h .known), records-weight (h .tree)); stands = rw (h .written) (stands-whole _) }

@@ -1,4 +1,4 @@
--- A simplifier that gives on every table of bytes what another gives meets the demands, in each edition, and takes over if the other does: nothing is said
+-- A simplifier that gives on every table of bytes what another gives meets the demands, at each limit and in each edition, and takes over if the other does: nothing is said
 -- of it that is not said of its calls. Assumes nothing.
 use Prim.Native.Nat.{ℕ}
 use mathlib.Core.Path.{_≡_, sym, subst}
@@ -11,10 +11,10 @@ use Rattle.paper.proofs.EncodeLaws.{encode-bytes}
 use Rattle.paper.proofs.DemandLaws.{call-done, simplified-meets}
 use Rattle.paper.proofs.Takeover.{takeover, takeover-in-place}
 
-module _ (ed : ℕ) (f : Simplifier) (alike : (s : List ℕ) → Bytes s → (l : Lent) → f s l ≡ simplified ed s l) where
-  pub alike-meets : Demands ed f
+module _ (lim ed : ℕ) (f : Simplifier) (alike : (s : List ℕ) → Bytes s → (l : Lent) → f s l ≡ simplified lim ed s l) where
+  pub alike-meets : Demands lim ed f
   alike-meets =
-      let d = simplified-meets ed in
+      let d = simplified-meets lim ed in
       record {
         refuses = λ s b l v h g. rw (alike s b l) (d .refuses s b l v h g);
         leaves-alone = λ s b l v h g e. rw (alike s b l) (d .leaves-alone s b l v h g (rw (alike s b l) at e));
@@ -28,15 +28,15 @@ module _ (ed : ℕ) (f : Simplifier) (alike : (s : List ℕ) → Bytes s → (l 
       }
 
   -- the result of an accepted call is bytes
-  result-bytes : (s : List ℕ) → Bytes s → (l : Lent) → simplified ed s l .answer .number ≡ 0 → Bytes (result (simplified ed s l))
-  result-bytes s b l n = let d = call-done ed s b l n in subst Bytes (sym (d .written-bytes)) (encode-bytes (d .tree-out))
+  result-bytes : (s : List ℕ) → Bytes s → (l : Lent) → simplified lim ed s l .answer .number ≡ 0 → Bytes (result (simplified lim ed s l))
+  result-bytes s b l n = let d = call-done lim ed s b l n in subst Bytes (sym (d .written-bytes)) (encode-bytes (d .tree-out))
 
-  pub alike-takes-over : TakesOver f
+  pub alike-takes-over : TakesOver lim f
   alike-takes-over s b l n l′ room =
       let m = rw (alike s b l) at n in
-      rw (alike s b l, alike (result (simplified ed s l)) (result-bytes s b l m) l′) (takeover ed s b l m l′ (rw (alike s b l) at room))
+      rw (alike s b l, alike (result (simplified lim ed s l)) (result-bytes s b l m) l′) (takeover lim ed s b l m l′ (rw (alike s b l) at room))
 
-  pub alike-takes-over-in-place : TakesOverInPlace f
+  pub alike-takes-over-in-place : TakesOverInPlace lim f
   alike-takes-over-in-place s b l n =
       let m = rw (alike s b l) at n in
-      rw (alike s b l, alike (result (simplified ed s l)) (result-bytes s b l m) (simplified ed s l .lent)) (takeover-in-place ed s b l m)
+      rw (alike s b l, alike (result (simplified lim ed s l)) (result-bytes s b l m) (simplified lim ed s l .lent)) (takeover-in-place lim ed s b l m)

@@ -1,10 +1,11 @@
 -- Names that open whole layers of definitions, for proofs by computation: `unfolding equality-computes rules-compute ..` opens
 -- every definition of that layer. They state nothing. Assumes nothing.
+use Rattle.paper.specs.Limits.{isLimit, workBytes}
 use Rattle.paper.specs.Bytes.{le, bytes, le2, le8, word, stretch}
 use Rattle.paper.specs.Tree.{toList, ofList, count, records, weight, value}
 use Rattle.paper.specs.Record.{kind, countIn, bits, symbolIn, mayTable, mayBe, stray, isNode, flaw, isFlawed, arity, weightFrom}
 use Rattle.paper.specs.Verdict.{isAccepted, recordsIn, badLength, firstFlawed, tableWeight, skip, treeEnd, isPositive, badExponent}
-use Rattle.paper.specs.Verdict.{firstBadExponent, judgeRecords, verdict}
+use Rattle.paper.specs.Verdict.{firstBadExponent, judgeRecords, judgedTable, verdict}
 use Rattle.paper.specs.Table.{recordOf, encode, then, kindOf, readMembers, raised, readExponent, readTree, whole, treeOf}
 use Rattle.paper.specs.Equal.{eqZ, onInteger, onSymbol, onSum, onProduct, onPower, keeping, takeIf, removeFirst, goOn, isEmpty, equal}
 use Rattle.paper.specs.Walk.{lastOf, initOf, lastFirst, oneRemoved, turn, walk}
@@ -31,7 +32,7 @@ record-computes = tt
 unfoldable pub verdict-computes : Unit {0}
 unfolding
     record-computes isAccepted recordsIn badLength firstFlawed tableWeight skip treeEnd isPositive badExponent firstBadExponent
-    judgeRecords verdict
+    judgeRecords judgedTable verdict isLimit workBytes
 verdict-computes = tt
 
 unfoldable pub table-computes : Unit {0}

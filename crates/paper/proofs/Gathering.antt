@@ -82,6 +82,6 @@ run-alike {rs} gs (suc n) t w =
 -- taking the branch out changes nothing from an accepted table
 pub branch-not-reached : {rs : List Rule} → Goods rs → BranchNotReached rs
 unfolding simplifyCollapsing simplify
-branch-not-reached gs s b v t e =
-    let h = accepted-holds s b v in
+branch-not-reached gs lim s b v t e =
+    let h = accepted-holds lim s b v in
     run-alike gs (weight t) t (subst WF (same-tree (h .read) e) (h .wf))

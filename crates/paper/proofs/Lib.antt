@@ -37,6 +37,7 @@ pub mod SpanLaws
 pub mod FirstLaws
 pub mod RecordLaws
 pub mod VerdictLaws
+pub mod LimitLaws
 pub mod TableLaws
 pub mod AcceptedLaws
 pub mod Seen
@@ -48,6 +49,7 @@ pub mod JudgementLaws
 pub mod Simplified
 pub mod DemandLaws
 pub mod Takeover
+pub mod OldMachine
 pub mod Gathering
 pub mod Coefficient
 pub mod ValueKept

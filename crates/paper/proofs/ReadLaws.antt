@@ -12,7 +12,6 @@ use lib.ListN.{length, drop, length-append}
 use lib.IntN.{ℤ}
 use mir.Syntax.{w64}
 use mir.Facts.{toZ-pos}
-use Rattle.paper.specs.Limits.{maxWeight}
 use Rattle.paper.specs.Bytes.{bytes, signed, word}
 use Rattle.paper.specs.Tree.{Tree, Forest, integer, symbol, sum, product, power, nil, cons, count, records, recordses, weight}
 use Rattle.paper.specs.WellFormed.{WF, WFs}
@@ -140,7 +139,7 @@ mutual
       )
 
 -- "writing, then reading": the tree of a written table is the tree
-pub tree-of-written : (t : Tree) → WF t → weight t ≤ maxWeight → treeOf (encode t) ≡ some t
+pub tree-of-written : (t : Tree) → WF t → weight t < 65536 → treeOf (encode t) ≡ some t
 unfolding treeOf whole
 tree-of-written t w h =
     let r = records-weight t in

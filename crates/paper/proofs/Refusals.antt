@@ -1,4 +1,5 @@
--- Refusals 1 to 5 are given exactly as the paper's table of refusals says, with the place that it names, the lowest number winning.
+-- Refusals 1 to 5 are given exactly as the paper's table of refusals says, with the place that it names, the lowest number winning, and
+-- 19 before them.
 -- For each number the test and the place of the checker are shown to be the condition and the place in words; the checker goes
 -- through the tests in order and stops at the first that holds. Assumes nothing.
 use Prim.Native.Nat.{ℕ, zero, suc, _+_, _-_, _*_, _/_, _%_, _^_, _<_, _≤_, min}
@@ -9,20 +10,20 @@ use mathlib.Core.Logic.{_⊎_, inl, inr, _↔_}
 use native.Mathlib.Nat.{eq-or-lt-of-le}
 use native.Mathlib.Omega.{arith}
 use borrow.Author.Tests.{eq-eqb, ne-eqb, lt-ltb, le-ltb, eqb-true, eqb-false, ltb-true, ltb-false, not-true}
-use lib.Dec.{eqb, ltb, leb→le, le→leb, lit<}
+use lib.Dec.{eqb, ltb, leb→le, le→leb, lit<, lit≤}
 use lib.ListN.{length, getD}
 use lib.IntN.{pos, negsuc}
 use lib.Signed.{_≤ℤ_}
 use mir.Syntax.{w64}
 use mir.Facts.{toZ-pos}
-use Rattle.paper.specs.Limits.{maxWeight, maxBytes}
+use Rattle.paper.specs.Limits.{isLimit, maxBytes}
 use Rattle.paper.specs.Record.{kind, countIn, bits, mayBe, stray, isNode, Flaw, sound, bad-kind, bad-byte, bad-count, flaw, isFlawed}
-use Rattle.paper.specs.Verdict.{Verdict, told, flawed, accepted, recordsIn, badLength, firstFlawed, tableWeight, treeEnd, isPositive}
-use Rattle.paper.specs.Verdict.{badExponent, firstBadExponent, judgeRecords, verdict}
+use Rattle.paper.specs.Verdict.{Verdict, told, refused, flawed, accepted, recordsIn, badLength, firstFlawed, tableWeight, treeEnd, isPositive}
+use Rattle.paper.specs.Verdict.{badExponent, firstBadExponent, judgeRecords, judgedTable, verdict}
 use Rattle.paper.specs.Refusals.{First, BadLength, is-zero, no-multiple, is-over, Flawed, kind-over, byte-other, count-under}
 use Rattle.paper.specs.Refusals.{Stray, Names, names-kind, names-byte, names-count, Tells, BadShape, records-end, tree-ends, Exponent, after-base, AtLeastOne}
-use Rattle.paper.specs.Refusals.{Applies, refusal-1, refusal-2, refusal-3, refusal-4, refusal-5, rank, Lowest}
-use Rattle.paper.proofs.Tests.{true-not-false, not-so, and-both, or-either, or-left, or-right}
+use Rattle.paper.specs.Refusals.{Faulty, refusal-1, refusal-2, refusal-3, refusal-4, refusal-5, Applies, of-records, refusal-19, rank, Lowest}
+use Rattle.paper.proofs.Tests.{true-not-false, not-so, and-both, or-neither, or-either, or-left, or-right}
 use Rattle.paper.proofs.EncodeLaws.{signed-negative}
 use Rattle.paper.proofs.SpanLaws.{spans-end}
 use Rattle.paper.proofs.FirstLaws.{All, all-one, all-both, first, first-true, first-before, first-is, first-flawed, isStray, first-stray}
@@ -30,31 +31,31 @@ use Rattle.paper.proofs.FirstLaws.{bad-exponent-first, bad-exponent-som
 use Rattle.paper.proofs.RecordLaws.{flawed-tests, positive-kind}
 
 -- 1: a length is bad as the paper says
-length-words : (s : List ℕ) → badLength (length s) ≡ true → BadLength s
+length-words : (lim : ℕ) (s : List ℕ) → badLength lim (length s) ≡ true → BadLength lim s
 unfolding badLength
-length-words s h = go (or-either (eqb m 0 || not (eqb (m % 16) 0)) (ltb maxBytes m) h)
+length-words lim s h = go (or-either (eqb m 0 || not (eqb (m % 16) 0)) (ltb (maxBytes lim) m) h)
   where
     m : ℕ
     m = length s
 
-    either : (eqb m 0 ≡ true) ⊎ (not (eqb (m % 16) 0) ≡ true) → BadLength s
+    either : (eqb m 0 ≡ true) ⊎ (not (eqb (m % 16) 0) ≡ true) → BadLength lim s
     either (inl e) = is-zero (eqb-true m 0 e)
     either (inr e) = no-multiple (λ k q. eqb-false (m % 16) 0 (not-true (eqb (m % 16) 0) e) (omega arith))
 
-    go : ((eqb m 0 || not (eqb (m % 16) 0)) ≡ true) ⊎ (ltb maxBytes m ≡ true) → BadLength s
+    go : ((eqb m 0 || not (eqb (m % 16) 0)) ≡ true) ⊎ (ltb (maxBytes lim) m ≡ true) → BadLength lim s
     go (inl e) = either (or-either (eqb m 0) (not (eqb (m % 16) 0)) e)
-    go (inr e) = is-over (ltb-true maxBytes m e)
+    go (inr e) = is-over (ltb-true (maxBytes lim) m e)
 
-words-length : (s : List ℕ) → BadLength s → badLength (length s) ≡ true
+words-length : (lim : ℕ) (s : List ℕ) → BadLength lim s → badLength lim (length s) ≡ true
 unfolding badLength
-words-length s (is-zero e) = rw e
-words-length s (no-multiple h) =
+words-length lim s (is-zero e) = rw e
+words-length lim s (no-multiple h) =
     let m = length s in
     let q : eqb (m % 16) 0 ≡ false = ne-eqb (m % 16) 0 (λ e. h (m / 16) (omega arith)) in
-    or-left (eqb m 0 || not (eqb (m % 16) 0)) (ltb maxBytes m) (or-right (eqb m 0) (not (eqb (m % 16) 0)) (ap not q))
-words-length s (is-over l) =
+    or-left (eqb m 0 || not (eqb (m % 16) 0)) (ltb (maxBytes lim) m) (or-right (eqb m 0) (not (eqb (m % 16) 0)) (ap not q))
+words-length lim s (is-over l) =
     let m = length s in
-    or-right (eqb m 0 || not (eqb (m % 16) 0)) (ltb maxBytes m) (lt-ltb maxBytes m l)
+    or-right (eqb m 0 || not (eqb (m % 16) 0)) (ltb (maxBytes lim) m) (lt-ltb (maxBytes lim) m l)
 
 -- 2: a record is flawed as the paper says
 module _ (s : List ℕ) (i : ℕ) where
@@ -310,14 +311,14 @@ words-exponents s n p h = (small, go (eq-or-lt-of-le none-before))
     go (inr l) = absurd (h .1 q l (exponents-words s n q small refl .0))
 
 -- the checker's five tests and places, by number, and what they say of a record
-test : List ℕ → ℕ → Bool
-test s zero = false
-test s (suc zero) = badLength (length s)
-test s (suc (suc zero)) = ltb (firstFlawed s 0 (recordsIn s)) (recordsIn s)
-test s (suc (suc (suc zero))) = ltb maxWeight (tableWeight s)
-test s (suc (suc (suc (suc zero)))) = not (eqb (treeEnd s (recordsIn s) 0) (recordsIn s))
-test s (suc (suc (suc (suc (suc zero))))) = ltb (firstBadExponent s (recordsIn s) 0 (recordsIn s)) (recordsIn s)
-test s (suc (suc (suc (suc (suc (suc k)))))) = false
+test : ℕ → List ℕ → ℕ → Bool
+test lim s zero = false
+test lim s (suc zero) = badLength lim (length s)
+test lim s (suc (suc zero)) = ltb (firstFlawed s 0 (recordsIn s)) (recordsIn s)
+test lim s (suc (suc (suc zero))) = ltb lim (tableWeight s)
+test lim s (suc (suc (suc (suc zero)))) = not (eqb (treeEnd s (recordsIn s) 0) (recordsIn s))
+test lim s (suc (suc (suc (suc (suc zero))))) = ltb (firstBadExponent s (recordsIn s) 0 (recordsIn s)) (recordsIn s)
+test lim s (suc (suc (suc (suc (suc (suc k)))))) = false
 
 place : List ℕ → ℕ → ℕ
 place s zero = 0
@@ -335,34 +336,34 @@ what s (suc (suc zero)) = flaw s (firstFlawed s 0 (recordsIn s))
 what s (suc (suc (suc k))) = sound
 
 -- the test of number k holds exactly when refusal k applies, at its place
-test-words : (s : List ℕ) (k : ℕ) → test s k ≡ true → Applies s k (place s k)
+test-words : (lim : ℕ) (s : List ℕ) (k : ℕ) → test lim s k ≡ true → Faulty lim s k (place s k)
 unfolding test place
-test-words s zero h = absurd (true-not-false h refl)
-test-words s (suc zero) h = refusal-1 (length-words s h)
-test-words s (suc (suc zero)) h =
+test-words lim s zero h = absurd (true-not-false h refl)
+test-words lim s (suc zero) h = refusal-1 (length-words lim s h)
+test-words lim s (suc (suc zero)) h =
     refusal-2 (flawed-words s (recordsIn s) (firstFlawed s 0 (recordsIn s)) (ltb-true (firstFlawed s 0 (recordsIn s)) (recordsIn s) h) refl)
-test-words s (suc (suc (suc zero))) h = refusal-3 (ltb-true maxWeight (tableWeight s) h)
-test-words s (suc (suc (suc (suc zero)))) h =
+test-words lim s (suc (suc (suc zero))) h = refusal-3 (ltb-true lim (tableWeight s) h)
+test-words lim s (suc (suc (suc (suc zero)))) h =
     let n = recordsIn s in
     refusal-4 (shape-words s n (min (treeEnd s n 0) n) (eqb-false (treeEnd s n 0) n (not-true (eqb (treeEnd s n 0) n) h)) refl)
-test-words s (suc (suc (suc (suc (suc zero))))) h =
+test-words lim s (suc (suc (suc (suc (suc zero))))) h =
     let n = recordsIn s in
     refusal-5 (exponents-words s n (firstBadExponent s n 0 n) (ltb-true (firstBadExponent s n 0 n) n h) refl)
-test-words s (suc (suc (suc (suc (suc (suc k)))))) h = absurd (true-not-false h refl)
+test-words lim s (suc (suc (suc (suc (suc (suc k)))))) h = absurd (true-not-false h refl)
 
-words-test : (s : List ℕ) (k p : ℕ) → Applies s k p → (test s k ≡ true) × (place s k ≡ p) × (0 < k) × (k < 6)
+words-test : (lim : ℕ) (s : List ℕ) (k p : ℕ) → Faulty lim s k p → (test lim s k ≡ true) × (place s k ≡ p) × (0 < k) × (k < 6)
 unfolding test place
-words-test s k p (refusal-1 h) = (words-length s h, refl, lit< tt, lit< tt)
-words-test s k p (refusal-2 {p = q} h) =
+words-test lim s k p (refusal-1 h) = (words-length lim s h, refl, lit< tt, lit< tt)
+words-test lim s k p (refusal-2 {p = q} h) =
     let n = recordsIn s in
     let e : firstFlawed s 0 n ≡ q = words-flawed s n q h in
     (lt-ltb (firstFlawed s 0 n) n (omega (arith, h .0 .0)), e, lit< tt, lit< tt)
-words-test s k p (refusal-3 h) = (lt-ltb maxWeight (tableWeight s) h, refl, lit< tt, lit< tt)
-words-test s k p (refusal-4 {p = q} h) =
+words-test lim s k p (refusal-3 h) = (lt-ltb lim (tableWeight s) h, refl, lit< tt, lit< tt)
+words-test lim s k p (refusal-4 {p = q} h) =
     let n = recordsIn s in
     let e = words-shape s n q h in
     (ap not (ne-eqb (treeEnd s n 0) n (e .0)), e .1, lit< tt, lit< tt)
-words-test s k p (refusal-5 {p = q} h) =
+words-test lim s k p (refusal-5 {p = q} h) =
     let n = recordsIn s in
     let e = words-exponents s n q h in
     (lt-ltb (firstBadExponent s n 0 n) n (e .0), e .1, lit< tt, lit< tt)
@@ -422,22 +423,22 @@ module _ (t : ℕ → Bool) (at : ℕ → ℕ) (of : ℕ → Flaw) where
   holds-none (suc f) i a = rw (a i (omega arith) (omega arith)) (holds-none f (i + 1) (λ j u v. a j (omega arith) (omega arith)))
 
 -- the checker is these five tests in order
-verdict-ladder : (s : List ℕ) → verdict s ≡ ladder (test s) (place s) (what s) 5 1
-unfolding verdict judgeRecords tableWeight ladder test place what
-verdict-ladder s = refl
+table-ladder : (lim : ℕ) (s : List ℕ) → judgedTable lim s ≡ ladder (test lim s) (place s) (what s) 5 1
+unfolding judgedTable judgeRecords tableWeight ladder test place what
+table-ladder lim s = refl
 
 -- what the test of number k says of a record
-tells-what : (s : List ℕ) (k : ℕ) → test s k ≡ true → Tells s (told k (place s k) (what s k))
+tells-what : (lim : ℕ) (s : List ℕ) (k : ℕ) → test lim s k ≡ true → Tells s (told k (place s k) (what s k))
 unfolding test place what
-tells-what s zero h = absurd (true-not-false h refl)
-tells-what s (suc zero) h = (λ e. absurd (omega arith), λ n. refl)
-tells-what s (suc (suc zero)) h =
+tells-what lim s zero h = absurd (true-not-false h refl)
+tells-what lim s (suc zero) h = (λ e. absurd (omega arith), λ n. refl)
+tells-what lim s (suc (suc zero)) h =
     let n = recordsIn s in
     let t : ℕ → Bool = λ j. isFlawed (flaw s j) in
     let q : first t 0 n ≡ firstFlawed s 0 n = sym (first-flawed s 0 n) in
     let l = ltb-true (firstFlawed s 0 n) n h in
     (λ e. flaw-names s (firstFlawed s 0 n) (rw q at (first-true t 0 n (omega arith))), λ n. absurd (n refl))
-tells-what s (suc (suc (suc k))) h = (λ e. absurd (omega arith), λ n. refl)
+tells-what lim s (suc (suc (suc k))) h = (λ e. absurd (omega arith), λ n. refl)
 
 -- and nothing else is told
 what-told : (s : List ℕ) (k p : ℕ) (f : Flaw) → place s k ≡ p → Tells s (told k p f) → what s k ≡ f
@@ -448,13 +449,13 @@ what-told s (suc (suc zero)) p f e h = ap (flaw s) e ∙ names-flaw s p (h .0 re
 what-told s (suc (suc (suc k))) p f e h = sym (h .1 (λ e. omega arith))
 
 -- the numbers of the table are ranked as they come
-pub rank-small : (k : ℕ) → k < 8 → rank k ≡ k + 1
+pub rank-small : (k : ℕ) → k < 8 → rank k ≡ k + 2
 unfolding rank
-rank-small k h = rw (ne-eqb k 9 (λ e. omega arith), ne-eqb k 8 (λ e. omega arith))
+rank-small k h = rw (ne-eqb k 19 (λ e. omega arith), ne-eqb k 9 (λ e. omega arith), ne-eqb k 8 (λ e. omega arith))
 
--- the checker refuses exactly as the paper's table says, at the place that it says, and tells what is wrong with the record
-pub verdict-exactly : (s : List ℕ) (v : Verdict) → 0 < v .number → (verdict s ≡ v) ↔ (Lowest (Applies s) (v .number) (v .place) × Tells s v)
-verdict-exactly s v l = (down, λ h. up (h .0) (h .1))
+-- 1 to 5 are given exactly as the paper's table says, at the place that it says, and tells what is wrong with the record
+table-exactly : (lim : ℕ) (s : List ℕ) (v : Verdict) → 0 < v .number → (judgedTable lim s ≡ v) ↔ (Lowest (Faulty lim s) (v .number) (v .place) × Tells s v)
+table-exactly lim s v l = (down, λ h. up (h .0) (h .1))
   where
     k : ℕ
     k = v .number
@@ -462,53 +463,133 @@ verdict-exactly s v l = (down, λ h. up (h .0) (h .1))
     p : ℕ
     p = v .place
 
-    down : verdict s ≡ v → Lowest (Applies s) k p × Tells s v
+    down : judgedTable lim s ≡ v → Lowest (Faulty lim s) k p × Tells s v
     down h =
-        let r = ladder-down (test s) (place s) (what s) 5 1 k p (v .flaw) l (sym (verdict-ladder s) ∙ h) in
-        let z = words-test s k (place s k) (test-words s k (r .0)) in (
+        let r = ladder-down (test lim s) (place s) (what s) 5 1 k p (v .flaw) l (sym (table-ladder lim s) ∙ h) in
+        let z = words-test lim s k (place s k) (test-words lim s k (r .0)) in (
           record {
-            given = subst (λ (q : ℕ). Applies s k q) (r .1) (test-words s k (r .0));
-            lowest = λ j q u x. let y = words-test s j q x in
+            given = subst (λ (q : ℕ). Faulty lim s k q) (r .1) (test-words lim s k (r .0));
+            lowest = λ j q u x. let y = words-test lim s j q x in
                 true-not-false (y .0) (r .2 j (y .2) (omega (arith, z .3, y .3, rank-small j (omega arith), rank-small k (omega arith))));
           },
-          rw (r .1, r .3) at (tells-what s k (r .0)),
+          rw (r .1, r .3) at (tells-what lim s k (r .0)),
         )
 
-    up : Lowest (Applies s) k p → Tells s v → verdict s ≡ v
+    up : Lowest (Faulty lim s) k p → Tells s v → judgedTable lim s ≡ v
     up h w =
-        let y = words-test s k p (h .given) in
-        verdict-ladder s
-        ∙ ladder-up (test s) (place s) (what s) 5 1 k (y .2) (y .3) (y .0)
-        (λ j u v. not-so (test s j) (λ e. h .lowest j (place s j) (omega (arith, rank-small j (omega (arith, y .3)), rank-small k (omega (arith, y .3)))) (test-words s j e)))
+        let y = words-test lim s k p (h .given) in
+        table-ladder lim s
+        ∙ ladder-up (test lim s) (place s) (what s) 5 1 k (y .2) (y .3) (y .0)
+        (λ j u v. not-so (test lim s j) (λ e. h .lowest j (place s j) (omega (arith, rank-small j (omega (arith, y .3)), rank-small k (omega (arith, y .3)))) (test-words lim s j e)))
         ∙ ap (λ (q : ℕ). told k q (what s k)) (y .1)
         ∙ ap (told k p) (what-told s k p (v .flaw) (y .1) w)
 
--- a refusal's number and place by themselves
-pub refusal-exactly : (s : List ℕ) (k p : ℕ) → 0 < k → ((verdict s .number ≡ k) × (verdict s .place ≡ p)) ↔ Lowest (Applies s) k p
-refusal-exactly s k p l = (down, up)
-  where
-    down : (verdict s .number ≡ k) × (verdict s .place ≡ p) → Lowest (Applies s) k p
-    down h = rw (h .0, h .1) at (verdict-exactly s (verdict s) (omega (arith, h .0)) .0 refl .0)
+-- and none is given exactly when none applies
+table-accepted : (lim : ℕ) (s : List ℕ) → (judgedTable lim s ≡ accepted) ↔ ((k p : ℕ) → ¬ Faulty lim s k p)
+table-accepted lim s = (
+  λ h k p x. let y = words-test lim s k p x in
+      true-not-false (y .0) (none-holds (test lim s) (place s) (what s) 5 1 (lit< tt) (sym (table-ladder lim s) ∙ h) k (y .2) (y .3)),
+  λ h. table-ladder lim s ∙ holds-none (test lim s) (place s) (what s) 5 1 (λ j u v. not-so (test lim s j) (λ e. h j (place s j) (test-words lim s j e))),
+)
 
-    up : Lowest (Applies s) k p → (verdict s .number ≡ k) × (verdict s .place ≡ p)
-    up h =
-        let y = words-test s k p (h .given) in
-        let e : verdict s ≡ told k p (what s k) =
-        verdict-exactly s (told k p (what s k)) l .1 (h, rw (y .1) at (tells-what s k (y .0))) in
-        (ap (λ (v : Verdict). v .number) e, ap (λ (v : Verdict). v .place) e)
+-- ---- 19 comes before these: a limit is unknown as the paper says
+pub unknown-limit : (lim : ℕ) → isLimit lim ≡ false → (¬ (lim ≡ 3072)) × (¬ (lim ≡ 16384))
+unfolding isLimit
+unknown-limit lim h = let x = or-neither (eqb lim 3072) (eqb lim 16384) h in (eqb-false lim 3072 (x .0), eqb-false lim 16384 (x .1))
+
+pub limit-unknown : (lim : ℕ) → ¬ (lim ≡ 3072) → ¬ (lim ≡ 16384) → isLimit lim ≡ false
+unfolding isLimit
+limit-unknown lim h g = rw (ne-eqb lim 3072 h, ne-eqb lim 16384 g)
+
+-- nothing is ranked before 19
+pub nineteen-first : {A : Type 0} (j : ℕ) → rank j < rank 19 → A
+unfolding rank
+nineteen-first j u = absurd (omega arith)
+
+pub faulty-within : {lim : ℕ} {s : List ℕ} {k p : ℕ} → Faulty lim s k p → (1 ≤ k) × (k ≤ 5)
+faulty-within (refusal-1 h) = (lit≤ tt, lit≤ tt)
+faulty-within (refusal-2 h) = (lit≤ tt, lit≤ tt)
+faulty-within (refusal-3 h) = (lit≤ tt, lit≤ tt)
+faulty-within (refusal-4 h) = (lit≤ tt, lit≤ tt)
+faulty-within (refusal-5 h) = (lit≤ tt, lit≤ tt)
+
+pub nineteen-under : (k : ℕ) → k ≤ 9 → rank 19 < rank k
+unfolding rank
+nineteen-under k h = go (eqb k 9) (eqb k 8) (ne-eqb k 19 (λ e. omega arith))
+  where
+    go : (a b : Bool) → eqb k 19 ≡ false → 0 < cond (eqb k 19) 0 (cond a 1 (cond b 2 (k + 2)))
+    go true b e = rw e (lit< tt)
+    go false true e = rw e (lit< tt)
+    go false false e = rw e (omega arith)
+
+module _ (lim : ℕ) (s : List ℕ) where
+  -- at a known limit a refusal is one of 1 to 5
+  of-known : isLimit lim ≡ true → {k p : ℕ} → Applies lim s k p → Faulty lim s k p
+  of-known n (of-records x) = x
+  of-known n (refusal-19 x y) = absurd (true-not-false n (limit-unknown lim x y))
+
+  of-unknown : isLimit lim ≡ false → Applies lim s 19 0
+  of-unknown n = let w = unknown-limit lim n in refusal-19 (w .0) (w .1)
+
+  -- the checker refuses exactly as the papers say, at the place that they say, and tells what is wrong with the record
+  pub verdict-exactly : (v : Verdict) → 0 < v .number → (verdict lim s ≡ v) ↔ (Lowest (Applies lim s) (v .number) (v .place) × Tells s v)
+  unfolding verdict
+  verdict-exactly v z = (λ e. down (isLimit lim) refl e, λ h. up (isLimit lim) refl (v .flaw) (h .0 .given) (h .0 .lowest) (h .1))
+    where
+      down : (b : Bool) → isLimit lim ≡ b → cond b (judgedTable lim s) (refused 19 0) ≡ v → Lowest (Applies lim s) (v .number) (v .place) × Tells s v
+      down true n e =
+          let h = table-exactly lim s v z .0 e in
+          (record { given = of-records (h .0 .given); lowest = λ j q u x. h .0 .lowest j q u (of-known n x) }, h .1)
+      down false n e =
+          subst (λ (w : Verdict). Lowest (Applies lim s) (w .number) (w .place) × Tells s w) e (
+            record { given = of-unknown n; lowest = λ j q u x. nineteen-first j u },
+            (λ e. absurd (omega arith), λ e. refl),
+          )
+
+      up : (b : Bool) → isLimit lim ≡ b → {k p : ℕ} (f : Flaw) → Applies lim s k p → ((j q : ℕ) → rank j < rank k → ¬ Applies lim s j q)
+          → Tells s (told k p f) → cond (isLimit lim) (judgedTable lim s) (refused 19 0) ≡ told k p f
+      up true n {k} {p} f (of-records x) h w =
+          rw n (table-exactly lim s (told k p f) (faulty-within x .0) .1 (record { given = x; lowest = λ j q u y. h j q u (of-records y) }, w))
+      up true n f (refusal-19 x y) h w = absurd (true-not-false n (limit-unknown lim x y))
+      up false n f (of-records {k = k} x) h w = absurd (h 19 0 (nineteen-under k (omega (arith, faulty-within x .1))) (of-unknown n))
+      up false n f (refusal-19 x y) h w = rw n (ap (told 19 0) (sym (w .1 (λ e. omega arith))))
+
+  -- and none is given exactly when none applies
+  pub accepted-exactly : (verdict lim s ≡ accepted) ↔ ((k p : ℕ) → ¬ Applies lim s k p)
+  unfolding verdict
+  accepted-exactly = (λ e. down (isLimit lim) refl e, λ h. up (isLimit lim) refl h)
+    where
+      down : (b : Bool) → isLimit lim ≡ b → cond b (judgedTable lim s) (refused 19 0) ≡ accepted → (k p : ℕ) → ¬ Applies lim s k p
+      down true n e k p x = table-accepted lim s .0 e k p (of-known n x)
+      down false n e k p x = omega (arith, ap (λ (v : Verdict). v .number) e)
+
+      up : (b : Bool) → isLimit lim ≡ b → ((k p : ℕ) → ¬ Applies lim s k p) → cond (isLimit lim) (judgedTable lim s) (refused 19 0) ≡ accepted
+      up true n h = rw n (table-accepted lim s .1 (λ k p x. h k p (of-records x)))
+      up false n h = absurd (h 19 0 (of-unknown n))
+
+-- a refusal's number and place by themselves
+pub refusal-exactly : (lim : ℕ) (s : List ℕ) (k p : ℕ) → 0 < k → ((verdict lim s .number ≡ k) × (verdict lim s .place ≡ p)) ↔ Lowest (Applies lim s) k p
+refusal-exactly lim s k p l = (down, up)
+  where
+    down : (verdict lim s .number ≡ k) × (verdict lim s .place ≡ p) → Lowest (Applies lim s) k p
+    down h = rw (h .0, h .1) at (verdict-exactly lim s (verdict lim s) (omega (arith, h .0)) .0 refl .0)
+
+    both : (f : Flaw) → verdict lim s ≡ told k p f → (verdict lim s .number ≡ k) × (verdict lim s .place ≡ p)
+    both f e = (ap (λ (v : Verdict). v .number) e, ap (λ (v : Verdict). v .place) e)
+
+    tells : {j q : ℕ} → Applies lim s j q → (f : Flaw) × Tells s (told j q f)
+    tells {j} {q} (of-records x) =
+        let y = words-test lim s j q x in
+        (what s j, rw (y .1) at (tells-what lim s j (y .0)))
+    tells (refusal-19 x y) = (sound, (λ e. absurd (omega arith), λ e. refl))
+
+    up : Lowest (Applies lim s) k p → (verdict lim s .number ≡ k) × (verdict lim s .place ≡ p)
+    up h = let t = tells (h .given) in both (t .0) (verdict-exactly lim s (told k p (t .0)) l .1 (h, t .1))
 
 -- "The judgement of a single record should name what is wrong"
-pub flaw-exactly : (s : List ℕ) (p : ℕ) (f : Flaw) → (verdict s ≡ flawed p f) ↔ (Lowest (Applies s) 2 p × Names s p f)
-flaw-exactly s p f =
-    let w = verdict-exactly s (flawed p f) (lit< tt) in (
+pub flaw-exactly : (lim : ℕ) (s : List ℕ) (p : ℕ) (f : Flaw) → (verdict lim s ≡ flawed p f) ↔ (Lowest (Applies lim s) 2 p × Names s p f)
+flaw-exactly lim s p f =
+    let w = verdict-exactly lim s (flawed p f) (lit< tt) in (
       λ e. let x = w .0 e in (x .0, x .1 .0 refl),
       λ h. w .1 (h .0, (λ e. h .1, λ n. absurd (n refl))),
     )
-
--- and none is given exactly when none applies
-pub accepted-exactly : (s : List ℕ) → (verdict s ≡ accepted) ↔ ((k p : ℕ) → ¬ Applies s k p)
-accepted-exactly s = (
-  λ h k p x. let y = words-test s k p x in
-      true-not-false (y .0) (none-holds (test s) (place s) (what s) 5 1 (lit< tt) (sym (verdict-ladder s) ∙ h) k (y .2) (y .3)),
-  λ h. verdict-ladder s ∙ holds-none (test s) (place s) (what s) 5 1 (λ j u v. not-so (test s j) (λ e. h j (place s j) (test-words s j e))),
-)

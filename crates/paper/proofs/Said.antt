@@ -4,14 +4,18 @@ use lib.ListN.{replicate}
 use Rattle.paper.specs.Sayings.{Sayings}
 use Rattle.paper.specs.Record.{flawNumbers}
 use Rattle.paper.specs.Equal.{one}
-use Rattle.paper.specs.Answers.{turnedDown, equalTrees, compared, refusedBy}
+use Rattle.paper.specs.Answers.{turnedDown, equalTrees, comparedTables, compared, refusedBy}
 use Rattle.paper.specs.Calls.{verdictNumbers, measuredNumbers, comparedNumbers, answerNumbers, eights, tooShort, returned, answered, checkAnswers, weightReturns, weightAnswers, valueAnswers, equalAnswers}
 use Rattle.paper.proofs.Computes.{answers-compute}
 
 pub said : Sayings
-unfolding answers-compute turnedDown equalTrees compared verdictNumbers measuredNumbers comparedNumbers answerNumbers eights tooShort returned answered checkAnswers weightReturns weightAnswers valueAnswers equalAnswers flawNumbers refusedBy one
+unfolding answers-compute turnedDown equalTrees comparedTables compared verdictNumbers measuredNumbers comparedNumbers answerNumbers eights tooShort returned answered checkAnswers weightReturns weightAnswers valueAnswers equalAnswers flawNumbers refusedBy one
 said = record {
-  lengths = (refl, refl, refl, refl);
+  lengths = (refl, refl, refl, refl, refl);
+  limits = (refl, refl, refl, refl, refl, refl, refl, refl);
+  works = (refl, refl);
+  limit-first = refl;
+  limit-before-tables = refl;
   zero-exponent = refl;
   weighs = refl;
   weight-refused = refl;

@@ -50,13 +50,13 @@ unfolding
     checkReturns checkAnswers weightReturns weightAnswers valueReturns
     valueAnswers equalReturns equalAnswers simplifyReturns simplifyAnswers simplifyLeaves tooShort
 slices = record {
-  check = λ s. tells-in checkBytes _ _ (omega (arith, verdict-count (verdict s)));
-  weight = λ s. tells-in measureBytes _ _ (omega (arith, measured-count (weighed s)));
-  value = λ s regs. tells-in measureBytes _ _ (omega (arith, measured-count (valued s regs)));
-  equal = λ s t. tells-in equalBytes _ _ (omega (arith, compared-count (compared s t)));
-  simplify = λ ed s l. tells-in simplifyBytes _ _ (omega (arith, answer-count (simplified ed s l .answer)));
-  areas = λ ed s l slice.
-      let ns = answerNumbers (simplified ed s l .answer) in
-      let q = answer-count (simplified ed s l .answer) in
+  check = λ lim s. tells-in checkBytes _ _ (omega (arith, verdict-count (verdict lim s)));
+  weight = λ lim s. tells-in measureBytes _ _ (omega (arith, measured-count (weighed lim s)));
+  value = λ lim s regs. tells-in measureBytes _ _ (omega (arith, measured-count (valued lim s regs)));
+  equal = λ lim s t. tells-in equalBytes _ _ (omega (arith, compared-count (compared lim s t)));
+  simplify = λ lim ed s l. tells-in simplifyBytes _ _ (omega (arith, answer-count (simplified lim ed s l .answer)));
+  areas = λ lim ed s l slice.
+      let ns = answerNumbers (simplified lim ed s l .answer) in
+      let q = answer-count (simplified lim ed s l .answer) in
       (λ h. rw (lt-ltb (length slice) (8 * length ns) (omega arith)) refl, λ h. rw (le-ltb (length slice) (8 * length ns) (omega arith)) refl);
 }

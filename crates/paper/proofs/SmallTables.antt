@@ -3,7 +3,7 @@ use mathlib.Core.Path.{_≡_, refl}
 use lib.ListN.{replicate}
 use Rattle.paper.specs.Record.{flawNumbers}
 use Rattle.paper.specs.Equal.{one}
-use Rattle.paper.specs.Answers.{turnedDown, equalTrees, compared}
+use Rattle.paper.specs.Answers.{turnedDown, equalTrees, comparedTables, compared}
 use Rattle.paper.specs.Calls.{verdictNumbers, measuredNumbers, comparedNumbers, eights, tooShort, answered}
 use Rattle.paper.specs.Calls.{checkAnswers, valueAnswers, equalAnswers}
 use Rattle.paper.specs.SmallTables.{Verdicts, Flaws, Values, Compares}
@@ -60,7 +60,7 @@ values = record {
 }
 
 pub compares : Compares
-unfolding answers-compute turnedDown equalTrees compared one comparedNumbers eights tooShort answered equalAnswers flawNumbers
+unfolding answers-compute turnedDown equalTrees comparedTables compared one comparedNumbers eights tooShort answered equalAnswers flawNumbers
 compares = record {
   any-order = refl;
   any-order-inside = refl;

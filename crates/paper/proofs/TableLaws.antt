@@ -11,7 +11,7 @@ use borrow.Author.Tests.{ne-eqb, lt-ltb, le-ltb}
 use lib.Dec.{eqb, ltb, lit<}
 use lib.ListN.{getD, drop}
 use lib.Seq.{getD-drop}
-use Rattle.paper.specs.Limits.{maxWeight}
+use Rattle.paper.specs.Limits.{isLimit}
 use Rattle.paper.specs.Bytes.{bytes, word}
 use Rattle.paper.specs.Tree.{Tree, Forest, integer, symbol, sum, product, power, nil, cons, count, records, recordses, weight, weights}
 use Rattle.paper.specs.Record.{kind, countIn, mayTable, mayBe, stray, isNode, sound, flaw, arity, weightFrom}
@@ -24,6 +24,7 @@ use Rattle.paper.proofs.EncodeLaws.{kind-there, count-there, bits-there
 use Rattle.paper.proofs.Stands.{Stands, stands-whole, sum-record, sum-members, product-record, product-members}
 use Rattle.paper.proofs.Stands.{power-record, power-base, power-exponent, first-member, other-members}
 use Rattle.paper.proofs.FirstLaws.{All, all-one, all-both}
+use Rattle.paper.proofs.LimitLaws.{limit-small}
 use Rattle.paper.proofs.VerdictLaws.{Fine, passes-accepted}
 use Rattle.paper.proofs.SkipLaws.{skip-none, skip-one, skip-more, end-step}
 
@@ -263,15 +264,17 @@ mutual
       (fines-there f s n (i + records t) (other-members t f h) (w .1) (omega arith) (omega arith))
 
 -- the records of every well-formed tree that is not too heavy are a table
-pub written-accepted : (t : Tree) → WF t → weight t ≤ maxWeight → verdict (encode t) ≡ accepted
-written-accepted t w h =
+pub written-accepted : (lim : ℕ) → isLimit lim ≡ true → (t : Tree) → WF t → weight t ≤ lim → verdict lim (encode t) ≡ accepted
+written-accepted lim known t w h =
+    let small = limit-small lim known in
     let r = records-weight t in
     let p = records-pos t in
     let at = stands-whole (encode t) in
     let n = recordsIn (encode t) in
     let e : n ≡ records t = records-written t in
     let f : All (Fine (encode t) n) 0 (0 + records t) = fine-there t (encode t) n 0 at w (omega arith) (omega arith) in
-    passes-accepted (encode t) (record {
+    passes-accepted lim (encode t) (record {
+      known = known;
       long = rw (encode-length t) (record { positive = omega arith; sixteens = omega arith; short = omega arith });
       fine = λ j a b. f j a (omega arith);
       light = rw (encode-weight t) h;

@@ -9,13 +9,13 @@ use native.Mathlib.Nat.{mul-le-mul}
 use lib.ListN.{length, getD}
 use lib.Dec.{eqb, ltb, lit<}
 use borrow.Author.Tests.{ltb-true}
-use Rattle.paper.specs.Limits.{maxWeight}
+use Rattle.paper.specs.Limits.{isLimit}
 use Rattle.paper.specs.Bytes.{Bytes, bytes, le, le8}
 use Rattle.paper.specs.Tree.{Tree, weight}
 use Rattle.paper.specs.WellFormed.{WF}
 use Rattle.paper.specs.Record.{kind, countIn, isNode, stray, Flaw, sound, bad-kind, bad-byte, bad-count, flaw, flawNumbers, weightFrom}
 use Rattle.paper.specs.Verdict.{Verdict, accepted, refused, flawed, isAccepted, recordsIn, badLength, firstFlawed, tableWeight, treeEnd}
-use Rattle.paper.specs.Verdict.{firstBadExponent, judgeRecords, verdict}
+use Rattle.paper.specs.Verdict.{firstBadExponent, judgeRecords, judgedTable, verdict}
 use Rattle.paper.specs.Rules.{isEdition, rulesOf}
 use Rattle.paper.specs.Driver.{Ran, done, over, simplify}
 use Rattle.paper.specs.Answers.{Lent, Answer, cramped, judgedCall, judgement, refusedBy, ranAnswer, simplified}
@@ -24,6 +24,7 @@ use Rattle.paper.specs.Told.{flawFrom, answerIn, FitEight}
 use Rattle.paper.proofs.Slices.{answer-count}
 use Rattle.paper.proofs.BytesLaws.{le-bytes, length-bytes, le8-append, le8-append-add}
 use Rattle.paper.proofs.EncodeLaws.{records-weight}
+use Rattle.paper.proofs.LimitLaws.{limit-small}
 use Rattle.paper.proofs.VerdictLaws.{length-good}
 use Rattle.paper.proofs.EditionTwo.{edition-good}
 use Rattle.paper.proofs.PlaceOfSeven.{Within, run-within}
@@ -33,7 +34,7 @@ use Rattle.paper.proofs.CallLaws.{RunOn, Call, is-turned-down, is-run, 
 
 -- ---- places, and what is wrong with a record
 record PlaceIn (n : ℕ) (v : Verdict) : Type 0 where
-  named : v .number ≤ 9
+  named : v .number ≤ 19
   most : v .place ≤ n
   fits : FitEight (flawNumbers (v .flaw))
 
@@ -42,7 +43,7 @@ either n true w v h k = h refl
 either n false w v h k = k
 
 -- a refusal that says nothing of a record
-plain : (n k p : ℕ) → k ≤ 9 → p ≤ n → PlaceIn n (refused k p)
+plain : (n k p : ℕ) → k ≤ 19 → p ≤ n → PlaceIn n (refused k p)
 unfolding flawNumbers
 plain n k p j h = record { named = j; most = h; fits = (omega arith, (omega arith, tt)) }
 
@@ -69,42 +70,50 @@ flaw-fits s i = kinds (ltb 4 (kind s i))
 under : (m n : ℕ) → ltb m n ≡ true → m ≤ n
 under m n e = let l = ltb-true m n e in omega arith
 
-records-place : (s : List ℕ) (n : ℕ) → PlaceIn n (judgeRecords s n)
+records-place : (lim : ℕ) (s : List ℕ) (n : ℕ) → PlaceIn n (judgeRecords lim s n)
 unfolding judgeRecords
-records-place s n =
+records-place lim s n =
     let z : 0 ≤ n = omega arith in
     let m : min (treeEnd s n 0) n ≤ n = omega arith in
     let i = firstFlawed s 0 n in
     let e = firstBadExponent s n 0 n in
     either n (ltb i n) (flawed i (flaw s i)) _ (λ h. record { named = omega arith; most = under i n h; fits = flaw-fits s i })
-    (either n (ltb maxWeight (weightFrom s 0 n)) (refused 3 0) _ (λ h. plain n 3 0 (omega arith) z)
+    (either n (ltb lim (weightFrom s 0 n)) (refused 3 0) _ (λ h. plain n 3 0 (omega arith) z)
     (either n (not (eqb (treeEnd s n 0) n)) (refused 4 (min (treeEnd s n 0) n)) _ (λ h. plain n 4 _ (omega arith) m)
     (either n (ltb e n) (refused 5 e) accepted (λ h. plain n 5 e (omega arith) (under e n h))
     (plain n 0 0 (omega arith) z))))
 
-verdict-place : (s : List ℕ) → PlaceIn maxWeight (verdict s)
-unfolding verdict recordsIn
-verdict-place s = go (badLength (length s)) refl
-  where
-    go : (b : Bool) → badLength (length s) ≡ b → PlaceIn maxWeight (cond b (refused 1 0) (judgeRecords s (recordsIn s)))
-    go true e = plain maxWeight 1 0 (omega arith) (omega arith)
-    go false e =
-        let p = records-place s (recordsIn s) in
-        record { named = p .named; most = omega (arith, p .most, length-good (length s) e .short); fits = p .fits }
+-- no table has more records than the greater limit
+abbrev greatest : ℕ
+greatest = 16384
 
-judgement-place : (ed : ℕ) (s : List ℕ) (l : Lent) → PlaceIn maxWeight (judgement ed s l)
+verdict-place : (lim : ℕ) (s : List ℕ) → PlaceIn greatest (verdict lim s)
+unfolding verdict judgedTable recordsIn
+verdict-place lim s = limited (isLimit lim) refl
+  where
+    go : isLimit lim ≡ true → (b : Bool) → badLength lim (length s) ≡ b → PlaceIn greatest (cond b (refused 1 0) (judgeRecords lim s (recordsIn s)))
+    go k true e = plain greatest 1 0 (omega arith) (omega arith)
+    go k false e =
+        let p = records-place lim s (recordsIn s) in
+        record { named = p .named; most = omega (arith, p .most, length-good lim (length s) e .short, limit-small lim k); fits = p .fits }
+
+    limited : (b : Bool) → isLimit lim ≡ b → PlaceIn greatest (cond b (judgedTable lim s) (refused 19 0))
+    limited true k = go k (badLength lim (length s)) refl
+    limited false k = plain greatest 19 0 (omega arith) (omega arith)
+
+judgement-place : (lim ed : ℕ) (s : List ℕ) (l : Lent) → PlaceIn greatest (judgement lim ed s l)
 unfolding judgement judgedCall
-judgement-place ed s l = known (isEdition ed) (go (isAccepted (verdict s)))
+judgement-place lim ed s l = known (isLimit lim) 19 (omega arith) (known (isEdition ed) 9 (omega arith) (go (isAccepted (verdict lim s))))
   where
-    go : (b : Bool) → PlaceIn maxWeight (cond b (cond (cramped (tableWeight s) l) (refused 6 0) accepted) (verdict s))
+    go : (b : Bool) → PlaceIn greatest (cond b (cond (cramped lim (tableWeight s) l) (refused 6 0) accepted) (verdict lim s))
     go true =
-        let z : 0 ≤ maxWeight = omega arith in
-        either maxWeight (cramped (tableWeight s) l) (refused 6 0) accepted (λ e. plain maxWeight 6 0 (omega arith) z) (plain maxWeight 0 0 (omega arith) z)
-    go false = verdict-place s
+        let z : 0 ≤ greatest = omega arith in
+        either greatest (cramped lim (tableWeight s) l) (refused 6 0) accepted (λ e. plain greatest 6 0 (omega arith) z) (plain greatest 0 0 (omega arith) z)
+    go false = verdict-place lim s
 
-    known : (b : Bool) {v : Verdict} → PlaceIn maxWeight v → PlaceIn maxWeight (cond b v (refused 9 0))
-    known true p = p
-    known false p = plain maxWeight 9 0 (omega arith) (omega arith)
+    known : (b : Bool) (k : ℕ) → k ≤ 19 → {v : Verdict} → PlaceIn greatest v → PlaceIn greatest (cond b v (refused k 0))
+    known true k h p = p
+    known false k h p = plain greatest k 0 h (omega arith)
 
 -- and none of the tries
 with-none : (f : Flaw) → FitEight (flawNumbers f) → FitEight (flawNumbers f ++ (0 ∷ []))
@@ -115,14 +124,14 @@ with-none (bad-byte j) h = (h .0, (h .1 .0, (omega arith, tt)))
 with-none bad-count h = (h .0, (h .1 .0, (omega arith, tt)))
 
 -- the cube of a weight fits in 8 bytes
-cube-small : (w n : ℕ) → w ≤ maxWeight → n ≤ w * (w * w) → n < 2 ^ 64
+cube-small : (w n : ℕ) → w ≤ greatest → n ≤ w * (w * w) → n < 2 ^ 64
 cube-small w n h k =
-    let a : w * w ≤ maxWeight * maxWeight = mul-le-mul h h in
-    let b : w * (w * w) ≤ maxWeight * (maxWeight * maxWeight) = mul-le-mul h a in
+    let a : w * w ≤ greatest * greatest = mul-le-mul h h in
+    let b : w * (w * w) ≤ greatest * (greatest * greatest) = mul-le-mul h a in
     omega arith
 
 -- ---- all numbers of an answer
-run-fit : (ed : ℕ) (t : Tree) → WF t → weight t ≤ maxWeight → (x : Ran) → simplify (rulesOf ed) t ≡ x → FitEight (answerNumbers (ranAnswer (weight t) x))
+run-fit : (ed : ℕ) (t : Tree) → WF t → weight t ≤ greatest → (x : Ran) → simplify (rulesOf ed) t ≡ x → FitEight (answerNumbers (ranAnswer (weight t) x))
 unfolding answerNumbers ranAnswer refusedBy flawNumbers simplify
 run-fit ed t w h (done u ks o n) e =
     let f = simplify-finished (edition-good ed) t u ks o n w e .lightens in
@@ -133,17 +142,17 @@ run-fit ed t w h (over k) e =
     let x : Within t (over k) = subst (Within t) e (run-within (edition-good ed) (weight t) t w) in
     (omega arith, (omega arith, (omega arith, (omega arith, (omega arith, (omega arith, (omega arith, (omega arith, (omega arith, (omega arith, tt))))))))))
 
-pub numbers-fit : (ed : ℕ) (s : List ℕ) → Bytes s → (l : Lent) → FitEight (answerNumbers (simplified ed s l .answer))
+pub numbers-fit : (lim ed : ℕ) (s : List ℕ) → Bytes s → (l : Lent) → FitEight (answerNumbers (simplified lim ed s l .answer))
 unfolding simplified answerNumbers refusedBy
-numbers-fit ed s b l = go (call ed (simplify (rulesOf ed)) s l b)
+numbers-fit lim ed s b l = go (call lim ed (simplify (rulesOf ed)) s l b)
   where
-    small : (v : Verdict) → PlaceIn maxWeight v → FitEight (answerNumbers (refusedBy v))
+    small : (v : Verdict) → PlaceIn greatest v → FitEight (answerNumbers (refusedBy v))
     small v p = let h = p .named in let m = p .most in (omega arith, (omega arith, (omega arith, (omega arith, (omega arith, (omega arith, (omega arith, with-none (v .flaw) (p .fits))))))))
 
-    go : Call ed (simplify (rulesOf ed)) s l → FitEight (answerNumbers (simplified ed s l .answer))
-    go (is-turned-down d) = subst (λ a. FitEight (answerNumbers a)) (sym (d .answer)) (small (judgement ed s l) (judgement-place ed s l))
+    go : Call lim ed (simplify (rulesOf ed)) s l → FitEight (answerNumbers (simplified lim ed s l .answer))
+    go (is-turned-down d) = subst (λ a. FitEight (answerNumbers a)) (sym (d .answer)) (small (judgement lim ed s l) (judgement-place lim ed s l))
     go (is-run r) =
-        subst (λ a. FitEight (answerNumbers a)) (sym (r .answer)) (run-fit ed (r .holds .tree) (r .holds .wf) (r .holds .light) _ refl)
+        subst (λ a. FitEight (answerNumbers a)) (sym (r .answer)) (run-fit ed (r .holds .tree) (r .holds .wf) (omega (arith, r .holds .light, limit-small lim (r .holds .known))) _ refl)
 
 -- ---- reading them back
 first-eight : (n : ℕ) (rest : List ℕ) → n < 2 ^ 64 → le8 (bytes 8 n ++ rest) 0 ≡ n

@@ -12,7 +12,7 @@ use lib.ListN.{replicate, length-replicate}
 use lib.IntN.{pos, negsuc}
 use lib.Dec.{eqb, lit<, lit≤}
 use borrow.Author.Tests.{eqb-true, eqb-false}
-use Rattle.paper.specs.Limits.{maxWeight, workBytes}
+use Rattle.paper.specs.Limits.{isLimit, workBytes}
 use Rattle.paper.specs.Bytes.{Bytes}
 use Rattle.paper.specs.Tree.{Tree, integer, symbol, sum, product, power, nil, cons, weight, value}
 use Rattle.paper.specs.WellFormed.{WF}
@@ -27,6 +27,7 @@ use Rattle.paper.specs.Takeover.{Room}
 use Rattle.paper.specs.Worthless.{RefusesEverything, refusesAll, returnsZero, returnsInput, firstPass, passesOnce, rootOnly, staysAtRoot, oneStepMore}
 use Rattle.paper.specs.Worthless.{oneOpeningMore, inventsSteps, inventsOpenings, oneTryLess, hidesTries}
 use Rattle.paper.specs.WorthlessKinds.{Makes, ReturnsZero, ReturnsInput, StopsAfterPass, NeverEnters, Invents}
+use Rattle.paper.proofs.LimitLaws.{limit-least}
 use Rattle.paper.proofs.EncodeLaws.{encode-bytes}
 use Rattle.paper.proofs.TableLaws.{encode-weight, written-accepted}
 use Rattle.paper.proofs.ReadLaws.{tree-of-written}
@@ -35,51 +36,51 @@ use Rattle.paper.proofs.JudgementLaws.{of-room}
 use Rattle.paper.proofs.Computes.{trees-compute, driver-computes}
 
 -- areas with just enough room for a weight
-areas : ℕ → Lent
-areas w = record { out = replicate (16 * w) 0; steps = replicate w 0; work = replicate workBytes 0 }
+areas : ℕ → ℕ → Lent
+areas lim w = record { out = replicate (16 * w) 0; steps = replicate w 0; work = replicate (workBytes lim) 0 }
 
-areas-room : (w : ℕ) → Room w (areas w)
+areas-room : (lim w : ℕ) → Room lim w (areas lim w)
 unfolding areas
-areas-room w =
+areas-room lim w =
     record {
       out-room = omega (arith, length-replicate {A = ℕ} (16 * w) 0);
       steps-room = omega (arith, length-replicate {A = ℕ} w 0);
-      work-room = omega (arith, length-replicate {A = ℕ} workBytes 0);
+      work-room = omega (arith, length-replicate {A = ℕ} (workBytes lim) 0);
     }
 
 -- in a known edition the table of a well-formed, light tree, with such areas, is accepted
-module _ (ed : ℕ) (known : isEdition ed ≡ true) (t : Tree) (w : WF t) (light : weight t ≤ maxWeight) where
-  tree-accepted : judgement ed (encode t) (areas (weight t)) ≡ accepted
+module _ (lim ed : ℕ) (limited : isLimit lim ≡ true) (known : isEdition ed ≡ true) (t : Tree) (w : WF t) (light : weight t ≤ 16) where
+  tree-accepted : judgement lim ed (encode t) (areas lim (weight t)) ≡ accepted
   tree-accepted =
-      accepted-judgement ed (encode t) (areas (weight t)) known (written-accepted t w light)
-      (ap (λ n. cramped n (areas (weight t))) (encode-weight t) ∙ of-room (weight t) (areas (weight t)) (areas-room (weight t)))
+      accepted-judgement lim ed (encode t) (areas lim (weight t)) limited known (written-accepted lim limited t w (omega (arith, limit-least lim limited)))
+      (ap (λ n. cramped lim n (areas lim (weight t))) (encode-weight t) ∙ of-room lim (weight t) (areas lim (weight t)) (areas-room lim (weight t)))
 
   -- a simplifier around a run that ends on t with u answers with u's records
   record Gives (run : Tree → Ran) (u : Tree) (ks : List ℕ) (o n : ℕ) : Type 0 where
-    answer : simplifiedBy ed run (encode t) (areas (weight t)) .answer ≡ ranAnswer (weight t) (done u ks o n)
-    bytes : result (simplifiedBy ed run (encode t) (areas (weight t))) ≡ encode u
+    answer : simplifiedBy lim ed run (encode t) (areas lim (weight t)) .answer ≡ ranAnswer (weight t) (done u ks o n)
+    bytes : result (simplifiedBy lim ed run (encode t) (areas lim (weight t))) ≡ encode u
 
   gives : (run : Tree → Ran) (u : Tree) (ks : List ℕ) (o n : ℕ) → run t ≡ done u ks o n → Gives run u ks o n
   unfolding ranAnswer lentAfter outAfter written
-  gives run u ks o n e = go (call ed run (encode t) (areas (weight t)) (encode-bytes t))
+  gives run u ks o n e = go (call lim ed run (encode t) (areas lim (weight t)) (encode-bytes t))
     where
       s : List ℕ
       s = encode t
 
       l : Lent
-      l = areas (weight t)
+      l = areas lim (weight t)
 
-      go : Call ed run s l → Gives run u ks o n
-      go (is-turned-down d) = absurd (let z : judgement ed s l .number ≡ 0 = ap (λ v. v .number) tree-accepted in omega (arith, d .number))
+      go : Call lim ed run s l → Gives run u ks o n
+      go (is-turned-down d) = absurd (let z : judgement lim ed s l .number ≡ 0 = ap (λ v. v .number) tree-accepted in omega (arith, d .number))
       go (is-run r) =
-          let x : r .holds .tree ≡ t = same-tree (r .holds .read) (tree-of-written t w light) in
-          let a : simplifiedBy ed run s l .answer ≡ ranAnswer (weight t) (done u ks o n) =
+          let x : r .holds .tree ≡ t = same-tree (r .holds .read) (tree-of-written t w (omega arith)) in
+          let a : simplifiedBy lim ed run s l .answer ≡ ranAnswer (weight t) (done u ks o n) =
           r .answer ∙ ap (λ y. ranAnswer (weight y) (run y)) x ∙ ap (ranAnswer (weight t)) e in
-          let g : simplifiedBy ed run s l .lent ≡ lentAfter (ran (weight t) (done u ks o n)) l =
-          r .lent ∙ ap (λ y. lentAfter (ran (weight y) (run y)) l) x ∙ ap (λ y. lentAfter (ran (weight t) y) l) e in
+          let g : simplifiedBy lim ed run s l .lent ≡ lentAfter lim (ran (weight t) (done u ks o n)) l =
+          r .lent ∙ ap (λ y. lentAfter lim (ran (weight y) (run y)) l) x ∙ ap (λ y. lentAfter lim (ran (weight t) y) l) e in
           record {
             answer = a;
-            bytes = result-written (simplifiedBy ed run s l) (weight t) u (l .out) (ap (λ y. y .records-written) a) (ap (λ y. y .out) g);
+            bytes = result-written (simplifiedBy lim ed run s l) (weight t) u (l .out) (ap (λ y. y .records-written) a) (ap (λ y. y .out) g);
           }
 
 -- ---- the tables: 1; a + (-1)*a, which takes two steps
@@ -90,7 +91,7 @@ one-wf : WF one
 unfolding one
 one-wf = (lit< tt, refl)
 
-one-light : weight one ≤ maxWeight
+one-light : weight one ≤ 16
 unfolding one weight
 one-light = lit≤ tt
 
@@ -101,7 +102,7 @@ difference-wf : WF difference
 unfolding difference trees-compute
 difference-wf = (lit≤ tt, ((lit< tt, refl), ((lit≤ tt, ((lit< tt, refl), ((lit< tt, refl), tt)), refl), tt)), refl)
 
-difference-light : weight difference ≤ maxWeight
+difference-light : weight difference ≤ 16
 unfolding difference weight
 difference-light = lit≤ tt
 
@@ -123,29 +124,29 @@ ran-one ed = in-each ed (λ rs. simplify rs one ≡ done one [] 0 1) (unfold one
 
 -- ---- "One that refuses everything: by the exact conditions of 1 to 6 in demand 1 and of 7 in demand 2." The table 1 is accepted, and
 -- its run meets no integer outside the range.
-module _ (ed : ℕ) (known : isEdition ed ≡ true) (f : Simplifier) where
+module _ (lim ed : ℕ) (limited : isLimit lim ≡ true) (known : isEdition ed ≡ true) (f : Simplifier) where
   abbrev Refused : Verdict → Type 0
-  Refused v = f (encode one) (areas (weight one)) .answer ≡ refusedBy v
+  Refused v = f (encode one) (areas lim (weight one)) .answer ≡ refusedBy v
 
-  not-but-7 : (v : Verdict) → 1 ≤ v .number → ¬ (v .number ≡ 7) → Refused v → ¬ Refuses ed f
+  not-but-7 : (v : Verdict) → 1 ≤ v .number → ¬ (v .number ≡ 7) → Refused v → ¬ Refuses lim ed f
   not-but-7 v h g e r =
-      let j = r (encode one) (encode-bytes one) (areas (weight one)) v h g .0 e in
-      let z : 0 ≡ v .number = ap (λ v. v .number) (sym (tree-accepted ed known one one-wf one-light) ∙ j) in
+      let j = r (encode one) (encode-bytes one) (areas lim (weight one)) v h g .0 e in
+      let z : 0 ≡ v .number = ap (λ v. v .number) (sym (tree-accepted lim ed limited known one one-wf one-light) ∙ j) in
       omega arith
 
-  not-by-7 : (p : ℕ) → Refused (refused 7 p) → ¬ RunsOver ed f
+  not-by-7 : (p : ℕ) → Refused (refused 7 p) → ¬ RunsOver lim ed f
   not-by-7 p e r =
-      let x = r (encode one) (encode-bytes one) (areas (weight one)) p .0 e in
-      let t : x .1 .0 ≡ one = same-tree (x .1 .1) (tree-of-written one one-wf one-light) in
+      let x = r (encode one) (encode-bytes one) (areas lim (weight one)) p .0 e in
+      let t : x .1 .0 ≡ one = same-tree (x .1 .1) (tree-of-written one one-wf (omega (arith, one-light))) in
       no (sym (ran-one ed) ∙ sym (ap (simplify (rulesOf ed)) t) ∙ x .1 .2)
     where
       no : done one [] 0 1 ≡ over p → ⊥
       no e = let z : _≡_ {A = ℕ} 0 1 = cc in omega arith
 
-  pub refusing-is-refused : RefusesEverything f → (¬ Refuses ed f) ⊎ (¬ RunsOver ed f)
-  refusing-is-refused h = go (h (encode one) (encode-bytes one) (areas (weight one)))
+  pub refusing-is-refused : RefusesEverything f → (¬ Refuses lim ed f) ⊎ (¬ RunsOver lim ed f)
+  refusing-is-refused h = go (h (encode one) (encode-bytes one) (areas lim (weight one)))
     where
-      go : ((v : Verdict) × (1 ≤ v .number) × (¬ (v .number ≡ 7)) × Refused v) ⊎ ((p : ℕ) × Refused (refused 7 p)) → (¬ Refuses ed f) ⊎ (¬ RunsOver ed f)
+      go : ((v : Verdict) × (1 ≤ v .number) × (¬ (v .number ≡ 7)) × Refused v) ⊎ ((p : ℕ) × Refused (refused 7 p)) → (¬ Refuses lim ed f) ⊎ (¬ RunsOver lim ed f)
       go (inl x) = inl (not-but-7 (x .0) (x .1) (x .2) (x .3))
       go (inr x) = inr (not-by-7 (x .0) (x .1))
 
@@ -159,21 +160,21 @@ always-refuses k h s b l = go (eqb k 7) refl
     go true e = inr (0, ap (λ n. refusal n 0) (eqb-true k 7 e))
     go false e = inl (refused k 0, h, eqb-false k 7 e, refl)
 
-pub always-k-is-refused : (ed : ℕ) → isEdition ed ≡ true → (k : ℕ) → 1 ≤ k → ¬ (k ≡ 7) → ¬ Refuses ed (refusesAll k)
+pub always-k-is-refused : (lim ed : ℕ) → isLimit lim ≡ true → isEdition ed ≡ true → (k : ℕ) → 1 ≤ k → ¬ (k ≡ 7) → ¬ Refuses lim ed (refusesAll k)
 unfolding refusesAll
-always-k-is-refused ed known k h g = not-but-7 ed known (refusesAll k) (refused k 0) h g refl
+always-k-is-refused lim ed limited known k h g = not-but-7 lim ed limited known (refusesAll k) (refused k 0) h g refl
 
-pub always-7-is-refused : (ed : ℕ) → isEdition ed ≡ true → ¬ RunsOver ed (refusesAll 7)
+pub always-7-is-refused : (lim ed : ℕ) → isLimit lim ≡ true → isEdition ed ≡ true → ¬ RunsOver lim ed (refusesAll 7)
 unfolding refusesAll
-always-7-is-refused ed known = not-by-7 ed known (refusesAll 7) 0 refl
+always-7-is-refused lim ed limited known = not-by-7 lim ed limited known (refusesAll 7) 0 refl
 
 -- ---- "One that returns 0 for all: by the value in demand 3."
-pub zero-is-refused : (ed : ℕ) → isEdition ed ≡ true → ¬ KeepsValue ed (returnsZero ed)
+pub zero-is-refused : (lim ed : ℕ) → isLimit lim ≡ true → isEdition ed ≡ true → ¬ KeepsValue lim ed (returnsZero lim ed)
 unfolding returnsZero trees-compute one ranAnswer
-zero-is-refused ed known k =
-    let g = gives ed known one one-wf one-light (λ t. done (integer 0 (pos 0)) [] 0 0) (integer 0 (pos 0)) [] 0 0 refl in
-    let x = k (encode one) (encode-bytes one) (areas (weight one)) (ap (λ y. y .number) (g .answer)) one (tree-of-written one one-wf one-light) in
-    let b = ap treeOf (g .bytes) ∙ tree-of-written (integer 0 (pos 0)) (lit< tt, refl) (lit≤ tt) in
+zero-is-refused lim ed limited known k =
+    let g = gives lim ed limited known one one-wf one-light (λ t. done (integer 0 (pos 0)) [] 0 0) (integer 0 (pos 0)) [] 0 0 refl in
+    let x = k (encode one) (encode-bytes one) (areas lim (weight one)) (ap (λ y. y .number) (g .answer)) one (tree-of-written one one-wf (omega (arith, one-light))) in
+    let b = ap treeOf (g .bytes) ∙ tree-of-written (integer 0 (pos 0)) (lit< tt, refl) (lit< tt) in
     let u : integer 0 (pos 0) ≡ x .0 = same-tree b (x .1) in
     let z : _≡_ {A = ℕ} 0 1 = ap (λ y. value y (λ n. 0)) u ∙ x .2 (λ n. 0) in omega arith
 
@@ -182,12 +183,12 @@ admits-a-rule : {rs : List Rule} (t u : Tree) (k : ℕ) → ask rs t ≡ step k 
 admits-a-rule t u k e (admits-none a o ms) = let z : step k u ≡ no-rule = sym e ∙ a in let y : _≡_ {A = ℕ} 0 1 = cc in omega arith
 
 -- "One that returns its input: by "admits no rule"."
-pub input-is-refused : (ed : ℕ) → isEdition ed ≡ true → ¬ Finishes ed (returnsInput ed)
+pub input-is-refused : (lim ed : ℕ) → isLimit lim ≡ true → isEdition ed ≡ true → ¬ Finishes lim ed (returnsInput lim ed)
 unfolding returnsInput ranAnswer
-input-is-refused ed known f =
-    let g = gives ed known difference difference-wf difference-light (λ t. done t [] 0 0) difference [] 0 0 refl in
-    let r = tree-of-written difference difference-wf difference-light in
-    let x = f (encode difference) (encode-bytes difference) (areas (weight difference)) (ap (λ y. y .number) (g .answer)) difference r in
+input-is-refused lim ed limited known f =
+    let g = gives lim ed limited known difference difference-wf difference-light (λ t. done t [] 0 0) difference [] 0 0 refl in
+    let r = tree-of-written difference difference-wf (omega (arith, difference-light)) in
+    let x = f (encode difference) (encode-bytes difference) (areas lim (weight difference)) (ap (λ y. y .number) (g .answer)) difference r in
     let u : x .0 ≡ difference = same-tree (x .1) (ap treeOf (g .bytes) ∙ r) in
     admits-a-rule difference once 2 first-step (subst (AdmitsNone (rulesOf ed)) u (x .2))
   where
@@ -195,13 +196,13 @@ input-is-refused ed known f =
     first-step = in-each ed (λ rs. ask rs difference ≡ step 2 once) (unfold difference once driver-computes in refl) (unfold difference once driver-computes in refl)
 
 -- "One that makes a first pass and then stops: the same clause, over the rules above."
-pub pass-is-refused : (ed : ℕ) → isEdition ed ≡ true → ¬ Finishes ed (passesOnce ed)
+pub pass-is-refused : (lim ed : ℕ) → isLimit lim ≡ true → isEdition ed ≡ true → ¬ Finishes lim ed (passesOnce lim ed)
 unfolding passesOnce ranAnswer
-pass-is-refused ed known f =
-    let g = gives ed known difference difference-wf difference-light (λ t. firstPass (rulesOf ed) (weight t) t) once (2 ∷ []) 0 1 passed in
-    let r = tree-of-written once once-wf once-light in
-    let x = f (encode difference) (encode-bytes difference) (areas (weight difference)) (ap (λ y. y .number) (g .answer)) difference
-    (tree-of-written difference difference-wf difference-light) in
+pass-is-refused lim ed limited known f =
+    let g = gives lim ed limited known difference difference-wf difference-light (λ t. firstPass (rulesOf ed) (weight t) t) once (2 ∷ []) 0 1 passed in
+    let r = tree-of-written once once-wf (omega (arith, once-light)) in
+    let x = f (encode difference) (encode-bytes difference) (areas lim (weight difference)) (ap (λ y. y .number) (g .answer)) difference
+    (tree-of-written difference difference-wf (omega (arith, difference-light))) in
     let u : x .0 ≡ once = same-tree (x .1) (ap treeOf (g .bytes) ∙ r) in
     admits-a-rule once (integer 0 (pos 0)) 3 second-step (subst (AdmitsNone (rulesOf ed)) u (x .2))
   where
@@ -216,7 +217,7 @@ pass-is-refused ed known f =
     once-wf : WF once
     once-wf = unfold once trees-compute in (lit≤ tt, ((lit< tt, refl), ((lit< tt, refl), tt)), refl)
 
-    once-light : weight once ≤ maxWeight
+    once-light : weight once ≤ 16
     once-light = unfold once weight in (lit≤ tt)
 
 -- one that never enters a member, by the same clause at a member: (a + a)^2 stays as it is, and its base admits step 2
@@ -226,19 +227,19 @@ twice = sum 0 (cons (symbol 0 0) (cons (symbol 0 0) nil))
 inside : Tree
 inside = power 0 twice 0 2
 
-pub root-is-refused : (ed : ℕ) → isEdition ed ≡ true → ¬ Finishes ed (staysAtRoot ed)
+pub root-is-refused : (lim ed : ℕ) → isLimit lim ≡ true → isEdition ed ≡ true → ¬ Finishes lim ed (staysAtRoot lim ed)
 unfolding staysAtRoot ranAnswer
-root-is-refused ed known f =
-    let g = gives ed known inside inside-wf inside-light (λ t. rootOnly (rulesOf ed) (weight t) t) inside [] 0 1 stays in
-    let r = tree-of-written inside inside-wf inside-light in
-    let x = f (encode inside) (encode-bytes inside) (areas (weight inside)) (ap (λ y. y .number) (g .answer)) inside r in
+root-is-refused lim ed limited known f =
+    let g = gives lim ed limited known inside inside-wf inside-light (λ t. rootOnly (rulesOf ed) (weight t) t) inside [] 0 1 stays in
+    let r = tree-of-written inside inside-wf (omega (arith, inside-light)) in
+    let x = f (encode inside) (encode-bytes inside) (areas lim (weight inside)) (ap (λ y. y .number) (g .answer)) inside r in
     let u : x .0 ≡ inside = same-tree (x .1) (ap treeOf (g .bytes) ∙ r) in
     base-admits (subst (AdmitsNone (rulesOf ed)) u (x .2))
   where
     inside-wf : WF inside
     inside-wf = unfold inside twice trees-compute in ((lit≤ tt, ((lit< tt, refl), ((lit< tt, refl), tt)), refl), lit≤ tt, lit< tt, refl, refl)
 
-    inside-light : weight inside ≤ maxWeight
+    inside-light : weight inside ≤ 16
     inside-light = unfold inside twice weight in (lit≤ tt)
 
     stays : rootOnly (rulesOf ed) (weight inside) inside ≡ done inside [] 0 1
@@ -264,57 +265,57 @@ root-is-refused ed known f =
 
 -- ---- "Invented steps or openings fall to demand 2, since both are those of the driver."
 module _ where
-  pub steps-are-refused : (ed : ℕ) → isEdition ed ≡ true → ¬ Follows ed (inventsSteps ed)
+  pub steps-are-refused : (lim ed : ℕ) → isLimit lim ≡ true → isEdition ed ≡ true → ¬ Follows lim ed (inventsSteps lim ed)
   unfolding inventsSteps oneStepMore ranAnswer
-  steps-are-refused ed known f =
-      let g = gives ed known one one-wf one-light (λ t. oneStepMore (simplify (rulesOf ed) t)) one (1 ∷ []) 0 1 (ap oneStepMore (ran-one ed)) in
-      let x = f (encode one) (encode-bytes one) (areas (weight one)) (tree-accepted ed known one one-wf one-light) one one [] 0 1
-      (tree-of-written one one-wf one-light) (ran-one ed) .0 in
+  steps-are-refused lim ed limited known f =
+      let g = gives lim ed limited known one one-wf one-light (λ t. oneStepMore (simplify (rulesOf ed) t)) one (1 ∷ []) 0 1 (ap oneStepMore (ran-one ed)) in
+      let x = f (encode one) (encode-bytes one) (areas lim (weight one)) (tree-accepted lim ed limited known one one-wf one-light) one one [] 0 1
+      (tree-of-written one one-wf (omega (arith, one-light))) (ran-one ed) .0 in
       let z : _≡_ {A = ℕ} 0 1 = ap (λ y. y .steps-taken) (sym x ∙ g .answer) in omega arith
 
-  pub openings-are-refused : (ed : ℕ) → isEdition ed ≡ true → ¬ Follows ed (inventsOpenings ed)
+  pub openings-are-refused : (lim ed : ℕ) → isLimit lim ≡ true → isEdition ed ≡ true → ¬ Follows lim ed (inventsOpenings lim ed)
   unfolding inventsOpenings oneOpeningMore ranAnswer
-  openings-are-refused ed known f =
-      let g = gives ed known one one-wf one-light (λ t. oneOpeningMore (simplify (rulesOf ed) t)) one [] 1 1 (ap oneOpeningMore (ran-one ed)) in
-      let x = f (encode one) (encode-bytes one) (areas (weight one)) (tree-accepted ed known one one-wf one-light) one one [] 0 1
-      (tree-of-written one one-wf one-light) (ran-one ed) .0 in
+  openings-are-refused lim ed limited known f =
+      let g = gives lim ed limited known one one-wf one-light (λ t. oneOpeningMore (simplify (rulesOf ed) t)) one [] 1 1 (ap oneOpeningMore (ran-one ed)) in
+      let x = f (encode one) (encode-bytes one) (areas lim (weight one)) (tree-accepted lim ed limited known one one-wf one-light) one one [] 0 1
+      (tree-of-written one one-wf (omega (arith, one-light))) (ran-one ed) .0 in
       let z : _≡_ {A = ℕ} 0 1 = ap (λ y. y .openings) (sym x ∙ g .answer) in omega arith
 
   -- and so does a hidden try
-  pub tries-are-refused : (ed : ℕ) → isEdition ed ≡ true → ¬ Follows ed (hidesTries ed)
+  pub tries-are-refused : (lim ed : ℕ) → isLimit lim ≡ true → isEdition ed ≡ true → ¬ Follows lim ed (hidesTries lim ed)
   unfolding hidesTries oneTryLess ranAnswer
-  tries-are-refused ed known f =
-      let g = gives ed known one one-wf one-light (λ t. oneTryLess (simplify (rulesOf ed) t)) one [] 0 0 (ap oneTryLess (ran-one ed)) in
-      let x = f (encode one) (encode-bytes one) (areas (weight one)) (tree-accepted ed known one one-wf one-light) one one [] 0 1
-      (tree-of-written one one-wf one-light) (ran-one ed) .0 in
+  tries-are-refused lim ed limited known f =
+      let g = gives lim ed limited known one one-wf one-light (λ t. oneTryLess (simplify (rulesOf ed) t)) one [] 0 0 (ap oneTryLess (ran-one ed)) in
+      let x = f (encode one) (encode-bytes one) (areas lim (weight one)) (tree-accepted lim ed limited known one one-wf one-light) one one [] 0 1
+      (tree-of-written one one-wf (omega (arith, one-light))) (ran-one ed) .0 in
       let z : _≡_ {A = ℕ} 1 0 = ap (λ y. y .tries) (sym x ∙ g .answer) in omega arith
 
 -- ---- the same of any simplifier that does as they do. What such a one gives for the table of t is the table of u; so what demand 3 says
 -- of its result is said of u.
-module _ (ed : ℕ) (known : isEdition ed ≡ true) {P : Tree → Tree → Type 0} (f : Simplifier) (g : Makes ed P f) (t u : Tree) (p : P t u) where
-  said-of : WF t → weight t ≤ maxWeight → WF u → weight u ≤ maxWeight → (Q : Tree → Tree → Type 0) → Accepted ed f (λ s l. Q) → Q t u
+module _ (lim ed : ℕ) (limited : isLimit lim ≡ true) (known : isEdition ed ≡ true) {P : Tree → Tree → Type 0} (f : Simplifier) (g : Makes lim ed P f) (t u : Tree) (p : P t u) where
+  said-of : WF t → weight t ≤ 16 → WF u → weight u ≤ 16 → (Q : Tree → Tree → Type 0) → Accepted lim ed f (λ s l. Q) → Q t u
   said-of w h v k Q demand =
-      let r = tree-of-written t w h in
-      let x = g (encode t) (encode-bytes t) (areas (weight t)) (tree-accepted ed known t w h) t u r p in
-      let y = demand (encode t) (encode-bytes t) (areas (weight t)) (x .0) t r in
-      let e : y .0 ≡ u = same-tree (y .1) (ap treeOf (x .1) ∙ tree-of-written u v k) in
+      let r = tree-of-written t w (omega arith) in
+      let x = g (encode t) (encode-bytes t) (areas lim (weight t)) (tree-accepted lim ed limited known t w h) t u r p in
+      let y = demand (encode t) (encode-bytes t) (areas lim (weight t)) (x .0) t r in
+      let e : y .0 ≡ u = same-tree (y .1) (ap treeOf (x .1) ∙ tree-of-written u v (omega arith)) in
       subst (Q t) e (y .2)
 
-pub returning-zero-is-refused : (ed : ℕ) → isEdition ed ≡ true → (f : Simplifier) → ReturnsZero ed f → ¬ KeepsValue ed f
+pub returning-zero-is-refused : (lim ed : ℕ) → isLimit lim ≡ true → isEdition ed ≡ true → (f : Simplifier) → ReturnsZero lim ed f → ¬ KeepsValue lim ed f
 unfolding one trees-compute
-returning-zero-is-refused ed known f g k =
-    let x = said-of ed known f g one (integer 0 (pos 0)) refl one-wf one-light (lit< tt, refl) (lit≤ tt) (λ t u. (ρ : ℕ → ℕ) → value u ρ ≡ value t ρ) k in
+returning-zero-is-refused lim ed limited known f g k =
+    let x = said-of lim ed limited known f g one (integer 0 (pos 0)) refl one-wf one-light (lit< tt, refl) (lit≤ tt) (λ t u. (ρ : ℕ → ℕ) → value u ρ ≡ value t ρ) k in
     let z : _≡_ {A = ℕ} 0 1 = x (λ n. 0) in omega arith
 
-module _ (ed : ℕ) (known : isEdition ed ≡ true) where
+module _ (lim ed : ℕ) (limited : isLimit lim ≡ true) (known : isEdition ed ≡ true) where
   first-step : ask (rulesOf ed) difference ≡ step 2 once
   first-step =
       in-each ed (λ rs. ask rs difference ≡ step 2 once) (unfold difference once driver-computes in refl) (unfold difference once driver-computes in refl)
 
-  pub returning-input-is-refused : (f : Simplifier) → ReturnsInput ed f → ¬ Finishes ed f
+  pub returning-input-is-refused : (f : Simplifier) → ReturnsInput lim ed f → ¬ Finishes lim ed f
   returning-input-is-refused f g k =
       admits-a-rule difference once 2 first-step
-      (said-of ed known f g difference difference refl difference-wf difference-light difference-wf difference-light (λ t u. AdmitsNone (rulesOf ed) u) k)
+      (said-of lim ed limited known f g difference difference refl difference-wf difference-light difference-wf difference-light (λ t u. AdmitsNone (rulesOf ed) u) k)
 
   second-step : ask (rulesOf ed) once ≡ step 3 (integer 0 (pos 0))
   second-step = in-each ed (λ rs. ask rs once ≡ step 3 (integer 0 (pos 0))) (unfold once driver-computes in refl) (unfold once driver-computes in refl)
@@ -327,18 +328,18 @@ module _ (ed : ℕ) (known : isEdition ed ≡ true) where
   once-wf : WF once
   once-wf = unfold once trees-compute in (lit≤ tt, ((lit< tt, refl), ((lit< tt, refl), tt)), refl)
 
-  once-light : weight once ≤ maxWeight
+  once-light : weight once ≤ 16
   once-light = unfold once weight in (lit≤ tt)
 
-  pub stopping-is-refused : (f : Simplifier) → StopsAfterPass ed f → ¬ Finishes ed f
+  pub stopping-is-refused : (f : Simplifier) → StopsAfterPass lim ed f → ¬ Finishes lim ed f
   stopping-is-refused f g k =
       admits-a-rule once (integer 0 (pos 0)) 3 second-step
-      (said-of ed known f g difference once (2 ∷ [], 0, 1, passed-once) difference-wf difference-light once-wf once-light (λ t u. AdmitsNone (rulesOf ed) u) k)
+      (said-of lim ed limited known f g difference once (2 ∷ [], 0, 1, passed-once) difference-wf difference-light once-wf once-light (λ t u. AdmitsNone (rulesOf ed) u) k)
 
   inside-is-wf : WF inside
   inside-is-wf = unfold inside twice trees-compute in ((lit≤ tt, ((lit< tt, refl), ((lit< tt, refl), tt)), refl), lit≤ tt, lit< tt, refl, refl)
 
-  inside-is-light : weight inside ≤ maxWeight
+  inside-is-light : weight inside ≤ 16
   inside-is-light = unfold inside twice weight in (lit≤ tt)
 
   no-rule-outside : ask (rulesOf ed) inside ≡ no-rule
@@ -361,60 +362,60 @@ module _ (ed : ℕ) (known : isEdition ed ≡ true) where
   inside-admits (admits-none a o ms) =
       admits-a-rule twice double 2 step-inside (first-of (subst (AllAdmitNone (rulesOf ed)) its-members ms))
 
-  pub never-entering-is-refused : (f : Simplifier) → NeverEnters ed f → ¬ Finishes ed f
+  pub never-entering-is-refused : (f : Simplifier) → NeverEnters lim ed f → ¬ Finishes lim ed f
   never-entering-is-refused f g k =
       inside-admits
-      (said-of ed known f g inside inside (no-rule-outside, refl) inside-is-wf inside-is-light inside-is-wf inside-is-light (λ t u. AdmitsNone (rulesOf ed) u) k)
+      (said-of lim ed limited known f g inside inside (no-rule-outside, refl) inside-is-wf inside-is-light inside-is-wf inside-is-light (λ t u. AdmitsNone (rulesOf ed) u) k)
 
 -- told another number of steps or of openings than the driver has
-pub inventing-is-refused : (ed : ℕ) (f : Simplifier) (told : ℕ → ℕ → ℕ) → Invents ed f told → ¬ Follows ed f
-inventing-is-refused ed f told i k =
+pub inventing-is-refused : (lim ed : ℕ) (f : Simplifier) (told : ℕ → ℕ → ℕ) → Invents lim ed f told → ¬ Follows lim ed f
+inventing-is-refused lim ed f told i k =
     let x = k (i .table) (i .bytes) (i .areas) (i .accepts) (i .tree) (i .end) (i .steps) (i .openings) (i .tries) (i .read) (i .ran) .0 in
     i .other (ap (λ a. told (a .steps-taken) (a .openings)) x)
 
 -- ---- there are such simplifiers: each of the programs above is one of its kind
-module _ (ed : ℕ) (run : Tree → Ran) (P : Tree → Tree → Type 0) (ends : (t u : Tree) → P t u → (ks : List ℕ) × (o : ℕ) × (n : ℕ) × (run t ≡ done u ks o n)) where
-  run-makes : Makes ed P (simplifiedBy ed run)
+module _ (lim ed : ℕ) (run : Tree → Ran) (P : Tree → Tree → Type 0) (ends : (t u : Tree) → P t u → (ks : List ℕ) × (o : ℕ) × (n : ℕ) × (run t ≡ done u ks o n)) where
+  run-makes : Makes lim ed P (simplifiedBy lim ed run)
   unfolding ranAnswer lentAfter outAfter written
-  run-makes s b l j t u r p = go (call ed run s l b)
+  run-makes s b l j t u r p = go (call lim ed run s l b)
     where
-      go : Call ed run s l → (simplifiedBy ed run s l .answer .number ≡ 0) × (result (simplifiedBy ed run s l) ≡ encode u)
-      go (is-turned-down d) = absurd (let z : judgement ed s l .number ≡ 0 = ap (λ v. v .number) j in omega (arith, d .number))
+      go : Call lim ed run s l → (simplifiedBy lim ed run s l .answer .number ≡ 0) × (result (simplifiedBy lim ed run s l) ≡ encode u)
+      go (is-turned-down d) = absurd (let z : judgement lim ed s l .number ≡ 0 = ap (λ v. v .number) j in omega (arith, d .number))
       go (is-run c) =
           let v = c .holds .tree in
           let e : run v ≡ done u (ends t u p .0) (ends t u p .1) (ends t u p .2) = ap run (same-tree (c .holds .read) r) ∙ ends t u p .3 in
           let x = c .answer ∙ ap (ranAnswer (weight v)) e in
-          let y = c .lent ∙ ap (λ z. lentAfter (ran (weight v) z) l) e in (
+          let y = c .lent ∙ ap (λ z. lentAfter lim (ran (weight v) z) l) e in (
             ap (λ z. z .number) x,
-            result-written (simplifiedBy ed run s l) (weight v) u (l .out) (ap (λ z. z .records-written) x) (ap (λ z. z .out) y),
+            result-written (simplifiedBy lim ed run s l) (weight v) u (l .out) (ap (λ z. z .records-written) x) (ap (λ z. z .out) y),
           )
 
-pub zero-returns-zero : (ed : ℕ) → ReturnsZero ed (returnsZero ed)
+pub zero-returns-zero : (lim ed : ℕ) → ReturnsZero lim ed (returnsZero lim ed)
 unfolding returnsZero
-zero-returns-zero ed = run-makes ed _ _ (λ t u e. ([], 0, 0, ap (λ y. done y [] 0 0) (sym e)))
+zero-returns-zero lim ed = run-makes lim ed _ _ (λ t u e. ([], 0, 0, ap (λ y. done y [] 0 0) (sym e)))
 
-pub input-returns-input : (ed : ℕ) → ReturnsInput ed (returnsInput ed)
+pub input-returns-input : (lim ed : ℕ) → ReturnsInput lim ed (returnsInput lim ed)
 unfolding returnsInput
-input-returns-input ed = run-makes ed _ _ (λ t u e. ([], 0, 0, ap (λ y. done y [] 0 0) (sym e)))
+input-returns-input lim ed = run-makes lim ed _ _ (λ t u e. ([], 0, 0, ap (λ y. done y [] 0 0) (sym e)))
 
-pub pass-stops : (ed : ℕ) → StopsAfterPass ed (passesOnce ed)
+pub pass-stops : (lim ed : ℕ) → StopsAfterPass lim ed (passesOnce lim ed)
 unfolding passesOnce
-pass-stops ed = run-makes ed _ _ (λ t u e. e)
+pass-stops lim ed = run-makes lim ed _ _ (λ t u e. e)
 
-pub root-never-enters : (ed : ℕ) → NeverEnters ed (staysAtRoot ed)
+pub root-never-enters : (lim ed : ℕ) → NeverEnters lim ed (staysAtRoot lim ed)
 unfolding staysAtRoot
-root-never-enters ed = run-makes ed _ _ (λ t u e. let s = stays t (weight t) (e .0) in ([], 0, s .0, s .1 ∙ ap (λ y. done y [] 0 (s .0)) (sym (e .1))))
+root-never-enters lim ed = run-makes lim ed _ _ (λ t u e. let s = stays t (weight t) (e .0) in ([], 0, s .0, s .1 ∙ ap (λ y. done y [] 0 (s .0)) (sym (e .1))))
   where
     stays : (t : Tree) (n : ℕ) → ask (rulesOf ed) t ≡ no-rule → (m : ℕ) × (rootOnly (rulesOf ed) n t ≡ done t [] 0 m)
     stays t zero e = (0, unfold rootOnly in refl)
     stays t (suc n) e = (1, unfold rootOnly tried after in rw (e, rootOnly) refl)
 
 -- told more steps and openings than the weight that is lost, on some accepted call: it fails `lightens`
-pub overcounting-is-refused : (ed : ℕ) (f : Simplifier) (s : List ℕ) → Bytes s → (l : Lent) → f s l .answer .number ≡ 0 → (t : Tree) → treeOf s ≡ some t
-    → ((u : Tree) → treeOf (result (f s l)) ≡ some u → weight t < f s l .answer .steps-taken + f s l .answer .openings + weight u) → ¬ Lightens ed f
-overcounting-is-refused ed f s b l n t r more k = let x = k s b l n t r in omega (arith, x .2, more (x .0) (x .1))
+pub overcounting-is-refused : (lim ed : ℕ) (f : Simplifier) (s : List ℕ) → Bytes s → (l : Lent) → f s l .answer .number ≡ 0 → (t : Tree) → treeOf s ≡ some t
+    → ((u : Tree) → treeOf (result (f s l)) ≡ some u → weight t < f s l .answer .steps-taken + f s l .answer .openings + weight u) → ¬ Lightens lim ed f
+overcounting-is-refused lim ed f s b l n t r more k = let x = k s b l n t r in omega (arith, x .2, more (x .0) (x .1))
 
 -- one that changes a lent byte though it refuses by another number than 7, on some call: it fails `leaves-alone`
-pub scribbling-is-refused : (ed : ℕ) (f : Simplifier) (s : List ℕ) → Bytes s → (l : Lent) (v : Verdict) → 1 ≤ v .number → ¬ (v .number ≡ 7)
-    → f s l .answer ≡ refusedBy v → ¬ (f s l .lent ≡ l) → ¬ LeavesAlone ed f
-scribbling-is-refused ed f s b l v h g e changed alone = changed (alone s b l v h g e)
+pub scribbling-is-refused : (lim ed : ℕ) (f : Simplifier) (s : List ℕ) → Bytes s → (l : Lent) (v : Verdict) → 1 ≤ v .number → ¬ (v .number ≡ 7)
+    → f s l .answer ≡ refusedBy v → ¬ (f s l .lent ≡ l) → ¬ LeavesAlone lim ed f
+scribbling-is-refused lim ed f s b l v h g e changed alone = changed (alone s b l v h g e)

@@ -5,7 +5,7 @@ use mathlib.Core.List.{List, []}
 use mathlib.Core.Option.{Option, none, some}
 use lib.ListN.{length}
 use lib.Dec.{eqb, ltb}
-use Rattle.paper.specs.Limits.{workBytes, registerBytes}
+use Rattle.paper.specs.Limits.{isLimit, workBytes, registerBytes}
 use Rattle.paper.specs.Bytes.{le8, stretch}
 use Rattle.paper.specs.Record.{Flaw, sound}
 use Rattle.paper.specs.Tree.{Tree, weight, records, value}
@@ -27,8 +27,8 @@ pub record Measured : Type 0 where
 unfoldable pub measured : Verdict → ℕ → Measured
 measured v n = record { number = v .number; place = v .place; flaw = v .flaw; result = cond (isAccepted v) n 0 }
 
-unfoldable pub weighed : List ℕ → Measured
-weighed s = measured (verdict s) (tableWeight s)
+unfoldable pub weighed : ℕ → List ℕ → Measured
+weighed lim s = measured (verdict lim s) (tableWeight s)
 
 -- "the registers come as 2,048 bytes, symbol 0 first, little-endian"
 unfoldable pub register : List ℕ → ℕ → ℕ
@@ -39,11 +39,11 @@ treeValue none ρ = 0
 treeValue (some t) ρ = value t ρ
 
 -- "any other length is 6, place 0, after 1 to 5"
-unfoldable pub registersVerdict : List ℕ → List ℕ → Verdict
-registersVerdict s regs = cond (isAccepted (verdict s)) (cond (eqb (length regs) registerBytes) accepted (refused 6 0)) (verdict s)
+unfoldable pub registersVerdict : ℕ → List ℕ → List ℕ → Verdict
+registersVerdict lim s regs = cond (isAccepted (verdict lim s)) (cond (eqb (length regs) registerBytes) accepted (refused 6 0)) (verdict lim s)
 
-unfoldable pub valued : List ℕ → List ℕ → Measured
-valued s regs = measured (registersVerdict s regs) (treeValue (treeOf s) (register regs))
+unfoldable pub valued : ℕ → List ℕ → List ℕ → Measured
+valued lim s regs = measured (registersVerdict lim s regs) (treeValue (treeOf s) (register regs))
 
 -- ---- "The equality test judges the first table by 1 to 5, then the second, and returns number, place and which table it
 -- refuses (1 or 2, and 0 for neither); its yes or no is no after a refusal."
@@ -62,13 +62,17 @@ equalTrees none u = false
 equalTrees (some t) none = false
 equalTrees (some t) (some u) = equal t u
 
-unfoldable pub compared : List ℕ → List ℕ → Compared
-compared a b =
-    cond (isAccepted (verdict a))
-    (cond (isAccepted (verdict b))
+unfoldable pub comparedTables : ℕ → List ℕ → List ℕ → Compared
+comparedTables lim a b =
+    cond (isAccepted (verdict lim a))
+    (cond (isAccepted (verdict lim b))
     (record { number = 0; place = 0; flaw = sound; which = 0; yes = equalTrees (treeOf a) (treeOf b) })
-    (turnedDown (verdict b) 2))
-    (turnedDown (verdict a) 1)
+    (turnedDown (verdict lim b) 2))
+    (turnedDown (verdict lim a) 1)
+
+-- "another limit is 19, before all others", and is the fault of neither table
+unfoldable pub compared : ℕ → List ℕ → List ℕ → Compared
+compared lim a b = cond (isLimit lim) (comparedTables lim a b) (turnedDown (refused 19 0) 0)
 
 -- ---- the simplifier: "is lent a table, and `out`, `steps` and `work` to write"
 pub record Lent : Type 0 where
@@ -88,17 +92,17 @@ pub record Answer : Type 0 where
   pub weight-out : ℕ
   pub tries : ℕ
 
--- 6: "`out` under 16 x W bytes, `steps` under W, or `work` under 65,536"
-unfoldable pub cramped : ℕ → Lent → Bool
-cramped w l = ltb (length (l .out)) (16 * w) || ltb (length (l .steps)) w || ltb (length (l .work)) workBytes
+-- 6: "`out` under 16 x W bytes, `steps` under W, or `work` under 65,536", or what the limit asks for
+unfoldable pub cramped : ℕ → ℕ → Lent → Bool
+cramped lim w l = ltb (length (l .out)) (16 * w) || ltb (length (l .steps)) w || ltb (length (l .work)) (workBytes lim)
 
 -- 1 to 6: "The lowest number wins."
-unfoldable pub judgedCall : List ℕ → Lent → Verdict
-judgedCall s l = cond (isAccepted (verdict s)) (cond (cramped (tableWeight s) l) (refused 6 0) accepted) (verdict s)
+unfoldable pub judgedCall : ℕ → List ℕ → Lent → Verdict
+judgedCall lim s l = cond (isAccepted (verdict lim s)) (cond (cramped lim (tableWeight s) l) (refused 6 0) accepted) (verdict lim s)
 
--- "an unknown edition, before 8 and 1, number 9"; ed is the edition
-unfoldable pub judgement : ℕ → List ℕ → Lent → Verdict
-judgement ed s l = cond (isEdition ed) (judgedCall s l) (refused 9 0)
+-- "an unknown edition, before 8 and 1, number 9", but "another limit is 19, before all others"; lim is the limit, ed the edition
+unfoldable pub judgement : ℕ → ℕ → List ℕ → Lent → Verdict
+judgement lim ed s l = cond (isLimit lim) (cond (isEdition ed) (judgedCall lim s l) (refused 9 0)) (refused 19 0)
 
 -- what becomes of a call: refused, but not with 7; or W, and the run on the table's tree
 pub data Outcome : Type 0 where
@@ -110,8 +114,8 @@ unfoldable pub runOn : (Tree → Ran) → ℕ → Option Tree → Outcome
 runOn run w none = turned-down (refused 4 0)
 runOn run w (some t) = ran w (run t)
 
-unfoldable pub outcomeOf : ℕ → (Tree → Ran) → List ℕ → Lent → Outcome
-outcomeOf ed run s l = cond (isAccepted (judgement ed s l)) (runOn run (tableWeight s) (treeOf s)) (turned-down (judgement ed s l))
+unfoldable pub outcomeOf : ℕ → ℕ → (Tree → Ran) → List ℕ → Lent → Outcome
+outcomeOf lim ed run s l = cond (isAccepted (judgement lim ed s l)) (runOn run (tableWeight s) (treeOf s)) (turned-down (judgement lim ed s l))
 
 -- "A refusal returns number and place, all other numbers zero", and after 2 what is wrong with the record
 unfoldable pub refusedBy : Verdict → Answer
@@ -170,13 +174,13 @@ unfoldable pub stepsAfter : Outcome → List ℕ → List ℕ
 stepsAfter (turned-down v) old = old
 stepsAfter (ran w r) old = stretch w (noted r) old
 
--- "In both cases the first 65,536 bytes of `work` are zero."
-unfoldable pub workAfter : Outcome → List ℕ → List ℕ
-workAfter (turned-down v) old = old
-workAfter (ran w r) old = stretch workBytes [] old
+-- "In both cases the first 65,536 bytes of `work` are zero", or what the limit asks for: "that stretch is what is zeroed"
+unfoldable pub workAfter : ℕ → Outcome → List ℕ → List ℕ
+workAfter lim (turned-down v) old = old
+workAfter lim (ran w r) old = stretch (workBytes lim) [] old
 
-unfoldable pub lentAfter : Outcome → Lent → Lent
-lentAfter x l = record { out = outAfter x (l .out); steps = stepsAfter x (l .steps); work = workAfter x (l .work) }
+unfoldable pub lentAfter : ℕ → Outcome → Lent → Lent
+lentAfter lim x l = record { out = outAfter x (l .out); steps = stepsAfter x (l .steps); work = workAfter lim x (l .work) }
 
 -- what a simplifier gives: its answer, and the lent areas afterwards
 pub record Given : Type 0 where
@@ -184,9 +188,9 @@ pub record Given : Type 0 where
   pub lent : Lent
 
 -- a simplifier that judges, reads and writes as the paper says, around any run
-unfoldable pub simplifiedBy : ℕ → (Tree → Ran) → List ℕ → Lent → Given
-simplifiedBy ed run s l = record { answer = answerOf (outcomeOf ed run s l); lent = lentAfter (outcomeOf ed run s l) l }
+unfoldable pub simplifiedBy : ℕ → ℕ → (Tree → Ran) → List ℕ → Lent → Given
+simplifiedBy lim ed run s l = record { answer = answerOf (outcomeOf lim ed run s l); lent = lentAfter lim (outcomeOf lim ed run s l) l }
 
 -- the simplifier: the run is the driver's, over the rules of the edition
-unfoldable pub simplified : ℕ → List ℕ → Lent → Given
-simplified ed = simplifiedBy ed (simplify (rulesOf ed))
+unfoldable pub simplified : ℕ → ℕ → List ℕ → Lent → Given
+simplified lim ed = simplifiedBy lim ed (simplify (rulesOf ed))

@@ -44,40 +44,41 @@ returned ns number slice = cond (tooShort ns slice) 6 number
 unfoldable pub answered : List ℕ → List ℕ → List ℕ
 answered ns slice = cond (tooShort ns slice) slice (eights ns ++ drop (8 * length ns) slice)
 
+-- each call takes the limit first
 -- simmergate_check
-unfoldable pub checkReturns : List ℕ → List ℕ → ℕ
-checkReturns s slice = returned (verdictNumbers (verdict s)) (verdict s .number) slice
+unfoldable pub checkReturns : ℕ → List ℕ → List ℕ → ℕ
+checkReturns lim s slice = returned (verdictNumbers (verdict lim s)) (verdict lim s .number) slice
 
-unfoldable pub checkAnswers : List ℕ → List ℕ → List ℕ
-checkAnswers s slice = answered (verdictNumbers (verdict s)) slice
+unfoldable pub checkAnswers : ℕ → List ℕ → List ℕ → List ℕ
+checkAnswers lim s slice = answered (verdictNumbers (verdict lim s)) slice
 
 -- simmergate_weight
-unfoldable pub weightReturns : List ℕ → List ℕ → ℕ
-weightReturns s slice = returned (measuredNumbers (weighed s)) (weighed s .number) slice
+unfoldable pub weightReturns : ℕ → List ℕ → List ℕ → ℕ
+weightReturns lim s slice = returned (measuredNumbers (weighed lim s)) (weighed lim s .number) slice
 
-unfoldable pub weightAnswers : List ℕ → List ℕ → List ℕ
-weightAnswers s slice = answered (measuredNumbers (weighed s)) slice
+unfoldable pub weightAnswers : ℕ → List ℕ → List ℕ → List ℕ
+weightAnswers lim s slice = answered (measuredNumbers (weighed lim s)) slice
 
 -- simmergate_value
-unfoldable pub valueReturns : List ℕ → List ℕ → List ℕ → ℕ
-valueReturns s regs slice = returned (measuredNumbers (valued s regs)) (valued s regs .number) slice
+unfoldable pub valueReturns : ℕ → List ℕ → List ℕ → List ℕ → ℕ
+valueReturns lim s regs slice = returned (measuredNumbers (valued lim s regs)) (valued lim s regs .number) slice
 
-unfoldable pub valueAnswers : List ℕ → List ℕ → List ℕ → List ℕ
-valueAnswers s regs slice = answered (measuredNumbers (valued s regs)) slice
+unfoldable pub valueAnswers : ℕ → List ℕ → List ℕ → List ℕ → List ℕ
+valueAnswers lim s regs slice = answered (measuredNumbers (valued lim s regs)) slice
 
 -- simmergate_equal
-unfoldable pub equalReturns : List ℕ → List ℕ → List ℕ → ℕ
-equalReturns a b slice = returned (comparedNumbers (compared a b)) (compared a b .number) slice
+unfoldable pub equalReturns : ℕ → List ℕ → List ℕ → List ℕ → ℕ
+equalReturns lim a b slice = returned (comparedNumbers (compared lim a b)) (compared lim a b .number) slice
 
-unfoldable pub equalAnswers : List ℕ → List ℕ → List ℕ → List ℕ
-equalAnswers a b slice = answered (comparedNumbers (compared a b)) slice
+unfoldable pub equalAnswers : ℕ → List ℕ → List ℕ → List ℕ → List ℕ
+equalAnswers lim a b slice = answered (comparedNumbers (compared lim a b)) slice
 
--- simmergate_simplify: the edition comes first; the three areas, too, are as they were where the slice is too short
-unfoldable pub simplifyReturns : ℕ → List ℕ → Lent → List ℕ → ℕ
-simplifyReturns ed s l slice = returned (answerNumbers (simplified ed s l .answer)) (simplified ed s l .answer .number) slice
+-- simmergate_simplify: then the edition; the three areas, too, are as they were where the slice is too short
+unfoldable pub simplifyReturns : ℕ → ℕ → List ℕ → Lent → List ℕ → ℕ
+simplifyReturns lim ed s l slice = returned (answerNumbers (simplified lim ed s l .answer)) (simplified lim ed s l .answer .number) slice
 
-unfoldable pub simplifyAnswers : ℕ → List ℕ → Lent → List ℕ → List ℕ
-simplifyAnswers ed s l slice = answered (answerNumbers (simplified ed s l .answer)) slice
+unfoldable pub simplifyAnswers : ℕ → ℕ → List ℕ → Lent → List ℕ → List ℕ
+simplifyAnswers lim ed s l slice = answered (answerNumbers (simplified lim ed s l .answer)) slice
 
-unfoldable pub simplifyLeaves : ℕ → List ℕ → Lent → List ℕ → Lent
-simplifyLeaves ed s l slice = cond (tooShort (answerNumbers (simplified ed s l .answer)) slice) l (simplified ed s l .lent)
+unfoldable pub simplifyLeaves : ℕ → ℕ → List ℕ → Lent → List ℕ → Lent
+simplifyLeaves lim ed s l slice = cond (tooShort (answerNumbers (simplified lim ed s l .answer)) slice) l (simplified lim ed s l .lent)

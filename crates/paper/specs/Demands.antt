@@ -1,5 +1,5 @@
--- The three demands as one record with named fields, over an edition and the behaviour of any simplifier: what it answers, and what it leaves
--- in the lent areas, for every table of bytes and all lent areas.
+-- The three demands as one record with named fields, over a limit, an edition and the behaviour of any simplifier: what it answers, and
+-- what it leaves in the lent areas, for every table of bytes and all lent areas.
 use Prim.Native.Nat.{ℕ, _+_, _*_, _≤_}
 use mathlib.Core.Path.{_≡_}
 use mathlib.Core.Logic.{_↔_}
@@ -24,13 +24,13 @@ Simplifier = List ℕ → Lent → Given
 unfoldable pub result : Given → List ℕ
 result g = take (16 * g .answer .records-written) (g .lent .out)
 
--- a simplifier for the edition ed
-module _ (ed : ℕ) (f : Simplifier) where
+-- a simplifier for the limit lim and the edition ed
+module _ (lim ed : ℕ) (f : Simplifier) where
   -- ---- demand 1: "gives each refusal exactly when the paper says so": each but 7, with its place, and after 2 what is wrong
   abbrev pub Refuses : Type 0
   Refuses =
       (s : List ℕ) → Bytes s → (l : Lent) (v : Verdict) → 1 ≤ v .number → ¬ (v .number ≡ 7)
-      → (f s l .answer ≡ refusedBy v) ↔ (judgement ed s l ≡ v)
+      → (f s l .answer ≡ refusedBy v) ↔ (judgement lim ed s l ≡ v)
 
   -- "refusals 1 to 6 change no lent byte", and a number "that a later request adds" changes none
   abbrev pub LeavesAlone : Type 0
@@ -46,19 +46,19 @@ module _ (ed : ℕ) (f : Simplifier) where
       ≡ record {
         out = stretch (16 * tableWeight s) [] (l .out);
         steps = stretch (tableWeight s) [] (l .steps);
-        work = stretch workBytes [] (l .work);
+        work = stretch (workBytes lim) [] (l .work);
       }
 
   -- ---- demand 2: 7 exactly when the run on the table's tree meets an integer outside the range, p steps being completed
   abbrev pub RunsOver : Type 0
   RunsOver =
       (s : List ℕ) → Bytes s → (l : Lent) (p : ℕ)
-      → (f s l .answer ≡ refusal 7 p) ↔ ((judgement ed s l ≡ accepted) × ((t : Tree) × (treeOf s ≡ some t) × (simplify (rulesOf ed) t ≡ over p)))
+      → (f s l .answer ≡ refusal 7 p) ↔ ((judgement lim ed s l ≡ accepted) × ((t : Tree) × (treeOf s ≡ some t) × (simplify (rulesOf ed) t ≡ over p)))
 
   -- "Records and trees translate as the paper says, both ways. Tree, steps and openings are those of its rules, followed in order."
   abbrev pub Follows : Type 0
   Follows =
-      (s : List ℕ) → Bytes s → (l : Lent) → judgement ed s l ≡ accepted
+      (s : List ℕ) → Bytes s → (l : Lent) → judgement lim ed s l ≡ accepted
       → (t u : Tree) (ks : List ℕ) (o n : ℕ) → treeOf s ≡ some t → simplify (rulesOf ed) t ≡ done u ks o n
       → (f s l .answer
       ≡ record {
@@ -76,7 +76,7 @@ module _ (ed : ℕ) (f : Simplifier) where
       ≡ record {
         out = stretch (16 * weight t) (encode u) (l .out);
         steps = stretch (weight t) ks (l .steps);
-        work = stretch workBytes [] (l .work);
+        work = stretch (workBytes lim) [] (l .work);
       })
 
   -- ---- demand 3, of an accepted call: the table's tree being t, the result is the records of a tree u, and Q holds of the two
@@ -101,13 +101,13 @@ module _ (ed : ℕ) (f : Simplifier) where
   abbrev pub KeepsValue : Type 0
   KeepsValue = Accepted (λ s l t u. (ρ : ℕ → ℕ) → value u ρ ≡ value t ρ)
 
-pub record Demands (ed : ℕ) (f : Simplifier) : Type 0 where
-  pub refuses : Refuses ed f
-  pub leaves-alone : LeavesAlone ed f
-  pub clears : Clears ed f
-  pub runs-over : RunsOver ed f
-  pub follows : Follows ed f
-  pub lightens : Lightens ed f
-  pub bounded : Bounded ed f
-  pub finishes : Finishes ed f
-  pub keeps-value : KeepsValue ed f
+pub record Demands (lim ed : ℕ) (f : Simplifier) : Type 0 where
+  pub refuses : Refuses lim ed f
+  pub leaves-alone : LeavesAlone lim ed f
+  pub clears : Clears lim ed f
+  pub runs-over : RunsOver lim ed f
+  pub follows : Follows lim ed f
+  pub lightens : Lightens lim ed f
+  pub bounded : Bounded lim ed f
+  pub finishes : Finishes lim ed f
+  pub keeps-value : KeepsValue lim ed f

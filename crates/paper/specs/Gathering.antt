@@ -46,4 +46,4 @@ simplifyCollapsing rs t = runCollapsing rs (weight t) t
 -- "from an accepted table this cannot happen when results are gathered": taking the branch out changes no run
 abbrev pub BranchNotReached : List Rule → Type 0
 BranchNotReached rs =
-    (s : List ℕ) → Bytes s → verdict s ≡ accepted → (t : Tree) → treeOf s ≡ some t → simplifyCollapsing rs t ≡ simplify rs t
+    (lim : ℕ) (s : List ℕ) → Bytes s → verdict lim s ≡ accepted → (t : Tree) → treeOf s ≡ some t → simplifyCollapsing rs t ≡ simplify rs t

@@ -1,6 +1,6 @@
 -- What must be believed, in reading order: Limits, Bytes, Tree, WellFormed, Record, Table, Verdict, Equal, Walk, Rules, Driver, Answers,
--- Calls, Told; then what is asked of a simplifier: Admits, Demands, Takeover.
--- The same again, in other words or in figures, each held to it by a theorem: Refusals (1 to 6 in the paper's words), Examples and Stored
+-- Calls, Told; then what is asked of a simplifier: Admits, Demands, Takeover; and what the two limits have to do with each other: OldMachine.
+-- The same again, in other words or in figures, each held to it by a theorem: Refusals (1 to 6, 9 and 19 in the papers' words), Examples and Stored
 -- (trees and what the driver makes of them), Sayings, SmallTables, Bounds, Slices (small calls, limits), Worthless and WorthlessKinds
 -- (simplifiers that are turned away).
 -- Only tools, for laws and for the code's contracts: Exact (the value with no reduction), Good (what is asked of a rule), Gathering (document
@@ -26,6 +26,7 @@ pub mod Answers
 pub mod Calls
 pub mod Demands
 pub mod Takeover
+pub mod OldMachine
 pub mod Worthless
 pub mod Examples
 pub mod Once

@@ -1,17 +1,20 @@
 -- The numbers that the paper names, each stated once.
-use Prim.Native.Nat.{ℕ, _^_}
+use Prim.Native.Nat.{ℕ, _*_, _^_}
+use mathlib.Core.Bool.{Bool, cond, _||_}
+use lib.Dec.{eqb}
 
--- "W is over 3,072": the greatest weight of a table.
-abbrev pub maxWeight : ℕ
-maxWeight = 3072
+-- "The library takes the limit as a number, 3,072 or 16,384": the greatest weight of a table, lim from here on.
+unfoldable pub isLimit : ℕ → Bool
+isLimit lim = eqb lim 3072 || eqb lim 16384
 
--- "over 49,152 bytes": the longest table, 16 bytes for each record of the greatest weight.
-abbrev pub maxBytes : ℕ
-maxBytes = 49152
+-- "over 49,152 bytes", "tables up to 262,144 bytes": the longest table, 16 bytes for each record of the greatest weight.
+abbrev pub maxBytes : ℕ → ℕ
+maxBytes lim = 16 * lim
 
--- "`work` under 65,536": what the simplifier is lent besides `out` and `steps`.
-abbrev pub workBytes : ℕ
-workBytes = 65536
+-- "At the limit 3,072, 6 asks for `work` as before; at 16,384 it asks for 524,288 bytes": what the simplifier is lent besides `out` and
+-- `steps`.
+unfoldable pub workBytes : ℕ → ℕ
+workBytes lim = cond (eqb lim 3072) 65536 524288
 
 -- "the registers come as 2,048 bytes": 256 registers of 8 bytes.
 abbrev pub registerBytes : ℕ

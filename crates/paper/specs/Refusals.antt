@@ -1,4 +1,4 @@
--- "What is refused, and in which order": refusals 1 to 5 of a table, and 6 and 9 of the simplifier, in the papers' words, without
+-- "What is refused, and in which order": refusals 1 to 5 of a table, 6 and 9 of the simplifier, and 19, in the papers' words, without
 -- the functions that find them.
 use Prim.Native.Nat.{ℕ, suc, _+_, _*_, _<_, _≤_}
 use mathlib.Core.Path.{_≡_}
@@ -9,7 +9,7 @@ use lib.ListN.{length, getD}
 use lib.Dec.{eqb}
 use lib.IntN.{pos}
 use lib.Signed.{_≤ℤ_}
-use Rattle.paper.specs.Limits.{maxWeight, maxBytes, workBytes}
+use Rattle.paper.specs.Limits.{maxBytes, workBytes}
 use Rattle.paper.specs.Bytes.{signed}
 use Rattle.paper.specs.Record.{kind, countIn, bits, mayBe, Flaw, sound, bad-kind, bad-byte, bad-count, arity}
 use Rattle.paper.specs.Verdict.{Verdict, recordsIn, tableWeight}
@@ -20,10 +20,10 @@ abbrev pub First : (ℕ → Type 0) → ℕ → Type 0
 First P p = P p × ((j : ℕ) → j < p → ¬ P j)
 
 -- 1: "length is zero, no multiple of 16, or over 49,152 bytes"
-pub data BadLength (s : List ℕ) : Type 0 where
-  is-zero : length s ≡ 0 → BadLength s
-  no-multiple : ((m : ℕ) → ¬ (length s ≡ 16 * m)) → BadLength s
-  is-over : maxBytes < length s → BadLength s
+pub data BadLength (lim : ℕ) (s : List ℕ) : Type 0 where
+  is-zero : length s ≡ 0 → BadLength lim s
+  no-multiple : ((m : ℕ) → ¬ (length s ≡ 16 * m)) → BadLength lim s
+  is-over : maxBytes lim < length s → BadLength lim s
 
 -- 2: record i has "a kind over 4, a byte other than zero that must be zero, or a sum or product count under 2"
 pub data Flawed (s : List ℕ) (i : ℕ) : Type 0 where
@@ -65,28 +65,33 @@ abbrev pub AtLeastOne : List ℕ → ℕ → Type 0
 AtLeastOne s e = (kind s e ≡ 0) × (pos 1 ≤ℤ signed (bits s e))
 
 -- the table of refusals: number, "given exactly when", place; each by itself, whatever the others are
-pub data Applies (s : List ℕ) : ℕ → ℕ → Type 0 where
-  refusal-1 : BadLength s → Applies s 1 0
-  refusal-2 : {p : ℕ} → First (λ i. (i < recordsIn s) × Flawed s i) p → Applies s 2 p
-  refusal-3 : maxWeight < tableWeight s → Applies s 3 0
-  refusal-4 : {p : ℕ} → BadShape s (recordsIn s) p → Applies s 4 p
-  refusal-5 : {p : ℕ} → First (λ e. Exponent s (recordsIn s) e × ¬ AtLeastOne s e) p → Applies s 5 p
+pub data Faulty (lim : ℕ) (s : List ℕ) : ℕ → ℕ → Type 0 where
+  refusal-1 : BadLength lim s → Faulty lim s 1 0
+  refusal-2 : {p : ℕ} → First (λ i. (i < recordsIn s) × Flawed s i) p → Faulty lim s 2 p
+  refusal-3 : lim < tableWeight s → Faulty lim s 3 0
+  refusal-4 : {p : ℕ} → BadShape s (recordsIn s) p → Faulty lim s 4 p
+  refusal-5 : {p : ℕ} → First (λ e. Exponent s (recordsIn s) e × ¬ AtLeastOne s e) p → Faulty lim s 5 p
+
+-- the same with 19: "another limit"
+pub data Applies (lim : ℕ) (s : List ℕ) : ℕ → ℕ → Type 0 where
+  of-records : {k p : ℕ} → Faulty lim s k p → Applies lim s k p
+  refusal-19 : ¬ (lim ≡ 3072) → ¬ (lim ≡ 16384) → Applies lim s 19 0
 
 -- 6: "`out` under 16 x W bytes, `steps` under W, or `work` under 65,536"
-pub data Under (w : ℕ) (l : Lent) : Type 0 where
-  out-under : length (l .out) < 16 * w → Under w l
-  steps-under : length (l .steps) < w → Under w l
-  work-under : length (l .work) < workBytes → Under w l
+pub data Under (lim w : ℕ) (l : Lent) : Type 0 where
+  out-under : length (l .out) < 16 * w → Under lim w l
+  steps-under : length (l .steps) < w → Under lim w l
+  work-under : length (l .work) < workBytes lim → Under lim w l
 
 -- the same table of refusals with 6, for the simplifier, which is lent areas besides, and with 9, "an unknown edition"
-pub data AppliesToCall (ed : ℕ) (s : List ℕ) (l : Lent) : ℕ → ℕ → Type 0 where
-  of-table : {k p : ℕ} → Applies s k p → AppliesToCall ed s l k p
-  refusal-6 : Under (tableWeight s) l → AppliesToCall ed s l 6 0
-  refusal-9 : ¬ (ed ≡ 1) → ¬ (ed ≡ 2) → AppliesToCall ed s l 9 0
+pub data AppliesToCall (lim ed : ℕ) (s : List ℕ) (l : Lent) : ℕ → ℕ → Type 0 where
+  of-table : {k p : ℕ} → Applies lim s k p → AppliesToCall lim ed s l k p
+  refusal-6 : Under lim (tableWeight s) l → AppliesToCall lim ed s l 6 0
+  refusal-9 : ¬ (ed ≡ 1) → ¬ (ed ≡ 2) → AppliesToCall lim ed s l 9 0
 
--- the order of the refusals: "The lowest number wins", but 9 comes "before 8 and 1"
+-- the order of the refusals: "The lowest number wins", but 19 comes "before all others" and 9 "before 8 and 1"
 unfoldable pub rank : ℕ → ℕ
-rank k = cond (eqb k 9) 0 (cond (eqb k 8) 1 (k + 1))
+rank k = cond (eqb k 19) 0 (cond (eqb k 9) 1 (cond (eqb k 8) 2 (k + 2)))
 
 -- of the refusals that apply, k at p is the first in that order
 pub record Lowest (Apply : ℕ → ℕ → Type 0) (k p : ℕ) : Type 0 where

@@ -46,7 +46,7 @@ aPower = recordOf 4 0 0
 
 -- refusals 1 to 5 by number and place
 abbrev says : List ℕ → ℕ → ℕ → Type 0
-says s k p = verdict s ≡ refused k p
+says s k p = verdict 3072 s ≡ refused k p
 
 pub record Verdicts : Type 0 where
   -- 1: "length is zero, no multiple of 16"
@@ -65,12 +65,12 @@ pub record Verdicts : Type 0 where
   pub first-exponent : says (sumOf 2 ++ (encode (raised a 0) ++ (aPower ++ (encode b ++ encode a)))) 5 3
   pub inner-exponent : says (aPower ++ (encode (raised a 0) ++ encode b)) 5 3
   -- "The lowest number wins"
-  pub flaw-before-shape : verdict (sumOf 3 ++ (encode a ++ sumOf 1)) ≡ flawed 2 bad-count
+  pub flaw-before-shape : verdict 3072 (sumOf 3 ++ (encode a ++ sumOf 1)) ≡ flawed 2 bad-count
   pub shape-before-exponent : says (encode (raised a 0) ++ encode a) 4 3
   -- a sum in a sum, a product in a product, a power of a power, the greatest exponent: nothing is wrong with them
-  pub nested : verdict (encode (plus (plus a b) (times (times a b) (raised (raised a 1) 9223372036854775807)))) ≡ accepted
+  pub nested : verdict 3072 (encode (plus (plus a b) (times (times a b) (raised (raised a 1) 9223372036854775807)))) ≡ accepted
   -- the answer's bytes
-  pub as-bytes : take 32 (checkAnswers (encode (raised a 0)) (replicate 64 9)) ≡ eights (5 ∷ 2 ∷ 0 ∷ 0 ∷ [])
+  pub as-bytes : take 32 (checkAnswers 3072 (encode (raised a 0)) (replicate 64 9)) ≡ eights (5 ∷ 2 ∷ 0 ∷ 0 ∷ [])
 
 -- 2: "a kind over 4, a byte other than zero that must be zero, or a sum or product count under 2", in this order
 pub record Flaws : Type 0 where
@@ -82,14 +82,14 @@ pub record Flaws : Type 0 where
   pub no-members : flaw (sumOf 0) 0 ≡ bad-count
   pub two-members : flaw (sumOf 2) 0 ≡ sound
   pub many-members : flaw (productOf 256) 0 ≡ sound
-  pub first-record : verdict (encode a ++ (sumOf 1 ++ (9 ∷ replicate 15 0))) ≡ flawed 1 bad-count
+  pub first-record : verdict 3072 (encode a ++ (sumOf 1 ++ (9 ∷ replicate 15 0))) ≡ flawed 1 bad-count
 
 -- 256 registers: symbol 0 holds 5, symbol 1 holds 256, symbol 255 holds 7, the others 0
 abbrev regs : List ℕ
 regs = 5 ∷ replicate 8 0 ++ (1 ∷ replicate 2030 0 ++ (7 ∷ replicate 7 0))
 
 abbrev valueOf : Tree → ℕ
-valueOf t = valued (encode t) regs .result
+valueOf t = valued 3072 (encode t) regs .result
 
 -- "symbol 0 first, little-endian"; "sums, products and powers taken modulo 2^64; a negative integer counts as itself plus 2^64"
 pub record Values : Type 0 where
@@ -102,13 +102,13 @@ pub record Values : Type 0 where
   pub product-wraps : valueOf (times (i 9223372036854775807) a) ≡ 9223372036854775803
   pub a-power : valueOf (raised a 3) ≡ 125
   pub power-wraps : valueOf (raised b 8) ≡ 0
-  pub as-bytes : take 40 (valueAnswers (encode (plus a b)) regs (replicate 64 9)) ≡ eights (0 ∷ 0 ∷ 261 ∷ 0 ∷ 0 ∷ [])
+  pub as-bytes : take 40 (valueAnswers 3072 (encode (plus a b)) regs (replicate 64 9)) ≡ eights (0 ∷ 0 ∷ 261 ∷ 0 ∷ 0 ∷ [])
 
 abbrev alike : Tree → Tree → Type 0
-alike t u = compared (encode t) (encode u) .yes ≡ true
+alike t u = compared 3072 (encode t) (encode u) .yes ≡ true
 
 abbrev unlike : Tree → Tree → Type 0
-unlike t u = compared (encode t) (encode u) .yes ≡ false
+unlike t u = compared 3072 (encode t) (encode u) .yes ≡ false
 
 -- "Equal trees: integers and symbols by number; powers by base and exponent; two sums, or two products, when their members are the
 -- same multiset of equal trees. Nothing is opened first."
@@ -124,5 +124,5 @@ pub record Compares : Type 0 where
   pub signs : unlike (i 0) (minus 1)
   pub negatives : unlike (minus 1) (minus 2)
   pub not-opened : unlike (plus a (plus b b)) (plus (plus a b) b)
-  pub as-bytes : take 48 (equalAnswers (encode (plus a b)) (encode (plus b a)) (replicate 64 9)) ≡ eights (0 ∷ 0 ∷ 0 ∷ 1 ∷ 0 ∷ 0 ∷ [])
-  pub refused-as-bytes : take 48 (equalAnswers (encode a) (encode a ++ encode a) (replicate 64 9)) ≡ eights (4 ∷ 1 ∷ 2 ∷ 0 ∷ 0 ∷ 0 ∷ [])
+  pub as-bytes : take 48 (equalAnswers 3072 (encode (plus a b)) (encode (plus b a)) (replicate 64 9)) ≡ eights (0 ∷ 0 ∷ 0 ∷ 1 ∷ 0 ∷ 0 ∷ [])
+  pub refused-as-bytes : take 48 (equalAnswers 3072 (encode a) (encode a ++ encode a) (replicate 64 9)) ≡ eights (4 ∷ 1 ∷ 2 ∷ 0 ∷ 0 ∷ 0 ∷ [])

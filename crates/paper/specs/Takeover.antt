@@ -11,10 +11,10 @@ use Rattle.paper.specs.Answers.{Lent, Answer, Given}
 use Rattle.paper.specs.Demands.{Simplifier, result}
 
 -- areas with room for a weight: none of the words of refusal 6 is so
-pub record Room (w : ℕ) (l : Lent) : Type 0 where
+pub record Room (lim w : ℕ) (l : Lent) : Type 0 where
   pub out-room : 16 * w ≤ length (l .out)
   pub steps-room : w ≤ length (l .steps)
-  pub work-room : workBytes ≤ length (l .work)
+  pub work-room : workBytes lim ≤ length (l .work)
 
 -- the second answer, all of it, after the first one
 unfoldable pub again : Answer → Answer
@@ -36,12 +36,12 @@ pub record Repeats (first second : Given) : Type 0 where
   pub same-answer : second .answer ≡ again (first .answer)
   pub same-bytes : result second ≡ result first
 
-module _ (f : Simplifier) where
+module _ (lim : ℕ) (f : Simplifier) where
   -- whatever areas the second call is lent, if they have room for the result
   abbrev pub TakesOver : Type 0
   TakesOver =
       (s : List ℕ) → Bytes s → (l : Lent) → f s l .answer .number ≡ 0
-      → (l′ : Lent) → Room (f s l .answer .weight-out) l′ → Repeats (f s l) (f (result (f s l)) l′)
+      → (l′ : Lent) → Room lim (f s l .answer .weight-out) l′ → Repeats (f s l) (f (result (f s l)) l′)
 
   -- in particular the very areas that the first call was lent, as it left them
   abbrev pub TakesOverInPlace : Type 0

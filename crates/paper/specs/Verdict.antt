@@ -1,10 +1,10 @@
--- "What is refused, and in which order": refusals 1 to 5 of a table.
-use Prim.Native.Nat.{ℕ, zero, suc, _+_, _-_, _*_, _/_, _%_, _^_, min}
-use mathlib.Core.Bool.{Bool, true, false, cond, _&&_, _||_, not}
+-- "What is refused, and in which order": refusals 1 to 5 of a table, and 19 of a limit.
+use Prim.Native.Nat.{ℕ, zero, suc, _+_, _-_, _/_, _%_, _^_, min}
+use mathlib.Core.Bool.{Bool, cond, _&&_, _||_, not}
 use mathlib.Core.List.{List}
 use lib.ListN.{length}
 use lib.Dec.{eqb, ltb}
-use Rattle.paper.specs.Limits.{maxWeight, maxBytes}
+use Rattle.paper.specs.Limits.{isLimit, maxBytes}
 use Rattle.paper.specs.Record.{kind, bits, Flaw, sound, flaw, isFlawed, arity, weightFrom}
 
 -- a refusal's number and place, and after 2 what is wrong with the record; number 0, place 0 where there is none
@@ -33,9 +33,9 @@ isAccepted v = eqb (v .number) 0
 unfoldable pub recordsIn : List ℕ → ℕ
 recordsIn s = length s / 16
 
--- 1: "length is zero, no multiple of 16, or over 49,152 bytes"
-unfoldable pub badLength : ℕ → Bool
-badLength n = eqb n 0 || not (eqb (n % 16) 0) || ltb maxBytes n
+-- 1: "length is zero, no multiple of 16, or over 49,152 bytes", which is 16 times the limit
+unfoldable pub badLength : ℕ → ℕ → Bool
+badLength lim n = eqb n 0 || not (eqb (n % 16) 0) || ltb (maxBytes lim) n
 
 -- 2: the first flawed record of the n from record i on; i + n where there is none
 unfoldable pub firstFlawed : List ℕ → ℕ → ℕ → ℕ
@@ -73,14 +73,18 @@ firstBadExponent s n i zero = n
 firstBadExponent s n i (suc f) = min (badExponent s n i) (firstBadExponent s n (i + 1) f)
 
 -- 2 to 5 of a table of n records: "The lowest number wins."
-unfoldable pub judgeRecords : List ℕ → ℕ → Verdict
-judgeRecords s n =
+unfoldable pub judgeRecords : ℕ → List ℕ → ℕ → Verdict
+judgeRecords lim s n =
     cond (ltb (firstFlawed s 0 n) n) (flawed (firstFlawed s 0 n) (flaw s (firstFlawed s 0 n)))
-    (cond (ltb maxWeight (weightFrom s 0 n)) (refused 3 0)
+    (cond (ltb lim (weightFrom s 0 n)) (refused 3 0)
     (cond (not (eqb (treeEnd s n 0) n)) (refused 4 (min (treeEnd s n 0) n))
     (cond (ltb (firstBadExponent s n 0 n) n) (refused 5 (firstBadExponent s n 0 n))
     accepted)))
 
--- the checker's answer on any bytes
-unfoldable pub verdict : List ℕ → Verdict
-verdict s = cond (badLength (length s)) (refused 1 0) (judgeRecords s (recordsIn s))
+-- 1 to 5 of any bytes
+unfoldable pub judgedTable : ℕ → List ℕ → Verdict
+judgedTable lim s = cond (badLength lim (length s)) (refused 1 0) (judgeRecords lim s (recordsIn s))
+
+-- the checker's answer on any bytes: "another limit is 19, before all others"
+unfoldable pub verdict : ℕ → List ℕ → Verdict
+verdict lim s = cond (isLimit lim) (judgedTable lim s) (refused 19 0)

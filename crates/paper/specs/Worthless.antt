@@ -1,5 +1,5 @@
 -- "Four worthless simplifiers must be turned away", and invented steps and openings too, one that never enters a member, and one that
--- hides a try. Each is refuted at the field that the paper names for it (proofs/WorthlessLaws), in each edition ed.
+-- hides a try. Each is refuted at the field that the paper names for it (proofs/WorthlessLaws), at each limit lim and in each edition ed.
 use Prim.Native.Nat.{ℕ, zero, suc, _+_, _-_, _≤_}
 use mathlib.Core.Path.{_≡_}
 use mathlib.Core.Logic.{_⊎_}
@@ -25,12 +25,12 @@ unfoldable pub refusesAll : ℕ → Simplifier
 refusesAll k s l = record { answer = refusal k 0; lent = l }
 
 -- one that returns 0 for all
-unfoldable pub returnsZero : ℕ → Simplifier
-returnsZero ed = simplifiedBy ed (λ t. done (integer 0 (pos 0)) [] 0 0)
+unfoldable pub returnsZero : ℕ → ℕ → Simplifier
+returnsZero lim ed = simplifiedBy lim ed (λ t. done (integer 0 (pos 0)) [] 0 0)
 
 -- one that returns its input
-unfoldable pub returnsInput : ℕ → Simplifier
-returnsInput ed = simplifiedBy ed (λ t. done t [] 0 0)
+unfoldable pub returnsInput : ℕ → ℕ → Simplifier
+returnsInput lim ed = simplifiedBy lim ed (λ t. done t [] 0 0)
 
 -- one that makes a first pass and then stops: it never begins again
 unfoldable pub gatheredOnce : Tree → Rans → Ran
@@ -46,8 +46,8 @@ firstPass rs (suc n) t =
       | no-rule ↦ gatheredOnce t (each (λ u. firstPass rs n u) (members t))
     ]
 
-unfoldable pub passesOnce : ℕ → Simplifier
-passesOnce ed = simplifiedBy ed (λ t. firstPass (rulesOf ed) (weight t) t)
+unfoldable pub passesOnce : ℕ → ℕ → Simplifier
+passesOnce lim ed = simplifiedBy lim ed (λ t. firstPass (rulesOf ed) (weight t) t)
 
 -- one that never enters a member: it tries the rules at the root alone, as often as one applies
 unfoldable pub rootOnly : List Rule → ℕ → Tree → Ran
@@ -60,8 +60,8 @@ rootOnly rs (suc n) t =
       | no-rule ↦ done t [] 0 0
     ])
 
-unfoldable pub staysAtRoot : ℕ → Simplifier
-staysAtRoot ed = simplifiedBy ed (λ t. rootOnly (rulesOf ed) (weight t) t)
+unfoldable pub staysAtRoot : ℕ → ℕ → Simplifier
+staysAtRoot lim ed = simplifiedBy lim ed (λ t. rootOnly (rulesOf ed) (weight t) t)
 
 -- invented steps, invented openings
 unfoldable pub oneStepMore : Ran → Ran
@@ -72,16 +72,16 @@ unfoldable pub oneOpeningMore : Ran → Ran
 oneOpeningMore (done u ks o n) = done u ks (suc o) n
 oneOpeningMore (over k) = over k
 
-unfoldable pub inventsSteps : ℕ → Simplifier
-inventsSteps ed = simplifiedBy ed (λ t. oneStepMore (simplify (rulesOf ed) t))
+unfoldable pub inventsSteps : ℕ → ℕ → Simplifier
+inventsSteps lim ed = simplifiedBy lim ed (λ t. oneStepMore (simplify (rulesOf ed) t))
 
-unfoldable pub inventsOpenings : ℕ → Simplifier
-inventsOpenings ed = simplifiedBy ed (λ t. oneOpeningMore (simplify (rulesOf ed) t))
+unfoldable pub inventsOpenings : ℕ → ℕ → Simplifier
+inventsOpenings lim ed = simplifiedBy lim ed (λ t. oneOpeningMore (simplify (rulesOf ed) t))
 
 -- and one that hides a try
 unfoldable pub oneTryLess : Ran → Ran
 oneTryLess (done u ks o n) = done u ks o (n - 1)
 oneTryLess (over k) = over k
 
-unfoldable pub hidesTries : ℕ → Simplifier
-hidesTries ed = simplifiedBy ed (λ t. oneTryLess (simplify (rulesOf ed) t))
+unfoldable pub hidesTries : ℕ → ℕ → Simplifier
+hidesTries lim ed = simplifiedBy lim ed (λ t. oneTryLess (simplify (rulesOf ed) t))

@@ -406,10 +406,10 @@ words-test newest op a k p (fetch-absent {k = j} h) = (ap not (words-absent a j 
 words-test newest op a k p (remove-absent {k = j} h) = (ap not (words-absent a j h), refl, omega arith, omega arith)
 words-test newest op a k p (full {k = j} h f) = (words-full a j h f, refl, omega arith, omega arith)
 
--- from 10 on the order of the refusals is that of their numbers
-in-order-of-numbers : (k : ℕ) → 10 ≤ k → rank k ≡ k + 1
+-- from 10 up to 18 the order of the refusals is that of their numbers
+in-order-of-numbers : (k : ℕ) → 10 ≤ k → k < 19 → rank k ≡ k + 2
 unfolding rank
-in-order-of-numbers k h = rw (ne-eqb k 9 (λ e. omega arith), ne-eqb k 8 (λ e. omega arith))
+in-order-of-numbers k h l = rw (ne-eqb k 19 (λ e. omega arith), ne-eqb k 9 (λ e. omega arith), ne-eqb k 8 (λ e. omega arith))
 
 -- a number that they give is a refusal's exactly when the request says so, and 0 exactly when no refusal applies
 module _ (newest : ℕ) (op : Op) (a : List ℕ) (n : ℕ) (tested : Tested newest op a n) where
@@ -423,7 +423,7 @@ module _ (newest : ℕ) (op : Op) (a : List ℕ) (n : ℕ) (tested : Tested newe
           record {
             given = test-words newest op a k (r .0);
             lowest = λ j q u x. let y = words-test newest op a j q x in
-                true-not-false (y .0) (r .2 j (y .2) (omega (arith, in-order-of-numbers j (y .2), in-order-of-numbers k (z .2))));
+                true-not-false (y .0) (r .2 j (y .2) (omega (arith, in-order-of-numbers j (y .2) (omega (arith, y .3)), in-order-of-numbers k (z .2) (omega (arith, z .3)))));
           }
 
       up : Lowest (Refuses newest a op) k 0 → n ≡ k
@@ -432,7 +432,7 @@ module _ (newest : ℕ) (op : Op) (a : List ℕ) (n : ℕ) (tested : Tested newe
           ap (λ (v : Verdict). v .number)
           (tested
           ∙ ladder-up (test newest op a) (λ j. 0) (λ j. sound) 4 10 k (y .2) (y .3) (y .0)
-          (λ j u v. not-so (test newest op a j) (λ e. h .lowest j 0 (omega (arith, in-order-of-numbers j u, in-order-of-numbers k (y .2))) (test-words newest op a j e))))
+          (λ j u v. not-so (test newest op a j) (λ e. h .lowest j 0 (omega (arith, in-order-of-numbers j u (omega (arith, y .3)), in-order-of-numbers k (y .2) (omega (arith, y .3)))) (test-words newest op a j e))))
 
   none-exactly : (n ≡ 0) ↔ ((k p : ℕ) → ¬ Refuses newest a op k p)
   none-exactly = (

@@ -80,14 +80,14 @@ fn list(a: simplify::Answer, steps: &[u8]) {
     names(steps, a.steps);
 }
 
-// Reads a table from standard input, simplifies it by the rules of the edition in memory of its own, and writes its listing. Of an input that is longer than any
-// table only as much is read as shows that it is.
+// Reads a table from standard input, simplifies it at the limit 3,072 by the rules of the edition, in memory of its own, and writes its
+// listing. Of an input that is longer than any table only as much is read as shows that it is.
 pub fn run(edition: usize) {
     let mut table = [0u8; 49168];
     let mut out = [0u8; 49152];
     let mut steps = [0u8; 3072];
     let mut work = [0u8; 65536];
     let n = io::read_full(0, &mut table);
-    let a = simplify::simplify(edition, &table[..n], &mut out, &mut steps, &mut work);
+    let a = simplify::simplify(3072, edition, &table[..n], &mut out, &mut steps, &mut work);
     list(a, &steps);
 }

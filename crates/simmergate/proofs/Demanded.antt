@@ -1,8 +1,8 @@
--- The demands and the takeover hold of `simmergate_simplify`, the call that the controllers make, in every edition: of what its answer slice
--- and its areas tell after a call with room for the answer, as the contract that the check reads from the source lets it be. Its numbers fit in their 8
--- bytes, so the slice tells the simplifier's answer. Assumes nothing.
+-- The demands and the takeover hold of `simmergate_simplify`, the call that the controllers make, at every limit and in every edition: of
+-- what its answer slice and its areas tell after a call with room for the answer, as the contract that the check reads from the source lets
+-- it be. Its numbers fit in their 8 bytes, so the slice tells the simplifier's answer. Assumes nothing.
 use Prim.Native.Nat.{ℕ, _≤_}
-use mathlib.Core.Path.{_≡_, refl, sym, ap, _∙_}
+use mathlib.Core.Path.{_≡_, refl, sym, ap, ap₂, _∙_}
 use mathlib.Core.List.{List, []}
 use lib.ListN.{length, drop, replicate}
 use lib.Dec.{lit≤}
@@ -33,51 +33,54 @@ pub record CCall : Type 0 where
   pub left : AtExit (endedOf 5 kinds.ps kinds.r) ends
   pub promised : reads.Post ends handed returned left
 
--- the edition, the table, the areas and the answer slice that are handed in
+-- the limit, the edition, the table, the areas and the answer slice that are handed in
+abbrev pub limit : CCall → ℕ
+limit c = c .handed .0
+
 abbrev pub edition : CCall → ℕ
-edition c = c .handed .0
+edition c = c .handed .1 .0
 
 abbrev pub table : CCall → List ℕ
-table c = c .handed .1 .0 .now
+table c = c .handed .1 .1 .0 .now
 
 abbrev pub areas : CCall → Lent
-areas c = lent (c .handed .1 .1 .0 .now) (c .handed .1 .1 .1 .0 .now) (c .handed .1 .1 .1 .1 .0 .now)
+areas c = lent (c .handed .1 .1 .1 .0 .now) (c .handed .1 .1 .1 .1 .0 .now) (c .handed .1 .1 .1 .1 .1 .0 .now)
 
 abbrev pub slice : CCall → List ℕ
-slice c = c .handed .1 .1 .1 .1 .1 .0 .now
+slice c = c .handed .1 .1 .1 .1 .1 .1 .0 .now
 
 -- what the call gives: the answer that the slice tells, and the areas
 abbrev pub given : CCall → Given
 given c =
     record {
-      answer = answerIn (c .left .1 .1 .1 .1 .1 .0 .now);
-      lent = lent (c .left .1 .1 .0 .now) (c .left .1 .1 .1 .0 .now) (c .left .1 .1 .1 .1 .0 .now);
+      answer = answerIn (c .left .1 .1 .1 .1 .1 .1 .0 .now);
+      lent = lent (c .left .1 .1 .1 .0 .now) (c .left .1 .1 .1 .1 .0 .now) (c .left .1 .1 .1 .1 .1 .0 .now);
     }
 
 -- it is the simplifier's, where the table is bytes and the slice has room; and the return is its number
-tells : (ed : ℕ) (s : List ℕ) → Bytes s → (l : Lent) (before after : List ℕ) → simplifyBytes ≤ length before → after ≡ simplifyAnswers ed s l before
-    → answerIn after ≡ simplified ed s l .answer
-tells ed s b l before after room e =
-    ap answerIn (e ∙ slices .simplify ed s l before .1 room .1)
-    ∙ told-answer (simplified ed s l .answer) (drop simplifyBytes before) (numbers-fit ed s b l)
+tells : (lim ed : ℕ) (s : List ℕ) → Bytes s → (l : Lent) (before after : List ℕ) → simplifyBytes ≤ length before → after ≡ simplifyAnswers lim ed s l before
+    → answerIn after ≡ simplified lim ed s l .answer
+tells lim ed s b l before after room e =
+    ap answerIn (e ∙ slices .simplify lim ed s l before .1 room .1)
+    ∙ told-answer (simplified lim ed s l .answer) (drop simplifyBytes before) (numbers-fit lim ed s b l)
 
 given-by : (g h : Given) → g .answer ≡ h .answer → g .lent ≡ h .lent → g ≡ h
 given-by g h x y = ap (λ a. record { answer = a; lent = g .lent }) x ∙ ap (λ a. record { answer = h .answer; lent = a }) y
 
-pub call-gives : (c : CCall) → Bytes (table c) → simplifyBytes ≤ length (slice c) → given c ≡ simplified (edition c) (table c) (areas c)
+pub call-gives : (c : CCall) → Bytes (table c) → simplifyBytes ≤ length (slice c) → given c ≡ simplified (limit c) (edition c) (table c) (areas c)
 call-gives c b room =
-    given-by (given c) (simplified (edition c) (table c) (areas c))
-    (tells (edition c) (table c) b (areas c) (slice c) _ room (c .promised .1 .0))
-    (c .promised .1 .1 ∙ slices .areas (edition c) (table c) (areas c) (slice c) .1 room)
+    given-by (given c) (simplified (limit c) (edition c) (table c) (areas c))
+    (tells (limit c) (edition c) (table c) b (areas c) (slice c) _ room (c .promised .1 .0))
+    (c .promised .1 .1 ∙ slices .areas (limit c) (edition c) (table c) (areas c) (slice c) .1 room)
 
 pub call-returns : (c : CCall) → Bytes (table c) → simplifyBytes ≤ length (slice c) → c .returned ≡ given c .answer .number
 call-returns c b room =
-    c .promised .0 ∙ slices .simplify (edition c) (table c) (areas c) (slice c) .1 room .0
+    c .promised .0 ∙ slices .simplify (limit c) (edition c) (table c) (areas c) (slice c) .1 room .0
     ∙ sym (ap (λ g. g .answer .number) (call-gives c b room))
 
--- the same where the edition is known to be ed
-gives-in : (ed : ℕ) (c : CCall) → edition c ≡ ed → Bytes (table c) → simplifyBytes ≤ length (slice c) → given c ≡ simplified ed (table c) (areas c)
-gives-in ed c e b room = call-gives c b room ∙ ap (λ k. simplified k (table c) (areas c)) e
+-- the same where the limit is known to be lim, and the edition ed
+gives-in : (lim ed : ℕ) (c : CCall) → limit c ≡ lim → edition c ≡ ed → Bytes (table c) → simplifyBytes ≤ length (slice c) → given c ≡ simplified lim ed (table c) (areas c)
+gives-in lim ed c n e b room = call-gives c b room ∙ ap₂ (λ i k. simplified i k (table c) (areas c)) n e
 
 -- references, at any place, to what is handed in and to what is left
 at : List ℕ → RefT (List ℕ)
@@ -94,51 +97,51 @@ blank-room : simplifyBytes ≤ length blank
 unfolding blank
 blank-room = lit≤ tt
 
-module _ (ed : ℕ) where
-  -- f says of every such call with the edition ed what the contract lets it give
+module _ (lim ed : ℕ) where
+  -- f says of every such call with the limit lim and the edition ed what the contract lets it give
   abbrev pub Describes : Simplifier → Type 0
-  Describes f = (c : CCall) → edition c ≡ ed → Bytes (table c) → simplifyBytes ≤ length (slice c) → f (table c) (areas c) ≡ given c
+  Describes f = (c : CCall) → limit c ≡ lim → edition c ≡ ed → Bytes (table c) → simplifyBytes ≤ length (slice c) → f (table c) (areas c) ≡ given c
 
-  pub simplified-describes : Describes (simplified ed)
-  simplified-describes c e b room = sym (gives-in ed c e b room)
+  pub simplified-describes : Describes (simplified lim ed)
+  simplified-describes c n e b room = sym (gives-in lim ed c n e b room)
 
   called : List ℕ → Lent → CCall
   unfolding at κ
   called s l =
-      let after = simplifyLeaves ed s l blank in
+      let after = simplifyLeaves lim ed s l blank in
       record {
         ends = κ;
-        handed = (ed, (at s, (at (l .out), (at (l .steps), (at (l .work), (at blank, tt))))));
-        returned = simplifyReturns ed s l blank;
-        left = (ed, (at s, (at (after .out), (at (after .steps), (at (after .work), (at (simplifyAnswers ed s l blank), tt))))));
+        handed = (lim, (ed, (at s, (at (l .out), (at (l .steps), (at (l .work), (at blank, tt)))))));
+        returned = simplifyReturns lim ed s l blank;
+        left = (lim, (ed, (at s, (at (after .out), (at (after .steps), (at (after .work), (at (simplifyAnswers lim ed s l blank), tt)))))));
         promised = (refl, (refl, refl));
       }
 
   -- so a simplifier that describes the call is the paper's on every table of bytes
-  pub described : (f : Simplifier) → Describes f → (s : List ℕ) → Bytes s → (l : Lent) → f s l ≡ simplified ed s l
+  pub described : (f : Simplifier) → Describes f → (s : List ℕ) → Bytes s → (l : Lent) → f s l ≡ simplified lim ed s l
   unfolding at κ called
-  described f h s b l = h (called s l) refl b blank-room ∙ call-gives (called s l) b blank-room
+  described f h s b l = h (called s l) refl refl b blank-room ∙ call-gives (called s l) b blank-room
 
   -- the demands, of the call
-  pub c-meets : (f : Simplifier) → Describes f → Demands ed f
-  c-meets f h = alike-meets ed f (described f h)
+  pub c-meets : (f : Simplifier) → Describes f → Demands lim ed f
+  c-meets f h = alike-meets lim ed f (described f h)
 
   -- the takeover, of the call
-  pub c-takes-over : (f : Simplifier) → Describes f → TakesOver f
-  c-takes-over f h = alike-takes-over ed f (described f h)
+  pub c-takes-over : (f : Simplifier) → Describes f → TakesOver lim f
+  c-takes-over f h = alike-takes-over lim ed f (described f h)
 
-  pub c-takes-over-in-place : (f : Simplifier) → Describes f → TakesOverInPlace f
-  c-takes-over-in-place f h = alike-takes-over-in-place ed f (described f h)
+  pub c-takes-over-in-place : (f : Simplifier) → Describes f → TakesOverInPlace lim f
+  c-takes-over-in-place f h = alike-takes-over-in-place lim ed f (described f h)
 
--- the same of any two calls with one edition, the second of which is handed the result of the first: lent any areas with room for it
-pub c-takeover : (c d : CCall) → edition d ≡ edition c → Bytes (table c) → Bytes (table d) → simplifyBytes ≤ length (slice c) → simplifyBytes ≤ length (slice d)
-    → given c .answer .number ≡ 0 → table d ≡ result (given c) → Room (given c .answer .weight-out) (areas d) → Repeats (given c) (given d)
-c-takeover c d e b b′ r r′ =
-    of-calls (edition c) (table c) (areas c) (given c) (call-gives c b r) (table d) (areas d) (given d) (gives-in (edition c) d e b′ r′) b
+-- the same of any two calls with one limit and one edition, the second of which is handed the result of the first: lent any areas with room for it
+pub c-takeover : (c d : CCall) → limit d ≡ limit c → edition d ≡ edition c → Bytes (table c) → Bytes (table d) → simplifyBytes ≤ length (slice c) → simplifyBytes ≤ length (slice d)
+    → given c .answer .number ≡ 0 → table d ≡ result (given c) → Room (limit c) (given c .answer .weight-out) (areas d) → Repeats (given c) (given d)
+c-takeover c d n e b b′ r r′ =
+    of-calls (limit c) (edition c) (table c) (areas c) (given c) (call-gives c b r) (table d) (areas d) (given d) (gives-in (limit c) (edition c) d n e b′ r′) b
 
 -- or lent the areas as the first one left them
-pub c-takeover-in-place : (c d : CCall) → edition d ≡ edition c → Bytes (table c) → Bytes (table d) → simplifyBytes ≤ length (slice c)
+pub c-takeover-in-place : (c d : CCall) → limit d ≡ limit c → edition d ≡ edition c → Bytes (table c) → Bytes (table d) → simplifyBytes ≤ length (slice c)
     → simplifyBytes ≤ length (slice d)
     → given c .answer .number ≡ 0 → table d ≡ result (given c) → areas d ≡ given c .lent → Repeats (given c) (given d)
-c-takeover-in-place c d e b b′ r r′ =
-    in-place (edition c) (table c) (areas c) (given c) (call-gives c b r) (table d) (areas d) (given d) (gives-in (edition c) d e b′ r′) b
+c-takeover-in-place c d n e b b′ r r′ =
+    in-place (limit c) (edition c) (table c) (areas c) (given c) (call-gives c b r) (table d) (areas d) (given d) (gives-in (limit c) (edition c) d n e b′ r′) b

@@ -82,19 +82,19 @@ pub with-flaw : (before rest : List ℕ) {both flaw after : List ℕ} → both �
 with-flaw before rest e w = w ∙ ap (λ (l : List ℕ). eights (before ++ l) ++ rest) e
 
 -- ---- the simplifier's call: its areas, too, are as they were where the slice is too short
-module _ (ed : ℕ) (s slice : List ℕ) (l : Lent) where
+module _ (lim ed : ℕ) (s slice : List ℕ) (l : Lent) where
   pub simplify-no-room : length slice < 80
-      → (6 ≡ simplifyReturns ed s l slice) × ((slice ≡ simplifyAnswers ed s l slice) × (l ≡ simplifyLeaves ed s l slice))
+      → (6 ≡ simplifyReturns lim ed s l slice) × ((slice ≡ simplifyAnswers lim ed s l slice) × (l ≡ simplifyLeaves lim ed s l slice))
   unfolding simplifyReturns simplifyAnswers simplifyLeaves tooShort
   simplify-no-room h =
-      let a = simplified ed s l .answer in
+      let a = simplified lim ed s l .answer in
       let count = answer-count a in
       let q = no-room (answerNumbers a) slice (a .number) 10 count h in
       (q .0, (q .1, rw (lt-ltb (length slice) (8 * length (answerNumbers a)) (omega arith))))
 
-  pub simplify-room : (g : Given) → g ≡ simplified ed s l → 80 ≤ length slice
+  pub simplify-room : (g : Given) → g ≡ simplified lim ed s l → 80 ≤ length slice
       → (after : List ℕ) → after ≡ eights (answerNumbers (g .answer)) ++ drop 80 slice
-      → (g .answer .number ≡ simplifyReturns ed s l slice) × ((after ≡ simplifyAnswers ed s l slice) × (g .lent ≡ simplifyLeaves ed s l slice))
+      → (g .answer .number ≡ simplifyReturns lim ed s l slice) × ((after ≡ simplifyAnswers lim ed s l slice) × (g .lent ≡ simplifyLeaves lim ed s l slice))
   unfolding simplifyReturns simplifyAnswers simplifyLeaves tooShort
   simplify-room g e h after w =
       let count = answer-count (g .answer) in

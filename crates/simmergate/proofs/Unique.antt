@@ -20,16 +20,16 @@ use Rattle.simmergate.proofs.simmergate_equal.Kinds as equal-kinds
 use Rattle.simmergate.proofs.simmergate_simplify.Reads as simplify-reads
 use Rattle.simmergate.proofs.simmergate_simplify.Kinds as simplify-kinds
 
-pub check-once : OnceLeft 2 check-kinds.ps check-kinds.r check-reads.Pre check-reads.Post (List ℕ) (λ κs x. x .1 .0 .now)
+pub check-once : OnceLeft 2 check-kinds.ps check-kinds.r check-reads.Pre check-reads.Post (List ℕ) (λ κs x. x .1 .1 .0 .now)
 check-once κs a v v' x x' q p p' = (p .0 ∙ sym (p' .0), p .1 ∙ sym (p' .1))
 
-pub weight-once : OnceLeft 2 weight-kinds.ps weight-kinds.r weight-reads.Pre weight-reads.Post (List ℕ) (λ κs x. x .1 .0 .now)
+pub weight-once : OnceLeft 2 weight-kinds.ps weight-kinds.r weight-reads.Pre weight-reads.Post (List ℕ) (λ κs x. x .1 .1 .0 .now)
 weight-once κs a v v' x x' q p p' = (p .0 ∙ sym (p' .0), p .1 ∙ sym (p' .1))
 
-pub value-once : OnceLeft 3 value-kinds.ps value-kinds.r value-reads.Pre value-reads.Post (List ℕ) (λ κs x. x .1 .1 .0 .now)
+pub value-once : OnceLeft 3 value-kinds.ps value-kinds.r value-reads.Pre value-reads.Post (List ℕ) (λ κs x. x .1 .1 .1 .0 .now)
 value-once κs a v v' x x' q p p' = (p .0 ∙ sym (p' .0), p .1 ∙ sym (p' .1))
 
-pub equal-once : OnceLeft 3 equal-kinds.ps equal-kinds.r equal-reads.Pre equal-reads.Post (List ℕ) (λ κs x. x .1 .1 .0 .now)
+pub equal-once : OnceLeft 3 equal-kinds.ps equal-kinds.r equal-reads.Pre equal-reads.Post (List ℕ) (λ κs x. x .1 .1 .1 .0 .now)
 equal-once κs a v v' x x' q p p' = (p .0 ∙ sym (p' .0), p .1 ∙ sym (p' .1))
 
 -- the simplifier's call: the answer slice and the three areas at exit
@@ -39,10 +39,10 @@ pub record Left : Type 0 where
 
 abbrev pub left : (κs : Lfts 5) → AtExit (endedOf 5 simplify-kinds.ps simplify-kinds.r) κs → Left
 left κs x =
-    let out = x .1 .1 .0 .now in
-    let steps = x .1 .1 .1 .0 .now in
-    let work = x .1 .1 .1 .1 .0 .now in
-    let answer = x .1 .1 .1 .1 .1 .0 .now in
+    let out = x .1 .1 .1 .0 .now in
+    let steps = x .1 .1 .1 .1 .0 .now in
+    let work = x .1 .1 .1 .1 .1 .0 .now in
+    let answer = x .1 .1 .1 .1 .1 .1 .0 .now in
     record { slice = answer; areas = lent out steps work }
 
 pub simplify-once : OnceLeft 5 simplify-kinds.ps simplify-kinds.r simplify-reads.Pre simplify-reads.Post Left left

@@ -1,4 +1,5 @@
-// The entry points for C. Each call returns the refusal number and writes the numbers of its answer to a lent slice.
+// The entry points for C. Each call returns the refusal number and writes the numbers of its answer to a lent slice; those that take tables
+// take the limit first.
 mod settings_calls;
 
 ghost use mathlib.Core.Path.{_≡_};
@@ -31,14 +32,14 @@ fn number_of(yes: bool) -> u64
 
 // Judges a table. The answer: number, place, what is wrong with the record, which byte.
 #[no_mangle]
-pub extern "C" fn simmergate_check(table: &[u8], answer: &mut [u8]) -> u32
-    ensures { λ r. ⌜ r ≡ checkReturns (now (table .entry)) (now (answer .entry)) ⌝ }
-    ensures { λ _. ⌜ now (answer .exit) ≡ checkAnswers (now (table .entry)) (now (answer .entry)) ⌝ }
+pub extern "C" fn simmergate_check(limit: usize, table: &[u8], answer: &mut [u8]) -> u32
+    ensures { λ r. ⌜ r ≡ checkReturns limit (now (table .entry)) (now (answer .entry)) ⌝ }
+    ensures { λ _. ⌜ now (answer .exit) ≡ checkAnswers limit (now (table .entry)) (now (answer .entry)) ⌝ }
 {
     if answer.len() < 32 {
         return 6;
     }
-    let f = table::fault_of(table::check(table));
+    let f = table::fault_of(table::check(limit, table));
     let flaw = f.flaw;
     let wrong = record::flaw_numbers(flaw);
     let numbers = [f.number as u64, f.place as u64, wrong.what, wrong.byte];
@@ -48,14 +49,14 @@ pub extern "C" fn simmergate_check(table: &[u8], answer: &mut [u8]) -> u32
 
 // Weighs a table. The answer: number, place, weight, what is wrong with the record, which byte.
 #[no_mangle]
-pub extern "C" fn simmergate_weight(table: &[u8], answer: &mut [u8]) -> u32
-    ensures { λ r. ⌜ r ≡ weightReturns (now (table .entry)) (now (answer .entry)) ⌝ }
-    ensures { λ _. ⌜ now (answer .exit) ≡ weightAnswers (now (table .entry)) (now (answer .entry)) ⌝ }
+pub extern "C" fn simmergate_weight(limit: usize, table: &[u8], answer: &mut [u8]) -> u32
+    ensures { λ r. ⌜ r ≡ weightReturns limit (now (table .entry)) (now (answer .entry)) ⌝ }
+    ensures { λ _. ⌜ now (answer .exit) ≡ weightAnswers limit (now (table .entry)) (now (answer .entry)) ⌝ }
 {
     if answer.len() < 40 {
         return 6;
     }
-    let w = table::weight(table);
+    let w = table::weight(limit, table);
     let flaw = w.flaw;
     let wrong = record::flaw_numbers(flaw);
     let numbers = [
@@ -71,14 +72,19 @@ pub extern "C" fn simmergate_weight(table: &[u8], answer: &mut [u8]) -> u32
 
 // Evaluates a table under registers. The answer: number, place, value, what is wrong with the record, which byte.
 #[no_mangle]
-pub extern "C" fn simmergate_value(table: &[u8], registers: &[u8], answer: &mut [u8]) -> u32
-    ensures { λ r. ⌜ r ≡ valueReturns (now (table .entry)) (now (registers .entry)) (now (answer .entry)) ⌝ }
-    ensures { λ _. ⌜ now (answer .exit) ≡ valueAnswers (now (table .entry)) (now (registers .entry)) (now (answer .entry)) ⌝ }
+pub extern "C" fn simmergate_value(
+    limit: usize,
+    table: &[u8],
+    registers: &[u8],
+    answer: &mut [u8],
+) -> u32
+    ensures { λ r. ⌜ r ≡ valueReturns limit (now (table .entry)) (now (registers .entry)) (now (answer .entry)) ⌝ }
+    ensures { λ _. ⌜ now (answer .exit) ≡ valueAnswers limit (now (table .entry)) (now (registers .entry)) (now (answer .entry)) ⌝ }
 {
     if answer.len() < 40 {
         return 6;
     }
-    let v = value::value(table, registers);
+    let v = value::value(limit, table, registers);
     let flaw = v.flaw;
     let wrong = record::flaw_numbers(flaw);
     let numbers = [
@@ -95,14 +101,14 @@ pub extern "C" fn simmergate_value(table: &[u8], registers: &[u8], answer: &mut 
 // Compares the trees of two tables. The answer: number, place, which table is refused, yes (1) or no (0), what is wrong with the record,
 // which byte.
 #[no_mangle]
-pub extern "C" fn simmergate_equal(a: &[u8], b: &[u8], answer: &mut [u8]) -> u32
-    ensures { λ r. ⌜ r ≡ equalReturns (now (a .entry)) (now (b .entry)) (now (answer .entry)) ⌝ }
-    ensures { λ _. ⌜ now (answer .exit) ≡ equalAnswers (now (a .entry)) (now (b .entry)) (now (answer .entry)) ⌝ }
+pub extern "C" fn simmergate_equal(limit: usize, a: &[u8], b: &[u8], answer: &mut [u8]) -> u32
+    ensures { λ r. ⌜ r ≡ equalReturns limit (now (a .entry)) (now (b .entry)) (now (answer .entry)) ⌝ }
+    ensures { λ _. ⌜ now (answer .exit) ≡ equalAnswers limit (now (a .entry)) (now (b .entry)) (now (answer .entry)) ⌝ }
 {
     if answer.len() < 48 {
         return 6;
     }
-    let c = equal::equal(a, b);
+    let c = equal::equal(limit, a, b);
     let yes = number_of(c.yes);
     let flaw = c.flaw;
     let wrong = record::flaw_numbers(flaw);
@@ -118,10 +124,11 @@ pub extern "C" fn simmergate_equal(a: &[u8], b: &[u8], answer: &mut [u8]) -> u32
     c.number
 }
 
-// Simplifies a table in lent memory, by the rules of an edition. The answer: number, place, records written, steps, openings, weight in, weight out, what is wrong
-// with the record, which byte, tries.
+// Simplifies a table in lent memory, by the rules of an edition. The answer: number, place, records written, steps, openings, weight in,
+// weight out, what is wrong with the record, which byte, tries.
 #[no_mangle]
 pub extern "C" fn simmergate_simplify(
+    limit: usize,
     edition: usize,
     table: &[u8],
     out: &mut [u8],
@@ -129,15 +136,15 @@ pub extern "C" fn simmergate_simplify(
     work: &mut [u8],
     answer: &mut [u8],
 ) -> u32
-    ensures { λ r. ⌜ r ≡ simplifyReturns edition (now (table .entry)) (lent (now (out .entry)) (now (steps .entry)) (now (work .entry))) (now (answer .entry)) ⌝ }
-    ensures { λ _. ⌜ now (answer .exit) ≡ simplifyAnswers edition (now (table .entry)) (lent (now (out .entry)) (now (steps .entry)) (now (work .entry))) (now (answer .entry)) ⌝ }
+    ensures { λ r. ⌜ r ≡ simplifyReturns limit edition (now (table .entry)) (lent (now (out .entry)) (now (steps .entry)) (now (work .entry))) (now (answer .entry)) ⌝ }
+    ensures { λ _. ⌜ now (answer .exit) ≡ simplifyAnswers limit edition (now (table .entry)) (lent (now (out .entry)) (now (steps .entry)) (now (work .entry))) (now (answer .entry)) ⌝ }
     ensures { λ _. ⌜ lent (now (out .exit)) (now (steps .exit)) (now (work .exit))
-        ≡ simplifyLeaves edition (now (table .entry)) (lent (now (out .entry)) (now (steps .entry)) (now (work .entry))) (now (answer .entry)) ⌝ }
+        ≡ simplifyLeaves limit edition (now (table .entry)) (lent (now (out .entry)) (now (steps .entry)) (now (work .entry))) (now (answer .entry)) ⌝ }
 {
     if answer.len() < 80 {
         return 6;
     }
-    let a = simplify::simplify(edition, table, out, steps, work);
+    let a = simplify::simplify(limit, edition, table, out, steps, work);
     let flaw = a.flaw;
     let wrong = record::flaw_numbers(flaw);
     let numbers = [

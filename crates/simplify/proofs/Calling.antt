@@ -10,15 +10,16 @@ use lib.Seq.{length-take-le}
 use lib.Dec.{eqb}
 use borrow.Author.Tests.{eq-eqb, ne-eqb, lt-ltb, le-ltb}
 use borrow.Rule.Slice.PartMut.{putMid, mid-len}
-use Rattle.paper.specs.Limits.{maxWeight}
+use Rattle.paper.specs.Limits.{isLimit, workBytes}
 use Rattle.paper.specs.Bytes.{Bytes, stretch}
 use Rattle.paper.specs.Tree.{Tree, weight}
 use Rattle.paper.specs.Verdict.{accepted, told, isAccepted, tableWeight, verdict}
 use Rattle.paper.specs.Answers as paper
 use Rattle.paper.specs.Rules.{isEdition}
 use Rattle.paper.specs.Answers.{simplifiedBy, outcomeOf, judgedCall, judgement, answerOf, lentAfter, outAfter, stepsAfter, workAfter}
+use Rattle.paper.proofs.LimitLaws.{limit-small, limit-work}
 use Rattle.paper.proofs.AcceptedLaws.{Holds, accepted-holds}
-use Rattle.paper.proofs.Editions.{unknown-edition}
+use Rattle.paper.proofs.Editions.{unknown-edition, another-limit}
 use Rattle.paper.proofs.CallLaws.{verdict-accepted, accepted-judgement, Call, is-turned-down, is-run, RunOn, call}
 use Rattle.record.specs.Flaw.{flawOf}
 use Rattle.table.specs.declared.Measured.{Measured}
@@ -37,18 +38,20 @@ lent-stretch n d l xs h e =
     ∙ ap (λ i. (xs ++ replicate (n - length xs) 0) ++ drop i d) z
     ∙ append-assoc xs (replicate (n - length xs) 0) (drop n d)
 
--- which area is too short
-pub tight-out : (w : ℕ) (out steps work : List ℕ) → length out < 16 * w → paper.cramped w (lent out steps work) ≡ true
-unfolding paper.cramped
-tight-out w out steps work h = rw (lt-ltb (length out) (16 * w) h) refl
+-- which area is too short; `need` is what the limit asks of `work`
+module _ (lim w : ℕ) (out steps work : List ℕ) where
+  pub tight-out : length out < 16 * w → paper.cramped lim w (lent out steps work) ≡ true
+  unfolding paper.cramped
+  tight-out h = rw (lt-ltb (length out) (16 * w) h) refl
 
-pub tight-steps : (w : ℕ) (out steps work : List ℕ) → 16 * w ≤ length out → length steps < w → paper.cramped w (lent out steps work) ≡ true
-unfolding paper.cramped
-tight-steps w out steps work g h = rw (le-ltb (length out) (16 * w) g, lt-ltb (length steps) w h) refl
+  pub tight-steps : 16 * w ≤ length out → length steps < w → paper.cramped lim w (lent out steps work) ≡ true
+  unfolding paper.cramped
+  tight-steps g h = rw (le-ltb (length out) (16 * w) g, lt-ltb (length steps) w h) refl
 
-pub tight-work : (w : ℕ) (out steps work : List ℕ) → 16 * w ≤ length out → w ≤ length steps → length work < 65536 → paper.cramped w (lent out steps work) ≡ true
-unfolding paper.cramped
-tight-work w out steps work f g h = rw (le-ltb (length out) (16 * w) f, le-ltb (length steps) w g, lt-ltb (length work) 65536 h) refl
+  pub tight-work : (need : ℕ) → need ≡ workBytes lim → 16 * w ≤ length out → w ≤ length steps → length work < need
+      → paper.cramped lim w (lent out steps work) ≡ true
+  unfolding paper.cramped
+  tight-work need e f g h = rw (le-ltb (length out) (16 * w) f, le-ltb (length steps) w g, lt-ltb (length work) (workBytes lim) (omega arith)) refl
 
 same-given : {a b : paper.Answer} {l m : paper.Lent} → a ≡ b → l ≡ m
     → _≡_ {A = paper.Given} (record { answer = a; lent = l }) (record { answer = b; lent = m })
@@ -57,96 +60,106 @@ same-given e f = cc
 same-lent : {a b c d e f : List ℕ} → a ≡ b → c ≡ d → e ≡ f → lent a c e ≡ lent b d f
 same-lent p q r = cc
 
--- refusal 9
-pub unknown : (ed : ℕ) (s : List ℕ) (a : Answer) (out steps work : List ℕ) → isEdition ed ≡ false → says a ≡ paper.refusal 9 0
-    → gives a out steps work ≡ paper.simplified ed s (lent out steps work)
-unknown ed s a out steps work e q = same-given q refl ∙ sym (unknown-edition ed s (lent out steps work) e)
+-- refusal 19
+pub unlimited : (lim ed : ℕ) (s : List ℕ) (a : Answer) (out steps work : List ℕ) → isLimit lim ≡ false → says a ≡ paper.refusal 19 0
+    → gives a out steps work ≡ paper.simplified lim ed s (lent out steps work)
+unlimited lim ed s a out steps work e q = same-given q refl ∙ sym (another-limit lim e ed s (lent out steps work))
 
-module _ (s : List ℕ) (m : Measured) (e : table.says m ≡ paper.weighed s) where
-  number-is : m .number ≡ verdict s .number
+-- refusal 9
+pub unknown : (lim ed : ℕ) (s : List ℕ) (a : Answer) (out steps work : List ℕ) → isLimit lim ≡ true → isEdition ed ≡ false → says a ≡ paper.refusal 9 0
+    → gives a out steps work ≡ paper.simplified lim ed s (lent out steps work)
+unknown lim ed s a out steps work k e q = same-given q refl ∙ sym (unknown-edition lim k s (lent out steps work) ed e)
+
+module _ (lim : ℕ) (limited : isLimit lim ≡ true) (s : List ℕ) (m : Measured) (e : table.says m ≡ paper.weighed lim s) where
+  number-is : m .number ≡ verdict lim s .number
   unfolding paper.weighed paper.measured
   number-is = ap (λ x. x .number) e
 
-  verdict-is : told (m .number) (m .place) (flawOf (m .flaw)) ≡ verdict s
+  verdict-is : told (m .number) (m .place) (flawOf (m .flaw)) ≡ verdict lim s
   unfolding paper.weighed paper.measured
   verdict-is = ap (λ x. told (x .number) (x .place) (x .flaw)) e
 
   -- refusals 1 to 5
   pub turned-down : (ed : ℕ) → isEdition ed ≡ true → (a : Answer) (out steps work : List ℕ) → 0 < m .number → says a ≡ paper.refusedBy (told (m .number) (m .place) (flawOf (m .flaw)))
-      → gives a out steps work ≡ paper.simplified ed s (lent out steps work)
+      → gives a out steps work ≡ paper.simplified lim ed s (lent out steps work)
   unfolding paper.simplified simplifiedBy outcomeOf judgement judgedCall answerOf lentAfter outAfter stepsAfter workAfter isAccepted
   turned-down ed known a out steps work h q =
-      let n : eqb (verdict s .number) 0 ≡ false = ne-eqb (verdict s .number) 0 (λ z. omega (arith, number-is)) in
-      rw (known, n, n) (same-given (q ∙ ap paper.refusedBy verdict-is) refl)
+      let n : eqb (verdict lim s .number) 0 ≡ false = ne-eqb (verdict lim s .number) 0 (λ z. omega (arith, number-is)) in
+      rw (limited, known, n, n) (same-given (q ∙ ap paper.refusedBy verdict-is) refl)
 
   module _ (h : m .number ≤ 0) where
-    pub fine : verdict s ≡ accepted
+    pub fine : verdict lim s ≡ accepted
     unfolding isAccepted
-    fine = verdict-accepted s (eq-eqb (verdict s .number) 0 (omega (arith, number-is)))
+    fine = verdict-accepted lim s (eq-eqb (verdict lim s .number) 0 (omega (arith, number-is)))
 
     pub weight-is : m .result ≡ tableWeight s
     unfolding paper.weighed paper.measured isAccepted
     weight-is = ap (λ x. x .result) e ∙ rw fine refl
 
-    pub holds : Bytes s → Holds s
-    holds b = accepted-holds s b fine
+    pub holds : Bytes s → Holds lim s
+    holds b = accepted-holds lim s b fine
 
-    pub light : Bytes s → m .result ≤ maxWeight
+    pub light : Bytes s → m .result ≤ lim
     light b = omega (arith, weight-is, holds b .weighs, holds b .light)
 
     -- refusal 6
-    pub cramped : (ed : ℕ) → isEdition ed ≡ true → (a : Answer) (out steps work : List ℕ) → paper.cramped (m .result) (lent out steps work) ≡ true → says a ≡ paper.refusal 6 0
-        → gives a out steps work ≡ paper.simplified ed s (lent out steps work)
+    pub cramped : (ed : ℕ) → isEdition ed ≡ true → (a : Answer) (out steps work : List ℕ) → paper.cramped lim (m .result) (lent out steps work) ≡ true → says a ≡ paper.refusal 6 0
+        → gives a out steps work ≡ paper.simplified lim ed s (lent out steps work)
     unfolding paper.simplified simplifiedBy outcomeOf judgement judgedCall answerOf lentAfter outAfter stepsAfter workAfter isAccepted
     cramped ed known a out steps work c q =
-        let k : paper.cramped (tableWeight s) (lent out steps work) ≡ true = ap (λ i. paper.cramped i (lent out steps work)) (sym weight-is) ∙ c in
-        rw (known, fine, k) (same-given q refl)
+        let k : paper.cramped lim (tableWeight s) (lent out steps work) ≡ true = ap (λ i. paper.cramped lim i (lent out steps work)) (sym weight-is) ∙ c in
+        rw (limited, known, fine, k) (same-given q refl)
 
--- a call that is accepted: the edition is known, the table is fine, and the areas have room
-pub record Accepted (ed : ℕ) (s : List ℕ) (m : Measured) (out steps work : List ℕ) : Type 0 where
+-- a call that is accepted: limit and edition are known, the table is fine, and the areas have room
+pub record Accepted (lim ed : ℕ) (s : List ℕ) (m : Measured) (need : ℕ) (out steps work : List ℕ) : Type 0 where
+  pub limited : isLimit lim ≡ true
   pub known : isEdition ed ≡ true
-  pub says-so : table.says m ≡ paper.weighed s
+  pub asks : need ≡ workBytes lim
+  pub says-so : table.says m ≡ paper.weighed lim s
   pub none-refused : m .number ≤ 0
   pub bytes : Bytes s
   pub out-room : 16 * m .result ≤ length out
   pub steps-room : m .result ≤ length steps
-  pub work-room : 65536 ≤ length work
+  pub work-room : need ≤ length work
 
-module _ {ed : ℕ} {s : List ℕ} {m : Measured} {out steps work : List ℕ} (c : Accepted ed s m out steps work) where
+module _ {lim ed : ℕ} {s : List ℕ} {m : Measured} {need : ℕ} {out steps work : List ℕ} (c : Accepted lim ed s m need out steps work) where
   weighs : m .result ≡ tableWeight s
-  weighs = weight-is s m (c .says-so) (c .none-refused)
+  weighs = weight-is lim (c .limited) s m (c .says-so) (c .none-refused)
 
-  uncramped : paper.cramped (tableWeight s) (lent out steps work) ≡ false
+  uncramped : paper.cramped lim (tableWeight s) (lent out steps work) ≡ false
   unfolding paper.cramped
   uncramped =
-      ap (λ i. paper.cramped i (lent out steps work)) (sym weighs)
+      ap (λ i. paper.cramped lim i (lent out steps work)) (sym weighs)
       ∙ rw (
         le-ltb (length out) (16 * m .result) (c .out-room),
         le-ltb (length steps) (m .result) (c .steps-room),
-        le-ltb (length work) 65536 (c .work-room),
+        le-ltb (length work) (workBytes lim) (omega (arith, c .work-room, c .asks)),
       ) refl
 
-  pub on : RunOn ed (drives ed) s (lent out steps work)
-  on = go (call ed (drives ed) s (lent out steps work) (c .bytes))
+  pub on : RunOn lim ed (drives ed) s (lent out steps work)
+  on = go (call lim ed (drives ed) s (lent out steps work) (c .bytes))
     where
-      go : Call ed (drives ed) s (lent out steps work) → RunOn ed (drives ed) s (lent out steps work)
+      go : Call lim ed (drives ed) s (lent out steps work) → RunOn lim ed (drives ed) s (lent out steps work)
       go (is-run r) = r
       go (is-turned-down d) =
-          let j = accepted-judgement ed s (lent out steps work) (c .known) (fine s m (c .says-so) (c .none-refused)) uncramped in
+          let j = accepted-judgement lim ed s (lent out steps work) (c .limited) (c .known) (fine lim (c .limited) s m (c .says-so) (c .none-refused)) uncramped in
           absurd (let z = ap (λ v. v .number) j in omega (arith, d .number))
 
   abbrev pub tree : Tree
   tree = on .holds .tree
 
   -- what is lent to the run
-  pub lending : Lending s (take (16 * m .result - 0) (drop 0 out)) (take (m .result - 0) (drop 0 steps)) (take (65536 - 0) (drop 0 work)) (m .result) tree
+  pub lending : Lending s (take (16 * m .result - 0) (drop 0 out)) (take (m .result - 0) (drop 0 steps)) (take (need - 0) (drop 0 work)) (m .result) tree
   lending =
       let k = on .holds in
       let w : m .result ≡ weight tree = weighs ∙ k .weighs in
       let l = k .light in
+      let few = limit-small lim (c .limited) in
+      let whole = limit-work lim (c .limited) in
+      let asks = c .asks in
       let lo = mid-len 0 (16 * m .result) out (c .out-room) in
       let lz = mid-len 0 (m .result) steps (c .steps-room) in
-      let lw = mid-len 0 65536 work (c .work-room) in
+      let lw = mid-len 0 need work (c .work-room) in
       record {
         wf = k .wf;
         light = omega arith;
@@ -161,9 +174,9 @@ module _ {ed : ℕ} {s : List ℕ} {m : Measured} {out steps work : List ℕ} (c
   -- the run's answer, and the areas with their stretches back
   pub ran : (a : Answer) (out' steps' work' : List ℕ)
       → Leaves (drives ed tree) (m .result) a (take (16 * m .result - 0) (drop 0 out)) out' (take (m .result - 0) (drop 0 steps)) steps'
-      (take (65536 - 0) (drop 0 work)) work'
-      → gives a (putMid 0 (16 * m .result - 0) out out') (putMid 0 (m .result - 0) steps steps') (putMid 0 (65536 - 0) work work')
-      ≡ paper.simplified ed s (lent out steps work)
+      (take (need - 0) (drop 0 work)) work'
+      → gives a (putMid 0 (16 * m .result - 0) out out') (putMid 0 (m .result - 0) steps steps') (putMid 0 (need - 0) work work')
+      ≡ paper.simplified lim ed s (lent out steps work)
   unfolding paper.simplified simplifiedBy lentAfter outAfter stepsAfter workAfter
   ran a out' steps' work' r =
       let w : m .result ≡ weight tree = weighs ∙ on .holds .weighs in
@@ -172,5 +185,5 @@ module _ {ed : ℕ} {s : List ℕ} {m : Measured} {out steps work : List ℕ} (c
       (same-lent
       (lent-stretch (16 * m .result) out out' (paper.written (drives ed tree)) (c .out-room) (r .out-is))
       (lent-stretch (m .result) steps steps' (paper.noted (drives ed tree)) (c .steps-room) (r .steps-is))
-      (lent-stretch 65536 work work' [] (c .work-room) (r .work-is))
-      ∙ ap (λ i. paper.lentAfter (paper.ran i (drives ed tree)) (lent out steps work)) w ∙ sym (on .lent))
+      (lent-stretch need work work' [] (c .work-room) (r .work-is) ∙ ap (λ n. stretch n [] work) (c .asks))
+      ∙ ap (λ i. paper.lentAfter lim (paper.ran i (drives ed tree)) (lent out steps work)) w ∙ sym (on .lent))

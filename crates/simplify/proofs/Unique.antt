@@ -67,9 +67,9 @@ says-once r r′ e = sym (answer-of r) ∙ ap answerOf e ∙ answer-of r′
 -- the three areas at exit
 abbrev pub areasLeft : (κs : Lfts 4) → AtExit (endedOf 4 kinds.ps kinds.r) κs → paper.Lent
 areasLeft κs x =
-    let out = x .1 .1 .0 .now in
-    let steps = x .1 .1 .1 .0 .now in
-    let work = x .1 .1 .1 .1 .0 .now in
+    let out = x .1 .1 .1 .0 .now in
+    let steps = x .1 .1 .1 .1 .0 .now in
+    let work = x .1 .1 .1 .1 .1 .0 .now in
     lent out steps work
 
 pub simplify-once : OnceLeft 4 kinds.ps kinds.r reads.Pre reads.Post paper.Lent areasLeft

@@ -3,6 +3,7 @@ use record::Flaw;
 ghost use mathlib.Core.Path.{_≡_};
 ghost use mathlib.Core.List.{List};
 ghost use Prim.Native.Nat.{ℕ};
+ghost use Rattle.paper.specs.Limits.{workBytes};
 ghost use Rattle.paper.specs.Tree.{Tree};
 ghost use Rattle.paper.specs.Rules.{isEdition, rulesOf};
 ghost use Rattle.paper.specs.Driver.{simplify};
@@ -52,6 +53,16 @@ fn is_edition(edition: usize) -> bool
     edition == 2
 }
 
+// The bytes of `work` that the limit asks for.
+fn work_bytes(limit: usize) -> usize
+    ensures { λ r. ⌜ r ≡ workBytes limit ⌝ }
+{
+    if limit == 3072 {
+        return 65536;
+    }
+    524288
+}
+
 // Runs the driver, with the rules of the edition, on the tree of the table, of weight w, in areas that are its own: the table is copied to the end of work, and
 // what is past the result and the steps is cleared, all of it after a refusal.
 fn run(
@@ -95,9 +106,10 @@ fn run(
     }
 }
 
-// The simplifier: refusal 9 of the edition, 1 to 5 of the table, 6 of the areas, and then the run, lent 16 bytes of `out` and one of `steps` for each
-// unit of the weight, and 65,536 bytes of `work`.
+// The simplifier: refusal 19 of the limit, 9 of the edition, 1 to 5 of the table, 6 of the areas, and then the run, lent 16 bytes of `out`
+// and one of `steps` for each unit of the weight, and of `work` what the limit asks for.
 pub fn simplify(
+    limit: usize,
     edition: usize,
     table: &[u8],
     out: &mut [u8],
@@ -105,12 +117,15 @@ pub fn simplify(
     work: &mut [u8],
 ) -> Answer
     ensures { λ r. ⌜ gives r (now (out .exit)) (now (steps .exit)) (now (work .exit))
-        ≡ simplified edition (now (table .entry)) (lent (now (out .entry)) (now (steps .entry)) (now (work .entry))) ⌝ }
+        ≡ simplified limit edition (now (table .entry)) (lent (now (out .entry)) (now (steps .entry)) (now (work .entry))) ⌝ }
 {
+    if !table::is_limit(limit) {
+        return refusal(19, 0, Flaw::Sound);
+    }
     if !is_edition(edition) {
         return refusal(9, 0, Flaw::Sound);
     }
-    let m = table::weight(table);
+    let m = table::weight(limit, table);
     let flaw = m.flaw;
     if 0 < m.number {
         return refusal(m.number, m.place, flaw);
@@ -123,7 +138,8 @@ pub fn simplify(
     if steps.len() < w {
         return refusal(6, 0, Flaw::Sound);
     }
-    if work.len() < 65536 {
+    let need = work_bytes(limit);
+    if work.len() < need {
         return refusal(6, 0, Flaw::Sound);
     }
     let end = 16 * w;
@@ -132,7 +148,7 @@ pub fn simplify(
         table,
         &mut out[0..end],
         &mut steps[0..w],
-        &mut work[0..65536],
+        &mut work[0..need],
         w,
     )
 }

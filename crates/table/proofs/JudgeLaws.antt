@@ -2,35 +2,42 @@
 -- definition before the last. Assumes nothing.
 use Prim.Native.Nat.{ℕ, _*_, _/_, _%_, _<_, _≤_, min}
 use mathlib.Core.Path.{_≡_, refl}
+use mathlib.Core.Bool.{true, false}
 use mathlib.Core.List.{List}
 use native.Mathlib.Omega.{arith}
 use borrow.Author.Tests.{eq-eqb, ne-eqb, lt-ltb, le-ltb}
 use lib.ListN.{length}
-use Rattle.paper.specs.Limits.{maxWeight, maxBytes}
+use Rattle.paper.specs.Limits.{isLimit, maxBytes}
 use Rattle.paper.specs.Record.{Flaw, flaw, weightFrom}
-use Rattle.paper.specs.Verdict.{accepted, refused, flawed, recordsIn, badLength, firstFlawed, treeEnd, judgeRecords, verdict}
+use Rattle.paper.specs.Verdict.{accepted, refused, flawed, recordsIn, badLength, firstFlawed, treeEnd, judgeRecords, judgedTable, verdict}
 use Rattle.table.specs.Walked.{walked}
 use Rattle.table.specs.declared.Walked.the-variants.{Bad, Ends}
 use Rattle.table.proofs.WalkLaws.{table-bad, table-ends}
 
+-- refusal 19
+pub limit-unknown : (lim : ℕ) (s : List ℕ) → isLimit lim ≡ false → verdict lim s ≡ refused 19 0
+unfolding verdict
+limit-unknown lim s e = rw e
+
 -- refusal 1
+module _ (lim : ℕ) (known : isLimit lim ≡ true) (s : List ℕ) where
+  pub length-zero : length s < 1 → verdict lim s ≡ refused 1 0
+  unfolding verdict judgedTable badLength
+  length-zero h = rw (known, eq-eqb (length s) 0 (omega arith))
+
+  pub length-uneven : 1 ≤ length s → 0 < length s % 16 → verdict lim s ≡ refused 1 0
+  unfolding verdict judgedTable badLength
+  length-uneven l h = rw (known, ne-eqb (length s) 0 (λ e. omega arith), ne-eqb (length s % 16) 0 (λ e. omega arith))
+
+  pub length-over : 1 ≤ length s → length s % 16 ≤ 0 → maxBytes lim < length s → verdict lim s ≡ refused 1 0
+  unfolding verdict judgedTable badLength
+  length-over l m h = rw (known, ne-eqb (length s) 0 (λ e. omega arith), eq-eqb (length s % 16) 0 (omega arith), lt-ltb (maxBytes lim) (length s) h)
+
+  pub length-good : 1 ≤ length s → length s % 16 ≤ 0 → length s ≤ maxBytes lim → verdict lim s ≡ judgeRecords lim s (recordsIn s)
+  unfolding verdict judgedTable badLength
+  length-good l m h = rw (known, ne-eqb (length s) 0 (λ e. omega arith), eq-eqb (length s % 16) 0 (omega arith), le-ltb (maxBytes lim) (length s) h) refl
+
 module _ (s : List ℕ) where
-  pub length-zero : length s < 1 → verdict s ≡ refused 1 0
-  unfolding verdict badLength
-  length-zero h = rw (eq-eqb (length s) 0 (omega arith))
-
-  pub length-uneven : 1 ≤ length s → 0 < length s % 16 → verdict s ≡ refused 1 0
-  unfolding verdict badLength
-  length-uneven l h = rw (ne-eqb (length s) 0 (λ e. omega arith), ne-eqb (length s % 16) 0 (λ e. omega arith))
-
-  pub length-over : 1 ≤ length s → length s % 16 ≤ 0 → maxBytes < length s → verdict s ≡ refused 1 0
-  unfolding verdict badLength
-  length-over l m h = rw (ne-eqb (length s) 0 (λ e. omega arith), eq-eqb (length s % 16) 0 (omega arith), lt-ltb maxBytes (length s) h)
-
-  pub length-good : 1 ≤ length s → length s % 16 ≤ 0 → length s ≤ maxBytes → verdict s ≡ judgeRecords s (recordsIn s)
-  unfolding verdict badLength
-  length-good l m h = rw (ne-eqb (length s) 0 (λ e. omega arith), eq-eqb (length s % 16) 0 (omega arith), le-ltb maxBytes (length s) h) refl
-
   pub records-there : length s / 16 ≡ recordsIn s
   unfolding recordsIn
   records-there = omega arith
@@ -40,30 +47,30 @@ module _ (s : List ℕ) where
   records-within n h = omega arith
 
 -- refusals 2 to 5, of n records
-module _ (s : List ℕ) (n f : ℕ) (first : f ≡ firstFlawed s 0 n) where
-  pub flawed-there : f < n → (x : Flaw) → x ≡ flaw s f → judgeRecords s n ≡ flawed f x
+module _ (lim : ℕ) (s : List ℕ) (n f : ℕ) (first : f ≡ firstFlawed s 0 n) where
+  pub flawed-there : f < n → (x : Flaw) → x ≡ flaw s f → judgeRecords lim s n ≡ flawed f x
   unfolding judgeRecords
   flawed-there h x e = rw (← first, lt-ltb f n h, e)
 
   module _ (sound : n ≤ f) (w : ℕ) (weight : w ≡ weightFrom s 0 n) where
-    pub heavy : maxWeight < w → judgeRecords s n ≡ refused 3 0
+    pub heavy : lim < w → judgeRecords lim s n ≡ refused 3 0
     unfolding judgeRecords
-    heavy h = rw (← first, le-ltb f n sound, ← weight, lt-ltb maxWeight w h)
+    heavy h = rw (← first, le-ltb f n sound, ← weight, lt-ltb lim w h)
 
-    module _ (light : w ≤ maxWeight) where
-      pub shapeless : (e : ℕ) → e ≡ treeEnd s n 0 → (e ≡ n → ⊥) → judgeRecords s n ≡ refused 4 (min e n)
+    module _ (light : w ≤ lim) where
+      pub shapeless : (e : ℕ) → e ≡ treeEnd s n 0 → (e ≡ n → ⊥) → judgeRecords lim s n ≡ refused 4 (min e n)
       unfolding judgeRecords
-      shapeless e end h = rw (← first, le-ltb f n sound, ← weight, le-ltb maxWeight w light, ← end, ne-eqb e n h)
+      shapeless e end h = rw (← first, le-ltb f n sound, ← weight, le-ltb lim w light, ← end, ne-eqb e n h)
 
       module _ (end : treeEnd s n 0 ≡ n) where
-        pub exponent : (x : ℕ) → walked s n 1 0 ≡ Bad x → judgeRecords s n ≡ refused 5 x
+        pub exponent : (x : ℕ) → walked s n 1 0 ≡ Bad x → judgeRecords lim s n ≡ refused 5 x
         unfolding judgeRecords
         exponent x a =
             let t = table-bad s n end x a in
-            rw (← first, le-ltb f n sound, ← weight, le-ltb maxWeight w light, end, eq-eqb n n refl, t .0, lt-ltb x n (t .1))
+            rw (← first, le-ltb f n sound, ← weight, le-ltb lim w light, end, eq-eqb n n refl, t .0, lt-ltb x n (t .1))
 
-        pub fine : (x : ℕ) → walked s n 1 0 ≡ Ends x → judgeRecords s n ≡ accepted
+        pub fine : (x : ℕ) → walked s n 1 0 ≡ Ends x → judgeRecords lim s n ≡ accepted
         unfolding judgeRecords
         fine x a =
             let t = table-ends s n end x a in
-            rw (← first, le-ltb f n sound, ← weight, le-ltb maxWeight w light, end, eq-eqb n n refl, t, le-ltb n n (omega arith))
+            rw (← first, le-ltb f n sound, ← weight, le-ltb lim w light, end, eq-eqb n n refl, t, le-ltb n n (omega arith))

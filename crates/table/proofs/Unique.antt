@@ -1,5 +1,6 @@
--- Two answers that meet the contract of `check`, of `weight`, of `fault_of` or of `weight_of`, as the check reads it from the source, are
--- the same: the paper's numbers tell every answer of the code from every other, and the weight is one number. Assumes nothing.
+-- Two answers that meet the contract of `check`, of `weight`, of `fault_of`, of `weight_of` or of `is_limit`, as the check reads it from the
+-- source, are the same: the paper's numbers tell every answer of the code from every other, the weight is one number, and yes or no is one.
+-- Assumes nothing.
 use Prim.Native.Nat.{ℕ, zero, suc}
 use mathlib.Core.Path.{_≡_, refl, sym, ap, _∙_}
 use Rattle.paper.specs.Record as paper-record
@@ -11,7 +12,7 @@ use Rattle.record.proofs.Unique.{codeOf, code-of}
 use Rattle.table.specs.Judged.{standsFor, verdictOf}
 use Rattle.table.specs.Measured.{says}
 use Rattle.table.specs.declared.Judged.{Judged}
-use Rattle.table.specs.declared.Judged.the-variants.{Fine, Length, Record, Heavy, Shape, Exponent}
+use Rattle.table.specs.declared.Judged.the-variants.{Fine, Length, Record, Heavy, Shape, Exponent, Limit}
 use Rattle.table.specs.declared.Fault.{Fault}
 use Rattle.table.specs.declared.Measured.{Measured}
 use Rattle.table.proofs.check.Reads as check-reads
@@ -20,6 +21,8 @@ use Rattle.table.proofs.weight.Reads as weight-reads
 use Rattle.table.proofs.weight.Kinds as weight-kinds
 use Rattle.table.proofs.fault_of.Reads as fault-of-reads
 use Rattle.table.proofs.fault_of.Kinds as fault-of-kinds
+use Rattle.table.proofs.is_limit.Reads as is-limit-reads
+use Rattle.table.proofs.is_limit.Kinds as is-limit-kinds
 use Rattle.table.proofs.weight_of.Reads as weight-of-reads
 use Rattle.table.proofs.weight_of.Kinds as weight-of-kinds
 
@@ -30,7 +33,8 @@ answer (suc zero) p f = Length
 answer (suc (suc zero)) p f = Record p (codeOf f)
 answer (suc (suc (suc zero))) p f = Heavy
 answer (suc (suc (suc (suc zero)))) p f = Shape p
-answer (suc (suc (suc (suc (suc k))))) p f = Exponent p
+answer (suc (suc (suc (suc (suc zero))))) p f = Exponent p
+answer (suc (suc (suc (suc (suc (suc k)))))) p f = Limit
 
 answer-stands : (r : Judged) → answer (standsFor r .number) (standsFor r .place) (standsFor r .flaw) ≡ r
 unfolding answer
@@ -40,6 +44,7 @@ answer-stands (Record p f) = ap (Record p) (code-of f)
 answer-stands Heavy = refl
 answer-stands (Shape p) = refl
 answer-stands (Exponent p) = refl
+answer-stands Limit = refl
 
 stands-once : (r r′ : Judged) → standsFor r ≡ standsFor r′ → r ≡ r′
 stands-once r r′ e = sym (answer-stands r) ∙ ap (λ (v : Verdict). answer (v .number) (v .place) (v .flaw)) e ∙ answer-stands r′
@@ -76,3 +81,6 @@ fault-of-once κs a v v' x x' q p p' = fault-once v v' (p ∙ sym p')
 
 pub weight-of-once : Once 1 weight-of-kinds.ps weight-of-kinds.r weight-of-reads.Pre weight-of-reads.Post
 weight-of-once κs a v v' x x' q p p' = p ∙ sym p'
+
+pub is-limit-once : Once 0 is-limit-kinds.ps is-limit-kinds.r is-limit-reads.Pre is-limit-reads.Post
+is-limit-once κs a v v' x x' q p p' = p ∙ sym p'

@@ -2,7 +2,7 @@
 use Rattle.paper.specs.Verdict.{Verdict, accepted, told, refused, flawed}
 use Rattle.record.specs.Flaw.{flawOf}
 use Rattle.table.specs.declared.Judged.{Judged}
-use Rattle.table.specs.declared.Judged.the-variants.{Fine, Length, Record, Heavy, Shape, Exponent}
+use Rattle.table.specs.declared.Judged.the-variants.{Fine, Length, Record, Heavy, Shape, Exponent, Limit}
 use Rattle.table.specs.declared.Fault.{Fault}
 
 abbrev pub standsFor : Judged → Verdict
@@ -12,6 +12,7 @@ standsFor (Record p f) = flawed p (flawOf f)
 standsFor Heavy = refused 3 0
 standsFor (Shape p) = refused 4 p
 standsFor (Exponent p) = refused 5 p
+standsFor Limit = refused 19 0
 
 -- a number, a place and a flaw as the paper's
 abbrev pub verdictOf : Fault → Verdict

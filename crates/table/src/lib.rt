@@ -1,8 +1,9 @@
-// The checker of tables, which judges refusals 1 to 5, and the weight of a table.
+// The checker of tables, which judges refusals 19 and 1 to 5, and the weight of a table.
 use record::Flaw;
 ghost use mathlib.Core.Path.{_≡_};
 ghost use Prim.Native.Nat.{_+_, _*_, _≤_};
 ghost use lib.ListN.{length};
+ghost use Rattle.paper.specs.Limits.{isLimit};
 ghost use Rattle.paper.specs.Record.{weightFrom};
 ghost use Rattle.paper.specs.Verdict.{recordsIn, firstFlawed, treeEnd, judgeRecords, verdict};
 ghost use Rattle.paper.specs.Answers.{weighed};
@@ -18,6 +19,7 @@ pub enum Judged {
     Heavy,
     Shape(usize),
     Exponent(usize),
+    Limit,
 }
 
 // The paper's number and place of a refusal, and after 2 what is wrong with the record; 0 and 0 where nothing is refused.
@@ -77,7 +79,7 @@ pub fn weight_of(s: &[u8], n: usize) -> usize
 
 // The record after the tree at record 0; n + 1 where the n records end before it. Counts the trees that are owed.
 fn tree_end(s: &[u8], n: usize) -> usize
-    requires { ⌜ (n * 16 ≤ length (now s)) × (n ≤ 3072) ⌝ }
+    requires { ⌜ (n * 16 ≤ length (now s)) × (n ≤ 16384) ⌝ }
     ensures { λ r. ⌜ r ≡ treeEnd (now (s .entry)) n 0 ⌝ }
 {
     let mut i = 0;
@@ -134,16 +136,16 @@ fn walk(s: &[u8], i: usize) -> Walked
     Walked::Ends(at)
 }
 
-// Refusals 2 to 5 of the n records of a table, the lowest number first.
-fn judge_records(s: &[u8], n: usize) -> Judged
-    requires { ⌜ (n ≡ recordsIn (now s)) × (n ≤ 3072) ⌝ }
-    ensures { λ r. ⌜ standsFor r ≡ judgeRecords (now (s .entry)) n ⌝ }
+// Refusals 2 to 5 of the n records of a table, the lowest number first; 3 is over the limit.
+fn judge_records(limit: usize, s: &[u8], n: usize) -> Judged
+    requires { ⌜ (n ≡ recordsIn (now s)) × (n ≤ 16384) ⌝ }
+    ensures { λ r. ⌜ standsFor r ≡ judgeRecords limit (now (s .entry)) n ⌝ }
 {
     let f = first_flawed(s, n);
     if f < n {
         return Judged::Record(f, record::judge_record(s, f));
     }
-    if 3072 < weight_of(s, n) {
+    if limit < weight_of(s, n) {
         return Judged::Heavy;
     }
     let e = tree_end(s, n);
@@ -159,20 +161,33 @@ fn judge_records(s: &[u8], n: usize) -> Judged
     }
 }
 
-// The checker of tables: refusals 1 to 5, the lowest number first.
-pub fn check(s: &[u8]) -> Judged
-    ensures { λ r. ⌜ standsFor r ≡ verdict (now (s .entry)) ⌝ }
+// There is such a limit.
+pub fn is_limit(limit: usize) -> bool
+    ensures { λ r. ⌜ r ≡ isLimit limit ⌝ }
 {
+    if limit == 3072 {
+        return true;
+    }
+    limit == 16384
+}
+
+// The checker of tables: refusal 19 of the limit, and then 1 to 5, the lowest number first.
+pub fn check(limit: usize, s: &[u8]) -> Judged
+    ensures { λ r. ⌜ standsFor r ≡ verdict limit (now (s .entry)) ⌝ }
+{
+    if !is_limit(limit) {
+        return Judged::Limit;
+    }
     if s.len() < 1 {
         return Judged::Length;
     }
     if 0 < s.len() % 16 {
         return Judged::Length;
     }
-    if 49152 < s.len() {
+    if 16 * limit < s.len() {
         return Judged::Length;
     }
-    judge_records(s, s.len() / 16)
+    judge_records(limit, s, s.len() / 16)
 }
 
 // The paper's number and place of the checker's answer, and what is wrong with the record.
@@ -210,14 +225,19 @@ pub fn fault_of(j: Judged) -> Fault
             place: p,
             flaw: Flaw::Sound,
         },
+        Judged::Limit => Fault {
+            number: 19,
+            place: 0,
+            flaw: Flaw::Sound,
+        },
     }
 }
 
 // The weight of a table; 0 where the table is refused.
-pub fn weight(s: &[u8]) -> Measured
-    ensures { λ r. ⌜ says r ≡ weighed (now (s .entry)) ⌝ }
+pub fn weight(limit: usize, s: &[u8]) -> Measured
+    ensures { λ r. ⌜ says r ≡ weighed limit (now (s .entry)) ⌝ }
 {
-    let f = fault_of(check(s));
+    let f = fault_of(check(limit, s));
     let flaw = f.flaw;
     if 0 < f.number {
         return Measured {

@@ -35,17 +35,17 @@ module _ (ρ σ : ℕ → ℕ) (same : (k : ℕ) → k < 256 → ρ k ≡ σ k) 
     same-product (cons t f) w = rw (same-value t (w .0), same-product f (w .1))
 
 -- ---- the answer: refused by 1 to 5, by 6, or the tree's value
-pub refused-table : (s regs : List ℕ) (k p : ℕ) (f : Flaw) → told k p f ≡ verdict s → 0 < k
-    → record { number = k; place = p; flaw = f; result = 0 } ≡ valued s regs
+pub refused-table : (lim : ℕ) (s regs : List ℕ) (k p : ℕ) (f : Flaw) → told k p f ≡ verdict lim s → 0 < k
+    → record { number = k; place = p; flaw = f; result = 0 } ≡ valued lim s regs
 unfolding valued measured registersVerdict isAccepted
-refused-table s regs k p f e h = let n = ne-eqb k 0 (λ z. omega arith) in rw (← e, n, n)
+refused-table lim s regs k p f e h = let n = ne-eqb k 0 (λ z. omega arith) in rw (← e, n, n)
 
-pub refused-registers : (s regs : List ℕ) → verdict s ≡ accepted → (length regs ≡ 2048 → ⊥)
-    → record { number = 6; place = 0; flaw = sound; result = 0 } ≡ valued s regs
+pub refused-registers : (lim : ℕ) (s regs : List ℕ) → verdict lim s ≡ accepted → (length regs ≡ 2048 → ⊥)
+    → record { number = 6; place = 0; flaw = sound; result = 0 } ≡ valued lim s regs
 unfolding valued measured registersVerdict isAccepted
-refused-registers s regs e h = rw (e, ne-eqb (length regs) 2048 h)
+refused-registers lim s regs e h = rw (e, ne-eqb (length regs) 2048 h)
 
-pub value-told : (s regs : List ℕ) (h : Holds s) → verdict s ≡ accepted → length regs ≡ 2048 → (v : ℕ)
-    → v ≡ value (h .tree) (register regs) → record { number = 0; place = 0; flaw = sound; result = v } ≡ valued s regs
+pub value-told : (lim : ℕ) (s regs : List ℕ) (h : Holds lim s) → verdict lim s ≡ accepted → length regs ≡ 2048 → (v : ℕ)
+    → v ≡ value (h .tree) (register regs) → record { number = 0; place = 0; flaw = sound; result = v } ≡ valued lim s regs
 unfolding valued measured registersVerdict isAccepted treeValue
-value-told s regs h e l v q = rw (e, l, h .read, q)
+value-told lim s regs h e l v q = rw (e, l, h .read, q)

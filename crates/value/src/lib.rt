@@ -113,10 +113,10 @@ fn value_at(s: &[u8], i: usize, regs: &[u64; 256]) -> Valued
 }
 
 // The value of a table; 0 where the table or the registers are refused.
-pub fn value(s: &[u8], registers: &[u8]) -> Measured
-    ensures { λ r. ⌜ says r ≡ valued (now (s .entry)) (now (registers .entry)) ⌝ }
+pub fn value(limit: usize, s: &[u8], registers: &[u8]) -> Measured
+    ensures { λ r. ⌜ says r ≡ valued limit (now (s .entry)) (now (registers .entry)) ⌝ }
 {
-    let f = table::fault_of(table::check(s));
+    let f = table::fault_of(table::check(limit, s));
     let flaw = f.flaw;
     if 0 < f.number {
         return Measured {

@@ -15,7 +15,7 @@ returns : tie.Need-returns
 unfolding checkReturns checkAnswers verdictNumbers
 returns c =
     let a = c .before .before .before .args in
-    let v = verdict (a .table .now) in
+    let v = verdict (a .limit) (a .table .now) in
     no-room (verdictNumbers v) (a .answer .now) (v .number) 4 (verdict-count v) (c .if1 .taken)
 
 check-requires : tie.Need-check-requires
@@ -27,8 +27,8 @@ fault-of-requires c κs = search needs
 flaw-numbers-requires : tie.Need-flaw-numbers-requires
 flaw-numbers-requires c κs = search needs
 
-cast-t10 : tie.Need-cast-t10
-cast-t10 c = search needs
+cast-t11 : tie.Need-cast-t11
+cast-t11 c = search needs
 
 slice-aggregate-write-numbers : tie.Need-slice-aggregate-write-numbers
 slice-aggregate-write-numbers c = search needs
@@ -60,7 +60,7 @@ simmergate-check-spec =
     check-requires
     fault-of-requires
     flaw-numbers-requires
-    cast-t10
+    cast-t11
     slice-aggregate-write-numbers
     write-numbers-requires
     same-length

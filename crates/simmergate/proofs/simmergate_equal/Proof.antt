@@ -15,7 +15,7 @@ returns : tie.Need-returns
 unfolding equalReturns equalAnswers comparedNumbers
 returns c =
     let g = c .before .before .before .before .args in
-    let v = compared (g .a .now) (g .b .now) in
+    let v = compared (g .limit) (g .a .now) (g .b .now) in
     no-room (comparedNumbers v) (g .answer .now) (v .number) 6 (compared-count v) (c .if1 .taken)
 
 equal-requires : tie.Need-equal-requires
@@ -27,11 +27,11 @@ number-of-requires c κs = search needs
 flaw-numbers-requires : tie.Need-flaw-numbers-requires
 flaw-numbers-requires c κs = search needs
 
-cast-t11 : tie.Need-cast-t11
-cast-t11 c = search needs
+cast-t12 : tie.Need-cast-t12
+cast-t12 c = search needs
 
-cast-t13 : tie.Need-cast-t13
-cast-t13 c = search needs
+cast-t14 : tie.Need-cast-t14
+cast-t14 c = search needs
 
 slice-aggregate-write-numbers : tie.Need-slice-aggregate-write-numbers
 slice-aggregate-write-numbers c = search needs
@@ -64,8 +64,8 @@ simmergate-equal-spec =
     equal-requires
     number-of-requires
     flaw-numbers-requires
-    cast-t11
-    cast-t13
+    cast-t12
+    cast-t14
     slice-aggregate-write-numbers
     write-numbers-requires
     same-length

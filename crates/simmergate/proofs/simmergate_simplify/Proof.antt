@@ -15,7 +15,7 @@ use Rattle.simmergate.proofs.simmergate_simplify.Tie as tie
 returns : tie.Need-returns
 returns c =
     let g = c .before .before .before .before .before .before .args in
-    simplify-no-room (g .edition) (g .table .now) (g .answer .now) (lent (g .out .now) (g .steps .now) (g .work .now)) (c .if1 .taken)
+    simplify-no-room (g .limit) (g .edition) (g .table .now) (g .answer .now) (lent (g .out .now) (g .steps .now) (g .work .now)) (c .if1 .taken)
 
 simplify-requires : tie.Need-simplify-requires
 simplify-requires c κs = search needs
@@ -23,8 +23,8 @@ simplify-requires c κs = search needs
 flaw-numbers-requires : tie.Need-flaw-numbers-requires
 flaw-numbers-requires c κs = search needs
 
-cast-t19 : tie.Need-cast-t19
-cast-t19 c = search needs
+cast-t20 : tie.Need-cast-t20
+cast-t20 c = search needs
 
 slice-aggregate-write-numbers : tie.Need-slice-aggregate-write-numbers
 slice-aggregate-write-numbers c = search needs
@@ -55,8 +55,8 @@ returns-2 c =
     let written = c .before .before .write-numbers in
     let before = r .number ∷ r .place ∷ r .records ∷ r .steps ∷ r .openings ∷ r .«weight_in» ∷ r .«weight_out» ∷ [] in
     let after = with-flaw before (drop 80 (g .answer .now)) (ap (λ (l : List ℕ). l ++ (r .tries ∷ [])) (wrong .ensures)) (written .ensures) in
-    simplify-room (g .edition) (g .table .now) (g .answer .now) (lent (g .out .now) (g .steps .now) (g .work .now))
-    (gives r (run .last .1 .1 .0) (run .last .1 .1 .1 .0) (run .last .1 .1 .1 .1 .0)) (run .ensures) (omega arith) (written .last .0) after
+    simplify-room (g .limit) (g .edition) (g .table .now) (g .answer .now) (lent (g .out .now) (g .steps .now) (g .work .now))
+    (gives r (run .last .1 .1 .1 .0) (run .last .1 .1 .1 .1 .0) (run .last .1 .1 .1 .1 .1 .0)) (run .ensures) (omega arith) (written .last .0) after
 
 pub simmergate-simplify-spec : {M : Type 1} → statement M
 simmergate-simplify-spec =
@@ -65,7 +65,7 @@ simmergate-simplify-spec =
     returns
     simplify-requires
     flaw-numbers-requires
-    cast-t19
+    cast-t20
     slice-aggregate-write-numbers
     write-numbers-requires
     same-length

@@ -14,7 +14,7 @@ returns : tie.Need-returns
 unfolding valueReturns valueAnswers measuredNumbers
 returns c =
     let a = c .before .before .before .before .args in
-    let v = valued (a .table .now) (a .registers .now) in
+    let v = valued (a .limit) (a .table .now) (a .registers .now) in
     no-room (measuredNumbers v) (a .answer .now) (v .number) 5 (measured-count v) (c .if1 .taken)
 
 value-requires : tie.Need-value-requires
@@ -23,8 +23,8 @@ value-requires c κs = search needs
 flaw-numbers-requires : tie.Need-flaw-numbers-requires
 flaw-numbers-requires c κs = search needs
 
-cast-t10 : tie.Need-cast-t10
-cast-t10 c = search needs
+cast-t11 : tie.Need-cast-t11
+cast-t11 c = search needs
 
 slice-aggregate-write-numbers : tie.Need-slice-aggregate-write-numbers
 slice-aggregate-write-numbers c = search needs
@@ -54,7 +54,7 @@ simmergate-value-spec =
     returns
     value-requires
     flaw-numbers-requires
-    cast-t10
+    cast-t11
     slice-aggregate-write-numbers
     write-numbers-requires
     same-length

@@ -14,7 +14,7 @@ returns : tie.Need-returns
 unfolding weightReturns weightAnswers measuredNumbers
 returns c =
     let a = c .before .before .before .args in
-    let w = weighed (a .table .now) in
+    let w = weighed (a .limit) (a .table .now) in
     no-room (measuredNumbers w) (a .answer .now) (w .number) 5 (measured-count w) (c .if1 .taken)
 
 weight-requires : tie.Need-weight-requires
@@ -23,8 +23,8 @@ weight-requires c κs = search needs
 flaw-numbers-requires : tie.Need-flaw-numbers-requires
 flaw-numbers-requires c κs = search needs
 
-cast-t9 : tie.Need-cast-t9
-cast-t9 c = search needs
+cast-t10 : tie.Need-cast-t10
+cast-t10 c = search needs
 
 slice-aggregate-write-numbers : tie.Need-slice-aggregate-write-numbers
 slice-aggregate-write-numbers c = search needs
@@ -54,7 +54,7 @@ simmergate-weight-spec =
     returns
     weight-requires
     flaw-numbers-requires
-    cast-t9
+    cast-t10
     slice-aggregate-write-numbers
     write-numbers-requires
     same-length

@@ -23,6 +23,9 @@ enum-known-j-2 c = search needs
 enum-known-j-3 : tie.Need-enum-known-j-3
 enum-known-j-3 c = search needs
 
+enum-told-4 : tie.Need-enum-told-4
+enum-told-4 c = search needs
+
 returns : tie.Need-returns
 returns c = sym (ap standsFor (c .enum-told .given .1))
 
@@ -41,6 +44,9 @@ returns-5 c = sym (ap standsFor (c .before .j2 .given .1))
 returns-6 : tie.Need-returns-6
 returns-6 c = sym (ap standsFor (c .before .j3 .given .1))
 
+returns-7 : tie.Need-returns-7
+returns-7 c = sym (ap standsFor (c .enum-told4 .given .1))
+
 pub fault-of-spec : {M : Type 1} → statement M
 fault-of-spec =
     tie.close
@@ -51,9 +57,11 @@ fault-of-spec =
     enum-told-3
     enum-known-j-2
     enum-known-j-3
+    enum-told-4
     returns
     returns-2
     returns-3
     returns-4
     returns-5
-    returns-6)
+    returns-6
+    returns-7)

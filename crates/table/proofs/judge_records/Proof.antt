@@ -24,7 +24,7 @@ returns c =
     let first = c .before .before .first-flawed in
     let a = c .before .before .before .before .args in
     let judged = c .judge-record in
-    sym (flawed-there (a .s .now) (a .n) (first .result) (first .ensures) (c .before .if1 .taken) _ (judged .ensures))
+    sym (flawed-there (a .limit) (a .s .now) (a .n) (first .result) (first .ensures) (c .before .if1 .taken) _ (judged .ensures))
 
 weight-of-requires : tie.Need-weight-of-requires
 weight-of-requires c κs = let a = c .before .before .before in records-within (a .args .s .now) (a .args .n) (a .pre .0)
@@ -35,7 +35,7 @@ returns-2 c =
     let sound = c .before .before .if1 .left in
     let first = c .before .before .before .first-flawed in
     let a = c .before .before .before .before .before .args in
-    sym (heavy (a .s .now) (a .n) (first .result) (first .ensures) sound (weight .result) (weight .ensures) (c .if2 .taken))
+    sym (heavy (a .limit) (a .s .now) (a .n) (first .result) (first .ensures) sound (weight .result) (weight .ensures) (c .if2 .taken))
 
 tree-end-requires : tie.Need-tree-end-requires
 tree-end-requires c κs = let a = c .before .before .before .before .before in (records-within (a .args .s .now) (a .args .n) (a .pre .0), a .pre .1)
@@ -51,7 +51,7 @@ returns-3 c =
     let a = at .before .before .before .before .before .before .args in
     let least : end .result ≡ min (end .result) (a .n) = omega arith in
     ap (refused 4) least
-    ∙ sym (shapeless (a .s .now) (a .n) (first .result) (first .ensures) sound (weight .result) (weight .ensures) light
+    ∙ sym (shapeless (a .limit) (a .s .now) (a .n) (first .result) (first .ensures) sound (weight .result) (weight .ensures) light
     (end .result) (end .ensures) (λ e. omega arith))
 
 returns-4 : tie.Need-returns-4
@@ -65,7 +65,7 @@ returns-4 c =
     let a = at .before .before .before .before .before .before .args in
     let least : a .n ≡ min (end .result) (a .n) = omega arith in
     ap (refused 4) least
-    ∙ sym (shapeless (a .s .now) (a .n) (first .result) (first .ensures) sound (weight .result) (weight .ensures) light
+    ∙ sym (shapeless (a .limit) (a .s .now) (a .n) (first .result) (first .ensures) sound (weight .result) (weight .ensures) light
     (end .result) (end .ensures) (λ e. omega arith))
 
 walk-requires : tie.Need-walk-requires
@@ -96,7 +96,7 @@ returns-5 c =
     let x = c .before .x .given .0 .0 in
     let r : walk .result ≡ Bad x = cc in
     let told = rw (← records) at (sym (walk .ensures) ∙ r) in
-    sym (exponent (a .s .now) (a .n) (first .result) (first .ensures) sound (weight .result) (weight .ensures) light whole x told)
+    sym (exponent (a .limit) (a .s .now) (a .n) (first .result) (first .ensures) sound (weight .result) (weight .ensures) light whole x told)
 
 returns-6 : tie.Need-returns-6
 returns-6 c =
@@ -113,7 +113,7 @@ returns-6 c =
     let x = c .enum-told .given .0 .0 in
     let r : walk .result ≡ Ends x = cc in
     let told = rw (← records) at (sym (walk .ensures) ∙ r) in
-    sym (fine (a .s .now) (a .n) (first .result) (first .ensures) sound (weight .result) (weight .ensures) light whole x told)
+    sym (fine (a .limit) (a .s .now) (a .n) (first .result) (first .ensures) sound (weight .result) (weight .ensures) light whole x told)
 
 pub judge-records-spec : {M : Type 1} → statement M
 judge-records-spec =

@@ -23,15 +23,15 @@ returns c =
     let fault = c .before .before .fault-of in
     let a = c .before .before .before .before .before .before .args in
     let told = fault .ensures ∙ c .before .before .before .check .ensures in
-    refused-table (a .s .now) (a .registers .now) (fault .result .number) (fault .result .place) _ told (omega arith)
+    refused-table (a .limit) (a .s .now) (a .registers .now) (fault .result .number) (fault .result .place) _ told (omega arith)
 
 returns-2 : tie.Need-returns-2
 returns-2 c =
     let fault = c .before .before .before .fault-of in
     let a = c .before .before .before .before .before .before .before .args in
     let told = fault .ensures ∙ c .before .before .before .before .check .ensures in
-    let fine = told-accepted (a .s .now) (fault .result .number) (fault .result .place) _ told (omega arith) in
-    refused-registers (a .s .now) (a .registers .now) fine (c .if2 .taken)
+    let fine = told-accepted (a .limit) (a .s .now) (fault .result .number) (fault .result .place) _ told (omega arith) in
+    refused-registers (a .limit) (a .s .now) (a .registers .now) fine (c .if2 .taken)
 
 fill-requires : tie.Need-fill-requires
 fill-requires c κs = search needs
@@ -40,25 +40,27 @@ value-at-requires : tie.Need-value-at-requires
 value-at-requires c κs =
     let fault = c .before .before .before .before .before .fault-of in
     let known = c .before .before .before .before .before .before .before .before in
+    let limit = known .before .args .limit in
     let s = known .before .args .s .now in
     let told = fault .ensures ∙ c .before .before .before .before .before .before .check .ensures in
-    let fine = told-accepted s (fault .result .number) (fault .result .place) _ told (omega arith) in
-    let h = accepted-holds s (are-bytes s (known .shared-slice-known .given)) fine in
-    record { tree = h .tree; there = holds-tree s h }
+    let fine = told-accepted limit s (fault .result .number) (fault .result .place) _ told (omega arith) in
+    let h = accepted-holds limit s (are-bytes s (known .shared-slice-known .given)) fine in
+    record { tree = h .tree; there = holds-tree limit s h }
 
 returns-3 : tie.Need-returns-3
 returns-3 c =
     let fault = c .before .before .before .before .before .before .fault-of in
     let known = c .before .before .before .before .before .before .before .before .before in
+    let limit = known .before .args .limit in
     let s = known .before .args .s .now in
     let registers = known .before .args .registers .now in
     let told = fault .ensures ∙ c .before .before .before .before .before .before .before .check .ensures in
-    let fine = told-accepted s (fault .result .number) (fault .result .place) _ told (omega arith) in
-    let h = accepted-holds s (are-bytes s (known .shared-slice-known .given)) fine in
-    let v = c .value-at .ensures (h .tree) (holds-tree s h) .value in
+    let fine = told-accepted limit s (fault .result .number) (fault .result .place) _ told (omega arith) in
+    let h = accepted-holds limit s (are-bytes s (known .shared-slice-known .given)) fine in
+    let v = c .value-at .ensures (h .tree) (holds-tree limit s h) .value in
     let regs = c .before .before .fill in
     let told-value = v ∙ same-value (held (regs .result)) (register registers) (regs .ensures) (h .tree) (h .wf) in
-    value-told s registers h fine (c .before .before .before .if2 .left) (c .value-at .result .value) told-value
+    value-told limit s registers h fine (c .before .before .before .if2 .left) (c .value-at .result .value) told-value
 
 pub value-spec : {M : Type 1} → statement M
 value-spec =
