@@ -3,7 +3,7 @@
      loader [-l LIMIT] [-e EDITION] FILE [SYMBOL=NUMBER ...]
 
    The limit is 3,072, or the one that is named; the rules are those of edition one, or of the edition that is named.
-   It writes the formula, the shortened one, the steps by name, and the value of both with the symbols named set and all others 0.
+   It writes the formula, the shortened one, both with the line marks behind what they belong to (a@12 is a symbol of line 12), the steps by name, and the value of both with the symbols named set and all others 0.
    Symbols 0 to 25 are a to z, the others s26 to s255. What goes wrong goes to standard error in words; the exit code is then 1.
 
    All memory is lent from here; the library has none of its own. No two areas overlap. */
@@ -83,6 +83,12 @@ static void print_symbol(unsigned symbol) {
     else printf("s%u", symbol);
 }
 
+/* Prints the line that a record comes from, where it says one. */
+static void print_mark(const uint8_t *record) {
+    unsigned mark = record[4] + 256u * record[5];
+    if (mark > 0) printf("@%u", mark);
+}
+
 /* Prints the formula at `record`, which has been accepted; the answer is the first record after it. */
 static const uint8_t *print_formula(const uint8_t *record, int inside) {
     const uint8_t *next = record + 16;
@@ -90,18 +96,22 @@ static const uint8_t *print_formula(const uint8_t *record, int inside) {
     if (kind == 0) {
         long long n = (long long)number(record, 1);
         printf(inside && n < 0 ? "(%lld)" : "%lld", n);
+        print_mark(record);
         return next;
     }
     if (kind == 1) {
         print_symbol(record[8]);
+        print_mark(record);
         return next;
     }
+    inside = inside || record[4] + record[5] > 0; /* the mark of a sum, product or power stands behind a parenthesis */
     if (inside) putchar('(');
     for (unsigned i = 0; i < members; i++) {
         if (i > 0) fputs(kind == 2 ? " + " : kind == 3 ? "*" : "^", stdout);
         next = print_formula(next, !(kind == 2 && (next[0] == 3 || next[0] == 4)) && !(kind == 3 && next[0] == 4));
     }
     if (inside) putchar(')');
+    print_mark(record);
     return next;
 }
 

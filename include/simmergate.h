@@ -1,8 +1,14 @@
 /* Simmergate: formulas as tables of records, judged, weighed, evaluated, compared and simplified.
 
    A table holds records of 16 bytes, the tree in the order parent, then members from first to last; numbers are little-endian. Byte 0 is the
-   kind (0 integer, 1 symbol, 2 sum, 3 product, 4 power), bytes 2-3 the number of members of a sum or a product, bytes 8-15 the integer,
-   byte 8 the symbol; all other bytes are zero. A power has its base and then its exponent, an integer of at least 1.
+   kind (0 integer, 1 symbol, 2 sum, 3 product, 4 power), bytes 2-3 the number of members of a sum or a product, bytes 4-5 a line mark, bytes
+   8-15 the integer, byte 8 the symbol; all other bytes are zero. A power has its base and then its exponent, an integer of at least 1.
+
+   A line mark says which line of the sheet a record comes from, 0 for none. Weight, value and equality ignore marks, and no rule looks at them;
+   simmergate_simplify carries them along. In steps 2 and 6 every member that comes out has the mark that the current member had when its turn
+   began, and so have its coefficient, its exponent and a multiplied base; what is below keeps its own. A 0 or a 1 that stands for a node takes that node's mark, a
+   single member that is left, and the base in step 7, keep theirs; step 9 keeps the outer power's mark and its exponent's; an opened node's is lost.
+   A release before marks refuses a marked record with 2.
 
    Every call takes the limit L first, the greatest weight that it accepts: 3,072 or 16,384. At 16,384 a table has up to 262,144 bytes; a table up to
    the lower limit has the same answers and the same bytes at both. Both machines of a takeover take the same limit, or a heavy result is
@@ -47,11 +53,11 @@
 /* Bytes of stack that a call needs at the most, at the limit 3,072 and at 16,384. The deepest tables that are accepted, 1,535 nodes one inside the
    other at the one and 8,191 at the other, were measured to need
 
-     simmergate_check        170,408      915,880
-     simmergate_weight       170,424      915,896
+     simmergate_check        170,360      915,832
+     simmergate_weight       170,376      915,848
      simmergate_value        196,840    1,048,808
      simmergate_equal        555,176    2,898,088
-     simmergate_simplify     588,568    3,144,472     by either edition */
+     simmergate_simplify     588,584    3,144,488     by either edition */
 #define SIMMERGATE_STACK 606208
 #define SIMMERGATE_STACK_16384 3211264
 

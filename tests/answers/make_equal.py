@@ -27,6 +27,7 @@ def records_of(table):
     out, weight = [], 0
     for place in range(len(table) // 16):
         r = table[16 * place:16 * place + 16]
+        r = r[:4] + bytes(2) + r[6:]  # a line mark, which equality ignores
         kind, count = r[0], int.from_bytes(r[2:4], "little")
         if kind == INTEGER:
             rest = r[1:8]
@@ -306,7 +307,7 @@ def chain(kind, depth, first, leaves):
 
 
 def damaged():
-    """A table that is refused."""
+    """A table that is refused, or has a line mark."""
     while True:
         t = bytearray(table(some(3, 10)))
         r, p = 16 * dice(len(t) // 16), dice(16)
@@ -335,7 +336,7 @@ def damaged():
             t = bytearray(table(changed(right, is_leaf, lambda x: (POWER, [x, wrong]))))
             if dice(3) == 0:
                 t = bytearray(table(changed(right, is_leaf, lambda x: power((POWER, [x, wrong]), 2))))
-        if judged(t, t)[0]:
+        if judged(t, t)[0] or any(t[place + 4] or t[place + 5] for place in range(0, len(t), 16)):
             return bytes(t)
 
 

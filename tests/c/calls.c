@@ -117,13 +117,12 @@ static void lend_all(const char *name, const uint8_t *t, size_t bytes) {
 
 /* What a call on the table that is lent must say of it, its verdict being v. */
 static void led_to(enum entry entry, const uint8_t *t, size_t bytes, struct verdict v, uint64_t *numbers) {
-    static const uint8_t zero[RECORD];
     uint64_t result = 0;
     if (v.number == 0) {
         if (entry == WEIGHT) result = own_weight(t, bytes);
         if (entry == VALUE) result = own_value(t, held);
         if (entry == EQUAL) result = 1;
-        if (entry == SECOND) result = bytes == RECORD && memcmp(t, zero, RECORD) == 0;
+        if (entry == SECOND) result = bytes == RECORD && t[0] == 0 && own_number(t + 8) == 0; /* whatever its mark */
         if (entry == SIMPLIFY) v = (struct verdict){6, 0, 0, 0};
     }
     answers(entry, v, result, numbers);

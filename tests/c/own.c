@@ -16,9 +16,10 @@ static unsigned count(const uint8_t *table, size_t i) { return table[RECORD * i 
 
 static uint64_t number(const uint8_t *table, size_t i) { return own_number(table + RECORD * i + 8); }
 
-/* "Byte 0 always may; kind 0 adds bytes 8-15, kind 1 byte 8, kinds 2 and 3 bytes 2-3, kind 4 nothing." */
+/* "Byte 0 always may; kind 0 adds bytes 8-15, kind 1 byte 8, kinds 2 and 3 bytes 2-3, kind 4 nothing." "Bytes 4-5 of every record become a line
+   mark, 0 for none." */
 static int may_be_other_than_zero(unsigned k, int j) {
-    if (j == 0) return 1;
+    if (j == 0 || j == 4 || j == 5) return 1;
     if (k == 0) return j >= 8;
     if (k == 1) return j == 8;
     if (k == 2 || k == 3) return j == 2 || j == 3;

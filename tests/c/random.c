@@ -1,6 +1,7 @@
 /* random SEED COUNT [FROM]: the calls on COUNT random tables, at a limit of its own each, beside a checker and an evaluator (own.c), a simplifier (rules.c) and an equality
    test in plain C that share nothing with the port. Of five tables one is damaged. Compared: every number of every answer and every byte that
-   is written. Besides, the result by what must hold of it: a good table of the same value under random registers, of the weight that was
+   is written. Two tables of three have line marks: simplified without them, they take the same steps, openings and tries to the same records without
+   marks; and the other table of the equality test has other marks. Besides, the result by what must hold of it: a good table of the same value under random registers, of the weight that was
    answered, lighter by at least a unit for each step and opening, after at most the cube of the weight in tries, and simplified again by the same edition it is itself,
    with no step, no opening and a try for each record. Every lent area is guarded. */
 #include "../../include/simmergate.h"
@@ -64,6 +65,23 @@ static int equal_trees(const uint8_t *a, const uint8_t *b) {
 }
 
 /* ---- Tables to try. ---- */
+
+/* Marks for the records of a table: none, a few lines, or any. */
+static void put_marks(uint8_t *t, size_t n) {
+    uint64_t lines = chance(3) ? 1 : chance(2) ? 10 : 65536;
+    for (size_t i = 0; i + 16 <= n; i += 16) {
+        uint64_t mark = below(lines);
+        t[i + 4] = (uint8_t)mark, t[i + 5] = (uint8_t)(mark >> 8);
+    }
+}
+
+/* The records without their marks; whether there was one. */
+static int erase(uint8_t *t, const uint8_t *from, size_t n) {
+    int any_mark = 0;
+    memcpy(t, from, n);
+    for (size_t i = 0; i + 16 <= n; i += 16) any_mark |= t[i + 4] | t[i + 5], t[i + 4] = t[i + 5] = 0;
+    return any_mark != 0;
+}
 
 static uint8_t table[RECORD * (HIGHER + 4)], other[RECORD * (HIGHER + 4)];
 static size_t length, other_length;
@@ -131,7 +149,7 @@ static void damage(uint8_t *t, size_t *n) {
 
 static struct lent lent_table = {.name = "table"}, lent_other = {.name = "other table"}, lent_registers = {.name = "registers"},
                    lent_out = {.name = "out"}, lent_steps = {.name = "steps"}, lent_work = {.name = "work"}, lent_answer = {.name = "answer"};
-static uint64_t counts[20], at_higher, flaws[4], each_step[10], steps_seen, openings_seen, tries_seen, equal_seen, unequal_seen, calls;
+static uint64_t counts[20], at_higher, erased, flaws[4], each_step[10], steps_seen, openings_seen, tries_seen, equal_seen, unequal_seen, calls;
 
 /* A size for an area that must have `need` bytes: mostly that, at times more, at times too few. */
 static size_t some_size(size_t need) { return chance(100) && need > 0 ? (size_t)below(need) : chance(3) ? need + (size_t)below(300) : need; }
@@ -196,12 +214,25 @@ static void try_equal(struct judged v) {
     if (!holds(&lent_table, table, length, length) || !holds(&lent_other, other, other_length, other_length)) fail("equal: a table changed");
 }
 
+/* The table without its marks is simplified alike: the same answer, the same steps, and the result without its marks; after 7 the same place. */
+static void try_erased(size_t edition, const uint64_t *said, const uint8_t *result, const uint8_t *own_steps) {
+    static uint8_t bare[RECORD * HIGHER], bare_result[RECORD * HIGHER], bare_out[RECORD * HIGHER], bare_steps[HIGHER], bare_work[524288], bare_answer[SIMMERGATE_SIMPLIFY_BYTES];
+    if (!erase(bare, table, length)) return;
+    erase(bare_result, result, 16 * said[2]);
+    uint32_t r = simmergate_simplify(limit, edition, bare, length, bare_out, sizeof bare_out, bare_steps, sizeof bare_steps, bare_work, sizeof bare_work,
+                                     bare_answer, sizeof bare_answer);
+    calls++, erased++;
+    if (r != said[0] || memcmp(bare_answer, numbers(said, 10), sizeof bare_answer) != 0) fail("simplify: without marks the answer is another one");
+    if (memcmp(bare_out, bare_result, 16 * said[2]) != 0 || memcmp(bare_steps, own_steps, said[3]) != 0) fail("simplify: without marks the result is another one");
+}
+
 /* What an accepted call left: the records and steps that the plain C has, and zeros. */
 static void try_result(size_t edition, struct judged v, const uint64_t *said, struct simplified own, const uint8_t *own_out, const uint8_t *own_steps) {
     static uint8_t result[RECORD * HIGHER], again[RECORD * HIGHER], again_steps[HIGHER], again_work[524288], again_answer[SIMMERGATE_SIMPLIFY_BYTES];
     uint64_t records = said[2], given = said[3], opened = said[4], tries = said[9];
     if (said[1] != 0 || records != own.records || given != own.steps || opened != own.openings || tries != own.tries) fail("simplify: other counts than the plain C's");
     memcpy(result, own_out, 16 * records);
+    try_erased(edition, said, result, own_steps);
     if (!holds(&lent_out, own_out, 16 * records, 16 * v.weight)) fail("simplify: out is another one, or changed past its stretch");
     if (!holds(&lent_steps, own_steps, given, v.weight)) fail("simplify: steps is another one, or changed past its stretch");
     struct judged after = judge(result, 16 * records);
@@ -264,6 +295,7 @@ static void try_simplify(struct judged v) {
     if (number != own.number) fail("simplify: the plain C says otherwise whether an integer leaves the range");
     if (number == 0) { try_result(edition, v, said, own, own_out, own_steps); return; }
     if (said[1] != own.place) fail("simplify: 7 at another place than the plain C's");
+    try_erased(edition, said, own_out, own_steps);
     if (said[2] + said[3] + said[4] + said[5] + said[6] + said[9] != 0) fail("simplify: other numbers than 0 beside 7");
     if (!holds(&lent_out, lent_zeros, 0, 16 * w) || !holds(&lent_steps, lent_zeros, 0, w)) fail("simplify: 7, and out or steps is not zero");
 }
@@ -277,10 +309,12 @@ int main(int argc, char **argv) {
         int large = at_table % 5000 == 0, larger = at_table % 5000 == 2500;
         limit = larger ? HIGHER : LOWER;
         length = 16 * random_table(table, seed, at_table, large ? LOWER : larger ? HIGHER : 200, limit);
+        put_marks(table, length);
         const uint8_t *source = table;
         uint8_t *end = other;
         shuffled(&source, &end);
         other_length = (size_t)(end - other);
+        put_marks(other, other_length);
         if (judge(table, length).number != 0) fail("the table that was made is no good one");
         if (!equal_trees(table, other)) fail("the shuffled table is not equal");
         if (chance(5)) damage(table, &length);
@@ -302,12 +336,13 @@ int main(int argc, char **argv) {
         for (int i = 1; i < 10; i++) {
             if (each_step[i] == 0 && i != 5) { printf("random: no table of seed %llu has step %d: nothing is shown of it\n", (unsigned long long)seed, i); return 1; }
         }
+        if (erased == 0) { printf("random: no table had marks\n"); return 1; }
         if (at_higher == 0) { printf("random: no table was simplified at the limit 16,384\n"); return 1; }
         if (equal_seen == 0 || unequal_seen == 0) { printf("random: no equal or no unequal tables\n"); return 1; }
     }
-    printf("random tables beside plain C: %llu (seed %llu), %llu calls; simplified %llu (%llu of them or of those out of range at the limit 16,384; %llu steps, %llu of them on powers, %llu openings, %llu tries, all bytes equal, values equal), refused 1 to 7:",
+    printf("random tables beside plain C: %llu (seed %llu), %llu calls; simplified %llu (%llu of them or of those out of range at the limit 16,384, %llu simplified without their marks as well; %llu steps, %llu of them on powers, %llu openings, %llu tries, all bytes equal, values equal), refused 1 to 7:",
            (unsigned long long)count, (unsigned long long)seed, (unsigned long long)calls, (unsigned long long)counts[0],
-           (unsigned long long)at_higher, (unsigned long long)steps_seen, (unsigned long long)(each_step[7] + each_step[8] + each_step[9]), (unsigned long long)openings_seen, (unsigned long long)tries_seen);
+           (unsigned long long)at_higher, (unsigned long long)erased, (unsigned long long)steps_seen, (unsigned long long)(each_step[7] + each_step[8] + each_step[9]), (unsigned long long)openings_seen, (unsigned long long)tries_seen);
     for (int i = 1; i < 8; i++) printf(" %llu", (unsigned long long)counts[i]);
     printf("; 9: %llu, 19: %llu", (unsigned long long)counts[9], (unsigned long long)counts[19]);
     printf("; of 2 by kind %llu, byte %llu, count %llu; equal %llu, unequal %llu\n", (unsigned long long)flaws[1], (unsigned long long)flaws[2],

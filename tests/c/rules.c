@@ -6,9 +6,9 @@
 
 enum { INTEGER, SYMBOL, SUM, PRODUCT, POWER };
 
-/* A tree; a power has two members, the exponent being an integer; `records` is how many it has. */
+/* A tree; a power has two members, the exponent being an integer; `mark` is its record's line mark, `records` how many it has. */
 struct tree {
-    unsigned kind;
+    unsigned kind, mark;
     int64_t number;
     size_t count, records;
     const struct tree **members;
@@ -28,17 +28,25 @@ static void *taken(size_t bytes) {
     return room + used - bytes;
 }
 
-static tree leaf(unsigned kind, int64_t number) {
+static tree leaf(unsigned kind, unsigned mark, int64_t number) {
     struct tree *t = taken(sizeof *t);
-    *t = (struct tree){kind, number, 0, 1, NULL};
+    *t = (struct tree){kind, mark, number, 0, 1, NULL};
     return t;
 }
 
-static tree integer(int64_t n) { return leaf(INTEGER, n); }
+static tree integer(unsigned mark, int64_t n) { return leaf(INTEGER, mark, n); }
 
-static tree node(unsigned kind, const tree *members, size_t count) {
+/* The same tree with another mark at its root. */
+static tree marked(unsigned mark, tree t) {
+    struct tree *u = taken(sizeof *u);
+    *u = *t;
+    u->mark = mark;
+    return u;
+}
+
+static tree node(unsigned kind, unsigned mark, const tree *members, size_t count) {
     struct tree *t = taken(sizeof *t);
-    *t = (struct tree){kind, 0, count, 1, taken(count * sizeof *members)};
+    *t = (struct tree){kind, mark, 0, count, 1, taken(count * sizeof *members)};
     for (size_t i = 0; i < count; i++) {
         t->members[i] = members[i];
         t->records += members[i]->records;
@@ -46,15 +54,16 @@ static tree node(unsigned kind, const tree *members, size_t count) {
     return t;
 }
 
-/* "An emptied sum becomes 0, an emptied product 1, a single member itself." */
-static tree collapsed(unsigned kind, const tree *members, size_t count) {
-    if (count == 0) return integer(kind == PRODUCT);
-    return count == 1 ? members[0] : node(kind, members, count);
+/* "An emptied sum becomes 0, an emptied product 1, a single member itself." "A 0 or 1 that stands for an emptied node .. takes that node's mark. A
+   single member that is left keeps its own" */
+static tree collapsed(unsigned kind, unsigned mark, const tree *members, size_t count) {
+    if (count == 0) return integer(mark, kind == PRODUCT);
+    return count == 1 ? members[0] : node(kind, mark, members, count);
 }
 
 static int is(tree t, int64_t n) { return t->kind == INTEGER && t->number == n; }
 
-/* "integers and symbols by number; powers by base and exponent; two sums, or two products, when their members are the same multiset" */
+/* Marks are ignored: "integers and symbols by number; powers by base and exponent; two sums, or two products, when their members are the same multiset" */
 static int equal(tree a, tree b) {
     if (a->kind != b->kind || a->number != b->number || a->count != b->count || a->records != b->records) return 0;
     if (a->kind == POWER) return equal(a->members[0], b->members[0]) && equal(a->members[1], b->members[1]);
@@ -82,38 +91,40 @@ static enum tried drop(tree *t, unsigned kind, int64_t n) {
     for (size_t i = 0; i < (*t)->count; i++)
         if (!is((*t)->members[i], n)) left[count++] = (*t)->members[i];
     if (count == (*t)->count) return DOES_NOT_APPLY;
-    *t = collapsed(kind, left, count);
+    *t = collapsed(kind, (*t)->mark, left, count);
     return APPLIES;
 }
 
 static enum tried multiply_zero(tree *t) {
     for (size_t i = 0; (*t)->kind == PRODUCT && i < (*t)->count; i++)
         if (is((*t)->members[i], 0)) {
-            *t = integer(0);
+            *t = integer((*t)->mark, 0);
             return APPLIES;
         }
     return DOES_NOT_APPLY;
 }
 
-/* A member in the walk of step 2 or 6: coefficient and rest, or exponent and base; and whether it left the range. */
+/* A member in the walk of step 2 or 6: coefficient and rest, or exponent and base; whether it left the range; and "the mark that the current member
+   had when its turn began". */
 struct part {
     int64_t number;
     tree rest;
     int out;
+    unsigned mark;
 };
 
 /* "the coefficient is the product of all integer members, in order, and the rest is the product of the others, or 1 if none is left" */
 static struct part term(tree t) {
-    if (t->kind == INTEGER) return (struct part){t->number, integer(1), 0};
-    if (t->kind != PRODUCT) return (struct part){1, t, 0};
-    struct part p = {1, NULL, 0};
+    if (t->kind == INTEGER) return (struct part){t->number, integer(0, 1), 0, t->mark};
+    if (t->kind != PRODUCT) return (struct part){1, t, 0, t->mark};
+    struct part p = {1, NULL, 0, t->mark};
     tree *others = taken(t->count * sizeof *others);
     size_t count = 0;
     for (size_t i = 0; i < t->count; i++) {
         if (t->members[i]->kind != INTEGER) others[count++] = t->members[i];
         else if (!p.out) p.out = __builtin_mul_overflow(p.number, t->members[i]->number, &p.number);
     }
-    p.rest = collapsed(PRODUCT, others, count);
+    p.rest = collapsed(PRODUCT, t->mark, others, count);
     return p;
 }
 
@@ -124,24 +135,25 @@ static int join_terms(struct part *c, struct part x) {
     return 1;
 }
 
-/* "its rest if the coefficient is 1, else coefficient times rest" */
+/* "its rest if the coefficient is 1, else coefficient times rest"; "has at its root the mark ..; its coefficient and exponent, changed or not, and a
+   multiplied base take the same mark, and bases and rests keep theirs below the root" */
 static tree from_term(struct part *c) {
-    if (c->number == 1 || c->out) return c->rest;
+    if (c->number == 1 || c->out) return marked(c->mark, c->rest);
     if (c->rest->kind == INTEGER) {
         int64_t n;
         c->out = __builtin_mul_overflow(c->number, c->rest->number, &n);
-        return integer(n);
+        return integer(c->mark, n);
     }
-    if (c->rest->kind != PRODUCT) return node(PRODUCT, (tree[]){integer(c->number), c->rest}, 2);
+    if (c->rest->kind != PRODUCT) return node(PRODUCT, c->mark, (tree[]){integer(c->mark, c->number), c->rest}, 2);
     tree *longer = taken((c->rest->count + 1) * sizeof *longer);
     memcpy(longer, c->rest->members, c->rest->count * sizeof *longer);
-    longer[c->rest->count] = integer(c->number);
-    return node(PRODUCT, longer, c->rest->count + 1);
+    longer[c->rest->count] = integer(c->mark, c->number);
+    return node(PRODUCT, c->mark, longer, c->rest->count + 1);
 }
 
 static struct part factor(tree t) {
-    if (t->kind == POWER) return (struct part){t->members[1]->number, t->members[0], 0};
-    return (struct part){1, t, 0};
+    if (t->kind == POWER) return (struct part){t->members[1]->number, t->members[0], 0, t->mark};
+    return (struct part){1, t, 0, t->mark};
 }
 
 /* "If the exponents are equal and both bases are integers, multiply the bases; else if the bases are equal, add the exponents." */
@@ -149,7 +161,7 @@ static int join_factors(struct part *c, struct part x) {
     int64_t n;
     if (c->number == x.number && c->rest->kind == INTEGER && x.rest->kind == INTEGER) {
         c->out = c->out || __builtin_mul_overflow(c->rest->number, x.rest->number, &n);
-        if (!c->out) c->rest = integer(n);
+        if (!c->out) c->rest = integer(c->mark, n);
         return 1;
     }
     if (!equal(c->rest, x.rest)) return 0;
@@ -158,7 +170,7 @@ static int join_factors(struct part *c, struct part x) {
 }
 
 static tree from_factor(struct part *c) {
-    return c->number == 1 || c->out ? c->rest : node(POWER, (tree[]){c->rest, integer(c->number)}, 2);
+    return c->number == 1 || c->out ? marked(c->mark, c->rest) : node(POWER, c->mark, (tree[]){c->rest, integer(c->mark, c->number)}, 2);
 }
 
 /* Steps 2 and 6, the walk: "From the first member on, compare with each later one .. remove the later member; the last member moves into its
@@ -181,24 +193,32 @@ static enum tried combine(tree *t, unsigned kind, struct part (*part)(tree), int
         out = out || list[i].out;
     }
     if (out) return RANGE_EXCEEDED;
-    *t = collapsed(kind, members, count);
+    *t = collapsed(kind, (*t)->mark, members, count);
     return APPLIES;
 }
 
-/* Steps 7 and 8: "exponent 1 gives the base"; "base 0 gives 0 and base 1 gives 1". */
-static enum tried base_alone(tree *t, int applies) {
-    if (!applies) return DOES_NOT_APPLY;
+/* Step 7: "exponent 1 gives the base", which keeps its own mark. */
+static enum tried power_one(tree *t) {
+    if (!is((*t)->members[1], 1)) return DOES_NOT_APPLY;
     *t = (*t)->members[0];
     return APPLIES;
 }
 
-/* Step 9: "a power of a power gets the product of the exponents" */
+/* Step 8: "base 0 gives 0 and base 1 gives 1", with the node's mark. */
+static enum tried power_constant(tree *t) {
+    tree base = (*t)->members[0];
+    if (!is(base, 0) && !is(base, 1)) return DOES_NOT_APPLY;
+    *t = integer((*t)->mark, base->number);
+    return APPLIES;
+}
+
+/* Step 9: "a power of a power gets the product of the exponents"; "keeps the outer power's mark and its exponent's" */
 static enum tried power_power(tree *t) {
     tree base = (*t)->members[0];
     int64_t n;
     if (base->kind != POWER) return DOES_NOT_APPLY;
     if (__builtin_mul_overflow(base->members[1]->number, (*t)->members[1]->number, &n)) return RANGE_EXCEEDED;
-    *t = node(POWER, (tree[]){base->members[0], integer(n)}, 2);
+    *t = node(POWER, (*t)->mark, (tree[]){base->members[0], integer((*t)->members[1]->mark, n)}, 2);
     return APPLIES;
 }
 
@@ -209,8 +229,8 @@ static enum tried try_step(tree *t, int step) {
     case 2: return combine(t, SUM, term, join_terms, from_term);
     case 3: return multiply_zero(t);
     case 4: return drop(t, PRODUCT, 1);
-    case 7: return base_alone(t, is((*t)->members[1], 1));
-    case 8: return base_alone(t, is((*t)->members[0], 0) || is((*t)->members[0], 1));
+    case 7: return power_one(t);
+    case 8: return power_constant(t);
     case 9: return power_power(t);
     default: return combine(t, PRODUCT, factor, join_factors, from_factor);
     }
@@ -256,7 +276,7 @@ static tree gathered(tree t, int *changed) {
         answer.openings++;
         *changed = 1;
     }
-    return *changed ? collapsed(t->kind, list, n) : t;
+    return *changed ? collapsed(t->kind, t->mark, list, n) : t;
 }
 
 /* The tree that the driver makes of t; `changed` becomes 1 where a step or an opening was in it. */
@@ -275,16 +295,18 @@ static tree driven(tree t, int *changed) {
 static tree read_tree(const uint8_t **at) {
     const uint8_t *r = *at;
     *at += RECORD;
-    if (r[0] == INTEGER || r[0] == SYMBOL) return leaf(r[0], (int64_t)own_number(r + 8));
+    unsigned mark = r[4] + 256u * r[5];
+    if (r[0] == INTEGER || r[0] == SYMBOL) return leaf(r[0], mark, (int64_t)own_number(r + 8));
     size_t count = r[0] == POWER ? 2 : r[2] + 256u * r[3];
     tree *members = taken(count * sizeof *members);
     for (size_t i = 0; i < count; i++) members[i] = read_tree(at);
-    return node(r[0], members, count);
+    return node(r[0], mark, members, count);
 }
 
 static uint8_t *write_tree(tree t, uint8_t *at) {
     memset(at, 0, RECORD);
     at[0] = (uint8_t)t->kind;
+    at[4] = (uint8_t)t->mark, at[5] = (uint8_t)(t->mark >> 8);
     if (t->kind == INTEGER || t->kind == SYMBOL) own_bytes(at + 8, (uint64_t)t->number);
     if (t->kind == SUM || t->kind == PRODUCT) at[2] = (uint8_t)t->count, at[3] = (uint8_t)(t->count >> 8);
     at += RECORD;

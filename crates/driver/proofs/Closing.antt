@@ -1,5 +1,5 @@
 -- The gathered node is closed up: the first record of a leaf or a power stays; that of a sum or a product gets the number of its
--- members. By cases on the node. Assumes nothing.
+-- members, and keeps its mark. By cases on the node. Assumes nothing.
 use Prim.Native.Nat.{ℕ, _+_, _*_, _<_, _≤_}
 use mathlib.Core.Path.{_≡_, refl, sym, ap, _∙_, subst}
 use mathlib.Core.List.{List, [], _∷_, _++_, append-nil, append-assoc}
@@ -8,7 +8,8 @@ use lib.IntN.{pos}
 use lib.ListN.{length, take, drop, length-append, take-append-drop}
 use lib.Seq.{length-take-le, drop-at, take-at, take-take, drop-drop}
 use Rattle.paper.specs.Bytes.{word}
-use Rattle.paper.specs.Tree.{Tree, integer, symbol, sum, product, power, ofList, records}
+use Rattle.paper.specs.Tree.{Tree, integer, symbol, sum, product, power, ofList, markOf, records}
+use Rattle.paper.specs.Record.{markIn}
 use Rattle.paper.specs.Table.{recordOf, encode}
 use Rattle.paper.specs.Driver.{baseFrom}
 use Rattle.paper.proofs.EncodeLaws.{record-length}
@@ -16,6 +17,7 @@ use Rattle.paper.proofs.WFLaws.{list-count}
 use Rattle.stretch.specs.Put.{put}
 use Rattle.driver.specs.Driven.{encodeAll, recordsAll, kindNumber, firstRecord, closedOver, Shape, Gathers, Closed}
 use Rattle.driver.proofs.Forests.{first-length, exponent-record}
+use Rattle.driver.proofs.FirstRecords.{mark-first}
 
 -- another first record before what stands after it
 new-front : (o x f y r : List ℕ) (a m : ℕ) → take m o ≡ x ++ (f ++ y) → length x ≡ a → length f ≡ length r → m ≤ length o
@@ -57,8 +59,8 @@ Same t l = (firstRecord t ++ encodeAll l ≡ encode (closedOver t l)) × (1 + re
 
 same-leaf : (t : Tree) (l : List Tree) → Shape t l → kindNumber t < 2 → Same t l
 unfolding kindNumber firstRecord closedOver encode records ofList
-same-leaf (integer μ z) l s h = (ap (λ i. recordOf 0 0 (word z) ++ encodeAll i) s ∙ append-nil (recordOf 0 0 (word z)), ap (λ i. 1 + recordsAll i) s)
-same-leaf (symbol μ v) l s h = (ap (λ i. recordOf 1 0 v ++ encodeAll i) s ∙ append-nil (recordOf 1 0 v), ap (λ i. 1 + recordsAll i) s)
+same-leaf (integer μ z) l s h = (ap (λ i. recordOf 0 0 μ (word z) ++ encodeAll i) s ∙ append-nil (recordOf 0 0 μ (word z)), ap (λ i. 1 + recordsAll i) s)
+same-leaf (symbol μ v) l s h = (ap (λ i. recordOf 1 0 μ v ++ encodeAll i) s ∙ append-nil (recordOf 1 0 μ v), ap (λ i. 1 + recordsAll i) s)
 same-leaf (sum μ f) l s h = absurd (omega arith)
 same-leaf (product μ f) l s h = absurd (omega arith)
 same-leaf (power μ b ξ x) l s h = absurd (omega arith)
@@ -72,7 +74,7 @@ same-power (product μ f) l s h = absurd (omega arith)
 same-power (power μ b ξ n) l s h =
     let u : Tree = s .1 .0 in
     subst (λ i. Same (power μ b ξ n) i) (sym (s .1 .1))
-    (ap (λ (i : List ℕ). recordOf 4 0 0 ++ (encode u ++ i)) (append-nil (encode (integer ξ (pos n))) ∙ exponent-record ξ n (s .0)), omega arith)
+    (ap (λ (i : List ℕ). recordOf 4 0 μ 0 ++ (encode u ++ i)) (append-nil (encode (integer ξ (pos n))) ∙ exponent-record ξ n (s .0)), omega arith)
 
 module _ {t : Tree} {l : List Tree} {out : List ℕ} {d e k m : ℕ} (g : Gathers t l out d e k m) (in-out : e * 16 ≤ length out) where
   stays : Same t l → Closed (closedOver t l) out out d e
@@ -87,29 +89,45 @@ module _ {t : Tree} {l : List Tree} {out : List ℕ} {d e k m : ℕ} (g : Gather
 
 -- ---- a sum or a product, over the kind: its records with other members
 record Counts (t : Tree) (k : ℕ) : Type 0 where
-  written : (l : List Tree) → encode (closedOver t l) ≡ recordOf k (length l) 0 ++ encodeAll l
+  written : (l : List Tree) → encode (closedOver t l) ≡ recordOf k (length l) (markOf t) 0 ++ encodeAll l
   recorded : (l : List Tree) → records (closedOver t l) ≡ 1 + recordsAll l
 
 counts : (t : Tree) → 2 ≤ kindNumber t → kindNumber t ≤ 3 → Counts t (kindNumber t)
-unfolding kindNumber closedOver encode records
+unfolding kindNumber closedOver encode records markOf
 counts (integer μ z) a b = absurd (omega arith)
 counts (symbol μ v) a b = absurd (omega arith)
-counts (sum μ f) a b = record { written = λ l. ap (λ n. recordOf 2 n 0 ++ encodeAll l) (list-count l); recorded = λ l. refl }
-counts (product μ f) a b = record { written = λ l. ap (λ n. recordOf 3 n 0 ++ encodeAll l) (list-count l); recorded = λ l. refl }
+counts (sum μ f) a b = record { written = λ l. ap (λ n. recordOf 2 n μ 0 ++ encodeAll l) (list-count l); recorded = λ l. refl }
+counts (product μ f) a b = record { written = λ l. ap (λ n. recordOf 3 n μ 0 ++ encodeAll l) (list-count l); recorded = λ l. refl }
 counts (power μ b ξ x) a c = absurd (omega arith)
 
 module _ {t : Tree} {l : List Tree} {out : List ℕ} {d e k m : ℕ} (g : Gathers t l out d e k m) (in-out : e * 16 ≤ length out) (lo : 2 ≤ k) (hi : k ≤ 3) where
   c : Counts t k
   c = subst (Counts t) (sym (g .kind-is)) (counts t (omega (arith, g .kind-is)) (omega (arith, g .kind-is)))
 
-  pub members-counted : (out' : List ℕ) → out' ≡ put out (d * 16) (recordOf k m 0) → Closed (closedOver t l) out out' d e
+  -- the mark that stands in the node's record
+  its-mark : markIn out d ≡ markOf t
   unfolding x
-  members-counted out' w =
-      let f : length (firstRecord t) ≡ length (recordOf k m 0) = first-length t ∙ sym (record-length k m 0) in
+  its-mark =
+      let before = take (d * 16) out in
+      let after = drop (e * 16) out in
+      let first = firstRecord t in
+      let whole : out ≡ before ++ (first ++ (encodeAll l ++ after)) =
+      sym (take-append-drop (e * 16) out) ∙ ap (λ (i : List ℕ). i ++ after) (there g in-out) ∙ append-assoc before (first ++ encodeAll l) after
+      ∙ ap (λ (i : List ℕ). before ++ i) (append-assoc first (encodeAll l) after) in
+      mark-first out d t (encodeAll l ++ after)
+      (ap (drop (d * 16)) whole ∙ drop-at before (first ++ (encodeAll l ++ after)) (d * 16) (x-long g in-out)) (g .mark-wf)
+
+  pub members-counted : (out' : List ℕ) (ν : ℕ) → ν ≡ markIn out d → out' ≡ put out (d * 16) (recordOf k m ν 0)
+      → Closed (closedOver t l) out out' d e
+  unfolding x
+  members-counted out' ν v w =
+      let f : length (firstRecord t) ≡ length (recordOf k m ν 0) = first-length t ∙ sym (record-length k m ν 0) in
       record {
         end = g .end ∙ omega (arith, c .recorded l);
         wrote =
             ap (take (e * 16)) w
-            ∙ new-front out (take (d * 16) out) (firstRecord t) (encodeAll l) (recordOf k m 0) (d * 16) (e * 16) (there g in-out) (x-long g in-out) f in-out
-            ∙ ap (λ (i : List ℕ). take (d * 16) out ++ i) (ap (λ n. recordOf k n 0 ++ encodeAll l) (g .many) ∙ sym (c .written l));
+            ∙ new-front out (take (d * 16) out) (firstRecord t) (encodeAll l) (recordOf k m ν 0) (d * 16) (e * 16) (there g in-out) (x-long g in-out) f in-out
+            ∙ ap (λ (i : List ℕ). take (d * 16) out ++ i)
+            (ap (λ n. recordOf k n ν 0 ++ encodeAll l) (g .many) ∙ ap (λ n. recordOf k (length l) n 0 ++ encodeAll l) (v ∙ its-mark)
+            ∙ sym (c .written l));
       }

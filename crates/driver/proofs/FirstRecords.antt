@@ -1,4 +1,4 @@
--- The first record of a tree tells its kind and its number of members, and with them which trees are opened among the members of a
+-- The first record of a tree tells its kind, its mark and its number of members, and with them which trees are opened among the members of a
 -- node. By cases on the tree. Assumes nothing.
 use Prim.Native.Nat.{ℕ, _*_, _<_}
 use mathlib.Core.Path.{_≡_, refl, sym, _∙_, subst}
@@ -10,35 +10,45 @@ use borrow.Author.Tests.{eqb-true}
 use lib.Dec.{eqb}
 use lib.ListN.{length, drop}
 use Rattle.paper.specs.Bytes.{word}
-use Rattle.paper.specs.Tree.{Tree, Forest, integer, symbol, sum, product, power, toList, count, records}
-use Rattle.paper.specs.Record.{kind, countIn, arity, isNode}
+use Rattle.paper.specs.Tree.{Tree, Forest, integer, symbol, sum, product, power, toList, count, markOf, records}
+use Rattle.paper.specs.WellFormed.{Mark}
+use Rattle.paper.specs.Record.{kind, countIn, markIn, arity, isNode}
 use Rattle.paper.specs.Table.{recordOf, encode, encodes}
 use Rattle.paper.specs.Driver.{members, asSum, asProduct}
 use Rattle.paper.proofs.Tests.{and-left, and-right}
-use Rattle.paper.proofs.EncodeLaws.{kind-there, count-there, count-records}
+use Rattle.paper.proofs.EncodeLaws.{kind-there, count-there, mark-there, count-records}
 use Rattle.paper.proofs.WFLaws.{count-list}
 use Rattle.paper.proofs.GatherLaws.{Opens, sums-open, products-open}
-use Rattle.driver.specs.Driven.{kindNumber, inside}
+use Rattle.driver.specs.Driven.{kindNumber, firstRecord, inside}
 
 module _ (s : List ℕ) (i : ℕ) where
   pub kind-first : (t : Tree) (r : List ℕ) → drop (i * 16) s ≡ encode t ++ r → kind s i ≡ kindNumber t
   unfolding encode kindNumber
-  kind-first (integer μ z) r e = kind-there s i 0 0 (word z) r e
-  kind-first (symbol μ v) r e = kind-there s i 1 0 v r e
-  kind-first (sum μ f) r e = kind-there s i 2 (count f) 0 (encodes f ++ r) (e ∙ append-assoc (recordOf 2 (count f) 0) (encodes f) r)
-  kind-first (product μ f) r e = kind-there s i 3 (count f) 0 (encodes f ++ r) (e ∙ append-assoc (recordOf 3 (count f) 0) (encodes f) r)
+  kind-first (integer μ z) r e = kind-there s i 0 0 μ (word z) r e
+  kind-first (symbol μ v) r e = kind-there s i 1 0 μ v r e
+  kind-first (sum μ f) r e = kind-there s i 2 (count f) μ 0 (encodes f ++ r) (e ∙ append-assoc (recordOf 2 (count f) μ 0) (encodes f) r)
+  kind-first (product μ f) r e = kind-there s i 3 (count f) μ 0 (encodes f ++ r) (e ∙ append-assoc (recordOf 3 (count f) μ 0) (encodes f) r)
   kind-first (power μ b ξ x) r e =
-      kind-there s i 4 0 0 ((encode b ++ recordOf 0 0 x) ++ r) (e ∙ append-assoc (recordOf 4 0 0) (encode b ++ recordOf 0 0 x) r)
+      kind-there s i 4 0 μ 0 ((encode b ++ recordOf 0 0 ξ x) ++ r) (e ∙ append-assoc (recordOf 4 0 μ 0) (encode b ++ recordOf 0 0 ξ x) r)
+
+  -- the mark in the first record
+  pub mark-first : (t : Tree) (r : List ℕ) → drop (i * 16) s ≡ firstRecord t ++ r → Mark (markOf t) → markIn s i ≡ markOf t
+  unfolding firstRecord markOf
+  mark-first (integer μ z) r e m = mark-there s i 0 0 μ (word z) r e m
+  mark-first (symbol μ v) r e m = mark-there s i 1 0 μ v r e m
+  mark-first (sum μ f) r e m = mark-there s i 2 (count f) μ 0 r e m
+  mark-first (product μ f) r e m = mark-there s i 3 (count f) μ 0 r e m
+  mark-first (power μ b ξ x) r e m = mark-there s i 4 0 μ 0 r e m
 
   sum-count : (μ : ℕ) (f : Forest) (r : List ℕ) → drop (i * 16) s ≡ encode (sum μ f) ++ r → records (sum μ f) < 65536 → countIn s i ≡ count f
   unfolding encode records
   sum-count μ f r e h =
-      count-there s i 2 (count f) 0 (encodes f ++ r) (e ∙ append-assoc (recordOf 2 (count f) 0) (encodes f) r) (omega (arith, count-records f))
+      count-there s i 2 (count f) μ 0 (encodes f ++ r) (e ∙ append-assoc (recordOf 2 (count f) μ 0) (encodes f) r) (omega (arith, count-records f))
 
   product-count : (μ : ℕ) (f : Forest) (r : List ℕ) → drop (i * 16) s ≡ encode (product μ f) ++ r → records (product μ f) < 65536 → countIn s i ≡ count f
   unfolding encode records
   product-count μ f r e h =
-      count-there s i 3 (count f) 0 (encodes f ++ r) (e ∙ append-assoc (recordOf 3 (count f) 0) (encodes f) r) (omega (arith, count-records f))
+      count-there s i 3 (count f) μ 0 (encodes f ++ r) (e ∙ append-assoc (recordOf 3 (count f) μ 0) (encodes f) r) (omega (arith, count-records f))
 
   -- the number of members that the first record gives
   pub arity-first : (t : Tree) (r : List ℕ) → drop (i * 16) s ≡ encode t ++ r → records t < 65536 → arity s i ≡ length (members t)

@@ -12,8 +12,8 @@ use lib.Seq.{length-take-le}
 use lib.IntN.{pos}
 use Rattle.paper.specs.Limits.{modulus}
 use Rattle.paper.specs.Bytes.{word}
-use Rattle.paper.specs.Tree.{Tree, integer, symbol, sum, product, power, ofList, count, records, recordses, weight}
-use Rattle.paper.specs.WellFormed.{WF, WFl}
+use Rattle.paper.specs.Tree.{Tree, integer, symbol, sum, product, power, ofList, count, markOf, records, recordses, weight}
+use Rattle.paper.specs.WellFormed.{Mark, WF, WFl}
 use Rattle.paper.specs.Table.{recordOf, encode, encodes, readTree}
 use Rattle.paper.specs.Driver.{members}
 use Rattle.paper.proofs.EncodeLaws.{record-length, records-weight, recordses-weights, count-records}
@@ -42,27 +42,35 @@ weight-both (t ∷ l) m = omega (arith, weight-both l m)
 pub all-many : (l : List Tree) → length l ≤ recordsAll l
 all-many l = omega (arith, count-records (ofList l), list-count l)
 
--- ---- a node: its first record, and its members
+-- ---- a node: its mark, its first record, and its members
+pub wf-mark : (t : Tree) → WF t → Mark (markOf t)
+unfolding markOf
+wf-mark (integer μ z) w = w .1
+wf-mark (symbol μ s) w = w .1
+wf-mark (sum μ f) w = w .2
+wf-mark (product μ f) w = w .2
+wf-mark (power μ b ξ e) w = w .3
+
 pub first-length : (t : Tree) → length (firstRecord t) ≡ 16
 unfolding firstRecord
-first-length (integer μ z) = record-length 0 0 (word z)
-first-length (symbol μ s) = record-length 1 0 s
-first-length (sum μ f) = record-length 2 (count f) 0
-first-length (product μ f) = record-length 3 (count f) 0
-first-length (power μ b ξ e) = record-length 4 0 0
+first-length (integer μ z) = record-length 0 0 μ (word z)
+first-length (symbol μ s) = record-length 1 0 μ s
+first-length (sum μ f) = record-length 2 (count f) μ 0
+first-length (product μ f) = record-length 3 (count f) μ 0
+first-length (power μ b ξ e) = record-length 4 0 μ 0
 
-pub exponent-record : (ξ e : ℕ) → e < 2 ^ 63 → encode (integer ξ (pos e)) ≡ recordOf 0 0 e
+pub exponent-record : (ξ e : ℕ) → e < 2 ^ 63 → encode (integer ξ (pos e)) ≡ recordOf 0 0 ξ e
 unfolding encode word
-exponent-record ξ e h = ap (recordOf 0 0) (mod-eq-of-lt {n = e} {m = modulus} (omega arith))
+exponent-record ξ e h = ap (recordOf 0 0 ξ) (mod-eq-of-lt {n = e} {m = modulus} (omega arith))
 
 pub encode-first : (t : Tree) → WF t → encode t ≡ firstRecord t ++ encodeAll (members t)
 unfolding encode firstRecord members ofList
-encode-first (integer μ z) w = sym (append-nil (recordOf 0 0 (word z)))
-encode-first (symbol μ s) w = sym (append-nil (recordOf 1 0 s))
-encode-first (sum μ f) w = ap (λ g. recordOf 2 (count f) 0 ++ encodes g) (sym (of-to-list f))
-encode-first (product μ f) w = ap (λ g. recordOf 3 (count f) 0 ++ encodes g) (sym (of-to-list f))
+encode-first (integer μ z) w = sym (append-nil (recordOf 0 0 μ (word z)))
+encode-first (symbol μ s) w = sym (append-nil (recordOf 1 0 μ s))
+encode-first (sum μ f) w = ap (λ g. recordOf 2 (count f) μ 0 ++ encodes g) (sym (of-to-list f))
+encode-first (product μ f) w = ap (λ g. recordOf 3 (count f) μ 0 ++ encodes g) (sym (of-to-list f))
 encode-first (power μ b ξ e) w =
-    ap (λ (l : List ℕ). recordOf 4 0 0 ++ (encode b ++ l)) (sym (exponent-record ξ e (w .2)) ∙ sym (append-nil (encode (integer ξ (pos e)))))
+    ap (λ (l : List ℕ). recordOf 4 0 μ 0 ++ (encode b ++ l)) (sym (exponent-record ξ e (w .2)) ∙ sym (append-nil (encode (integer ξ (pos e)))))
 
 pub records-first : (t : Tree) → records t ≡ 1 + recordsAll (members t)
 unfolding records members ofList

@@ -17,7 +17,7 @@ use Rattle.stretch.specs.Put.{part, put}
 use Rattle.stretch.proofs.Laws.{take-put-end}
 use Rattle.driver.specs.Driven.{encodeAll, recordsAll, weightAll, kindNumber, firstRecord, inside, openedRuns, passed, closedOver}
 use Rattle.driver.specs.Driven.{Set, SetAll, Drove, Gave, Gathers, Closed}
-use Rattle.driver.proofs.Forests.{front-long, few-records, encode-first, records-first, first-length, members-weigh}
+use Rattle.driver.proofs.Forests.{wf-mark, front-long, few-records, encode-first, records-first, first-length, members-weigh}
 use Rattle.driver.proofs.Weighs.{weighs-tree, weighs-all}
 use Rattle.driver.proofs.Places.{advance, part-there, ends-after, front-of, front-fits}
 use Rattle.driver.proofs.Runs.{drives, closedRuns, pass-closed}
@@ -111,6 +111,7 @@ module _ {out work steps : List ℕ} {d p s : ℕ} {t : Tree} {rest : List ℕ} 
       gathers =
           record {
             kind-is = e;
+            mark-wf = wf-mark t (h .ready .wf);
             shape = shape ed t (h .ready .wf) (a .to) (a .ks) o τ (ap (λ j. openedRuns (inside j) (each (drives ed) (members t))) (sym e) ∙ a .ran);
             many = a .many;
             end = a .end;

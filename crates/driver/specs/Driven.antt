@@ -10,8 +10,8 @@ use lib.Dec.{eqb}
 use lib.IntN.{pos}
 unfoldable pub use Rattle.paper.specs.Standing.{kindNumber}
 use Rattle.paper.specs.Bytes.{word}
-use Rattle.paper.specs.Tree.{Tree, integer, symbol, sum, product, power, ofList, count, records, recordses, weight, weights}
-use Rattle.paper.specs.WellFormed.{WFl}
+use Rattle.paper.specs.Tree.{Tree, integer, symbol, sum, product, power, ofList, count, markOf, records, recordses, weight, weights}
+use Rattle.paper.specs.WellFormed.{Mark, WFl}
 use Rattle.paper.specs.Table.{recordOf, encode, encodes}
 use Rattle.paper.specs.Driver.{Ran, done, over, Rans, dones, overs, asSum, asProduct, opened, baseFrom, gather}
 use Rattle.driver.specs.declared.Driven.{Driven}
@@ -32,11 +32,11 @@ weightAll l = weights (ofList l)
 
 -- ---- a node by its first record: its kind, and the record itself
 unfoldable pub firstRecord : Tree → List ℕ
-firstRecord (integer μ z) = recordOf 0 0 (word z)
-firstRecord (symbol μ s) = recordOf 1 0 s
-firstRecord (sum μ f) = recordOf 2 (count f) 0
-firstRecord (product μ f) = recordOf 3 (count f) 0
-firstRecord (power μ b ξ e) = recordOf 4 0 0
+firstRecord (integer μ z) = recordOf 0 0 μ (word z)
+firstRecord (symbol μ s) = recordOf 1 0 μ s
+firstRecord (sum μ f) = recordOf 2 (count f) μ 0
+firstRecord (product μ f) = recordOf 3 (count f) μ 0
+firstRecord (power μ b ξ e) = recordOf 4 0 μ 0
 
 -- the members of a tree that is opened among the members of a node of kind k: of a sum in a sum, of a product in a product
 unfoldable pub inside : ℕ → Tree → Option (List Tree)
@@ -122,6 +122,7 @@ Shape (power μ b ξ e) l = (e < 2 ^ 63) × ((u : Tree) × (l ≡ u ∷ integer 
 -- t's first record stands at d, and the m gathered members after it, up to e
 pub record Gathers (t : Tree) (l : List Tree) (out : List ℕ) (d e k m : ℕ) : Type 0 where
   pub kind-is : k ≡ kindNumber t
+  pub mark-wf : Mark (markOf t)
   pub shape : Shape t l
   pub many : m ≡ length l
   pub end : e ≡ d + 1 + recordsAll l

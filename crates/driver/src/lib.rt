@@ -172,7 +172,7 @@ fn drive_member(
 {
     let j = record::kind(work, p);
     if j < 2 {
-        record::write_record(out, d, j, 0, record::bits(work, p));
+        stretch::copy_bytes(out, d * 16, work, p * 16, 16);
         return Given::Members(d + 1, p + 1, s, 0, 1, 1);
     }
     let g = drive(out, work, steps, d, p, s, edition);
@@ -202,7 +202,7 @@ fn opens(k: u8, j: u8) -> bool
     false
 }
 
-// The first record of a gathered node at d, of kind k: a sum's or a product's gets the number m of its gathered members.
+// The first record of a gathered node at d, of kind k: a sum's or a product's gets the number m of its gathered members, and keeps its mark.
 fn close_up(out: &mut [u8], k: u8, m: usize, d: usize)
     requires { ⌜ d * 16 + 16 ≤ length (now out) ⌝ }
     ensures { λ _. ⌜ ((t : Tree) (l : List Tree) (e : ℕ) → Gathers t l (now (out .entry)) d e k m → e * 16 ≤ length (now (out .entry))
@@ -214,5 +214,6 @@ fn close_up(out: &mut [u8], k: u8, m: usize, d: usize)
     if 3 < k {
         return;
     }
-    record::write_record(out, d, k, m, 0);
+    let mark = record::mark(out, d);
+    record::write_record(out, d, k, m, mark, 0);
 }

@@ -13,7 +13,7 @@ use lib.IntN.{pos}
 use lib.Dec.{eqb}
 use Rattle.paper.specs.Bytes.{word}
 use Rattle.paper.specs.Record.{kind, bits}
-use Rattle.paper.specs.Tree.{Tree, integer, symbol, sum, product, power, count, records}
+use Rattle.paper.specs.Tree.{Tree, integer, symbol, sum, product, power, count, markOf, records}
 use Rattle.paper.specs.Equal.{equal}
 use Rattle.paper.specs.Rules.{Term, term, termOf}
 use Rattle.paper.proofs.Tests.{and-both, true-not-false}
@@ -39,9 +39,9 @@ node-bits {s} {i} {t} h l = by t h (seen h)
     by : (t : Tree) → TreeIn s i t → Seen s i t → bits s i ≡ 0
     by (integer μ z) h (an-integer c d v) = absurd (omega arith)
     by (symbol μ z) h (a-symbol c d v) = absurd (omega arith)
-    by (sum μ f) h q = let r = sum-record μ f (h .stands) in bits-there s i 2 (count f) 0 (r .after) (r .there) (omega arith)
-    by (product μ f) h q = let r = product-record μ f (h .stands) in bits-there s i 3 (count f) 0 (r .after) (r .there) (omega arith)
-    by (power μ b ξ e) h q = let r = power-record μ b ξ e (h .stands) in bits-there s i 4 0 0 (r .after) (r .there) (omega arith)
+    by (sum μ f) h q = let r = sum-record μ f (h .stands) in bits-there s i 2 (count f) μ 0 (r .after) (r .there) (omega arith)
+    by (product μ f) h q = let r = product-record μ f (h .stands) in bits-there s i 3 (count f) μ 0 (r .after) (r .there) (omega arith)
+    by (power μ b ξ e) h q = let r = power-record μ b ξ e (h .stands) in bits-there s i 4 0 μ 0 (r .after) (r .there) (omega arith)
 
 -- the base of a power stands in the table
 pub base-within : {s : List ℕ} {i : ℕ} {t : Tree} → TreeIn s i t → kind s i ≡ 4 → (i + 1) * 16 + 16 ≤ length s
@@ -119,7 +119,7 @@ product-if s i w z = eqb-true _ _ (by (eqb (kind s i) 3) (sym (rw z refl) ∙ w)
 
 module _ {s : List ℕ} where
   -- a whole tree is its own rest, and its coefficient is 1
-  whole-term : {i : ℕ} {t : Tree} → TreeIn s i t → isWhole s i ≡ true → termOf t ≡ term (pos 1) t
+  whole-term : {i : ℕ} {t : Tree} → TreeIn s i t → isWhole s i ≡ true → termOf t ≡ term (markOf t) (pos 1) t
   unfolding isWhole
   whole-term {i} {t} h e =
       let b = and-both (not (eqb (kind s i) 0)) (not (eqb (kind s i) 3)) e in
@@ -142,14 +142,15 @@ module _ {s : List ℕ} where
   one-unlike {i} {j} {t} {u} h g k e =
       let b = and-both (not (eqb (kind s j) 0)) (not (eqb (kind s j) 3)) e in
       let other = positive (kind s j) (eqb-false (kind s j) 0 (not-false (eqb (kind s j) 0) (b .0))) in
-      rw (term-integer t h (omega arith) .1, whole-rest g e) (integer-apart 0 (pos 1) u (no-integer g other))
+      let unit = term-integer t h (omega arith) .1 in
+      rw (unit .1, whole-rest g e) (integer-apart (unit .0) (pos 1) u (no-integer g other))
 
   -- the rest of a product with two members besides its integers is a product, which no whole tree is
   two-unlike : {i j : ℕ} {t u : Tree} → TreeIn s i t → TreeIn s j u → kind s i ≡ 3 → hasTwo s i ≡ true → isWhole s j ≡ true
       → equal (termOf t .rest) (termOf u .rest) ≡ false
   two-unlike {i} {j} {t} {u} h g k two e =
       let r = two-rest h k two in
-      rw (r .1, whole-rest g e) (product-apart (r .0) u (seen g) (whole-no-product s j e))
+      rw (r .2, whole-rest g e) (product-apart (r .0) (r .1) u (seen g) (whole-no-product s j e))
 
   pub rests-unlike : {i j : ℕ} {t u : Tree} → TreeIn s i t → TreeIn s j u → restsDiffer s i j ≡ true
       → equal (termOf t .rest) (termOf u .rest) ≡ false

@@ -51,7 +51,7 @@ sames-count (s-cons r k s) = omega (arith, sames-count s, taken-length k)
 -- the number of a symbol, read as that of an integer
 symbol-bits : {s : List ℕ} {i μ v : ℕ} → TreeIn s i (symbol μ v) → v < 256 → bits s i ≡ v
 unfolding encode
-symbol-bits {s} {i} {v = v} h l = bits-there s i 1 0 v (h .stands .after) (h .stands .there) (omega arith)
+symbol-bits {s} {i} {μ = μ} {v = v} h l = bits-there s i 1 0 μ v (h .stands .after) (h .stands .there) (omega arith)
 
 -- two powers, and what stands for their bases and exponents
 record Powers (a : List ℕ) (i : ℕ) (b : List ℕ) (j : ℕ) (t u : Tree) : Type 0 where

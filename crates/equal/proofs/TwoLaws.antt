@@ -87,17 +87,17 @@ module _ {s : List ℕ} where
       by false z e = two-others f (product-trees h) (product-room h .1) e
 
   -- its rest is a product
-  pub two-rest : {i : ℕ} {t : Tree} → TreeIn s i t → kind s i ≡ 3 → hasTwo s i ≡ true → (g : Forest) × (termOf t .rest ≡ product 0 g)
+  pub two-rest : {i : ℕ} {t : Tree} → TreeIn s i t → kind s i ≡ 3 → hasTwo s i ≡ true → (μ : ℕ) × (g : Forest) × (termOf t .rest ≡ product μ g)
   unfolding termOf productTerm productOf collapse
   two-rest {i} {t} h k two =
       let p = seen-product (seen h) k in
       let q = product-two (subst (TreeIn s i) (p .2) h) two in
-      (ofList (q .0 ∷ q .1 ∷ q .2), ap (λ u. termOf u .rest) (p .2) ∙ ap productOf (q .3))
+      (p .0, ofList (q .0 ∷ q .1 ∷ q .2), ap (λ u. termOf u .rest) (p .2) ∙ ap (productOf (p .0)) (q .3))
 
-  pub product-apart : (g : Forest) {j : ℕ} (t : Tree) → Seen s j t → (kind s j ≡ 3 → ⊥) → equal (product 0 g) t ≡ false
+  pub product-apart : (ν : ℕ) (g : Forest) {j : ℕ} (t : Tree) → Seen s j t → (kind s j ≡ 3 → ⊥) → equal (product ν g) t ≡ false
   unfolding equal onProduct
-  product-apart g (integer μ z) q n = refl
-  product-apart g (symbol μ v) q n = refl
-  product-apart g (sum μ f) q n = refl
-  product-apart g (product μ f) (a-product k c o w m) n = absurd (n k)
-  product-apart g (power μ b ξ e) q n = refl
+  product-apart ν g (integer μ z) q n = refl
+  product-apart ν g (symbol μ v) q n = refl
+  product-apart ν g (sum μ f) q n = refl
+  product-apart ν g (product μ f) (a-product k c o w m) n = absurd (n k)
+  product-apart ν g (power μ b ξ e) q n = refl

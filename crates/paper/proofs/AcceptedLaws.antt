@@ -15,7 +15,7 @@ use lib.ListN.{length, drop, length-append}
 use Rattle.paper.specs.Limits.{isLimit}
 use Rattle.paper.specs.Bytes.{Bytes, word, signed}
 use Rattle.paper.specs.Tree.{Tree, Forest, integer, symbol, sum, product, power, nil, cons, count, records, recordses, weight}
-use Rattle.paper.specs.Record.{kind, countIn, bits, symbolIn, isNode, sound, flaw, arity}
+use Rattle.paper.specs.Record.{kind, countIn, markIn, bits, symbolIn, isNode, sound, flaw, arity}
 use Rattle.paper.specs.Verdict.{accepted, recordsIn, tableWeight, treeEnd, isPositive}
 use Rattle.paper.specs.Verdict.{badExponent, verdict}
 use Rattle.paper.specs.Refusals.{Spans, no-tree, one-tree}
@@ -30,7 +30,7 @@ use Rattle.paper.proofs.Stands.{sum-record, product-record, power-recor
 use Rattle.paper.proofs.SkipLaws.{end-step}
 use Rattle.paper.proofs.SpanLaws.{spans-within, spans-skip, spans-end}
 use Rattle.paper.proofs.FirstLaws.{All}
-use Rattle.paper.proofs.RecordLaws.{positive-kind, bits-lt, symbol-lt, sound-kind, sound-count, sound-integer, sound-symbol, sound-sum}
+use Rattle.paper.proofs.RecordLaws.{positive-kind, bits-lt, mark-lt, symbol-lt, sound-kind, sound-count, sound-integer, sound-symbol, sound-sum}
 use Rattle.paper.proofs.RecordLaws.{sound-product, sound-power}
 use Rattle.paper.proofs.LimitLaws.{limit-small}
 use Rattle.paper.proofs.VerdictLaws.{Fine, accepted-passes}
@@ -63,61 +63,61 @@ good-exponent s n i e h k q l = go (isPositive s e) refl
         absurd (omega arith)
 
 -- the tree of a record, kind by kind, from its members
-integer-at : (s : List ℕ) (i e v : ℕ) → v < 2 ^ 64 → i + 1 ≡ e → Stands s i (recordOf 0 0 v) → TreeAt s i e
+integer-at : (s : List ℕ) (i e m v : ℕ) → m < 65536 → v < 2 ^ 64 → i + 1 ≡ e → Stands s i (recordOf 0 0 m v) → TreeAt s i e
 unfolding encode records
-integer-at s i e v l q h = record {
-  tree = integer 0 (signed v);
-  wf = (signed-in-range v l, refl);
+integer-at s i e m v k l q h = record {
+  tree = integer m (signed v);
+  wf = (signed-in-range v l, k);
   size = q;
   stands = rw (word-signed v l) h;
 }
 
-symbol-at : (s : List ℕ) (i e v : ℕ) → v < 256 → i + 1 ≡ e → Stands s i (recordOf 1 0 v) → TreeAt s i e
+symbol-at : (s : List ℕ) (i e m v : ℕ) → m < 65536 → v < 256 → i + 1 ≡ e → Stands s i (recordOf 1 0 m v) → TreeAt s i e
 unfolding encode records
-symbol-at s i e v l q h = record { tree = symbol 0 v; wf = (l, refl); size = q; stands = h }
+symbol-at s i e m v k l q h = record { tree = symbol m v; wf = (l, k); size = q; stands = h }
 
-sum-at : (s : List ℕ) (i c e : ℕ) → 2 ≤ c → Stands s i (recordOf 2 c 0) → TreesAt s (i + 1) c e → TreeAt s i e
+sum-at : (s : List ℕ) (i c e n : ℕ) → n < 65536 → 2 ≤ c → Stands s i (recordOf 2 c n 0) → TreesAt s (i + 1) c e → TreeAt s i e
 unfolding encode records
-sum-at s i c e l h m = record {
-  tree = sum 0 (m .trees);
-  wf = (rw (m .counted) l, m .wf, refl);
+sum-at s i c e n k l h m = record {
+  tree = sum n (m .trees);
+  wf = (rw (m .counted) l, m .wf, k);
   size = omega (arith, m .size);
-  stands = rw (m .counted) (stands-both (recordOf 2 c 0) (encodes (m .trees)) 1 (record-length 2 c 0) h (m .stands));
+  stands = rw (m .counted) (stands-both (recordOf 2 c n 0) (encodes (m .trees)) 1 (record-length 2 c n 0) h (m .stands));
 }
 
-product-at : (s : List ℕ) (i c e : ℕ) → 2 ≤ c → Stands s i (recordOf 3 c 0) → TreesAt s (i + 1) c e → TreeAt s i e
+product-at : (s : List ℕ) (i c e n : ℕ) → n < 65536 → 2 ≤ c → Stands s i (recordOf 3 c n 0) → TreesAt s (i + 1) c e → TreeAt s i e
 unfolding encode records
-product-at s i c e l h m = record {
-  tree = product 0 (m .trees);
-  wf = (rw (m .counted) l, m .wf, refl);
+product-at s i c e n k l h m = record {
+  tree = product n (m .trees);
+  wf = (rw (m .counted) l, m .wf, k);
   size = omega (arith, m .size);
-  stands = rw (m .counted) (stands-both (recordOf 3 c 0) (encodes (m .trees)) 1 (record-length 3 c 0) h (m .stands));
+  stands = rw (m .counted) (stands-both (recordOf 3 c n 0) (encodes (m .trees)) 1 (record-length 3 c n 0) h (m .stands));
 }
 
 -- a record of another kind than 0 is no integer record
-only-integers : (s : List ℕ) (e k c v : ℕ) → Stands s e (recordOf k c v) → 0 < k → isPositive s e ≡ true → ⊥
-only-integers s e k c v h l p = omega (arith, kind-there s e k c v (h .after) (h .there), positive-kind s e p .0)
+only-integers : (s : List ℕ) (e k c m v : ℕ) → Stands s e (recordOf k c m v) → 0 < k → isPositive s e ≡ true → ⊥
+only-integers s e k c m v h l p = omega (arith, kind-there s e k c m v (h .after) (h .there), positive-kind s e p .0)
 
 -- a power: its base, and the tree after it, which is an integer since its record has kind 0
-raise : (s : List ℕ) (i e : ℕ) (b x : Tree) → Stands s i (recordOf 4 0 0) → WF b → Stands s (i + 1) (encode b)
+raise : (s : List ℕ) (i e m : ℕ) (b x : Tree) → m < 65536 → WF x → Stands s i (recordOf 4 0 m 0) → WF b → Stands s (i + 1) (encode b)
     → Stands s (i + 1 + records b) (encode x) → isPositive s (i + 1 + records b) ≡ true → i + 1 + (records b + records x) ≡ e → TreeAt s i e
 unfolding encode records
-raise s i e b (integer μ z) h w base x p q =
+raise s i e m b (integer μ z) k y h w base x p q =
     let j = i + 1 + records b in
-    let k = positive-kind s j p in
-    let v : bits s j ≡ word z = bits-there s j 0 0 (word z) (x .after) (x .there) (word-lt z) in
+    let k′ = positive-kind s j p in
+    let v : bits s j ≡ word z = bits-there s j 0 0 μ (word z) (x .after) (x .there) (word-lt z) in
     record {
-      tree = power 0 b 0 (word z);
-      wf = (w, omega (arith, v, k .1), omega (arith, v, k .2), refl, refl);
+      tree = power m b μ (word z);
+      wf = (w, omega (arith, v, k′ .1), omega (arith, v, k′ .2), k, y .1);
       size = omega arith;
       stands =
-          stands-both (recordOf 4 0 0) (encode b ++ recordOf 0 0 (word z)) 1 (record-length 4 0 0) h
-          (stands-both (encode b) (recordOf 0 0 (word z)) (records b) (encode-length b) base x);
+          stands-both (recordOf 4 0 m 0) (encode b ++ recordOf 0 0 μ (word z)) 1 (record-length 4 0 m 0) h
+          (stands-both (encode b) (recordOf 0 0 μ (word z)) (records b) (encode-length b) base x);
     }
-raise s i e b (symbol μ v) h w base x p q = absurd (only-integers s (i + 1 + records b) 1 0 v x (lit< tt) p)
-raise s i e b (sum μ f) h w base x p q = absurd (only-integers s (i + 1 + records b) 2 (count f) 0 (sum-record μ f x) (lit< tt) p)
-raise s i e b (product μ f) h w base x p q = absurd (only-integers s (i + 1 + records b) 3 (count f) 0 (product-record μ f x) (lit< tt) p)
-raise s i e b (power μ c ξ v) h w base x p q = absurd (only-integers s (i + 1 + records b) 4 0 0 (power-record μ c ξ v x) (lit< tt) p)
+raise s i e m b (symbol μ v) k y h w base x p q = absurd (only-integers s (i + 1 + records b) 1 0 μ v x (lit< tt) p)
+raise s i e m b (sum μ f) k y h w base x p q = absurd (only-integers s (i + 1 + records b) 2 (count f) μ 0 (sum-record μ f x) (lit< tt) p)
+raise s i e m b (product μ f) k y h w base x p q = absurd (only-integers s (i + 1 + records b) 3 (count f) μ 0 (product-record μ f x) (lit< tt) p)
+raise s i e m b (power μ c ξ v) k y h w base x p q = absurd (only-integers s (i + 1 + records b) 4 0 μ 0 (power-record μ c ξ v x) (lit< tt) p)
 
 -- a tree and the trees after it
 join-trees : (s : List ℕ) (i k e g : ℕ) → TreeAt s i e → TreesAt s e k g → TreesAt s i (suc k) g
@@ -145,7 +145,7 @@ module _ (s : List ℕ) (n : ℕ) (b : Bytes s) (l : n * 16 ≤ length s) (small
       let j : treeEnd s n (i + 1) ≡ i + 1 + records t = encode-end t s n (i + 1) base (omega arith) (omega arith) in
       let p = good-exponent s n i (i + 1 + records t) (fine i (omega arith) u .1) k j (omega (arith, records-pos x)) in
       let r = sound-power s i b (omega arith) (fine i (omega arith) u .0) k in
-      raise s i e t x r (w .0) base (first-member x nil (other-members t (cons x nil) h)) p (omega arith)
+      raise s i e (markIn s i) t x (mark-lt s i b) (w .1 .0) r (w .0) base (first-member x nil (other-members t (cons x nil) h)) p (omega arith)
   power-at i e u v k (cons t (cons x (cons y f))) w c q h = absurd (omega arith)
 
   -- the tree at record i, from its members
@@ -162,16 +162,16 @@ module _ (s : List ℕ) (n : ℕ) (b : Bytes s) (l : n * 16 ≤ length s) (small
       go : (k : ℕ) → kind s i ≡ k → k ≤ 4 → TreeAt s i e
       go zero k c =
           let h = sound-integer s i b room sound-here k in
-          integer-at s i e (bits s i) (bits-lt s i b) (sym (end-leaf s n i 0 (bits s i) (lit< tt) u h) ∙ q) h
+          integer-at s i e (markIn s i) (bits s i) (mark-lt s i b) (bits-lt s i b) (sym (end-leaf s n i 0 (markIn s i) (bits s i) (lit< tt) u h) ∙ q) h
       go (suc zero) k c =
           let h = sound-symbol s i b room sound-here k in
-          symbol-at s i e (symbolIn s i) (symbol-lt s i b) (sym (end-leaf s n i 1 (symbolIn s i) (lit< tt) u h) ∙ q) h
+          symbol-at s i e (markIn s i) (symbolIn s i) (mark-lt s i b) (symbol-lt s i b) (sym (end-leaf s n i 1 (markIn s i) (symbolIn s i) (lit< tt) u h) ∙ q) h
       go (suc (suc zero)) k c =
           let a : arity s i ≡ countIn s i = rw k in
-          sum-at s i (countIn s i) e (sound-count s i sound-here (rw k)) (sound-sum s i b room sound-here k) (rw a at m)
+          sum-at s i (countIn s i) e (markIn s i) (mark-lt s i b) (sound-count s i sound-here (rw k)) (sound-sum s i b room sound-here k) (rw a at m)
       go (suc (suc (suc zero))) k c =
           let a : arity s i ≡ countIn s i = rw k in
-          product-at s i (countIn s i) e (sound-count s i sound-here (rw k)) (sound-product s i b room sound-here k) (rw a at m)
+          product-at s i (countIn s i) e (markIn s i) (mark-lt s i b) (sound-count s i sound-here (rw k)) (sound-product s i b room sound-here k) (rw a at m)
       go (suc (suc (suc (suc zero)))) k c =
           let a : arity s i ≡ 2 = rw k in
           power-at i e u v k (m .trees) (m .wf) (m .counted ∙ a) (m .size) (m .stands)

@@ -11,8 +11,8 @@ use Rattle.paper.proofs.Congruence.{Agree}
 use Rattle.paper.proofs.Value.{exact}
 use Rattle.paper.proofs.KeptLaws.{value-of-exact}
 
-module _ (k : List Tree → Tried) where
-  pub on-sum-good : ((μ : ℕ) (f : Forest) → WF (sum μ f) → GoodAnswer (sum μ f) (k (toList f))) → (t : Tree) → WF t → GoodAnswer t (onSumMembers k t)
+module _ (k : ℕ → List Tree → Tried) where
+  pub on-sum-good : ((μ : ℕ) (f : Forest) → WF (sum μ f) → GoodAnswer (sum μ f) (k μ (toList f))) → (t : Tree) → WF t → GoodAnswer t (onSumMembers k t)
   unfolding onSumMembers
   on-sum-good h (integer μ z) w = tt
   on-sum-good h (symbol μ s) w = tt
@@ -20,7 +20,7 @@ module _ (k : List Tree → Tried) where
   on-sum-good h (product μ f) w = tt
   on-sum-good h (power μ b ξ e) w = tt
 
-  pub on-product-good : ((μ : ℕ) (f : Forest) → WF (product μ f) → GoodAnswer (product μ f) (k (toList f))) → (t : Tree) → WF t
+  pub on-product-good : ((μ : ℕ) (f : Forest) → WF (product μ f) → GoodAnswer (product μ f) (k μ (toList f))) → (t : Tree) → WF t
       → GoodAnswer t (onProductMembers k t)
   unfolding onProductMembers
   on-product-good h (integer μ z) w = tt

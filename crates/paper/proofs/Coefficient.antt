@@ -26,13 +26,13 @@ all-others (product μ f ∷ l) e = ap (λ m. product μ f ∷ m) (all-others l 
 all-others (power μ b ξ n ∷ l) e = ap (λ m. power μ b ξ n ∷ m) (all-others l e)
 
 -- "or 1 and itself if it has no integer member"
-pub no-integer-itself : (μ : ℕ) (f : Forest) → WF (product μ f) → integersOf (toList f) ≡ [] → termOf (product μ f) ≡ term (pos 1) (product μ f)
+pub no-integer-itself : (μ : ℕ) (f : Forest) → WF (product μ f) → integersOf (toList f) ≡ [] → termOf (product μ f) ≡ term μ (pos 1) (product μ f)
 unfolding termOf productTerm term timesEach unit productOf
 no-integer-itself μ f w e =
-    let itself : productOf (othersOf (toList f)) ≡ product μ f =
-    ap productOf (all-others (toList f) e)
-    ∙ collapse-none (integer 0 (pos 1)) (product 0) (toList f) (omega (arith, count-list f, w .0))
-    ∙ ap (product 0) (of-to-list f) ∙ ap (λ m. product m f) (sym (w .2)) in
+    let itself : productOf μ (othersOf (toList f)) ≡ product μ f =
+    ap (productOf μ) (all-others (toList f) e)
+    ∙ collapse-none (integer μ (pos 1)) (product μ) (toList f) (omega (arith, count-list f, w .0))
+    ∙ ap (product μ) (of-to-list f) in
     rw (e, itself) refl
 
 -- ---- no tree of the list is an integer
@@ -49,11 +49,11 @@ others-none (sum μ f ∷ l) = (refl, others-none l)
 others-none (product μ f ∷ l) = (refl, others-none l)
 others-none (power μ b ξ n ∷ l) = (refl, others-none l)
 
-productOf-integer : (l : List Tree) → NoIntegers l → (z : ℤ) → asInteger (productOf l) ≡ some z → z ≡ pos 1
+productOf-integer : (μ : ℕ) (l : List Tree) → NoIntegers l → (z : ℤ) → asInteger (productOf μ l) ≡ some z → z ≡ pos 1
 unfolding productOf collapse asInteger
-productOf-integer [] h z e = sym (Option·some-injective (pos 1) z e)
-productOf-integer (t ∷ []) h z e = absurd (Option·none-ne-some z (sym (h .0) ∙ e))
-productOf-integer (t ∷ u ∷ l) h z e = absurd (Option·none-ne-some z e)
+productOf-integer μ [] h z e = sym (Option·some-injective (pos 1) z e)
+productOf-integer μ (t ∷ []) h z e = absurd (Option·none-ne-some z (sym (h .0) ∙ e))
+productOf-integer μ (t ∷ u ∷ l) h z e = absurd (Option·none-ne-some z e)
 
 -- a rest is never an integer but 1
 pub rest-integer : (t : Tree) (z : ℤ) → asInteger (termOf t .rest) ≡ some z → z ≡ pos 1
@@ -61,5 +61,5 @@ unfolding termOf term productTerm asInteger
 rest-integer (integer μ y) z e = sym (Option·some-injective (pos 1) z e)
 rest-integer (symbol μ s) z e = absurd (Option·none-ne-some z e)
 rest-integer (sum μ f) z e = absurd (Option·none-ne-some z e)
-rest-integer (product μ f) z e = productOf-integer (othersOf (toList f)) (others-none (toList f)) z e
+rest-integer (product μ f) z e = productOf-integer μ (othersOf (toList f)) (others-none (toList f)) z e
 rest-integer (power μ b ξ n) z e = absurd (Option·none-ne-some z e)

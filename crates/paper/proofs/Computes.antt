@@ -2,8 +2,8 @@
 -- every definition of that layer. They state nothing. Assumes nothing.
 use Rattle.paper.specs.Limits.{isLimit, workBytes}
 use Rattle.paper.specs.Bytes.{le, bytes, le2, le8, word, stretch}
-use Rattle.paper.specs.Tree.{toList, ofList, count, records, weight, value}
-use Rattle.paper.specs.Record.{kind, countIn, bits, symbolIn, mayTable, mayBe, stray, isNode, flaw, isFlawed, arity, weightFrom}
+use Rattle.paper.specs.Tree.{toList, ofList, count, marked, records, weight, value}
+use Rattle.paper.specs.Record.{kind, countIn, markIn, bits, symbolIn, mayTable, mayBe, stray, isNode, flaw, isFlawed, arity, weightFrom}
 use Rattle.paper.specs.Verdict.{isAccepted, recordsIn, badLength, firstFlawed, tableWeight, skip, treeEnd, isPositive, badExponent}
 use Rattle.paper.specs.Verdict.{firstBadExponent, judgeRecords, judgedTable, verdict}
 use Rattle.paper.specs.Table.{recordOf, encode, then, kindOf, readMembers, raised, readExponent, readTree, whole, treeOf}
@@ -26,7 +26,7 @@ unfolding toList ofList count records weight value word
 trees-compute = tt
 
 unfoldable pub record-computes : Unit {0}
-unfolding le le2 le8 kind countIn bits symbolIn mayTable mayBe stray isNode flaw isFlawed arity weightFrom
+unfolding le le2 le8 kind countIn markIn bits symbolIn mayTable mayBe stray isNode flaw isFlawed arity weightFrom
 record-computes = tt
 
 unfoldable pub verdict-computes : Unit {0}
@@ -45,7 +45,7 @@ equality-computes = tt
 
 unfoldable pub rules-compute : Unit {0}
 unfolding
-    equality-computes toList ofList lastOf initOf lastFirst oneRemoved Walk.thenWalk turn walk fits collapse sumOf productOf
+    equality-computes toList ofList marked lastOf initOf lastFirst oneRemoved Walk.thenWalk turn walk fits collapse sumOf productOf
     onSumMembers onProductMembers asInteger isThe unless dropAll anyOf appliesIf addZero multiplyZero multiplyOne allInRange rebuilt
     outcome combine term withInteger integersOf withOther othersOf timesOne timesEach unit productTerm termOf added addIf mergeTerms coefficientTimes timesUnless fromTerm
     combineLikeTerms factor factorOf raiseIf bothIntegers multiplyIf mergeFactors powerUnless fromFactor combineLikeFactors editionOne

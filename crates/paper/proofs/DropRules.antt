@@ -109,19 +109,19 @@ add-zero-good = record { good = on-sum-good _ members }
     zero? : Tree → Bool
     zero? = isThe (pos 0)
 
-    same : (μ : ℕ) (f : Forest) (ρ : ℕ → ℕ) → exact (sumOf (dropAll zero? (toList f))) ρ ≡ exact (sum μ f) ρ
+    same : (μ : ℕ) (f : Forest) (ρ : ℕ → ℕ) → exact (sumOf μ (dropAll zero? (toList f))) ρ ≡ exact (sum μ f) ρ
     same μ f ρ =
-        sumOf-exact (dropAll zero? (toList f)) ρ
+        sumOf-exact μ (dropAll zero? (toList f)) ρ
         ∙ dropAll-keeps zero? (total (λ t. exact t ρ)) (λ t l e. omega (arith, isThe-exact (pos 0) ρ t e)) (λ t k l h. omega (arith, h)) (toList f)
         ∙ sum-list f ρ
 
-    members : (μ : ℕ) (f : Forest) → WF (sum μ f) → GoodAnswer (sum μ f) (appliesIf (anyOf zero? (toList f)) (sumOf (dropAll zero? (toList f))))
-    members μ f w = drop-good zero? sumOf sumOf-wf sumOf-weight (sum μ f) (toList f) (wf-list f (w .1)) (omega (arith, weights-list f)) (same μ f)
+    members : (μ : ℕ) (f : Forest) → WF (sum μ f) → GoodAnswer (sum μ f) (appliesIf (anyOf zero? (toList f)) (sumOf μ (dropAll zero? (toList f))))
+    members μ f w = drop-good zero? (sumOf μ) (sumOf-wf μ (w .2)) (sumOf-weight μ) (sum μ f) (toList f) (wf-list f (w .1)) (omega (arith, weights-list f)) (same μ f)
 
 -- step 3 is a good rule
 pub multiply-zero-good : Good (record { number = 3; try = multiplyZero })
 unfolding multiplyZero exact weight word
-multiply-zero-good = record { good = on-product-good _ (λ μ f w. appliesIf-good (product μ f) _ _ (λ e. ((lit< tt, refl), kept μ f e))) }
+multiply-zero-good = record { good = on-product-good _ (λ μ f w. appliesIf-good (product μ f) _ _ (λ e. ((lit< tt, w .2), kept μ f e))) }
   where
     zero? : Tree → Bool
     zero? = isThe (pos 0)
@@ -129,7 +129,7 @@ multiply-zero-good = record { good = on-product-good _ (λ μ f w. appliesIf-goo
     same : (μ : ℕ) (f : Forest) → anyOf zero? (toList f) ≡ true → (ρ : ℕ → ℕ) → 0 ≡ exact (product μ f) ρ
     same μ f e ρ = sym (anyOf-multiplied zero? (λ t. exact t ρ) (isThe-exact (pos 0) ρ) (toList f) e) ∙ product-list f ρ
 
-    kept : (μ : ℕ) (f : Forest) → anyOf zero? (toList f) ≡ true → Kept 1 (product μ f) (integer 0 (pos 0))
+    kept : (μ : ℕ) (f : Forest) → anyOf zero? (toList f) ≡ true → Kept 1 (product μ f) (integer μ (pos 0))
     kept μ f e = kept-agree (product μ f) _ (λ ρ. agree-of (same μ f e ρ)) (omega (arith, dropAll-lighter zero? (toList f) e, weights-list f))
 
 -- step 4 is a good rule
@@ -143,12 +143,12 @@ multiply-one-good = record { good = on-product-good _ members }
     nothing : (ρ : ℕ → ℕ) (t : Tree) (l : List Tree) → one? t ≡ true → multiplied (λ t. exact t ρ) (t ∷ l) ≡ multiplied (λ t. exact t ρ) l
     nothing ρ t l e = ap (λ n. n * multiplied (λ t. exact t ρ) l) (isThe-exact (pos 1) ρ t e) ∙ omega arith
 
-    same : (μ : ℕ) (f : Forest) (ρ : ℕ → ℕ) → exact (productOf (dropAll one? (toList f))) ρ ≡ exact (product μ f) ρ
+    same : (μ : ℕ) (f : Forest) (ρ : ℕ → ℕ) → exact (productOf μ (dropAll one? (toList f))) ρ ≡ exact (product μ f) ρ
     same μ f ρ =
-        productOf-exact (dropAll one? (toList f)) ρ
+        productOf-exact μ (dropAll one? (toList f)) ρ
         ∙ dropAll-keeps one? (multiplied (λ t. exact t ρ)) (nothing ρ) (λ t k l h. ap (λ n. exact t ρ * n) h) (toList f)
         ∙ product-list f ρ
 
-    members : (μ : ℕ) (f : Forest) → WF (product μ f) → GoodAnswer (product μ f) (appliesIf (anyOf one? (toList f)) (productOf (dropAll one? (toList f))))
+    members : (μ : ℕ) (f : Forest) → WF (product μ f) → GoodAnswer (product μ f) (appliesIf (anyOf one? (toList f)) (productOf μ (dropAll one? (toList f))))
     members μ f w =
-        drop-good one? productOf productOf-wf productOf-weight (product μ f) (toList f) (wf-list f (w .1)) (omega (arith, weights-list f)) (same μ f)
+        drop-good one? (productOf μ) (productOf-wf μ (w .2)) (productOf-weight μ) (product μ f) (toList f) (wf-list f (w .1)) (omega (arith, weights-list f)) (same μ f)

@@ -18,22 +18,22 @@ use mir.Facts.{toZ-pos, toZ-neg}
 use Rattle.paper.specs.Limits.{modulus}
 use Rattle.paper.specs.Bytes.{Bytes, bytes, le2, le8, signed, word}
 use Rattle.paper.specs.Tree.{Tree, Forest, integer, symbol, sum, product, power, nil, cons, count, records, recordses, weight, weights}
-use Rattle.paper.specs.Record.{kind, countIn, bits, symbolIn}
+use Rattle.paper.specs.Record.{kind, countIn, markIn, bits, symbolIn}
 use Rattle.paper.specs.WellFormed.{InRange}
 use Rattle.paper.specs.Table.{recordOf, encode, encodes}
 use Rattle.paper.proofs.BytesLaws.{le-bytes, bytes-are-bytes, append-bytes, le2-drop, le8-drop}
 
-pub record-length : (k c v : ℕ) → length (recordOf k c v) ≡ 16
+pub record-length : (k c m v : ℕ) → length (recordOf k c m v) ≡ 16
 unfolding recordOf bytes
-record-length k c v = refl
+record-length k c m v = refl
 
 -- "A table holds records of 16 bytes, no header": a tree takes 16 bytes for each of its records
 mutual
   unfolding encode records
 
   pub encode-length : (t : Tree) → length (encode t) ≡ 16 * records t
-  encode-length (integer μ z) = record-length 0 0 (word z)
-  encode-length (symbol μ s) = record-length 1 0 s
+  encode-length (integer μ z) = record-length 0 0 μ (word z)
+  encode-length (symbol μ s) = record-length 1 0 μ s
   encode-length (sum μ f) = simp (length-append, record-length) (omega (arith, encodes-length f))
   encode-length (product μ f) = simp (length-append, record-length) (omega (arith, encodes-length f))
   encode-length (power μ b ξ e) = simp (length-append, record-length) (omega (arith, encode-length b))
@@ -71,25 +71,25 @@ unfolding count records
 count-records nil = omega arith
 count-records (cons t f) = omega (arith, records-pos t, count-records f)
 
-record-bytes : (k c v : ℕ) → k < 256 → Bytes (recordOf k c v)
+record-bytes : (k c m v : ℕ) → k < 256 → Bytes (recordOf k c m v)
 unfolding recordOf
-record-bytes k c v h =
+record-bytes k c m v h =
     let z : 0 < 256 = lit< tt in
-    (h, (z, append-bytes (bytes 2 c) _ (bytes-are-bytes 2 c) (z, (z, (z, (z, bytes-are-bytes 8 v))))))
+    (h, (z, append-bytes (bytes 2 c) _ (bytes-are-bytes 2 c) (append-bytes (bytes 2 m) _ (bytes-are-bytes 2 m) (z, (z, bytes-are-bytes 8 v)))))
 
 -- what is written is bytes
 mutual
   unfolding encode
 
   pub encode-bytes : (t : Tree) → Bytes (encode t)
-  encode-bytes (integer μ z) = record-bytes 0 0 (word z) (lit< tt)
-  encode-bytes (symbol μ s) = record-bytes 1 0 s (lit< tt)
-  encode-bytes (sum μ f) = append-bytes (recordOf 2 (count f) 0) (encodes f) (record-bytes 2 (count f) 0 (lit< tt)) (encodes-bytes f)
+  encode-bytes (integer μ z) = record-bytes 0 0 μ (word z) (lit< tt)
+  encode-bytes (symbol μ s) = record-bytes 1 0 μ s (lit< tt)
+  encode-bytes (sum μ f) = append-bytes (recordOf 2 (count f) μ 0) (encodes f) (record-bytes 2 (count f) μ 0 (lit< tt)) (encodes-bytes f)
   encode-bytes (product μ f) =
-      append-bytes (recordOf 3 (count f) 0) (encodes f) (record-bytes 3 (count f) 0 (lit< tt)) (encodes-bytes f)
+      append-bytes (recordOf 3 (count f) μ 0) (encodes f) (record-bytes 3 (count f) μ 0 (lit< tt)) (encodes-bytes f)
   encode-bytes (power μ b ξ e) =
-      append-bytes (recordOf 4 0 0) (encode b ++ recordOf 0 0 e) (record-bytes 4 0 0 (lit< tt))
-      (append-bytes (encode b) (recordOf 0 0 e) (encode-bytes b) (record-bytes 0 0 e (lit< tt)))
+      append-bytes (recordOf 4 0 μ 0) (encode b ++ recordOf 0 0 ξ e) (record-bytes 4 0 μ 0 (lit< tt))
+      (append-bytes (encode b) (recordOf 0 0 ξ e) (encode-bytes b) (record-bytes 0 0 ξ e (lit< tt)))
 
   pub encodes-bytes : (f : Forest) → Bytes (encodes f)
   encodes-bytes nil = tt
@@ -125,7 +125,7 @@ signed-in-range n h = go (ltb n (2 ^ 63)) refl
     go false e = let l : 2 ^ 63 ≤ n = ltb-false n (2 ^ 63) e in rw (signed-negative n l) (omega arith)
 
 -- the fields of a record that stands in a table
-module _ (s : List ℕ) (i k c v : ℕ) (rest : List ℕ) (e : drop (i * 16) s ≡ recordOf k c v ++ rest) where
+module _ (s : List ℕ) (i k c m v : ℕ) (rest : List ℕ) (e : drop (i * 16) s ≡ recordOf k c m v ++ rest) where
   pub kind-there : kind s i ≡ k
   unfolding kind recordOf
   kind-there = ap (λ (a : ℕ). getD s a 0) (sym (add-zero (i * 16))) ∙ sym (getD-drop (i * 16) s 0 0) ∙ ap (λ (l : List ℕ). getD l 0 0) e
@@ -133,6 +133,10 @@ module _ (s : List ℕ) (i k c v : ℕ) (rest : List ℕ) (e : drop (i * 16) s �
   pub count-there : c < 65536 → countIn s i ≡ c
   unfolding countIn recordOf bytes le2
   count-there h = sym (le2-drop (i * 16) s 2) ∙ ap (λ (l : List ℕ). le2 l 2) e ∙ le-bytes 2 c h
+
+  pub mark-there : m < 65536 → markIn s i ≡ m
+  unfolding markIn recordOf bytes le2
+  mark-there h = sym (le2-drop (i * 16) s 4) ∙ ap (λ (l : List ℕ). le2 l 4) e ∙ le-bytes 2 m h
 
   pub bits-there : v < 2 ^ 64 → bits s i ≡ v
   unfolding bits recordOf bytes le8

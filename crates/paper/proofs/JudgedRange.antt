@@ -28,12 +28,12 @@ bases-exactly z c x d p q e =
     subst (λ (f : Factor). (f .inRange ≡ true) ↔ InRange z) (Option·some-injective _ d e) (rw (p, q) (fits-exactly z))
 
 -- step 6: the sum of two exponents, for the power that comes of it
-pub exponents-exactly : (c x d : Factor) → WF (c .base) → 1 ≤ c .exponent → 1 ≤ x .exponent → c .inRange ≡ true → x .inRange ≡ true
+pub exponents-exactly : (c x d : Factor) → Mark (c .mark) → WF (c .base) → 1 ≤ c .exponent → 1 ≤ x .exponent → c .inRange ≡ true → x .inRange ≡ true
     → raiseIf true c x ≡ some d → (d .inRange ≡ true) ↔ WF (fromFactor d .0)
 unfolding raiseIf fromFactor powerUnless
-exponents-exactly c x d w m k p q e =
+exponents-exactly c x d μ w m k p q e =
     let n = c .exponent + x .exponent in
     let two : eqb n 1 ≡ false = ne-eqb n 1 (ne-of-gt (omega arith)) in
-    let both : (ltb n (2 ^ 63) ≡ true) ↔ (WF (c .base) × (1 ≤ n) × (n < 2 ^ 63) × Mark 0 × Mark 0) =
-    (λ h. (w, omega arith, ltb-true n (2 ^ 63) h, refl, refl), λ h. lt-ltb n (2 ^ 63) (h .2)) in
+    let both : (ltb n (2 ^ 63) ≡ true) ↔ (WF (c .base) × (1 ≤ n) × (n < 2 ^ 63) × Mark (c .mark) × Mark (c .mark)) =
+    (λ h. (w, omega arith, ltb-true n (2 ^ 63) h, μ, μ), λ h. lt-ltb n (2 ^ 63) (h .2)) in
     subst (λ (f : Factor). (f .inRange ≡ true) ↔ WF (fromFactor f .0)) (Option·some-injective _ d e) (rw (two, p, q) both)

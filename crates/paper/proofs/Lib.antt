@@ -6,6 +6,7 @@ pub mod EqualView
 pub mod Equality
 pub mod WalkLaws
 pub mod WFLaws
+pub mod MarkLaws
 pub mod OutcomeLaws
 pub mod AnswerLaws
 pub mod Bulk
@@ -50,6 +51,11 @@ pub mod Simplified
 pub mod DemandLaws
 pub mod Takeover
 pub mod OldMachine
+pub mod BeforeMarks
+pub mod ErasedTrees
+pub mod ErasedWalk
+pub mod ErasedRules
+pub mod Erased
 pub mod Gathering
 pub mod Coefficient
 pub mod ValueKept

@@ -18,6 +18,7 @@ use Rattle.paper.specs.Tree.{Tree, Forest, integer, symbol, sum, product
 use Rattle.paper.specs.Rules.{productOf, Factor, factor, factorOf, mergeFactors, powerUnless, fromFactor}
 use Rattle.paper.proofs.Congruence.{Agree, agree-of, agree-trans, agree-mul, agree-pow, word-mul}
 use Rattle.paper.proofs.Value.{exact, multiplied, product-list}
+use Rattle.paper.proofs.MarkLaws.{marked-exact}
 use Rattle.paper.proofs.EqualView.{equal-exact}
 use Rattle.paper.proofs.WalkLaws.{Commutes, Respects}
 use Rattle.paper.proofs.OutcomeLaws.{productOf-exact, multiplied-fold, comeOut, combine-keeps}
@@ -53,10 +54,10 @@ module _ (ρ : ℕ → ℕ) where
   factorOf-worth (power μ b ξ e) = refl
 
   -- two integers with equal exponents
-  bases-worth : {t u : Tree} {e f μ ν : ℕ} (y z : ℤ) → t ≡ integer μ y → u ≡ integer ν z → e ≡ f
-      → Agree modulus (unreduced (integer 0 (y *ℤ z)) ^ e) (unreduced t ^ e * unreduced u ^ f)
+  bases-worth : {t u : Tree} {e f μ ν : ℕ} (κ : ℕ) (y z : ℤ) → t ≡ integer μ y → u ≡ integer ν z → e ≡ f
+      → Agree modulus (unreduced (integer κ (y *ℤ z)) ^ e) (unreduced t ^ e * unreduced u ^ f)
   unfolding exact
-  bases-worth {t} {u} {e} {f} y z p q r =
+  bases-worth {t} {u} {e} {f} κ y z p q r =
       agree-trans (agree-pow e (word-mul y z)) (agree-of (mul-pow (word y) (word z) e ∙ sym (rw (p, q, r) refl)))
 
   mergeFactors-worth : (c x d : Factor) → mergeFactors c x ≡ some d → Agree modulus (worth d) (worth c * worth x)
@@ -64,7 +65,7 @@ module _ (ρ : ℕ → ℕ) where
   mergeFactors-worth c x d m = go (mergeFactors-some c x d m)
     where
       go : {d : Factor} → Merged c x d → Agree modulus (worth d) (worth c * worth x)
-      go (by-bases {y = y} {z = z} p q r) = bases-worth y z p q r
+      go (by-bases {y = y} {z = z} p q r) = bases-worth (c .mark) y z p q r
       go (by-exponents e h) =
           agree-of
           (pow-add (unreduced (c .base)) (c .exponent) (x .exponent)
@@ -75,7 +76,7 @@ module _ (ρ : ℕ → ℕ) where
   fromFactor-worth c = go (eqb (c .exponent) 1) refl
     where
       go : (b : Bool) → eqb (c .exponent) 1 ≡ b → unreduced (powerUnless b c .0) ≡ worth c
-      go true e = sym (ap (λ n. unreduced (c .base) ^ n) (eqb-true (c .exponent) 1 e) ∙ pow-one (unreduced (c .base)))
+      go true e = marked-exact (c .mark) (c .base) ρ ∙ sym (ap (λ n. unreduced (c .base) ^ n) (eqb-true (c .exponent) 1 e) ∙ pow-one (unreduced (c .base)))
       go false e = refl
 
   -- the members that come out have the product of the members that went in, modulo 2^64
@@ -90,8 +91,8 @@ module _ (ρ : ℕ → ℕ) where
 
 -- step 6 keeps the value
 pub like-factors-exact : (μ : ℕ) (f : Forest) (ρ : ℕ → ℕ)
-    → Agree modulus (exact (productOf (comeOut factorOf mergeFactors fromFactor (toList f))) ρ) (exact (product μ f) ρ)
+    → Agree modulus (exact (productOf μ (comeOut factorOf mergeFactors fromFactor (toList f))) ρ) (exact (product μ f) ρ)
 unfolding exact
 like-factors-exact μ f ρ =
-    agree-trans (agree-of (productOf-exact (comeOut factorOf mergeFactors fromFactor (toList f)) ρ))
+    agree-trans (agree-of (productOf-exact μ (comeOut factorOf mergeFactors fromFactor (toList f)) ρ))
     (agree-trans (like-factors-multiplied ρ (toList f)) (agree-of (product-list f ρ)))

@@ -14,14 +14,14 @@ use Rattle.paper.proofs.LikeFactors.{like-factors-exact}
 use Rattle.paper.proofs.LikeFactorsWF.{like-factors-wf}
 use Rattle.paper.proofs.LikeFactorsWeight.{like-factors-weight}
 
-members-good : (μ : ℕ) (f : Forest) → WF (product μ f) → GoodAnswer (product μ f) (combine productOf factorOf mergeFactors fromFactor (toList f))
+members-good : (μ : ℕ) (f : Forest) → WF (product μ f) → GoodAnswer (product μ f) (combine (productOf μ) factorOf mergeFactors fromFactor (toList f))
 unfolding weight
 members-good μ f w =
-    combine-good factorOf mergeFactors fromFactor (product μ f) productOf (toList f)
+    combine-good factorOf mergeFactors fromFactor (product μ f) (productOf μ) (toList f)
     (λ inside removed. (
-      like-factors-wf (toList f) (wf-list f (w .1)) inside,
+      like-factors-wf μ (w .2) (toList f) (wf-list f (w .1)) inside,
       kept-agree (product μ f) _ (like-factors-exact μ f)
-          (omega (arith, removed, like-factors-weight (toList f) (wf-list f (w .1)), weights-list f)),
+          (omega (arith, removed, like-factors-weight μ (toList f) (wf-list f (w .1)), weights-list f)),
     ))
 
 -- step 6 is a good rule

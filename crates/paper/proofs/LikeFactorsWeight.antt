@@ -15,6 +15,7 @@ use Rattle.paper.specs.WellFormed.{WF, WFl}
 use Rattle.paper.specs.Rules.{productOf, asInteger, Factor, factor, factorOf, bothIntegers, mergeFactors, powerUnless, fromFactor}
 use Rattle.paper.proofs.Value.{total}
 use Rattle.paper.proofs.EqualView.{Same, same-view}
+use Rattle.paper.proofs.MarkLaws.{marked-weight}
 use Rattle.paper.proofs.OutcomeLaws.{productOf-weight, walked, comeOut, combine-lowers}
 use Rattle.paper.proofs.Bulk.{atLeast, bulk, weight-bulk, bulk-pos, bulk-wf, same-integer, same-bulk}
 use Rattle.paper.proofs.MergeFactors.{timesBases, addExponents, Merged, by-bases, by-exponents, mergeFactors-some}
@@ -33,9 +34,9 @@ extra-two true = omega arith
 extra-two false = omega arith
 
 -- ---- merging
-integer-bulk : (z : ℤ) → bulk (integer 0 z) ≡ 1
+integer-bulk : (μ : ℕ) (z : ℤ) → bulk (integer μ z) ≡ 1
 unfolding bulk asInteger atLeast weight
-integer-bulk z = refl
+integer-bulk μ z = refl
 
 -- equal trees that are not both integers are none
 not-integers : {t u : Tree} → Same t u → bothIntegers (asInteger t) (asInteger u) ≡ none → 3 ≤ bulk t
@@ -61,7 +62,7 @@ unfolding cost timesBases addExponents
 mergeFactors-cost c x d m = go (mergeFactors-some c x d m)
   where
     go : {d : Factor} → Merged c x d → cost d + 1 ≤ cost c + cost x
-    go (by-bases {y = y} {z = z} p q e) = omega (arith, bulk-pos (c .base), bulk-pos (x .base), integer-bulk (y *ℤ z))
+    go (by-bases {y = y} {z = z} p q e) = omega (arith, bulk-pos (c .base), bulk-pos (x .base), integer-bulk (c .mark) (y *ℤ z))
     go (by-exponents e h) =
         let s = same-view (c .base) (x .base) e in
         omega (
@@ -84,15 +85,15 @@ unfolding fromFactor powerUnless cost extra weight
 fromFactor-cost c = go (eqb (c .exponent) 1)
   where
     go : (b : Bool) → weight (powerUnless b c .0) ≤ extra b + bulk (c .base)
-    go true = omega (arith, weight-bulk (c .base))
+    go true = omega (arith, weight-bulk (c .base), marked-weight (c .mark) (c .base))
     go false = omega (arith, weight-bulk (c .base))
 
 -- step 6 lowers the weight by at least as many as it removes
-pub like-factors-weight : (l : List Tree) → WFl l
-    → weight (productOf (comeOut factorOf mergeFactors fromFactor l)) + walked factorOf mergeFactors fromFactor l .removed ≤ 1 + total weight l
-like-factors-weight l w =
+pub like-factors-weight : (μ : ℕ) (l : List Tree) → WFl l
+    → weight (productOf μ (comeOut factorOf mergeFactors fromFactor l)) + walked factorOf mergeFactors fromFactor l .removed ≤ 1 + total weight l
+like-factors-weight μ l w =
     omega (
       arith,
-      productOf-weight (comeOut factorOf mergeFactors fromFactor l),
+      productOf-weight μ (comeOut factorOf mergeFactors fromFactor l),
       combine-lowers factorOf mergeFactors fromFactor cost factorOf-cost mergeFactors-cost fromFactor-cost l w,
     )

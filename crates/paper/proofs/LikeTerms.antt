@@ -18,6 +18,7 @@ use Rattle.paper.proofs.Congruence.{Agree, agree-refl, agree-of, agree-
 use Rattle.paper.proofs.Value.{exact, value-exact, total, multiplied, multiplied-append}
 use Rattle.paper.proofs.Value.{sum-list, product-list, list-product}
 use Rattle.paper.proofs.Tests.{eqZ-true}
+use Rattle.paper.proofs.MarkLaws.{marked-exact}
 use Rattle.paper.proofs.EqualView.{equal-exact}
 use Rattle.paper.proofs.WalkLaws.{Respects, plus-laws}
 use Rattle.paper.proofs.OutcomeLaws.{sumOf-exact, productOf-exact, total-fold, comeOut, combine-keeps}
@@ -64,10 +65,10 @@ module _ (ρ : ℕ → ℕ) where
   parted (product μ f ∷ l) = let h = parted l in rw (← h) (omega arith)
   parted (power μ b ξ e ∷ l) = let h = parted l in rw (← h) (omega arith)
 
-  productTerm-worth : (l : List Tree) → Agree modulus (worth (productTerm l)) (multiplied unreduced l)
+  productTerm-worth : (μ : ℕ) (l : List Tree) → Agree modulus (worth (productTerm μ l)) (multiplied unreduced l)
   unfolding worth productTerm unit word
-  productTerm-worth l =
-      agree-trans (agree-mul (timesEach-word unit (integersOf l)) (agree-of (productOf-exact (othersOf l) ρ)))
+  productTerm-worth μ l =
+      agree-trans (agree-mul (timesEach-word unit (integersOf l)) (agree-of (productOf-exact μ (othersOf l) ρ)))
       (agree-of (omega (arith, parted l)))
 
   termOf-worth : (t : Tree) → Agree modulus (worth (termOf t)) (unreduced t)
@@ -75,7 +76,7 @@ module _ (ρ : ℕ → ℕ) where
   termOf-worth (integer μ z) = agree-of (omega arith)
   termOf-worth (symbol μ s) = agree-of (omega arith)
   termOf-worth (sum μ f) = agree-of (omega arith)
-  termOf-worth (product μ f) = agree-trans (productTerm-worth (toList f)) (agree-of (product-list f ρ))
+  termOf-worth (product μ f) = agree-trans (productTerm-worth μ (toList f)) (agree-of (product-list f ρ))
   termOf-worth (power μ b ξ e) = agree-of (omega arith)
 
   added-worth : (c x : Term) → equal (c .rest) (x .rest) ≡ true → Agree modulus (worth (added c x)) (worth c + worth x)
@@ -89,29 +90,29 @@ module _ (ρ : ℕ → ℕ) where
       let m = mergeTerms-some c x d h in
       subst (λ d. Agree modulus (worth d) (worth c + worth x)) (m .1) (added-worth c x (m .0))
 
-  times-worth : (z : ℤ) (t : Tree) → Agree modulus (unreduced (coefficientTimes z t .0)) (word z * unreduced t)
+  times-worth : (μ : ℕ) (z : ℤ) (t : Tree) → Agree modulus (unreduced (coefficientTimes μ z t .0)) (word z * unreduced t)
   unfolding coefficientTimes exact ofList multiplied
-  times-worth z (integer μ y) = word-mul z y
-  times-worth z (symbol μ s) = agree-of (omega arith)
-  times-worth z (sum μ f) = agree-of (omega arith)
-  times-worth z (product μ f) =
+  times-worth μ z (integer ν y) = word-mul z y
+  times-worth μ z (symbol ν s) = agree-of (omega arith)
+  times-worth μ z (sum ν f) = agree-of (omega arith)
+  times-worth μ z (product ν f) =
       agree-of
-      (list-product (toList f ++ (integer 0 z ∷ [])) ρ
-      ∙ multiplied-append unreduced (toList f) (integer 0 z ∷ [])
+      (list-product (toList f ++ (integer μ z ∷ [])) ρ
+      ∙ multiplied-append unreduced (toList f) (integer μ z ∷ [])
       ∙ last (multiplied unreduced (toList f)) (word z)
       ∙ ap (λ n. word z * n) (product-list f ρ))
     where
       last : (a b : ℕ) → a * (b * 1) ≡ b * a
       last a b = omega arith
-  times-worth z (power μ b ξ e) = agree-of (omega arith)
+  times-worth μ z (power ν b ξ e) = agree-of (omega arith)
 
   fromTerm-worth : (c : Term) → Agree modulus (unreduced (fromTerm c .0)) (worth c)
   unfolding fromTerm timesUnless worth word
   fromTerm-worth c = go (eqZ (c .coefficient) (pos 1)) refl
     where
       go : (b : Bool) → eqZ (c .coefficient) (pos 1) ≡ b → Agree modulus (unreduced (timesUnless b c .0)) (worth c)
-      go true e = agree-of (sym (ap (λ z. word z * unreduced (c .rest)) (eqZ-true (c .coefficient) (pos 1) e) ∙ omega arith))
-      go false e = times-worth (c .coefficient) (c .rest)
+      go true e = agree-of (marked-exact (c .mark) (c .rest) ρ ∙ sym (ap (λ z. word z * unreduced (c .rest)) (eqZ-true (c .coefficient) (pos 1) e) ∙ omega arith))
+      go false e = times-worth (c .mark) (c .coefficient) (c .rest)
 
   -- the members that come out have the sum of the members that went in, modulo 2^64
   like-terms-total : (l : List Tree) → Agree modulus (total unreduced (comeOut termOf mergeTerms fromTerm l)) (total unreduced l)
@@ -122,10 +123,10 @@ module _ (ρ : ℕ → ℕ) where
       (agree-of (sym (total-fold unreduced l))))
 
 -- step 2 keeps the value
-pub like-terms-value : (μ : ℕ) (f : Forest) (ρ : ℕ → ℕ) → value (sumOf (comeOut termOf mergeTerms fromTerm (toList f))) ρ ≡ value (sum μ f) ρ
+pub like-terms-value : (μ : ℕ) (f : Forest) (ρ : ℕ → ℕ) → value (sumOf μ (comeOut termOf mergeTerms fromTerm (toList f))) ρ ≡ value (sum μ f) ρ
 unfolding exact
 like-terms-value μ f ρ =
     let out = comeOut termOf mergeTerms fromTerm (toList f) in
-    value-exact (sumOf out) ρ
-    ∙ agree-trans (agree-of (sumOf-exact out ρ)) (agree-trans (like-terms-total ρ (toList f)) (agree-of (sum-list f ρ))) .agree
+    value-exact (sumOf μ out) ρ
+    ∙ agree-trans (agree-of (sumOf-exact μ out ρ)) (agree-trans (like-terms-total ρ (toList f)) (agree-of (sum-list f ρ))) .agree
     ∙ sym (value-exact (sum μ f) ρ)

@@ -14,15 +14,15 @@ use Rattle.paper.proofs.LikeTerms.{like-terms-value}
 use Rattle.paper.proofs.LikeTermsWF.{like-terms-wf}
 use Rattle.paper.proofs.LikeTermsWeight.{like-terms-weight}
 
-members-good : (μ : ℕ) (f : Forest) → WF (sum μ f) → GoodAnswer (sum μ f) (combine sumOf termOf mergeTerms fromTerm (toList f))
+members-good : (μ : ℕ) (f : Forest) → WF (sum μ f) → GoodAnswer (sum μ f) (combine (sumOf μ) termOf mergeTerms fromTerm (toList f))
 unfolding weight
 members-good μ f w =
-    combine-good termOf mergeTerms fromTerm (sum μ f) sumOf (toList f)
+    combine-good termOf mergeTerms fromTerm (sum μ f) (sumOf μ) (toList f)
     (λ inside removed. (
-      like-terms-wf (toList f) (wf-list f (w .1)) inside,
+      like-terms-wf μ (w .2) (toList f) (wf-list f (w .1)) inside,
       record {
         value-kept = like-terms-value μ f;
-        lighter = omega (arith, removed, like-terms-weight (toList f) (wf-list f (w .1)), weights-list f);
+        lighter = omega (arith, removed, like-terms-weight μ (toList f) (wf-list f (w .1)), weights-list f);
       },
     ))
 

@@ -1,8 +1,8 @@
 -- Step 2 keeps trees well-formed. The rest of a term is well-formed all along, and its coefficient is in range where its flag says
 -- so: this holds of the terms of well-formed members, and a merge keeps it; so where the flags of the members that come out say that
 -- all are in range, all are well-formed. Assumes nothing.
-use Prim.Native.Nat.{_^_}
-use mathlib.Core.Path.{_≡_, subst, refl}
+use Prim.Native.Nat.{ℕ, _^_}
+use mathlib.Core.Path.{_≡_, subst}
 use mathlib.Core.Bool.{Bool, true, false, _&&_}
 use mathlib.Core.List.{List, [], _∷_, _++_}
 use mathlib.Core.Option.{some}
@@ -13,17 +13,19 @@ use lib.Signed.{mag}
 use lib.Dec.{lit<}
 use borrow.Author.Tests.{ltb-true}
 use Rattle.paper.specs.Tree.{Tree, integer, symbol, sum, product, power, toList, ofList, count}
-use Rattle.paper.specs.WellFormed.{InRange, WF, WFl}
+use Rattle.paper.specs.WellFormed.{InRange, Mark, WF, WFl}
 use Rattle.paper.specs.Equal.{eqZ}
 use Rattle.paper.specs.Rules.{fits, sumOf, Term, term, asInteger, withOther, othersOf, integersOf, Multiplied, timesOne, timesEach, unit, productTerm, termOf}
 use Rattle.paper.specs.Rules.{added, mergeTerms, coefficientTimes, timesUnless, fromTerm}
 use Rattle.paper.proofs.Tests.{and-left, and-right}
 use Rattle.paper.proofs.WFLaws.{wf-list, list-wf, count-list, list-count, wf-append, sumOf-wf, productOf-wf}
+use Rattle.paper.proofs.MarkLaws.{marked-wf}
 use Rattle.paper.proofs.OutcomeLaws.{comeOut, stayInRange, combine-wf}
 use Rattle.paper.proofs.LikeTerms.{mergeTerms-some}
 
--- the rest is well-formed, and the coefficient is in range where the flag says so
+-- the mark and the rest are well-formed, and the coefficient is in range where the flag says so
 pub record TermWF (c : Term) : Type 0 where
+  pub mark-wf : Mark (c .mark)
   pub rest-wf : WF (c .rest)
   pub coefficient-in-range : c .inRange ≡ true → InRange (c .coefficient)
 
@@ -32,9 +34,9 @@ unfolding fits
 fits-true z h = ltb-true (mag z) (2 ^ 63) h
 
 -- ---- splitting
-term-wf : (z : ℤ) (t : Tree) → InRange z → WF t → TermWF (term z t)
+term-wf : (μ : ℕ) (z : ℤ) (t : Tree) → Mark μ → InRange z → WF t → TermWF (term μ z t)
 unfolding term
-term-wf z t r w = record { rest-wf = w; coefficient-in-range = λ h. r }
+term-wf μ z t m r w = record { mark-wf = m; rest-wf = w; coefficient-in-range = λ h. r }
 
 one-in-range : InRange (pos 1)
 one-in-range = lit< tt
@@ -56,27 +58,29 @@ each-in-range c [] r h = r h
 each-in-range c (z ∷ l) r h =
     each-in-range (timesOne c z) l (λ k. fits-true (c .number *ℤ z) (and-right (c .inRange) _ k)) h
 
-productTerm-wf : (l : List Tree) → WFl l → TermWF (productTerm l)
+productTerm-wf : (μ : ℕ) → Mark μ → (l : List Tree) → WFl l → TermWF (productTerm μ l)
 unfolding productTerm unit
-productTerm-wf l w =
+productTerm-wf μ m l w =
     record {
-      rest-wf = productOf-wf (othersOf l) (others-wf l w);
+      mark-wf = m;
+      rest-wf = productOf-wf μ m (othersOf l) (others-wf l w);
       coefficient-in-range = each-in-range unit (integersOf l) (λ h. one-in-range);
     }
 
 pub termOf-wf : (t : Tree) → WF t → TermWF (termOf t)
 unfolding termOf
-termOf-wf (integer μ z) w = term-wf z (integer 0 (pos 1)) (w .0) (one-in-range, refl)
-termOf-wf (symbol μ s) w = term-wf (pos 1) (symbol μ s) one-in-range w
-termOf-wf (sum μ f) w = term-wf (pos 1) (sum μ f) one-in-range w
-termOf-wf (product μ f) w = productTerm-wf (toList f) (wf-list f (w .1))
-termOf-wf (power μ b ξ e) w = term-wf (pos 1) (power μ b ξ e) one-in-range w
+termOf-wf (integer μ z) w = term-wf μ z (integer 0 (pos 1)) (w .1) (w .0) (one-in-range, lit< tt)
+termOf-wf (symbol μ s) w = term-wf μ (pos 1) (symbol μ s) (w .1) one-in-range w
+termOf-wf (sum μ f) w = term-wf μ (pos 1) (sum μ f) (w .2) one-in-range w
+termOf-wf (product μ f) w = productTerm-wf μ (w .2) (toList f) (wf-list f (w .1))
+termOf-wf (power μ b ξ e) w = term-wf μ (pos 1) (power μ b ξ e) (w .3) one-in-range w
 
 -- ---- merging
 added-wf : (c x : Term) → TermWF c → TermWF (added c x)
 unfolding added
 added-wf c x q =
     record {
+      mark-wf = q .mark-wf;
       rest-wf = q .rest-wf;
       coefficient-in-range = λ h. fits-true (c .coefficient +ℤ x .coefficient) (and-right (c .inRange && x .inRange) _ h);
     }
@@ -85,34 +89,34 @@ mergeTerms-wf : (c x d : Term) → TermWF c → TermWF x → mergeTerms c x ≡ 
 mergeTerms-wf c x d q p h = subst TermWF (mergeTerms-some c x d h .1) (added-wf c x q)
 
 -- ---- putting together
-times-wf : (z : ℤ) (t : Tree) → InRange z → WF t → coefficientTimes z t .1 ≡ true → WF (coefficientTimes z t .0)
+times-wf : (μ : ℕ) (z : ℤ) (t : Tree) → Mark μ → InRange z → WF t → coefficientTimes μ z t .1 ≡ true → WF (coefficientTimes μ z t .0)
 unfolding coefficientTimes ofList count
-times-wf z (integer μ y) r w h = (fits-true (z *ℤ y) h, refl)
-times-wf z (symbol μ s) r w h = (omega arith, ((r, refl), (w, tt)), refl)
-times-wf z (sum μ f) r w h = (omega arith, ((r, refl), (w, tt)), refl)
-times-wf z (product μ f) r w h = (
+times-wf μ z (integer ν y) m r w h = (fits-true (z *ℤ y) h, m)
+times-wf μ z (symbol ν s) m r w h = (omega arith, ((r, m), (w, tt)), m)
+times-wf μ z (sum ν f) m r w h = (omega arith, ((r, m), (w, tt)), m)
+times-wf μ z (product ν f) m r w h = (
   omega (arith, list-count (toList f ++ last), length-append (toList f) last, count-list f, w .0),
-  list-wf (toList f ++ last) (wf-append (toList f) last (wf-list f (w .1)) ((r, refl), tt)),
-  refl,
+  list-wf (toList f ++ last) (wf-append (toList f) last (wf-list f (w .1)) ((r, m), tt)),
+  m,
 )
   where
     last : List Tree
-    last = integer 0 z ∷ []
-times-wf z (power μ b ξ e) r w h = (omega arith, ((r, refl), (w, tt)), refl)
+    last = integer μ z ∷ []
+times-wf μ z (power ν b ξ e) m r w h = (omega arith, ((r, m), (w, tt)), m)
 
 fromTerm-wf : (c : Term) → TermWF c → fromTerm c .1 ≡ true → WF (fromTerm c .0)
 unfolding fromTerm timesUnless
 fromTerm-wf c q h = go (eqZ (c .coefficient) (pos 1)) h
   where
     go : (b : Bool) → timesUnless b c .1 ≡ true → WF (timesUnless b c .0)
-    go true h = q .rest-wf
+    go true h = marked-wf (c .mark) (c .rest) (q .mark-wf) (q .rest-wf)
     go false h =
-        times-wf (c .coefficient) (c .rest) (q .coefficient-in-range (and-left (c .inRange) _ h)) (q .rest-wf)
+        times-wf (c .mark) (c .coefficient) (c .rest) (q .mark-wf) (q .coefficient-in-range (and-left (c .inRange) _ h)) (q .rest-wf)
         (and-right (c .inRange) _ h)
 
 -- step 2 keeps the tree well-formed, where all that comes out is in range
-pub like-terms-wf : (l : List Tree) → WFl l → stayInRange termOf mergeTerms fromTerm l
-    → WF (sumOf (comeOut termOf mergeTerms fromTerm l))
-like-terms-wf l w h =
-    sumOf-wf (comeOut termOf mergeTerms fromTerm l)
+pub like-terms-wf : (μ : ℕ) → Mark μ → (l : List Tree) → WFl l → stayInRange termOf mergeTerms fromTerm l
+    → WF (sumOf μ (comeOut termOf mergeTerms fromTerm l))
+like-terms-wf μ m l w h =
+    sumOf-wf μ m (comeOut termOf mergeTerms fromTerm l)
     (combine-wf termOf mergeTerms fromTerm TermWF termOf-wf mergeTerms-wf fromTerm-wf l w h)

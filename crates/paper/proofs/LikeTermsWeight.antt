@@ -18,6 +18,7 @@ use Rattle.paper.specs.Rules.{added, mergeTerms, coefficientTimes, times
 use Rattle.paper.proofs.Value.{total, total-append, weights-list, list-weights}
 use Rattle.paper.proofs.Bulk.{atLeast, bulk, weight-bulk, bulk-wf}
 use Rattle.paper.proofs.EqualView.{Same, s-integer, s-symbol, s-sum, s-product, s-power, same-view}
+use Rattle.paper.proofs.MarkLaws.{marked-weight}
 use Rattle.paper.proofs.OutcomeLaws.{sumOf-weight, productOf-weight, walked, comeOut, combine-lowers}
 use Rattle.paper.proofs.LikeTerms.{mergeTerms-some}
 use Rattle.paper.proofs.LikeTermsWF.{termOf-wf}
@@ -65,34 +66,34 @@ mergeTerms-cost c x d h =
     subst (λ d. cost d + 1 ≤ cost c + cost x) (m .1) (omega (arith, saved one (same-view (c .rest) (x .rest) (m .0))))
 
 -- ---- putting together: a member weighs no more than its term costs
-times-cost : (z : ℤ) (t : Tree) → weight (coefficientTimes z t .0) ≤ weight t + extra false t
+times-cost : (μ : ℕ) (z : ℤ) (t : Tree) → weight (coefficientTimes μ z t .0) ≤ weight t + extra false t
 unfolding coefficientTimes extra weight ofList total
-times-cost z (integer μ y) = omega arith
-times-cost z (symbol μ s) = omega arith
-times-cost z (sum μ f) = omega arith
-times-cost z (product μ f) = omega (arith, list-weights (toList f ++ last), total-append weight (toList f) last, weights-list f, alone)
+times-cost μ z (integer ν y) = omega arith
+times-cost μ z (symbol ν s) = omega arith
+times-cost μ z (sum ν f) = omega arith
+times-cost μ z (product ν f) = omega (arith, list-weights (toList f ++ last), total-append weight (toList f) last, weights-list f, alone)
   where
     last : List Tree
-    last = integer 0 z ∷ []
+    last = integer μ z ∷ []
 
-    alone : total weight (integer 0 z ∷ []) ≡ 1
+    alone : total weight (integer μ z ∷ []) ≡ 1
     alone = refl
-times-cost z (power μ b ξ e) = omega arith
+times-cost μ z (power ν b ξ e) = omega arith
 
 fromTerm-cost : (c : Term) → weight (fromTerm c .0) ≤ cost c
 unfolding fromTerm cost timesUnless
 fromTerm-cost c = go (eqZ (c .coefficient) (pos 1))
   where
     go : (b : Bool) → weight (timesUnless b c .0) ≤ bulk (c .rest) + extra b (c .rest)
-    go true = omega (arith, weight-bulk (c .rest))
-    go false = omega (arith, times-cost (c .coefficient) (c .rest), weight-bulk (c .rest))
+    go true = omega (arith, weight-bulk (c .rest), marked-weight (c .mark) (c .rest))
+    go false = omega (arith, times-cost (c .mark) (c .coefficient) (c .rest), weight-bulk (c .rest))
 
-productOf-extra : (b : Bool) (l : List Tree) → weight (productOf l) + extra b (productOf l) ≤ 2 + total weight l
+productOf-extra : (b : Bool) (μ : ℕ) (l : List Tree) → weight (productOf μ l) + extra b (productOf μ l) ≤ 2 + total weight l
 unfolding productOf collapse total weight ofList extra
-productOf-extra b [] = omega (arith, extra-integer b 0 (pos 1))
-productOf-extra b (t ∷ []) = omega (arith, extra-two b t)
-productOf-extra true (t ∷ u ∷ l) = omega (arith, list-weights l)
-productOf-extra false (t ∷ u ∷ l) = omega (arith, list-weights l)
+productOf-extra b μ [] = omega (arith, extra-integer b μ (pos 1))
+productOf-extra b μ (t ∷ []) = omega (arith, extra-two b t)
+productOf-extra true μ (t ∷ u ∷ l) = omega (arith, list-weights l)
+productOf-extra false μ (t ∷ u ∷ l) = omega (arith, list-weights l)
 
 -- an integer weighs 1
 pub parted-weight : (l : List Tree) → length (integersOf l) + total weight (othersOf l) ≡ total weight l
@@ -105,18 +106,18 @@ parted-weight (product μ f ∷ l) = omega (arith, parted-weight l)
 parted-weight (power μ b ξ e ∷ l) = omega (arith, parted-weight l)
 
 -- with no integer the coefficient is 1 and adds nothing; else an integer pays for it
-productTerm-cost : (l : List Tree) → WF (productTerm l .rest) → cost (productTerm l) ≤ 1 + total weight l
+productTerm-cost : (μ : ℕ) (l : List Tree) → WF (productTerm μ l .rest) → cost (productTerm μ l) ≤ 1 + total weight l
 unfolding productTerm cost timesEach unit extra eqZ
-productTerm-cost l w = go (integersOf l) (parted-weight l)
+productTerm-cost μ l w = go (integersOf l) (parted-weight l)
   where
     rest : Tree
-    rest = productOf (othersOf l)
+    rest = productOf μ (othersOf l)
 
     go : (is : List ℤ) → length is + total weight (othersOf l) ≡ total weight l
         → bulk rest + extra (eqZ (timesEach unit is .number) (pos 1)) rest ≤ 1 + total weight l
-    go [] h = omega (arith, bulk-wf rest w, productOf-weight (othersOf l))
+    go [] h = omega (arith, bulk-wf rest w, productOf-weight μ (othersOf l))
     go (z ∷ is) h =
-        omega (arith, bulk-wf rest w, productOf-extra (eqZ (timesEach unit (z ∷ is) .number) (pos 1)) (othersOf l))
+        omega (arith, bulk-wf rest w, productOf-extra (eqZ (timesEach unit (z ∷ is) .number) (pos 1)) μ (othersOf l))
 
 termOf-cost : (t : Tree) → WF t → cost (termOf t) ≤ weight t
 unfolding termOf cost term eqZ bulk atLeast asInteger extra weight
@@ -124,15 +125,15 @@ termOf-cost (integer μ z) w = omega (arith, extra-integer (eqZ z (pos 1)) 0 (po
 termOf-cost (symbol μ s) w = omega arith
 termOf-cost (sum μ f) w = omega (arith, bulk-wf (sum μ f) w)
 termOf-cost (product μ f) w =
-    omega (arith, productTerm-cost (toList f) (termOf-wf (product μ f) w .rest-wf), weights-list f)
+    omega (arith, productTerm-cost μ (toList f) (termOf-wf (product μ f) w .rest-wf), weights-list f)
 termOf-cost (power μ b ξ e) w = omega (arith, bulk-wf (power μ b ξ e) w)
 
 -- step 2 lowers the weight by at least as many as it removes
-pub like-terms-weight : (l : List Tree) → WFl l
-    → weight (sumOf (comeOut termOf mergeTerms fromTerm l)) + walked termOf mergeTerms fromTerm l .removed ≤ 1 + total weight l
-like-terms-weight l w =
+pub like-terms-weight : (μ : ℕ) (l : List Tree) → WFl l
+    → weight (sumOf μ (comeOut termOf mergeTerms fromTerm l)) + walked termOf mergeTerms fromTerm l .removed ≤ 1 + total weight l
+like-terms-weight μ l w =
     omega (
       arith,
-      sumOf-weight (comeOut termOf mergeTerms fromTerm l),
+      sumOf-weight μ (comeOut termOf mergeTerms fromTerm l),
       combine-lowers termOf mergeTerms fromTerm cost termOf-cost mergeTerms-cost fromTerm-cost l w,
     )

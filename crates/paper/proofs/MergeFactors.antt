@@ -13,11 +13,12 @@ use Rattle.paper.specs.Rules.{asInteger, fits, Factor, raiseIf, bothInte
 
 -- what c becomes where it takes up x, by either way
 unfoldable pub timesBases : Factor → Factor → ℤ → Factor
-timesBases c x z = record { base = integer 0 z; exponent = c .exponent; inRange = c .inRange && x .inRange && fits z }
+timesBases c x z = record { mark = c .mark; base = integer (c .mark) z; exponent = c .exponent; inRange = c .inRange && x .inRange && fits z }
 
 unfoldable pub addExponents : Factor → Factor → Factor
 addExponents c x =
     record {
+      mark = c .mark;
       base = c .base;
       exponent = c .exponent + x .exponent;
       inRange = c .inRange && x .inRange && ltb (c .exponent + x .exponent) (2 ^ 63);

@@ -22,29 +22,29 @@ use Rattle.paper.proofs.Value.{exact, total, multiplied, list-sum, list
 use Rattle.paper.proofs.WalkLaws.{Commutes, Respects, fold, walk-keeps, walk-lowers, All, walk-all}
 
 -- ---- the collapse
-pub sumOf-exact : (l : List Tree) (ρ : ℕ → ℕ) → exact (sumOf l) ρ ≡ total (λ t. exact t ρ) l
+pub sumOf-exact : (μ : ℕ) (l : List Tree) (ρ : ℕ → ℕ) → exact (sumOf μ l) ρ ≡ total (λ t. exact t ρ) l
 unfolding exact total sumOf collapse word ofList
-sumOf-exact [] ρ = refl
-sumOf-exact (t ∷ []) ρ = omega arith
-sumOf-exact (t ∷ u ∷ l) ρ = rw (list-sum l ρ)
+sumOf-exact μ [] ρ = refl
+sumOf-exact μ (t ∷ []) ρ = omega arith
+sumOf-exact μ (t ∷ u ∷ l) ρ = rw (list-sum l ρ)
 
-pub productOf-exact : (l : List Tree) (ρ : ℕ → ℕ) → exact (productOf l) ρ ≡ multiplied (λ t. exact t ρ) l
+pub productOf-exact : (μ : ℕ) (l : List Tree) (ρ : ℕ → ℕ) → exact (productOf μ l) ρ ≡ multiplied (λ t. exact t ρ) l
 unfolding exact multiplied productOf collapse word ofList
-productOf-exact [] ρ = refl
-productOf-exact (t ∷ []) ρ = omega arith
-productOf-exact (t ∷ u ∷ l) ρ = rw (list-product l ρ)
+productOf-exact μ [] ρ = refl
+productOf-exact μ (t ∷ []) ρ = omega arith
+productOf-exact μ (t ∷ u ∷ l) ρ = rw (list-product l ρ)
 
-pub sumOf-weight : (l : List Tree) → weight (sumOf l) ≤ 1 + total weight l
+pub sumOf-weight : (μ : ℕ) (l : List Tree) → weight (sumOf μ l) ≤ 1 + total weight l
 unfolding weight total sumOf collapse ofList
-sumOf-weight [] = omega arith
-sumOf-weight (t ∷ []) = omega arith
-sumOf-weight (t ∷ u ∷ l) = omega (arith, list-weights l)
+sumOf-weight μ [] = omega arith
+sumOf-weight μ (t ∷ []) = omega arith
+sumOf-weight μ (t ∷ u ∷ l) = omega (arith, list-weights l)
 
-pub productOf-weight : (l : List Tree) → weight (productOf l) ≤ 1 + total weight l
+pub productOf-weight : (μ : ℕ) (l : List Tree) → weight (productOf μ l) ≤ 1 + total weight l
 unfolding weight total productOf collapse ofList
-productOf-weight [] = omega arith
-productOf-weight (t ∷ []) = omega arith
-productOf-weight (t ∷ u ∷ l) = omega (arith, list-weights l)
+productOf-weight μ [] = omega arith
+productOf-weight μ (t ∷ []) = omega arith
+productOf-weight μ (t ∷ u ∷ l) = omega (arith, list-weights l)
 
 -- ---- totals and products as folds
 pub total-fold : (g : Tree → ℕ) (l : List Tree) → total g l ≡ fold _+_ 0 g l

@@ -9,17 +9,18 @@ use lib.IntN.{pos}
 use lib.Dec.{eqb, ltb}
 use borrow.Author.Tests.{eqb-true, ltb-true}
 use Rattle.paper.specs.Bytes.{word}
-use Rattle.paper.specs.Tree.{Tree, integer, symbol, sum, product, power, weight}
-use Rattle.paper.specs.WellFormed.{WF}
+use Rattle.paper.specs.Tree.{Tree, integer, symbol, sum, product, power, marked, weight}
+use Rattle.paper.specs.WellFormed.{Mark, WF}
 use Rattle.paper.specs.Equal.{eqZ}
 use Rattle.paper.specs.Rules.{Tried, asInteger, isThe, appliesIf, onPowerParts, powerOne, powerConstant, raisedIf, powerPower}
 use Rattle.paper.specs.Good.{Kept, GoodAnswer, Good}
 use Rattle.paper.proofs.Tests.{never, eqZ-true}
 use Rattle.paper.proofs.Congruence.{agree-of}
 use Rattle.paper.proofs.Value.{exact}
+use Rattle.paper.proofs.MarkLaws.{marked-exact, marked-weight, marked-wf}
 use Rattle.paper.proofs.AnswerLaws.{kept-agree}
 
-on-power-good : (k : Tree → ℕ → Tried) → ((μ : ℕ) (b : Tree) (ξ e : ℕ) → WF (power μ b ξ e) → GoodAnswer (power μ b ξ e) (k b e))
+on-power-good : (k : ℕ → Tree → ℕ → ℕ → Tried) → ((μ : ℕ) (b : Tree) (ξ e : ℕ) → WF (power μ b ξ e) → GoodAnswer (power μ b ξ e) (k μ b ξ e))
     → (t : Tree) → WF t → GoodAnswer t (onPowerParts k t)
 unfolding onPowerParts
 on-power-good k h (integer μ z) w = tt
@@ -88,28 +89,31 @@ power-constant-good =
       good =
           on-power-good _
           (λ μ b ξ e w.
-          applies-good (power μ b ξ e) b (isThe (pos 0) b || isThe (pos 1) b)
-          (λ h. (w .0, kept-agree (power μ b ξ e) b (λ ρ. agree-of (constant b e (w .1) h ρ)) (omega arith))));
+          applies-good (power μ b ξ e) (marked μ b) (isThe (pos 0) b || isThe (pos 1) b)
+          (λ h. (
+            marked-wf μ b (w .3) (w .0),
+            kept-agree (power μ b ξ e) (marked μ b) (λ ρ. agree-of (marked-exact μ b ρ ∙ constant b e (w .1) h ρ)) (omega (arith, marked-weight μ b)),
+          )));
     }
 
 -- ---- step 9
-raised-good : (μ ν : ℕ) (b : Tree) (ζ e ξ f : ℕ) → WF b → 1 ≤ e → 1 ≤ f → (x : Bool) → ltb (e * f) (2 ^ 63) ≡ x
-    → GoodAnswer (power μ (power ν b ζ e) ξ f) (raisedIf x b (e * f))
+raised-good : (μ ν : ℕ) (b : Tree) (ζ e ξ f : ℕ) → Mark μ → Mark ξ → WF b → 1 ≤ e → 1 ≤ f → (x : Bool) → ltb (e * f) (2 ^ 63) ≡ x
+    → GoodAnswer (power μ (power ν b ζ e) ξ f) (raisedIf x μ b ξ (e * f))
 unfolding raisedIf exact weight
-raised-good μ ν b ζ e ξ f w p q true h = (
-  (w, mul-pos p q, ltb-true (e * f) (2 ^ 63) h, refl, refl),
-  kept-agree (power μ (power ν b ζ e) ξ f) (power 0 b 0 (e * f)) (λ ρ. agree-of (power-power (exact b ρ) e f)) (omega arith),
+raised-good μ ν b ζ e ξ f m n w p q true h = (
+  (w, mul-pos p q, ltb-true (e * f) (2 ^ 63) h, m, n),
+  kept-agree (power μ (power ν b ζ e) ξ f) (power μ b ξ (e * f)) (λ ρ. agree-of (power-power (exact b ρ) e f)) (omega arith),
 )
-raised-good μ ν b ζ e ξ f w p q false h = tt
+raised-good μ ν b ζ e ξ f m n w p q false h = tt
 
 pub power-power-good : Good (record { number = 9; try = powerPower })
 unfolding powerPower onPowerParts
 power-power-good = record { good = on-power-good _ inner }
   where
     inner : (μ : ℕ) (b : Tree) (ξ f : ℕ) → WF (power μ b ξ f)
-        → GoodAnswer (power μ b ξ f) (onPowerParts (λ c e. raisedIf (ltb (e * f) (2 ^ 63)) c (e * f)) b)
+        → GoodAnswer (power μ b ξ f) (onPowerParts (λ ν c ζ e. raisedIf (ltb (e * f) (2 ^ 63)) μ c ξ (e * f)) b)
     inner μ (integer ν z) ξ f w = tt
     inner μ (symbol ν s) ξ f w = tt
     inner μ (sum ν g) ξ f w = tt
     inner μ (product ν g) ξ f w = tt
-    inner μ (power ν c ζ e) ξ f w = raised-good μ ν c ζ e ξ f (w .0 .0) (w .0 .1) (w .1) (ltb (e * f) (2 ^ 63)) refl
+    inner μ (power ν c ζ e) ξ f w = raised-good μ ν c ζ e ξ f (w .3) (w .4) (w .0 .0) (w .0 .1) (w .1) (ltb (e * f) (2 ^ 63)) refl

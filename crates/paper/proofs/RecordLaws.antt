@@ -11,7 +11,7 @@ use lib.Dec.{eqb, ltb, lit<}
 use lib.ListN.{length, getD, drop}
 use lib.Seq.{drop-cons}
 use Rattle.paper.specs.Bytes.{Bytes, le, bytes, le2, le8}
-use Rattle.paper.specs.Record.{kind, countIn, bits, symbolIn, mayTable, mayBe, stray, isNode, Flaw, sound, bad-kind, bad-byte}
+use Rattle.paper.specs.Record.{kind, countIn, markIn, bits, symbolIn, mayTable, mayBe, stray, isNode, Flaw, sound, bad-kind, bad-byte}
 use Rattle.paper.specs.Record.{bad-count, flaw, isFlawed}
 use Rattle.paper.specs.Verdict.{isPositive}
 use Rattle.paper.specs.Table.{recordOf}
@@ -28,6 +28,10 @@ count-lt s i b = le2-lt s (i * 16 + 2) b
 pub bits-lt : (s : List ℕ) (i : ℕ) → Bytes s → bits s i < 2 ^ 64
 unfolding bits
 bits-lt s i b = le8-lt s (i * 16 + 8) b
+
+pub mark-lt : (s : List ℕ) (i : ℕ) → Bytes s → markIn s i < 65536
+unfolding markIn
+mark-lt s i b = le2-lt s (i * 16 + 4) b
 
 pub symbol-lt : (s : List ℕ) (i : ℕ) → Bytes s → symbolIn s i < 256
 unfolding symbolIn
@@ -88,14 +92,14 @@ module _ (s : List ℕ) (i : ℕ) (h : flaw s i ≡ sound) where
   pub sound-count : isNode (kind s i) ≡ true → 2 ≤ countIn s i
   sound-count e = ltb-false (countIn s i) 2 (and-false (isNode (kind s i)) (ltb (countIn s i) 2) e (tests .2))
 
--- bytes 1 and 4 to 7 are zero in every kind
-padding : (k : ℕ) → k ≤ 4 → (mayBe k 1 ≡ 0) × (mayBe k 4 ≡ 0) × (mayBe k 5 ≡ 0) × (mayBe k 6 ≡ 0) × (mayBe k 7 ≡ 0)
+-- bytes 1, 6 and 7 are zero in every kind
+padding : (k : ℕ) → k ≤ 4 → (mayBe k 1 ≡ 0) × (mayBe k 6 ≡ 0) × (mayBe k 7 ≡ 0)
 unfolding mayBe mayTable
-padding zero h = (refl, refl, refl, refl, refl)
-padding (suc zero) h = (refl, refl, refl, refl, refl)
-padding (suc (suc zero)) h = (refl, refl, refl, refl, refl)
-padding (suc (suc (suc zero))) h = (refl, refl, refl, refl, refl)
-padding (suc (suc (suc (suc zero)))) h = (refl, refl, refl, refl, refl)
+padding zero h = (refl, refl, refl)
+padding (suc zero) h = (refl, refl, refl)
+padding (suc (suc zero)) h = (refl, refl, refl)
+padding (suc (suc (suc zero))) h = (refl, refl, refl)
+padding (suc (suc (suc (suc zero)))) h = (refl, refl, refl)
 padding (suc (suc (suc (suc (suc k))))) h = absurd (omega arith)
 
 -- the n bytes of s from a + j on, one by one
@@ -118,6 +122,12 @@ bytes-count : (s : List ℕ) (i : ℕ) → Bytes s → bytes 2 (countIn s i) ≡
 unfolding countIn le2
 bytes-count s i b =
     let a = i * 16 + 2 in
+    bytes-le (getD s a 0 ∷ getD s (a + 1) 0 ∷ []) (byte-lt s a b, (byte-lt s (a + 1) b, tt)) ∙ simp add-assoc
+
+bytes-mark : (s : List ℕ) (i : ℕ) → Bytes s → bytes 2 (markIn s i) ≡ getD s (i * 16 + 4) 0 ∷ getD s (i * 16 + 5) 0 ∷ []
+unfolding markIn le2
+bytes-mark s i b =
+    let a = i * 16 + 4 in
     bytes-le (getD s a 0 ∷ getD s (a + 1) 0 ∷ []) (byte-lt s a b, (byte-lt s (a + 1) b, tt)) ∙ simp add-assoc
 
 bytes-bits : (s : List ℕ) (i : ℕ) → Bytes s
@@ -144,9 +154,9 @@ bytes-bits s i b =
     )
     ∙ simp add-assoc
 
--- a record without a flaw is the record of its kind, its count and its number
+-- a record without a flaw is the record of its kind, its count, its mark and its number
 pub sound-record : (s : List ℕ) (i : ℕ) → Bytes s → (i + 1) * 16 ≤ length s → flaw s i ≡ sound
-    → drop (i * 16) s ≡ recordOf (kind s i) (countIn s i) (bits s i) ++ drop ((i + 1) * 16) s
+    → drop (i * 16) s ≡ recordOf (kind s i) (countIn s i) (markIn s i) (bits s i) ++ drop ((i + 1) * 16) s
 unfolding recordOf window kind
 sound-record s i b l h =
     let a = i * 16 in
@@ -155,15 +165,13 @@ sound-record s i b l h =
     let q : a + 0 ≡ a = omega arith in
     let e : a + 0 + 16 ≡ (i + 1) * 16 = omega arith in
     let w : drop (a + 0) s ≡ window s a 0 16 ++ drop (a + 0 + 16) s = drop-window s a 0 16 (omega arith) in
-    rw (bytes-count s i b, bytes-bits s i b)
+    rw (bytes-count s i b, bytes-mark s i b, bytes-bits s i b)
     (rw (
       e,
       q,
       zero-at 1 (lit< tt) (z .0),
-      zero-at 4 (lit< tt) (z .1),
-      zero-at 5 (lit< tt) (z .2),
-      zero-at 6 (lit< tt) (z .3),
-      zero-at 7 (lit< tt) (z .4),
+      zero-at 6 (lit< tt) (z .1),
+      zero-at 7 (lit< tt) (z .2),
     ) at w)
 
 -- bytes 9 to 15 of a record of kind k must be zero
@@ -199,30 +207,30 @@ module _ (s : List ℕ) (i k : ℕ) (h : flaw s i ≡ sound) (e : kind s i ≡ k
 
 -- the record without a flaw, kind by kind
 module _ (s : List ℕ) (i : ℕ) (b : Bytes s) (l : (i + 1) * 16 ≤ length s) (h : flaw s i ≡ sound) where
-  record-of : (k c v : ℕ) → kind s i ≡ k → countIn s i ≡ c → bits s i ≡ v → Stands s i (recordOf k c v)
+  record-of : (k c v : ℕ) → kind s i ≡ k → countIn s i ≡ c → bits s i ≡ v → Stands s i (recordOf k c (markIn s i) v)
   record-of k c v p q r = record {
     after = drop ((i + 1) * 16) s;
     there = rw (p, q, r) at (sound-record s i b l h);
   }
 
-  pub sound-integer : kind s i ≡ 0 → Stands s i (recordOf 0 0 (bits s i))
+  pub sound-integer : kind s i ≡ 0 → Stands s i (recordOf 0 0 (markIn s i) (bits s i))
   unfolding mayBe mayTable
   sound-integer e = record-of 0 0 (bits s i) e (no-count s i 0 h e refl refl) refl
 
-  pub sound-symbol : kind s i ≡ 1 → Stands s i (recordOf 1 0 (symbolIn s i))
+  pub sound-symbol : kind s i ≡ 1 → Stands s i (recordOf 1 0 (markIn s i) (symbolIn s i))
   unfolding mayBe mayTable
   sound-symbol e =
       record-of 1 0 (symbolIn s i) e (no-count s i 1 h e refl refl) (one-byte s i 1 h e (refl, refl, refl, refl, refl, refl, refl))
 
-  pub sound-sum : kind s i ≡ 2 → Stands s i (recordOf 2 (countIn s i) 0)
+  pub sound-sum : kind s i ≡ 2 → Stands s i (recordOf 2 (countIn s i) (markIn s i) 0)
   unfolding mayBe mayTable
   sound-sum e = record-of 2 (countIn s i) 0 e refl (no-number s i 2 h e (refl, refl, refl, refl, refl, refl, refl) refl)
 
-  pub sound-product : kind s i ≡ 3 → Stands s i (recordOf 3 (countIn s i) 0)
+  pub sound-product : kind s i ≡ 3 → Stands s i (recordOf 3 (countIn s i) (markIn s i) 0)
   unfolding mayBe mayTable
   sound-product e = record-of 3 (countIn s i) 0 e refl (no-number s i 3 h e (refl, refl, refl, refl, refl, refl, refl) refl)
 
-  pub sound-power : kind s i ≡ 4 → Stands s i (recordOf 4 0 0)
+  pub sound-power : kind s i ≡ 4 → Stands s i (recordOf 4 0 (markIn s i) 0)
   unfolding mayBe mayTable
   sound-power e =
       record-of 4 0 0 e (no-count s i 4 h e refl refl) (no-number s i 4 h e (refl, refl, refl, refl, refl, refl, refl) refl)

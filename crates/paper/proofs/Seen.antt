@@ -36,24 +36,24 @@ exponent-word e h = omega arith
 pub see : (s : List ℕ) (i : ℕ) (t : Tree) → WF t → records t < 65536 → Stands s i (encode t) → Seen s i t
 unfolding encode records
 see s i (integer μ z) w r h =
-    an-integer (kind-there s i 0 0 (word z) (h .after) (h .there)) (bits-there s i 0 0 (word z) (h .after) (h .there) (word-lt z)) (w .0)
+    an-integer (kind-there s i 0 0 μ (word z) (h .after) (h .there)) (bits-there s i 0 0 μ (word z) (h .after) (h .there) (word-lt z)) (w .0)
 see s i (symbol μ v) w r h =
-    a-symbol (kind-there s i 1 0 v (h .after) (h .there)) (symbol-there s i 1 0 v (h .after) (h .there) (w .0)) (w .0)
+    a-symbol (kind-there s i 1 0 μ v (h .after) (h .there)) (symbol-there s i 1 0 μ v (h .after) (h .there) (w .0)) (w .0)
 see s i (sum μ f) w r h =
     let q = sum-record μ f h in
-    a-sum (kind-there s i 2 (count f) 0 (q .after) (q .there))
-    (count-there s i 2 (count f) 0 (q .after) (q .there) (omega (arith, count-records f))) (w .0) (w .1) (sum-members μ f h)
+    a-sum (kind-there s i 2 (count f) μ 0 (q .after) (q .there))
+    (count-there s i 2 (count f) μ 0 (q .after) (q .there) (omega (arith, count-records f))) (w .0) (w .1) (sum-members μ f h)
 see s i (product μ f) w r h =
     let q = product-record μ f h in
-    a-product (kind-there s i 3 (count f) 0 (q .after) (q .there))
-    (count-there s i 3 (count f) 0 (q .after) (q .there) (omega (arith, count-records f))) (w .0) (w .1) (product-members μ f h)
+    a-product (kind-there s i 3 (count f) μ 0 (q .after) (q .there))
+    (count-there s i 3 (count f) μ 0 (q .after) (q .there) (omega (arith, count-records f))) (w .0) (w .1) (product-members μ f h)
 see s i (power μ b ξ e) w r h =
     let q = power-record μ b ξ e h in
     let x = power-exponent μ b ξ e h in
     let j = i + 1 + records b in
-    a-power (kind-there s i 4 0 0 (q .after) (q .there)) (w .0) (power-base μ b ξ e h) (w .1) (w .2)
-    (subst (λ n. Stands s j (recordOf 0 0 n)) (sym (exponent-word e (w .2))) x) (kind-there s j 0 0 e (x .after) (x .there))
-    (bits-there s j 0 0 e (x .after) (x .there) (omega arith))
+    a-power (kind-there s i 4 0 μ 0 (q .after) (q .there)) (w .0) (power-base μ b ξ e h) (w .1) (w .2)
+    (subst (λ n. Stands s j (recordOf 0 0 ξ n)) (sym (exponent-word e (w .2))) x) (kind-there s j 0 0 ξ e (x .after) (x .there))
+    (bits-there s j 0 0 ξ e (x .after) (x .there) (omega arith))
 
 -- the base and the exponent of a power
 pub record SeenPower (s : List ℕ) (i : ℕ) (b : Tree) (ξ e : ℕ) : Type 0 where

@@ -41,6 +41,13 @@ flaws = record {
   no-members = refl;
   two-members = refl;
   many-members = refl;
+  marked-integer = refl;
+  marked-symbol = refl;
+  marked-sum = refl;
+  marked-product = refl;
+  marked-power = refl;
+  behind-mark = refl;
+  mark-as-bytes = refl;
   first-record = refl;
 }
 
@@ -56,6 +63,7 @@ values = record {
   product-wraps = refl;
   a-power = refl;
   power-wraps = refl;
+  marked = refl;
   as-bytes = refl;
 }
 
@@ -73,6 +81,7 @@ compares = record {
   signs = refl;
   negatives = refl;
   not-opened = refl;
+  other-marks = refl;
   as-bytes = refl;
   refused-as-bytes = refl;
 }

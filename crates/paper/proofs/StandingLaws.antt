@@ -6,12 +6,13 @@ use mathlib.Core.List.{List, _++_}
 use mathlib.Core.Option.{some}
 use native.Mathlib.Omega.{arith}
 use lib.ListN.{length}
-use Rattle.paper.specs.Record.{kind, countIn}
-use Rattle.paper.specs.Tree.{Tree, Forest, sum, product, power, nil, cons, count, records, recordses}
+use Rattle.paper.specs.Bytes.{word}
+use Rattle.paper.specs.Record.{kind, countIn, markIn}
+use Rattle.paper.specs.Tree.{Tree, Forest, integer, symbol, sum, product, power, nil, cons, count, markOf, records, recordses}
 use Rattle.paper.specs.Table.{encode, Reading, readTree}
-use Rattle.paper.proofs.EncodeLaws.{records-pos}
+use Rattle.paper.proofs.EncodeLaws.{records-pos, mark-there}
 use Rattle.paper.proofs.ReadLaws.{read-written}
-use Rattle.paper.proofs.Stands.{first-member, other-members}
+use Rattle.paper.proofs.Stands.{first-member, other-members, sum-record, product-record, power-record, power-exponent}
 use Rattle.paper.proofs.Seen.{Seen, see, an-integer, a-symbol, a-sum, a-product, a-power, SeenPower, stands-within}
 use Rattle.paper.specs.Standing.{TreeIn, TreesIn, kindNumber}
 
@@ -106,3 +107,17 @@ kind-number (a-symbol e b w) = e
 kind-number (a-sum e n c w m) = e
 kind-number (a-product e n c w m) = e
 kind-number (a-power e w m p q o y z) = e
+
+-- and so is the mark; the mark of a power's exponent stands in the record after its base
+module _ {s : List ℕ} {i : ℕ} where
+  pub mark-number : (t : Tree) → TreeIn s i t → markIn s i ≡ markOf t
+  unfolding markOf encode
+  mark-number (integer μ z) h = mark-there s i 0 0 μ (word z) (h .stands .after) (h .stands .there) (h .wf .1)
+  mark-number (symbol μ v) h = mark-there s i 1 0 μ v (h .stands .after) (h .stands .there) (h .wf .1)
+  mark-number (sum μ f) h = let q = sum-record μ f (h .stands) in mark-there s i 2 (count f) μ 0 (q .after) (q .there) (h .wf .2)
+  mark-number (product μ f) h = let q = product-record μ f (h .stands) in mark-there s i 3 (count f) μ 0 (q .after) (q .there) (h .wf .2)
+  mark-number (power μ b ξ e) h = let q = power-record μ b ξ e (h .stands) in mark-there s i 4 0 μ 0 (q .after) (q .there) (h .wf .3)
+
+  pub exponent-mark : {μ : ℕ} {b : Tree} {ξ e : ℕ} → TreeIn s i (power μ b ξ e) → markIn s (i + 1 + records b) ≡ ξ
+  exponent-mark {μ = μ} {b = b} {ξ = ξ} {e = e} h =
+      let q = power-exponent μ b ξ e (h .stands) in mark-there s (i + 1 + records b) 0 0 ξ e (q .after) (q .there) (h .wf .4)

@@ -42,36 +42,36 @@ stands-both {s} {i} p q m l h g =
     record { after = g .after; there = h .there ∙ ap (λ (x : List ℕ). p ++ x) rest ∙ sym (append-assoc p q (g .after)) }
 
 module _ {s : List ℕ} {i : ℕ} (μ : ℕ) (f : Forest) where
-  pub sum-record : Stands s i (encode (sum μ f)) → Stands s i (recordOf 2 (count f) 0)
+  pub sum-record : Stands s i (encode (sum μ f)) → Stands s i (recordOf 2 (count f) μ 0)
   unfolding encode
-  sum-record h = stands-first (recordOf 2 (count f) 0) (encodes f) h
+  sum-record h = stands-first (recordOf 2 (count f) μ 0) (encodes f) h
 
   pub sum-members : Stands s i (encode (sum μ f)) → Stands s (i + 1) (encodes f)
   unfolding encode
-  sum-members h = stands-next (recordOf 2 (count f) 0) (encodes f) h 1 (record-length 2 (count f) 0)
+  sum-members h = stands-next (recordOf 2 (count f) μ 0) (encodes f) h 1 (record-length 2 (count f) μ 0)
 
-  pub product-record : Stands s i (encode (product μ f)) → Stands s i (recordOf 3 (count f) 0)
+  pub product-record : Stands s i (encode (product μ f)) → Stands s i (recordOf 3 (count f) μ 0)
   unfolding encode
-  product-record h = stands-first (recordOf 3 (count f) 0) (encodes f) h
+  product-record h = stands-first (recordOf 3 (count f) μ 0) (encodes f) h
 
   pub product-members : Stands s i (encode (product μ f)) → Stands s (i + 1) (encodes f)
   unfolding encode
-  product-members h = stands-next (recordOf 3 (count f) 0) (encodes f) h 1 (record-length 3 (count f) 0)
+  product-members h = stands-next (recordOf 3 (count f) μ 0) (encodes f) h 1 (record-length 3 (count f) μ 0)
 
 module _ {s : List ℕ} {i : ℕ} (μ : ℕ) (b : Tree) (ξ e : ℕ) (h : Stands s i (encode (power μ b ξ e))) where
-  pub power-record : Stands s i (recordOf 4 0 0)
+  pub power-record : Stands s i (recordOf 4 0 μ 0)
   unfolding encode
-  power-record = stands-first (recordOf 4 0 0) (encode b ++ recordOf 0 0 e) h
+  power-record = stands-first (recordOf 4 0 μ 0) (encode b ++ recordOf 0 0 ξ e) h
 
-  power-members : Stands s (i + 1) (encode b ++ recordOf 0 0 e)
+  power-members : Stands s (i + 1) (encode b ++ recordOf 0 0 ξ e)
   unfolding encode
-  power-members = stands-next (recordOf 4 0 0) (encode b ++ recordOf 0 0 e) h 1 (record-length 4 0 0)
+  power-members = stands-next (recordOf 4 0 μ 0) (encode b ++ recordOf 0 0 ξ e) h 1 (record-length 4 0 μ 0)
 
   pub power-base : Stands s (i + 1) (encode b)
-  power-base = stands-first (encode b) (recordOf 0 0 e) power-members
+  power-base = stands-first (encode b) (recordOf 0 0 ξ e) power-members
 
-  pub power-exponent : Stands s (i + 1 + records b) (recordOf 0 0 e)
-  power-exponent = stands-next (encode b) (recordOf 0 0 e) power-members (records b) (encode-length b)
+  pub power-exponent : Stands s (i + 1 + records b) (recordOf 0 0 ξ e)
+  power-exponent = stands-next (encode b) (recordOf 0 0 ξ e) power-members (records b) (encode-length b)
 
 module _ {s : List ℕ} {i : ℕ} (t : Tree) (f : Forest) (h : Stands s i (encodes (cons t f))) where
   pub first-member : Stands s i (encode t)

@@ -1,7 +1,7 @@
 -- The starred examples: one table, one statement, by computation; and the bytes of example 1's result. Assumes nothing.
 use mathlib.Core.Path.{_≡_, refl}
 use mathlib.Core.List.{map}
-use Rattle.paper.specs.Examples.{exampleOne, exampleOneBytes, examples, lookalikes, edges, examplesTwo, counts, triesOf, counted, outWeight, untried, computed}
+use Rattle.paper.specs.Examples.{exampleOne, exampleOneBytes, examples, lookalikes, edges, examplesTwo, examplesMarked, examplesMarkedTwo, counts, triesOf, counted, outWeight, untried, computed}
 use Rattle.paper.specs.Rules.{editionOne, editionTwo}
 use Rattle.paper.specs.Answers.{written}
 use Rattle.paper.proofs.Computes.{table-computes, driver-computes}
@@ -30,6 +30,12 @@ at-the-edges = refl
 pub starred-two : map (λ e. computed editionTwo (e .given)) examplesTwo ≡ examplesTwo
 unfolding examplesTwo outWeight untried computed driver-computes
 starred-two = refl
+
+-- marks, in both editions
+pub starred-marks : (map (λ e. computed editionOne (e .given)) examplesMarked ≡ examplesMarked)
+    × (map (λ e. computed editionTwo (e .given)) examplesMarkedTwo ≡ examplesMarkedTwo)
+unfolding examplesMarked examplesMarkedTwo outWeight untried computed driver-computes
+starred-marks = (refl, refl)
 
 -- the tries, which the paper's examples do not name
 pub tries-counted : map (λ e. counted (e .given)) counts ≡ counts

@@ -43,24 +43,24 @@ weight-none : (s : List ℕ) (i : ℕ) → weightFrom s i 0 ≡ 0
 unfolding weightFrom
 weight-none s i = refl
 
-weight-one : (s : List ℕ) (i k c v : ℕ) → Stands s i (recordOf k c v) → weightFrom s i 1 ≡ cond (eqb k 1) 3 1
+weight-one : (s : List ℕ) (i k c m v : ℕ) → Stands s i (recordOf k c m v) → weightFrom s i 1 ≡ cond (eqb k 1) 3 1
 unfolding weightFrom
-weight-one s i k c v h = rw (kind-there s i k c v (h .after) (h .there)) (add-zero (cond (eqb k 1) 3 1))
+weight-one s i k c m v h = rw (kind-there s i k c m v (h .after) (h .there)) (add-zero (cond (eqb k 1) 3 1))
 
 -- the records of a tree weigh what the tree weighs
 mutual
   unfolding encode records weight
 
   pub weight-there : (t : Tree) (s : List ℕ) (i : ℕ) → Stands s i (encode t) → weightFrom s i (records t) ≡ weight t
-  weight-there (integer μ z) s i h = weight-one s i 0 0 (word z) h
-  weight-there (symbol μ v) s i h = weight-one s i 1 0 v h
+  weight-there (integer μ z) s i h = weight-one s i 0 0 μ (word z) h
+  weight-there (symbol μ v) s i h = weight-one s i 1 0 μ v h
   weight-there (sum μ f) s i h =
-      omega (arith, weight-both s i 1 (recordses f), weight-one s i 2 (count f) 0 (sum-record μ f h), weights-there f s (i + 1) (sum-members μ f h))
+      omega (arith, weight-both s i 1 (recordses f), weight-one s i 2 (count f) μ 0 (sum-record μ f h), weights-there f s (i + 1) (sum-members μ f h))
   weight-there (product μ f) s i h =
       omega (
         arith,
         weight-both s i 1 (recordses f),
-        weight-one s i 3 (count f) 0 (product-record μ f h),
+        weight-one s i 3 (count f) μ 0 (product-record μ f h),
         weights-there f s (i + 1) (product-members μ f h),
       )
   weight-there (power μ b ξ e) s i h =
@@ -69,9 +69,9 @@ mutual
         arith,
         weight-both s i 1 (records b + 1),
         weight-both s (i + 1) (records b) 1,
-        weight-one s i 4 0 0 (power-record μ b ξ e h),
+        weight-one s i 4 0 μ 0 (power-record μ b ξ e h),
         weight-there b s (i + 1) (power-base μ b ξ e h),
-        weight-one s (i + 1 + records b) 0 0 e (power-exponent μ b ξ e h),
+        weight-one s (i + 1 + records b) 0 0 ξ e (power-exponent μ b ξ e h),
       ))
 
   pub weights-there : (f : Forest) (s : List ℕ) (i : ℕ) → Stands s i (encodes f) → weightFrom s i (recordses f) ≡ weights f
@@ -94,25 +94,25 @@ unfolding tableWeight
 encode-weight t = rw (records-written t) (weight-there t (encode t) 0 (stands-whole (encode t)))
 
 -- the number of members of a record that stands in a table
-arity-leaf : (s : List ℕ) (i k v : ℕ) → k < 2 → Stands s i (recordOf k 0 v) → arity s i ≡ 0
+arity-leaf : (s : List ℕ) (i k m v : ℕ) → k < 2 → Stands s i (recordOf k 0 m v) → arity s i ≡ 0
 unfolding arity
-arity-leaf s i k v l h = rw (kind-there s i k 0 v (h .after) (h .there), lt-ltb k 2 l)
+arity-leaf s i k m v l h = rw (kind-there s i k 0 m v (h .after) (h .there), lt-ltb k 2 l)
 
-arity-sum : (s : List ℕ) (i c : ℕ) → c < 65536 → Stands s i (recordOf 2 c 0) → arity s i ≡ c
+arity-sum : (s : List ℕ) (i c m : ℕ) → c < 65536 → Stands s i (recordOf 2 c m 0) → arity s i ≡ c
 unfolding arity
-arity-sum s i c l h = rw (kind-there s i 2 c 0 (h .after) (h .there)) (count-there s i 2 c 0 (h .after) (h .there) l)
+arity-sum s i c m l h = rw (kind-there s i 2 c m 0 (h .after) (h .there)) (count-there s i 2 c m 0 (h .after) (h .there) l)
 
-arity-product : (s : List ℕ) (i c : ℕ) → c < 65536 → Stands s i (recordOf 3 c 0) → arity s i ≡ c
+arity-product : (s : List ℕ) (i c m : ℕ) → c < 65536 → Stands s i (recordOf 3 c m 0) → arity s i ≡ c
 unfolding arity
-arity-product s i c l h = rw (kind-there s i 3 c 0 (h .after) (h .there)) (count-there s i 3 c 0 (h .after) (h .there) l)
+arity-product s i c m l h = rw (kind-there s i 3 c m 0 (h .after) (h .there)) (count-there s i 3 c m 0 (h .after) (h .there) l)
 
-arity-power : (s : List ℕ) (i : ℕ) → Stands s i (recordOf 4 0 0) → arity s i ≡ 2
+arity-power : (s : List ℕ) (i m : ℕ) → Stands s i (recordOf 4 0 m 0) → arity s i ≡ 2
 unfolding arity
-arity-power s i h = rw (kind-there s i 4 0 0 (h .after) (h .there))
+arity-power s i m h = rw (kind-there s i 4 0 m 0 (h .after) (h .there))
 
 -- a leaf ends one record later
-pub end-leaf : (s : List ℕ) (n i k v : ℕ) → k < 2 → i < n → Stands s i (recordOf k 0 v) → treeEnd s n i ≡ i + 1
-end-leaf s n i k v l m h = end-step s n i m ∙ rw (arity-leaf s i k v l h) (skip-none s n (n - (i + 1)) (i + 1))
+pub end-leaf : (s : List ℕ) (n i k m v : ℕ) → k < 2 → i < n → Stands s i (recordOf k 0 m v) → treeEnd s n i ≡ i + 1
+end-leaf s n i k m v l u h = end-step s n i u ∙ rw (arity-leaf s i k m v l h) (skip-none s n (n - (i + 1)) (i + 1))
 
 -- the tree that stands at record i ends as many records later as it has
 mutual
@@ -120,21 +120,21 @@ mutual
 
   pub encode-end : (t : Tree) (s : List ℕ) (n i : ℕ) → Stands s i (encode t) → records t < 65536 → i + records t ≤ n
       → treeEnd s n i ≡ i + records t
-  encode-end (integer μ z) s n i h c l = end-leaf s n i 0 (word z) (lit< tt) (omega arith) h
-  encode-end (symbol μ v) s n i h c l = end-leaf s n i 1 v (lit< tt) (omega arith) h
+  encode-end (integer μ z) s n i h c l = end-leaf s n i 0 μ (word z) (lit< tt) (omega arith) h
+  encode-end (symbol μ v) s n i h c l = end-leaf s n i 1 μ v (lit< tt) (omega arith) h
   encode-end (sum μ f) s n i h c l =
       end-step s n i (omega arith)
-      ∙ rw (arity-sum s i (count f) (omega (arith, count-records f)) (sum-record μ f h))
+      ∙ rw (arity-sum s i (count f) μ (omega (arith, count-records f)) (sum-record μ f h))
       (encodes-end f s n (i + 1) (sum-members μ f h) (omega arith) (omega arith) ∙ omega arith)
   encode-end (product μ f) s n i h c l =
       end-step s n i (omega arith)
-      ∙ rw (arity-product s i (count f) (omega (arith, count-records f)) (product-record μ f h))
+      ∙ rw (arity-product s i (count f) μ (omega (arith, count-records f)) (product-record μ f h))
       (encodes-end f s n (i + 1) (product-members μ f h) (omega arith) (omega arith) ∙ omega arith)
   encode-end (power μ b ξ e) s n i h c l =
       let j : treeEnd s n (i + 1) ≡ i + 1 + records b = encode-end b s n (i + 1) (power-base μ b ξ e h) (omega arith) (omega arith) in
       end-step s n i (omega arith)
-      ∙ rw (arity-power s i (power-record μ b ξ e h), skip-more s n (i + 1) 1, j, skip-one s n (i + 1 + records b))
-      (end-leaf s n (i + 1 + records b) 0 e (lit< tt) (omega arith) (power-exponent μ b ξ e h) ∙ omega arith)
+      ∙ rw (arity-power s i μ (power-record μ b ξ e h), skip-more s n (i + 1) 1, j, skip-one s n (i + 1 + records b))
+      (end-leaf s n (i + 1 + records b) 0 ξ e (lit< tt) (omega arith) (power-exponent μ b ξ e h) ∙ omega arith)
 
   pub encodes-end : (f : Forest) (s : List ℕ) (n i : ℕ) → Stands s i (encodes f) → recordses f < 65536 → i + recordses f ≤ n
       → skip s n (n - i) (count f) i ≡ i + recordses f
@@ -157,79 +157,79 @@ or-true true = refl
 or-true false = refl
 
 -- no byte that must be zero is written with another
-clean-integer : (v : ℕ) (rest : List ℕ) → stray (recordOf 0 0 v ++ rest) 0 0 0 16 ≡ 16
+clean-integer : (m v : ℕ) (rest : List ℕ) → stray (recordOf 0 0 m v ++ rest) 0 0 0 16 ≡ 16
 unfolding recordOf bytes stray mayBe mayTable
-clean-integer v rest = simp or-true
+clean-integer m v rest = simp or-true
 
-clean-symbol : (v : ℕ) (rest : List ℕ) → v < 256 → stray (recordOf 1 0 v ++ rest) 0 1 0 16 ≡ 16
+clean-symbol : (m v : ℕ) (rest : List ℕ) → v < 256 → stray (recordOf 1 0 m v ++ rest) 0 1 0 16 ≡ 16
 unfolding recordOf bytes stray mayBe mayTable
-clean-symbol v rest h = simp (div-eq-of-lt h, or-true)
+clean-symbol m v rest h = simp (div-eq-of-lt h, or-true)
 
-clean-sum : (c : ℕ) (rest : List ℕ) → stray (recordOf 2 c 0 ++ rest) 0 2 0 16 ≡ 16
+clean-sum : (c m : ℕ) (rest : List ℕ) → stray (recordOf 2 c m 0 ++ rest) 0 2 0 16 ≡ 16
 unfolding recordOf bytes stray mayBe mayTable
-clean-sum c rest = simp or-true
+clean-sum c m rest = simp or-true
 
-clean-product : (c : ℕ) (rest : List ℕ) → stray (recordOf 3 c 0 ++ rest) 0 3 0 16 ≡ 16
+clean-product : (c m : ℕ) (rest : List ℕ) → stray (recordOf 3 c m 0 ++ rest) 0 3 0 16 ≡ 16
 unfolding recordOf bytes stray mayBe mayTable
-clean-product c rest = simp or-true
+clean-product c m rest = simp or-true
 
-clean-power : (rest : List ℕ) → stray (recordOf 4 0 0 ++ rest) 0 4 0 16 ≡ 16
+clean-power : (m : ℕ) (rest : List ℕ) → stray (recordOf 4 0 m 0 ++ rest) 0 4 0 16 ≡ 16
 unfolding recordOf bytes stray mayBe mayTable
-clean-power rest = refl
+clean-power m rest = simp or-true
 
 -- a written record has no flaw
-sound-there : (s : List ℕ) (i k c v : ℕ) (h : Stands s i (recordOf k c v)) → k ≤ 4
-    → stray (recordOf k c v ++ h .after) 0 k 0 16 ≡ 16 → (isNode k && ltb (countIn s i) 2) ≡ false → flaw s i ≡ sound
+sound-there : (s : List ℕ) (i k c m v : ℕ) (h : Stands s i (recordOf k c m v)) → k ≤ 4
+    → stray (recordOf k c m v ++ h .after) 0 k 0 16 ≡ 16 → (isNode k && ltb (countIn s i) 2) ≡ false → flaw s i ≡ sound
 unfolding flaw
-sound-there s i k c v h small clean members =
-    rw (kind-there s i k c v (h .after) (h .there), le-ltb 4 k small, stray-there s i (recordOf k c v ++ h .after) k 0 16 (h .there), clean, members)
+sound-there s i k c m v h small clean members =
+    rw (kind-there s i k c m v (h .after) (h .there), le-ltb 4 k small, stray-there s i (recordOf k c m v ++ h .after) k 0 16 (h .there), clean, members)
 
 -- a written record that is no power has no bad exponent; a written power has a good one
-no-power : (s : List ℕ) (n i k c v : ℕ) → Stands s i (recordOf k c v) → k < 4 → badExponent s n i ≡ n
+no-power : (s : List ℕ) (n i k c m v : ℕ) → Stands s i (recordOf k c m v) → k < 4 → badExponent s n i ≡ n
 unfolding badExponent
-no-power s n i k c v h l = rw (kind-there s i k c v (h .after) (h .there), ne-eqb k 4 (omega arith))
+no-power s n i k c m v h l = rw (kind-there s i k c m v (h .after) (h .there), ne-eqb k 4 (omega arith))
 
-positive-there : (s : List ℕ) (e v : ℕ) → Stands s e (recordOf 0 0 v) → 1 ≤ v → v < 2 ^ 63 → isPositive s e ≡ true
+positive-there : (s : List ℕ) (e m v : ℕ) → Stands s e (recordOf 0 0 m v) → 1 ≤ v → v < 2 ^ 63 → isPositive s e ≡ true
 unfolding isPositive
-positive-there s e v h l m =
-    rw (kind-there s e 0 0 v (h .after) (h .there), bits-there s e 0 0 v (h .after) (h .there) (omega arith), lt-ltb 0 v l, lt-ltb v (2 ^ 63) m)
+positive-there s e m v h l u =
+    rw (kind-there s e 0 0 m v (h .after) (h .there), bits-there s e 0 0 m v (h .after) (h .there) (omega arith), lt-ltb 0 v l, lt-ltb v (2 ^ 63) u)
 
-good-power : (s : List ℕ) (n i e : ℕ) → Stands s i (recordOf 4 0 0) → treeEnd s n (i + 1) ≡ e → isPositive s e ≡ true → badExponent s n i ≡ n
+good-power : (s : List ℕ) (n i e m : ℕ) → Stands s i (recordOf 4 0 m 0) → treeEnd s n (i + 1) ≡ e → isPositive s e ≡ true → badExponent s n i ≡ n
 unfolding badExponent
-good-power s n i e h q p = rw (kind-there s i 4 0 0 (h .after) (h .there), q, p) (go (ltb e n))
+good-power s n i e m h q p = rw (kind-there s i 4 0 m 0 (h .after) (h .there), q, p) (go (ltb e n))
   where
     go : (b : Bool) → cond (b && not true) e n ≡ n
     go true = refl
     go false = refl
 
-fine-integer : (s : List ℕ) (n i v : ℕ) → Stands s i (recordOf 0 0 v) → All (Fine s n) i (i + 1)
+fine-integer : (s : List ℕ) (n i m v : ℕ) → Stands s i (recordOf 0 0 m v) → All (Fine s n) i (i + 1)
 unfolding isNode
-fine-integer s n i v h =
-    all-one (Fine s n) i (sound-there s i 0 0 v h (omega arith) (clean-integer v (h .after)) refl, no-power s n i 0 0 v h (omega arith))
+fine-integer s n i m v h =
+    all-one (Fine s n) i (sound-there s i 0 0 m v h (omega arith) (clean-integer m v (h .after)) refl, no-power s n i 0 0 m v h (omega arith))
 
-fine-symbol : (s : List ℕ) (n i v : ℕ) → Stands s i (recordOf 1 0 v) → v < 256 → All (Fine s n) i (i + 1)
+fine-symbol : (s : List ℕ) (n i m v : ℕ) → Stands s i (recordOf 1 0 m v) → v < 256 → All (Fine s n) i (i + 1)
 unfolding isNode
-fine-symbol s n i v h l =
-    all-one (Fine s n) i (sound-there s i 1 0 v h (omega arith) (clean-symbol v (h .after) l) refl, no-power s n i 1 0 v h (omega arith))
+fine-symbol s n i m v h l =
+    all-one (Fine s n) i (sound-there s i 1 0 m v h (omega arith) (clean-symbol m v (h .after) l) refl, no-power s n i 1 0 m v h (omega arith))
 
-fine-sum : (s : List ℕ) (n i c : ℕ) → Stands s i (recordOf 2 c 0) → 2 ≤ c → c < 65536 → All (Fine s n) i (i + 1)
+fine-sum : (s : List ℕ) (n i c m : ℕ) → Stands s i (recordOf 2 c m 0) → 2 ≤ c → c < 65536 → All (Fine s n) i (i + 1)
 unfolding isNode
-fine-sum s n i c h l m =
-    let e : ltb (countIn s i) 2 ≡ false = rw (count-there s i 2 c 0 (h .after) (h .there) m) (le-ltb c 2 l) in
-    all-one (Fine s n) i (sound-there s i 2 c 0 h (omega arith) (clean-sum c (h .after)) e, no-power s n i 2 c 0 h (omega arith))
+fine-sum s n i c m h l u =
+    let e : ltb (countIn s i) 2 ≡ false = rw (count-there s i 2 c m 0 (h .after) (h .there) u) (le-ltb c 2 l) in
+    all-one (Fine s n) i (sound-there s i 2 c m 0 h (omega arith) (clean-sum c m (h .after)) e, no-power s n i 2 c m 0 h (omega arith))
 
-fine-product : (s : List ℕ) (n i c : ℕ) → Stands s i (recordOf 3 c 0) → 2 ≤ c → c < 65536 → All (Fine s n) i (i + 1)
+fine-product : (s : List ℕ) (n i c m : ℕ) → Stands s i (recordOf 3 c m 0) → 2 ≤ c → c < 65536 → All (Fine s n) i (i + 1)
 unfolding isNode
-fine-product s n i c h l m =
-    let e : ltb (countIn s i) 2 ≡ false = rw (count-there s i 3 c 0 (h .after) (h .there) m) (le-ltb c 2 l) in
-    all-one (Fine s n) i (sound-there s i 3 c 0 h (omega arith) (clean-product c (h .after)) e, no-power s n i 3 c 0 h (omega arith))
+fine-product s n i c m h l u =
+    let e : ltb (countIn s i) 2 ≡ false = rw (count-there s i 3 c m 0 (h .after) (h .there) u) (le-ltb c 2 l) in
+    all-one (Fine s n) i (sound-there s i 3 c m 0 h (omega arith) (clean-product c m (h .after)) e, no-power s n i 3 c m 0 h (omega arith))
 
-fine-power : (s : List ℕ) (n i e v : ℕ) → Stands s i (recordOf 4 0 0) → treeEnd s n (i + 1) ≡ e → Stands s e (recordOf 0 0 v)
+fine-power : (s : List ℕ) (n i e m y v : ℕ) → Stands s i (recordOf 4 0 m 0) → treeEnd s n (i + 1) ≡ e → Stands s e (recordOf 0 0 y v)
     → 1 ≤ v → v < 2 ^ 63 → All (Fine s n) i (i + 1)
 unfolding isNode
-fine-power s n i e v h q x l m =
+fine-power s n i e m y v h q x l u =
     all-one (Fine s n) i
-    (sound-there s i 4 0 0 h (omega arith) (clean-power (h .after)) refl, good-power s n i e h q (positive-there s e v x l m))
+    (sound-there s i 4 0 m 0 h (omega arith) (clean-power m (h .after)) refl, good-power s n i e m h q (positive-there s e y v x l u))
 
 fine-both : (s : List ℕ) (n i a b : ℕ) → All (Fine s n) i (i + a) → All (Fine s n) (i + a) (i + a + b) → All (Fine s n) i (i + (a + b))
 fine-both s n i a b f g = let q : i + (a + b) ≡ i + a + b = omega arith in rw q (all-both (Fine s n) i (i + a) (i + a + b) f g)
@@ -240,21 +240,21 @@ mutual
 
   pub fine-there : (t : Tree) (s : List ℕ) (n i : ℕ) → Stands s i (encode t) → WF t → records t < 65536 → i + records t ≤ n
       → All (Fine s n) i (i + records t)
-  fine-there (integer μ z) s n i h w c l = fine-integer s n i (word z) h
-  fine-there (symbol μ v) s n i h w c l = fine-symbol s n i v h (w .0)
+  fine-there (integer μ z) s n i h w c l = fine-integer s n i μ (word z) h
+  fine-there (symbol μ v) s n i h w c l = fine-symbol s n i μ v h (w .0)
   fine-there (sum μ f) s n i h w c l =
-      fine-both s n i 1 (recordses f) (fine-sum s n i (count f) (sum-record μ f h) (w .0) (omega (arith, count-records f)))
+      fine-both s n i 1 (recordses f) (fine-sum s n i (count f) μ (sum-record μ f h) (w .0) (omega (arith, count-records f)))
       (fines-there f s n (i + 1) (sum-members μ f h) (w .1) (omega arith) (omega arith))
   fine-there (product μ f) s n i h w c l =
-      fine-both s n i 1 (recordses f) (fine-product s n i (count f) (product-record μ f h) (w .0) (omega (arith, count-records f)))
+      fine-both s n i 1 (recordses f) (fine-product s n i (count f) μ (product-record μ f h) (w .0) (omega (arith, count-records f)))
       (fines-there f s n (i + 1) (product-members μ f h) (w .1) (omega arith) (omega arith))
   fine-there (power μ b ξ e) s n i h w c l =
       let j : treeEnd s n (i + 1) ≡ i + 1 + records b = encode-end b s n (i + 1) (power-base μ b ξ e h) (omega arith) (omega arith) in
       let k : 2 + records b ≡ 1 + (records b + 1) = omega arith in
       rw k (fine-both s n i 1 (records b + 1)
-      (fine-power s n i (i + 1 + records b) e (power-record μ b ξ e h) j (power-exponent μ b ξ e h) (w .1) (w .2))
+      (fine-power s n i (i + 1 + records b) μ ξ e (power-record μ b ξ e h) j (power-exponent μ b ξ e h) (w .1) (w .2))
       (fine-both s n (i + 1) (records b) 1 (fine-there b s n (i + 1) (power-base μ b ξ e h) (w .0) (omega arith) (omega arith))
-      (fine-integer s n (i + 1 + records b) e (power-exponent μ b ξ e h))))
+      (fine-integer s n (i + 1 + records b) ξ e (power-exponent μ b ξ e h))))
 
   pub fines-there : (f : Forest) (s : List ℕ) (n i : ℕ) → Stands s i (encodes f) → WFs f → recordses f < 65536 → i + recordses f ≤ n
       → All (Fine s n) i (i + recordses f)

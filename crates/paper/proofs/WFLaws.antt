@@ -1,13 +1,13 @@
 -- Well-formed trees and lists of members: a list of well-formed members, of any length, collapses to a well-formed tree.
 -- By cases on the list. Assumes nothing.
-use Prim.Native.Nat.{ℕ, zero, suc, _+_, _≤_, _<_}
+use Prim.Native.Nat.{ℕ, suc, _≤_}
 use mathlib.Core.Path.{_≡_, refl, ap}
 use mathlib.Core.List.{List, [], _∷_, _++_}
 use native.Mathlib.Omega.{arith}
 use lib.ListN.{length}
 use lib.Dec.{lit<}
-use Rattle.paper.specs.Tree.{Tree, Forest, integer, symbol, sum, product, power, nil, cons, count, toList, ofList}
-use Rattle.paper.specs.WellFormed.{WF, WFs, WFl}
+use Rattle.paper.specs.Tree.{Tree, Forest, sum, product, nil, cons, count, toList, ofList}
+use Rattle.paper.specs.WellFormed.{Mark, WF, WFs, WFl}
 use Rattle.paper.specs.Rules.{sumOf, productOf, collapse}
 
 -- a forest and its list
@@ -53,10 +53,10 @@ module _ (emptied : Tree) (node : Forest → Tree) (empty-wf : WF emptied) (node
   collapse-wf (t ∷ []) w = w .0
   collapse-wf (t ∷ u ∷ l) w = node-wf (ofList (t ∷ u ∷ l)) (omega (arith, list-count (t ∷ u ∷ l))) (list-wf (t ∷ u ∷ l) w)
 
-pub sumOf-wf : (l : List Tree) → WFl l → WF (sumOf l)
+pub sumOf-wf : (μ : ℕ) → Mark μ → (l : List Tree) → WFl l → WF (sumOf μ l)
 unfolding sumOf
-sumOf-wf l w = collapse-wf _ (sum 0) (lit< tt, refl) (λ f h v. (h, v, refl)) l w
+sumOf-wf μ m l w = collapse-wf _ (sum μ) (lit< tt, m) (λ f h v. (h, v, m)) l w
 
-pub productOf-wf : (l : List Tree) → WFl l → WF (productOf l)
+pub productOf-wf : (μ : ℕ) → Mark μ → (l : List Tree) → WFl l → WF (productOf μ l)
 unfolding productOf
-productOf-wf l w = collapse-wf _ (product 0) (lit< tt, refl) (λ f h v. (h, v, refl)) l w
+productOf-wf μ m l w = collapse-wf _ (product μ) (lit< tt, m) (λ f h v. (h, v, m)) l w

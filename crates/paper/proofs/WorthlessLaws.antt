@@ -89,7 +89,7 @@ one = integer 0 (pos 1)
 
 one-wf : WF one
 unfolding one
-one-wf = (lit< tt, refl)
+one-wf = (lit< tt, lit< tt)
 
 one-light : weight one ≤ 16
 unfolding one weight
@@ -100,7 +100,7 @@ difference = sum 0 (cons (symbol 0 0) (cons (product 0 (cons (integer 0 (negsuc 
 
 difference-wf : WF difference
 unfolding difference trees-compute
-difference-wf = (lit≤ tt, ((lit< tt, refl), ((lit≤ tt, ((lit< tt, refl), ((lit< tt, refl), tt)), refl), tt)), refl)
+difference-wf = (lit≤ tt, ((lit< tt, lit< tt), ((lit≤ tt, ((lit< tt, lit< tt), ((lit< tt, lit< tt), tt)), lit< tt), tt)), lit< tt)
 
 difference-light : weight difference ≤ 16
 unfolding difference weight
@@ -174,7 +174,7 @@ unfolding returnsZero trees-compute one ranAnswer
 zero-is-refused lim ed limited known k =
     let g = gives lim ed limited known one one-wf one-light (λ t. done (integer 0 (pos 0)) [] 0 0) (integer 0 (pos 0)) [] 0 0 refl in
     let x = k (encode one) (encode-bytes one) (areas lim (weight one)) (ap (λ y. y .number) (g .answer)) one (tree-of-written one one-wf (omega (arith, one-light))) in
-    let b = ap treeOf (g .bytes) ∙ tree-of-written (integer 0 (pos 0)) (lit< tt, refl) (lit< tt) in
+    let b = ap treeOf (g .bytes) ∙ tree-of-written (integer 0 (pos 0)) (lit< tt, lit< tt) (lit< tt) in
     let u : integer 0 (pos 0) ≡ x .0 = same-tree b (x .1) in
     let z : _≡_ {A = ℕ} 0 1 = ap (λ y. value y (λ n. 0)) u ∙ x .2 (λ n. 0) in omega arith
 
@@ -215,7 +215,7 @@ pass-is-refused lim ed limited known f =
     second-step = in-each ed (λ rs. ask rs once ≡ step 3 (integer 0 (pos 0))) (unfold once driver-computes in refl) (unfold once driver-computes in refl)
 
     once-wf : WF once
-    once-wf = unfold once trees-compute in (lit≤ tt, ((lit< tt, refl), ((lit< tt, refl), tt)), refl)
+    once-wf = unfold once trees-compute in (lit≤ tt, ((lit< tt, lit< tt), ((lit< tt, lit< tt), tt)), lit< tt)
 
     once-light : weight once ≤ 16
     once-light = unfold once weight in (lit≤ tt)
@@ -237,7 +237,7 @@ root-is-refused lim ed limited known f =
     base-admits (subst (AdmitsNone (rulesOf ed)) u (x .2))
   where
     inside-wf : WF inside
-    inside-wf = unfold inside twice trees-compute in ((lit≤ tt, ((lit< tt, refl), ((lit< tt, refl), tt)), refl), lit≤ tt, lit< tt, refl, refl)
+    inside-wf = unfold inside twice trees-compute in ((lit≤ tt, ((lit< tt, lit< tt), ((lit< tt, lit< tt), tt)), lit< tt), lit≤ tt, lit< tt, lit< tt, lit< tt)
 
     inside-light : weight inside ≤ 16
     inside-light = unfold inside twice weight in (lit≤ tt)
@@ -304,7 +304,7 @@ module _ (lim ed : ℕ) (limited : isLimit lim ≡ true) (known : isEdition ed �
 pub returning-zero-is-refused : (lim ed : ℕ) → isLimit lim ≡ true → isEdition ed ≡ true → (f : Simplifier) → ReturnsZero lim ed f → ¬ KeepsValue lim ed f
 unfolding one trees-compute
 returning-zero-is-refused lim ed limited known f g k =
-    let x = said-of lim ed limited known f g one (integer 0 (pos 0)) refl one-wf one-light (lit< tt, refl) (lit≤ tt) (λ t u. (ρ : ℕ → ℕ) → value u ρ ≡ value t ρ) k in
+    let x = said-of lim ed limited known f g one (integer 0 (pos 0)) refl one-wf one-light (lit< tt, lit< tt) (lit≤ tt) (λ t u. (ρ : ℕ → ℕ) → value u ρ ≡ value t ρ) k in
     let z : _≡_ {A = ℕ} 0 1 = x (λ n. 0) in omega arith
 
 module _ (lim ed : ℕ) (limited : isLimit lim ≡ true) (known : isEdition ed ≡ true) where
@@ -326,7 +326,7 @@ module _ (lim ed : ℕ) (limited : isLimit lim ≡ true) (known : isEdition ed �
       (unfold difference once firstPass driver-computes trees-compute in refl)
 
   once-wf : WF once
-  once-wf = unfold once trees-compute in (lit≤ tt, ((lit< tt, refl), ((lit< tt, refl), tt)), refl)
+  once-wf = unfold once trees-compute in (lit≤ tt, ((lit< tt, lit< tt), ((lit< tt, lit< tt), tt)), lit< tt)
 
   once-light : weight once ≤ 16
   once-light = unfold once weight in (lit≤ tt)
@@ -337,7 +337,7 @@ module _ (lim ed : ℕ) (limited : isLimit lim ≡ true) (known : isEdition ed �
       (said-of lim ed limited known f g difference once (2 ∷ [], 0, 1, passed-once) difference-wf difference-light once-wf once-light (λ t u. AdmitsNone (rulesOf ed) u) k)
 
   inside-is-wf : WF inside
-  inside-is-wf = unfold inside twice trees-compute in ((lit≤ tt, ((lit< tt, refl), ((lit< tt, refl), tt)), refl), lit≤ tt, lit< tt, refl, refl)
+  inside-is-wf = unfold inside twice trees-compute in ((lit≤ tt, ((lit< tt, lit< tt), ((lit< tt, lit< tt), tt)), lit< tt), lit≤ tt, lit< tt, lit< tt, lit< tt)
 
   inside-is-light : weight inside ≤ 16
   inside-is-light = unfold inside twice weight in (lit≤ tt)

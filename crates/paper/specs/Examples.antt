@@ -3,7 +3,7 @@
 use Prim.Native.Nat.{ℕ, _-_}
 use mathlib.Core.List.{List, [], _∷_}
 use lib.IntN.{pos, negsuc}
-use Rattle.paper.specs.Tree.{Tree, Forest, integer, symbol, sum, product, power, ofList, weight}
+use Rattle.paper.specs.Tree.{Tree, Forest, integer, symbol, sum, product, power, ofList, marked, weight}
 use Rattle.paper.specs.Rules.{Rule, editionOne}
 use Rattle.paper.specs.Driver.{Ran, done, over, simplify}
 
@@ -198,6 +198,60 @@ examplesTwo =
     ∷ gives (plus (raised (raised a 2) 3 ∷ raised (raised a 3) 2 ∷ [])) 15 (times (i 2 ∷ raised a 6 ∷ [])) (9 ∷ 9 ∷ 2 ∷ []) 0 7
     -- example 10 as in edition one: step 6 at the product comes first
     ∷ gives (times (raised (times (a ∷ b ∷ [])) 1 ∷ c ∷ c ∷ a ∷ [])) 19 (times (raised a 2 ∷ b ∷ raised c 2 ∷ [])) (6 ∷ 6 ∷ []) 1 14
+    ∷ []
+
+-- ---- "Which line of the sheet?": x # m is the tree x with the mark m at its root, `toThe b m e` the power of b to e, the exponent's record
+-- having the mark m
+abbrev _#_ : Tree → ℕ → Tree
+_#_ t m = marked m t
+
+infixl 90 _#_
+abbrev toThe : Tree → ℕ → ℕ → Tree
+toThe t m e = power 0 t m e
+
+unfoldable pub examplesMarked : List Example
+examplesMarked =
+    -- "has at its root the mark that the current member had when its turn began; its coefficient .. take the same mark"
+    gives (plus (a # 1 ∷ a # 2 ∷ []) # 9) 7 (times (i 2 # 1 ∷ a # 1 ∷ []) # 1) (2 ∷ []) 0 5
+    ∷ gives (plus (b # 3 ∷ a # 1 ∷ a # 2 ∷ []) # 9) 10 (plus (b # 3 ∷ times (i 2 # 1 ∷ a # 1 ∷ []) # 1 ∷ []) # 9) (2 ∷ []) 0 9
+    -- "merged or not": 1*a becomes a with its member's mark, and a rest keeps its own below the root
+    ∷ gives (plus (times (i 1 # 5 ∷ a # 6 ∷ []) # 4 ∷ b # 1 ∷ b # 2 ∷ []) # 9) 12 (plus (a # 4 ∷ times (i 2 # 1 ∷ b # 1 ∷ []) # 1 ∷ []) # 9) (2 ∷ []) 0 9
+    ∷ gives (plus (times (a # 6 ∷ i 2 # 5 ∷ []) # 4 ∷ b # 1 ∷ b # 2 ∷ []) # 9) 12 (plus (times (i 2 # 4 ∷ a # 6 ∷ []) # 4 ∷ times (i 2 # 1 ∷ b # 1 ∷ []) # 1 ∷ []) # 9) (2 ∷ []) 0 11
+    ∷ gives (plus (times (i 2 # 5 ∷ a # 6 ∷ []) # 4 ∷ times (a # 8 ∷ i 3 # 3 ∷ []) # 7 ∷ []) # 9) 11 (times (i 5 # 4 ∷ a # 6 ∷ []) # 4) (2 ∷ []) 0 5
+    -- the root of a sum and of a power keeps its own as well
+    ∷ gives (plus (times (i 2 # 5 ∷ plus (a # 1 ∷ b # 2 ∷ []) # 6 ∷ []) # 4 ∷ times (plus (a # 1 ∷ b # 2 ∷ []) # 7 ∷ i 3 # 3 ∷ []) # 8 ∷ []) # 9) 19 (times (i 5 # 4 ∷ plus (a # 1 ∷ b # 2 ∷ []) # 6 ∷ []) # 4) (2 ∷ []) 0 9
+    ∷ gives (plus (times (i 2 # 5 ∷ toThe (a # 1) 2 2 # 6 ∷ []) # 4 ∷ times (toThe (a # 1) 2 2 # 7 ∷ i 3 # 3 ∷ []) # 8 ∷ []) # 9) 15 (times (i 5 # 4 ∷ toThe (a # 1) 2 2 # 6 ∷ []) # 4) (2 ∷ []) 0 7
+    -- a product rest; two integers; a + (-1)*a, whose 0 is given by step 3
+    ∷ gives (plus (times (a # 1 ∷ b # 2 ∷ []) # 4 ∷ times (b # 3 ∷ a # 6 ∷ []) # 5 ∷ []) # 9) 15 (times (a # 1 ∷ b # 2 ∷ i 2 # 4 ∷ []) # 4) (2 ∷ []) 0 8
+    ∷ gives (plus (times (i 2 # 1 ∷ i 3 # 2 ∷ []) # 4 ∷ i 4 # 5 ∷ []) # 9) 5 (i 10 # 4) (2 ∷ []) 0 1
+    ∷ gives (plus (a # 1 ∷ times (minus 1 # 3 ∷ a # 4 ∷ []) # 2 ∷ []) # 9) 9 (i 0 # 1) (2 ∷ 3 ∷ []) 0 1
+    -- "A 0 or 1 that stands for an emptied node, or that step 3 .. gives, takes that node's mark. A single member that is left keeps its own"
+    ∷ gives (plus (i 0 # 1 ∷ i 0 # 2 ∷ []) # 9) 3 (i 0 # 9) (1 ∷ []) 0 1
+    ∷ gives (plus (i 0 # 1 ∷ a # 2 ∷ []) # 9) 5 (a # 2) (1 ∷ []) 0 3
+    ∷ gives (plus (a # 1 ∷ i 2 # 5 ∷ minus 2 # 6 ∷ []) # 9) 6 (a # 1) (2 ∷ 1 ∷ []) 0 3
+    ∷ gives (times (i 1 # 1 ∷ i 1 # 2 ∷ []) # 9) 3 (i 1 # 9) (4 ∷ []) 0 1
+    ∷ gives (times (i 0 # 1 ∷ a # 2 ∷ []) # 9) 5 (i 0 # 9) (3 ∷ []) 0 1
+    -- "its .. exponent, changed or not, and a multiplied base take the same mark", and a base keeps its own below the root
+    ∷ gives (times (a # 1 ∷ a # 2 ∷ []) # 9) 7 (toThe (a # 1) 1 2 # 1) (6 ∷ []) 0 5
+    ∷ gives (times (toThe (a # 2) 3 2 # 1 ∷ a # 4 ∷ []) # 9) 9 (toThe (a # 2) 1 3 # 1) (6 ∷ []) 0 5
+    ∷ gives (times (toThe (a # 2) 3 1 # 1 ∷ b # 4 ∷ b # 5 ∷ []) # 9) 12 (times (a # 1 ∷ toThe (b # 4) 4 2 # 4 ∷ []) # 9) (6 ∷ []) 0 9
+    ∷ gives (times (toThe (a # 2) 3 2 # 1 ∷ b # 4 ∷ b # 5 ∷ []) # 9) 12 (times (toThe (a # 2) 1 2 # 1 ∷ toThe (b # 4) 4 2 # 4 ∷ []) # 9) (6 ∷ []) 0 11
+    ∷ gives (times (i 2 # 1 ∷ i 3 # 2 ∷ a # 3 ∷ []) # 9) 6 (times (i 6 # 1 ∷ a # 3 ∷ []) # 9) (6 ∷ []) 0 5
+    ∷ gives (times (toThe (i 2 # 2) 3 3 # 1 ∷ toThe (i 5 # 5) 6 3 # 4 ∷ []) # 9) 7 (toThe (i 10 # 1) 1 3 # 1) (6 ∷ []) 0 3
+    ∷ gives (times (toThe (i 2 # 2) 3 3 # 1 ∷ b # 4 ∷ b # 5 ∷ []) # 9) 10 (times (toThe (i 2 # 2) 1 3 # 1 ∷ toThe (b # 4) 4 2 # 4 ∷ []) # 9) (6 ∷ []) 0 9
+    -- "An opened node's mark is lost"
+    ∷ gives (times (times (a # 2 ∷ b # 3 ∷ []) # 1 ∷ a # 4 ∷ []) # 9) 11 (times (toThe (a # 2) 2 2 # 2 ∷ b # 3 ∷ []) # 9) (6 ∷ []) 1 9
+    -- an exponent outside a walk keeps its mark
+    ∷ gives (toThe (plus (a # 3 ∷ a # 4 ∷ []) # 2) 5 2 # 1) 9 (toThe (times (i 2 # 3 ∷ a # 3 ∷ []) # 3) 5 2 # 1) (2 ∷ []) 0 7
+    ∷ []
+
+-- and those of edition two
+unfoldable pub examplesMarkedTwo : List Example
+examplesMarkedTwo =
+    -- "step 9 keeps the outer power's mark and its exponent's"; the base in step 7 keeps its own; step 8 takes the node's
+    gives (toThe (toThe (a # 3) 4 2 # 2) 5 3 # 1) 7 (toThe (a # 3) 5 6 # 1) (9 ∷ []) 0 5
+    ∷ gives (toThe (a # 2) 3 1 # 1) 5 (a # 2) (7 ∷ []) 0 3
+    ∷ gives (toThe (i 0 # 2) 3 5 # 1) 3 (i 0 # 1) (8 ∷ []) 0 1
     ∷ []
 
 -- "A try is one asking, at one node, whether any rule applies": the tries of small trees, of which the paper's examples say nothing

@@ -2,7 +2,7 @@
 -- Calls, Told; then what is asked of a simplifier: Admits, Demands, Takeover; and what the two limits have to do with each other: OldMachine.
 -- The same again, in other words or in figures, each held to it by a theorem: Refusals (1 to 6, 9 and 19 in the papers' words), Examples and Stored
 -- (trees and what the driver makes of them), Sayings, SmallTables, Bounds, Slices (small calls, limits), Worthless and WorthlessKinds
--- (simplifiers that are turned away).
+-- (simplifiers that are turned away), BeforeMarks (a machine without marks), Erased (trees without their marks).
 -- Only tools, for laws and for the code's contracts: Exact (the value with no reduction), Good (what is asked of a rule), Gathering (document
 -- 01's gathering, to be compared with), Standing (trees that stand in a table), Once (the form of the uniqueness lemmas).
 pub mod Limits
@@ -27,6 +27,8 @@ pub mod Calls
 pub mod Demands
 pub mod Takeover
 pub mod OldMachine
+pub mod BeforeMarks
+pub mod Erased
 pub mod Worthless
 pub mod Examples
 pub mod Once

@@ -14,6 +14,10 @@ kind s i = getD s (i * 16) 0
 unfoldable pub countIn : List ℕ → ℕ → ℕ
 countIn s i = le2 s (i * 16 + 2)
 
+-- "Bytes 4-5 of every record become a line mark, 0 for none."
+unfoldable pub markIn : List ℕ → ℕ → ℕ
+markIn s i = le2 s (i * 16 + 4)
+
 -- bytes 8-15, "signed integer for kind 0", as 64 bits
 unfoldable pub bits : List ℕ → ℕ → ℕ
 bits s i = le8 s (i * 16 + 8)
@@ -23,9 +27,19 @@ unfoldable pub symbolIn : List ℕ → ℕ → ℕ
 symbolIn s i = getD s (i * 16 + 8) 0
 
 -- "Which bytes of a record may be other than zero stands in one table by kind and byte. Byte 0 always may; kind 0 adds bytes
--- 8-15, kind 1 byte 8, kinds 2 and 3 bytes 2-3, kind 4 nothing."
+-- 8-15, kind 1 byte 8, kinds 2 and 3 bytes 2-3, kind 4 nothing"; and bytes 4-5 always may.
 unfoldable pub mayTable : List (List ℕ)
 mayTable =
+    (1 ∷ 0 ∷ 0 ∷ 0 ∷ 1 ∷ 1 ∷ 0 ∷ 0 ∷ 1 ∷ 1 ∷ 1 ∷ 1 ∷ 1 ∷ 1 ∷ 1 ∷ 1 ∷ [])
+    ∷ (1 ∷ 0 ∷ 0 ∷ 0 ∷ 1 ∷ 1 ∷ 0 ∷ 0 ∷ 1 ∷ 0 ∷ 0 ∷ 0 ∷ 0 ∷ 0 ∷ 0 ∷ 0 ∷ [])
+    ∷ (1 ∷ 0 ∷ 1 ∷ 1 ∷ 1 ∷ 1 ∷ 0 ∷ 0 ∷ 0 ∷ 0 ∷ 0 ∷ 0 ∷ 0 ∷ 0 ∷ 0 ∷ 0 ∷ [])
+    ∷ (1 ∷ 0 ∷ 1 ∷ 1 ∷ 1 ∷ 1 ∷ 0 ∷ 0 ∷ 0 ∷ 0 ∷ 0 ∷ 0 ∷ 0 ∷ 0 ∷ 0 ∷ 0 ∷ [])
+    ∷ (1 ∷ 0 ∷ 0 ∷ 0 ∷ 1 ∷ 1 ∷ 0 ∷ 0 ∷ 0 ∷ 0 ∷ 0 ∷ 0 ∷ 0 ∷ 0 ∷ 0 ∷ 0 ∷ [])
+    ∷ []
+
+-- the same before there were marks: "a machine without this release refuses a marked record with 2"
+unfoldable pub mayTableBefore : List (List ℕ)
+mayTableBefore =
     (1 ∷ 0 ∷ 0 ∷ 0 ∷ 0 ∷ 0 ∷ 0 ∷ 0 ∷ 1 ∷ 1 ∷ 1 ∷ 1 ∷ 1 ∷ 1 ∷ 1 ∷ 1 ∷ [])
     ∷ (1 ∷ 0 ∷ 0 ∷ 0 ∷ 0 ∷ 0 ∷ 0 ∷ 0 ∷ 1 ∷ 0 ∷ 0 ∷ 0 ∷ 0 ∷ 0 ∷ 0 ∷ 0 ∷ [])
     ∷ (1 ∷ 0 ∷ 1 ∷ 1 ∷ 0 ∷ 0 ∷ 0 ∷ 0 ∷ 0 ∷ 0 ∷ 0 ∷ 0 ∷ 0 ∷ 0 ∷ 0 ∷ 0 ∷ [])
@@ -42,7 +56,7 @@ isNode k = eqb k 2 || eqb k 3
 
 -- the same in the paper's words (proofs/MayLaws: the table says so at each of its eighty entries)
 unfoldable pub mayRule : ℕ → ℕ → Bool
-mayRule k j = eqb j 0 || (eqb k 0 && leb 8 j) || (eqb k 1 && eqb j 8) || (isNode k && (eqb j 2 || eqb j 3))
+mayRule k j = eqb j 0 || eqb j 4 || eqb j 5 || (eqb k 0 && leb 8 j) || (eqb k 1 && eqb j 8) || (isNode k && (eqb j 2 || eqb j 3))
 
 -- of the n bytes from byte j on of record i, of kind k, the lowest that is other than zero and must be zero; j + n where there is none
 unfoldable pub stray : List ℕ → ℕ → ℕ → ℕ → ℕ → ℕ

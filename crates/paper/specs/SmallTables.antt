@@ -36,13 +36,13 @@ raised t n = power 0 t 0 n
 
 -- records by themselves: of a sum and a product with n members, and of a power
 abbrev sumOf : ℕ → List ℕ
-sumOf n = recordOf 2 n 0
+sumOf n = recordOf 2 n 0 0
 
 abbrev productOf : ℕ → List ℕ
-productOf n = recordOf 3 n 0
+productOf n = recordOf 3 n 0 0
 
 abbrev aPower : List ℕ
-aPower = recordOf 4 0 0
+aPower = recordOf 4 0 0 0
 
 -- refusals 1 to 5 by number and place
 abbrev says : List ℕ → ℕ → ℕ → Type 0
@@ -82,6 +82,14 @@ pub record Flaws : Type 0 where
   pub no-members : flaw (sumOf 0) 0 ≡ bad-count
   pub two-members : flaw (sumOf 2) 0 ≡ sound
   pub many-members : flaw (productOf 256) 0 ≡ sound
+  -- "Bytes 4-5 of every record become a line mark": of all five kinds, and no byte besides
+  pub marked-integer : flaw (0 ∷ 0 ∷ 0 ∷ 0 ∷ 255 ∷ 255 ∷ replicate 10 0) 0 ≡ sound
+  pub marked-symbol : flaw (1 ∷ 0 ∷ 0 ∷ 0 ∷ 255 ∷ 255 ∷ replicate 10 0) 0 ≡ sound
+  pub marked-sum : flaw (2 ∷ 0 ∷ 2 ∷ 0 ∷ 255 ∷ 255 ∷ replicate 10 0) 0 ≡ sound
+  pub marked-product : flaw (3 ∷ 0 ∷ 2 ∷ 0 ∷ 255 ∷ 255 ∷ replicate 10 0) 0 ≡ sound
+  pub marked-power : flaw (4 ∷ 0 ∷ 0 ∷ 0 ∷ 255 ∷ 255 ∷ replicate 10 0) 0 ≡ sound
+  pub behind-mark : flaw (4 ∷ 0 ∷ 0 ∷ 0 ∷ 1 ∷ 1 ∷ 1 ∷ replicate 9 0) 0 ≡ bad-byte 6
+  pub mark-as-bytes : encode (symbol 258 7) ≡ 1 ∷ 0 ∷ 0 ∷ 0 ∷ 2 ∷ 1 ∷ 0 ∷ 0 ∷ 7 ∷ replicate 7 0
   pub first-record : verdict 3072 (encode a ++ (sumOf 1 ++ (9 ∷ replicate 15 0))) ≡ flawed 1 bad-count
 
 -- 256 registers: symbol 0 holds 5, symbol 1 holds 256, symbol 255 holds 7, the others 0
@@ -102,6 +110,7 @@ pub record Values : Type 0 where
   pub product-wraps : valueOf (times (i 9223372036854775807) a) ≡ 9223372036854775803
   pub a-power : valueOf (raised a 3) ≡ 125
   pub power-wraps : valueOf (raised b 8) ≡ 0
+  pub marked : valueOf (sum 5 (cons (symbol 6 0) (cons (power 7 (symbol 8 0) 9 2) nil))) ≡ 30
   pub as-bytes : take 40 (valueAnswers 3072 (encode (plus a b)) regs (replicate 64 9)) ≡ eights (0 ∷ 0 ∷ 261 ∷ 0 ∷ 0 ∷ [])
 
 abbrev alike : Tree → Tree → Type 0
@@ -124,5 +133,7 @@ pub record Compares : Type 0 where
   pub signs : unlike (i 0) (minus 1)
   pub negatives : unlike (minus 1) (minus 2)
   pub not-opened : unlike (plus a (plus b b)) (plus (plus a b) b)
+  -- "Weight, value and equality of trees ignore it"
+  pub other-marks : alike (sum 5 (cons (symbol 6 0) (cons (power 7 (i 3) 9 2) nil))) (plus (raised (integer 4 (pos 3)) 2) a)
   pub as-bytes : take 48 (equalAnswers 3072 (encode (plus a b)) (encode (plus b a)) (replicate 64 9)) ≡ eights (0 ∷ 0 ∷ 0 ∷ 1 ∷ 0 ∷ 0 ∷ [])
   pub refused-as-bytes : take 48 (equalAnswers 3072 (encode a) (encode a ++ encode a) (replicate 64 9)) ≡ eights (4 ∷ 1 ∷ 2 ∷ 0 ∷ 0 ∷ 0 ∷ [])

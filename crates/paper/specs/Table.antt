@@ -8,20 +8,20 @@ use lib.IntN.{ℤ, pos, negsuc}
 use lib.Dec.{ltb}
 use Rattle.paper.specs.Bytes.{bytes, word, signed}
 use Rattle.paper.specs.Tree.{Tree, Forest, integer, symbol, sum, product, power, nil, cons, count}
-use Rattle.paper.specs.Record.{kind, countIn, bits, symbolIn}
+use Rattle.paper.specs.Record.{kind, countIn, markIn, bits, symbolIn}
 
--- one record: its kind, its number of members, and the number in its bytes 8-15
-unfoldable pub recordOf : ℕ → ℕ → ℕ → List ℕ
-recordOf k members number = k ∷ 0 ∷ (bytes 2 members ++ (0 ∷ 0 ∷ 0 ∷ 0 ∷ bytes 8 number))
+-- one record: its kind, its number of members, its mark, and the number in its bytes 8-15
+unfoldable pub recordOf : ℕ → ℕ → ℕ → ℕ → List ℕ
+recordOf k members mark number = k ∷ 0 ∷ (bytes 2 members ++ (bytes 2 mark ++ (0 ∷ 0 ∷ bytes 8 number)))
 
 -- writing: the records of a tree
 unfoldable mutual
   pub encode : Tree → List ℕ
-  encode (integer μ z) = recordOf 0 0 (word z)
-  encode (symbol μ s) = recordOf 1 0 s
-  encode (sum μ f) = recordOf 2 (count f) 0 ++ encodes f
-  encode (product μ f) = recordOf 3 (count f) 0 ++ encodes f
-  encode (power μ b ξ e) = recordOf 4 0 0 ++ (encode b ++ recordOf 0 0 e)
+  encode (integer μ z) = recordOf 0 0 μ (word z)
+  encode (symbol μ s) = recordOf 1 0 μ s
+  encode (sum μ f) = recordOf 2 (count f) μ 0 ++ encodes f
+  encode (product μ f) = recordOf 3 (count f) μ 0 ++ encodes f
+  encode (power μ b ξ e) = recordOf 4 0 μ 0 ++ (encode b ++ recordOf 0 0 ξ e)
 
   pub encodes : Forest → List ℕ
   encodes nil = []
@@ -53,16 +53,16 @@ readMembers r zero s = some (nil, s)
 readMembers r (suc k) s = then (r s) (λ t s′. then (readMembers r k s′) (λ f s″. some (cons t f, s″)))
 
 -- "The exponent of a power is an integer of at least 1."
-unfoldable pub raised : Tree → List ℕ → ℤ → Reading Tree
-raised b s (pos zero) = none
-raised b s (pos (suc n)) = some (power 0 b 0 (suc n), s)
-raised b s (negsuc n) = none
+unfoldable pub raised : ℕ → Tree → ℕ → List ℕ → ℤ → Reading Tree
+raised μ b ξ s (pos zero) = none
+raised μ b ξ s (pos (suc n)) = some (power μ b ξ (suc n), s)
+raised μ b ξ s (negsuc n) = none
 
-unfoldable pub readExponent : Tree → List ℕ → Reading Tree
-readExponent b s =
+unfoldable pub readExponent : ℕ → Tree → List ℕ → Reading Tree
+readExponent μ b s =
     cond (ltb (length s) 16) none
     (elim (kindOf (kind s 0)) [
-      | an-integer ↦ raised b (drop 16 s) (signed (bits s 0))
+      | an-integer ↦ raised μ b (markIn s 0) (drop 16 s) (signed (bits s 0))
       | a-symbol ↦ none
       | a-sum ↦ none
       | a-product ↦ none
@@ -76,11 +76,11 @@ readTree zero s = none
 readTree (suc n) s =
     cond (ltb (length s) 16) none
     (elim (kindOf (kind s 0)) [
-      | an-integer ↦ some (integer 0 (signed (bits s 0)), drop 16 s)
-      | a-symbol ↦ some (symbol 0 (symbolIn s 0), drop 16 s)
-      | a-sum ↦ then (readMembers (λ q. readTree n q) (countIn s 0) (drop 16 s)) (λ f r. some (sum 0 f, r))
-      | a-product ↦ then (readMembers (λ q. readTree n q) (countIn s 0) (drop 16 s)) (λ f r. some (product 0 f, r))
-      | a-power ↦ then (readTree n (drop 16 s)) readExponent
+      | an-integer ↦ some (integer (markIn s 0) (signed (bits s 0)), drop 16 s)
+      | a-symbol ↦ some (symbol (markIn s 0) (symbolIn s 0), drop 16 s)
+      | a-sum ↦ then (readMembers (λ q. readTree n q) (countIn s 0) (drop 16 s)) (λ f r. some (sum (markIn s 0) f, r))
+      | a-product ↦ then (readMembers (λ q. readTree n q) (countIn s 0) (drop 16 s)) (λ f r. some (product (markIn s 0) f, r))
+      | a-power ↦ then (readTree n (drop 16 s)) (readExponent (markIn s 0))
       | no-kind ↦ none
     ])
 

@@ -1,6 +1,7 @@
 -- The tree. "A tree is an integer from -2^63 to 2^63 - 1, a symbol 0 to 255 (none is special), a sum, a product, or a power."
 -- The ranges, and "two members or more", stand in WellFormed. Every record of a tree has a mark: the first number of each constructor,
--- and of a power the number before the exponent is the mark of the exponent's record. No table has a mark other than 0 (WellFormed).
+-- and of a power the number before the exponent is the mark of the exponent's record, 0 for none. "Weight, value and equality of trees
+-- ignore it."
 use Prim.Native.Nat.{ℕ, zero, suc, _+_, _*_, _%_, _^_}
 use mathlib.Core.List.{List, [], _∷_}
 use lib.IntN.{ℤ}
@@ -33,6 +34,21 @@ ofList (t ∷ l) = cons t (ofList l)
 unfoldable pub count : Forest → ℕ
 count nil = 0
 count (cons t f) = suc (count f)
+
+-- the mark of the root, and the same tree with another mark at its root
+unfoldable pub markOf : Tree → ℕ
+markOf (integer μ z) = μ
+markOf (symbol μ s) = μ
+markOf (sum μ f) = μ
+markOf (product μ f) = μ
+markOf (power μ b ξ e) = μ
+
+unfoldable pub marked : ℕ → Tree → Tree
+marked ν (integer μ z) = integer ν z
+marked ν (symbol μ s) = symbol ν s
+marked ν (sum μ f) = sum ν f
+marked ν (product μ f) = product ν f
+marked ν (power μ b ξ e) = power ν b ξ e
 
 -- the number of records
 unfoldable mutual

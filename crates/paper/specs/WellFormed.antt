@@ -1,7 +1,6 @@
 -- The trees that tables hold: "an integer from -2^63 to 2^63 - 1, a symbol 0 to 255 ... Sums and products have two members or
 -- more. The exponent of a power is an integer of at least 1."
 use Prim.Native.Nat.{ℕ, _^_, _≤_, _<_}
-use mathlib.Core.Path.{_≡_}
 use mathlib.Core.List.{List, [], _∷_}
 use lib.Signed.{mag}
 use lib.IntN.{ℤ}
@@ -11,9 +10,9 @@ use Rattle.paper.specs.Tree.{Tree, Forest, integer, symbol, sum, product
 abbrev pub InRange : ℤ → Type 0
 InRange z = mag z < 2 ^ 63
 
--- the mark of a record: no table has one yet
+-- the mark of a record, in two bytes
 abbrev pub Mark : ℕ → Type 0
-Mark μ = μ ≡ 0
+Mark μ = μ < 65536
 
 abbrev mutual
   pub WF : Tree → Type 0

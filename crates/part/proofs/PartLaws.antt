@@ -11,11 +11,11 @@ use borrow.Author.Tests.{eq-eqb, ne-eqb, ltb-true}
 use lib.Dec.{eqb, ltb}
 use lib.IntN.{ℤ, pos, _+ℤ_, _*ℤ_}
 use Rattle.paper.specs.Bytes.{word, signed}
-use Rattle.paper.specs.Tree.{Tree, Forest, integer, symbol, sum, product, power, records, toList}
+use Rattle.paper.specs.Tree.{Tree, Forest, integer, symbol, sum, product, power, markOf, records, toList}
 use Rattle.paper.specs.WellFormed.{WF}
-use Rattle.paper.specs.Record.{kind, bits}
+use Rattle.paper.specs.Record.{kind, markIn, bits}
 use Rattle.paper.specs.Equal.{equal, eqZ, onInteger}
-use Rattle.paper.specs.Rules.{fits, asInteger, Term, termOf, added, addIf, mergeTerms, timesUnless, fromTerm}
+use Rattle.paper.specs.Rules.{fits, asInteger, Term, term, productTerm, termOf, added, addIf, mergeTerms, timesUnless, fromTerm}
 use Rattle.paper.specs.Rules.{Factor, factor, factorOf, raiseIf, bothIntegers, multiplyIf, mergeFactors, powerUnless, fromFactor}
 use Rattle.paper.proofs.Congruence.{word-lt}
 use Rattle.paper.proofs.EncodeLaws.{signed-word, word-signed}
@@ -27,7 +27,7 @@ use Rattle.number.specs.declared.Num.the-variants.{Is, Out}
 use Rattle.number.specs.Num.{numOf}
 use Rattle.number.proofs.NumLaws.{numOf-is, numOf-is-out, add-exponents}
 use Rattle.split.specs.Standing.{TreeIn, SomeTree}
-use Rattle.paper.proofs.StandingLaws.{seen}
+use Rattle.paper.proofs.StandingLaws.{seen, mark-number}
 use Rattle.split.specs.Rest.{coefficientOf}
 use Rattle.split.proofs.SplitLaws.{base-power, base-itself}
 use Rattle.equal.proofs.RestLaws.{integer-apart}
@@ -73,7 +73,7 @@ module _ (s : List ℕ) (i : ℕ) (t : Tree) (h : TreeIn s i t) where
   pub term-part : {n : ℕ} → Is n ≡ coefficientOf (termOf t) → ShowsTerm s n i (termOf t)
   term-part e =
       let c = coefficient-is t (h .wf) e in
-      record { member = t; there = h; rest = refl; coefficient = c .0; bits = c .1; good = c .2 }
+      record { member = t; there = h; mark = refl; rest = refl; coefficient = c .0; bits = c .1; good = c .2 }
 
   pub wide-part : Out ≡ coefficientOf (termOf t) → ShowsWide s i (termOf t)
   wide-part e = record { member = t; there = h; rest = refl; wide = coefficient-out t e }
@@ -86,24 +86,44 @@ factorOf-good (sum μ f) = refl
 factorOf-good (product μ f) = refl
 factorOf-good (power μ b ξ e) = refl
 
--- an integer that stands at a record, by its bits
-pub integer-there : (s : List ℕ) (i : ℕ) (t : Tree) → TreeIn s i t → kind s i ≤ 0 → (t ≡ integer 0 (signed (bits s i))) × (bits s i < 2 ^ 64)
-integer-there s i t h k = go (h .wf) (seen h)
-  where
-    go : {t : Tree} → WF t → Seen s i t → (t ≡ integer 0 (signed (bits s i))) × (bits s i < 2 ^ 64)
-    go u (an-integer {z = z} e b w) =
-        (ap (λ m. integer m z) (u .1) ∙ ap (integer 0) (sym (ap signed b ∙ signed-word z w)), omega (arith, word-lt z))
-    go u (a-symbol e v w) = absurd (omega arith)
-    go u (a-sum e n c w m) = absurd (omega arith)
-    go u (a-product e n c w m) = absurd (omega arith)
-    go u (a-power e w b p q x y v) = absurd (omega arith)
+-- the mark of a member is its part's
+pub term-mark : (t : Tree) → termOf t .mark ≡ markOf t
+unfolding termOf term productTerm markOf
+term-mark (integer μ z) = refl
+term-mark (symbol μ s) = refl
+term-mark (sum μ f) = refl
+term-mark (product μ f) = refl
+term-mark (power μ b ξ e) = refl
 
-pub number-part : (s : List ℕ) (e j v : ℕ) (t : Tree) → TreeIn s j (factorOf t .base) → kind s j ≤ 0 → v ≡ bits s j
-    → e ≡ factorOf t .exponent → e < 2 ^ 63 → ShowsNumber e v (factorOf t)
-number-part s e j v t h k q x m =
+pub factor-mark : (t : Tree) → factorOf t .mark ≡ markOf t
+unfolding factorOf factor markOf
+factor-mark (integer μ z) = refl
+factor-mark (symbol μ s) = refl
+factor-mark (sum μ f) = refl
+factor-mark (product μ f) = refl
+factor-mark (power μ b ξ e) = refl
+
+-- an integer that stands at a record, by its mark and its bits
+pub integer-there : (s : List ℕ) (i : ℕ) (t : Tree) → TreeIn s i t → kind s i ≤ 0
+    → (t ≡ integer (markIn s i) (signed (bits s i))) × (bits s i < 2 ^ 64)
+unfolding markOf
+integer-there s i t h k = go t (mark-number t h) (seen h)
+  where
+    go : (t : Tree) → markIn s i ≡ markOf t → Seen s i t → (t ≡ integer (markIn s i) (signed (bits s i))) × (bits s i < 2 ^ 64)
+    go (integer μ z) m (an-integer e b w) =
+        (ap (λ n. integer n z) (sym m) ∙ ap (integer (markIn s i)) (sym (ap signed b ∙ signed-word z w)), omega (arith, word-lt z))
+    go (symbol μ v) m (a-symbol e b w) = absurd (omega arith)
+    go (sum μ f) m (a-sum e n c w o) = absurd (omega arith)
+    go (product μ f) m (a-product e n c w o) = absurd (omega arith)
+    go (power μ b ξ x) m (a-power e w o p q r y z) = absurd (omega arith)
+
+pub number-part : (s : List ℕ) (e i j v b n : ℕ) (t : Tree) → TreeIn s i t → TreeIn s j (factorOf t .base) → kind s j ≤ 0 → v ≡ bits s j
+    → b ≡ markIn s j → n ≡ markIn s i → e ≡ factorOf t .exponent → e < 2 ^ 63 → ShowsNumber e v b n (factorOf t)
+number-part s e i j v b n t g h k q c d x m =
     let z = integer-there s j (factorOf t .base) h k in
     record {
-      base = z .0 ∙ ap (λ n. integer 0 (signed n)) (sym q);
+      mark = factor-mark t ∙ sym (mark-number t g) ∙ sym d;
+      base = z .0 ∙ ap (λ y. integer (markIn s j) (signed y)) (sym q) ∙ ap (λ y. integer y (signed v)) (sym c);
       bits = omega (arith, z .1);
       exponent = sym x;
       most = m;
@@ -142,11 +162,15 @@ base-size (product μ f) = omega arith
 base-size (power μ b ξ e) = omega arith
 
 module _ (s : List ℕ) (e i k : ℕ) (t : Tree) (h : Sized s i k t) (other : asInteger (factorOf t .base) ≡ none)
-    (x : e ≡ factorOf t .exponent) (m : e < 2 ^ 63) where
-  pub power-part : kind s i ≡ 4 → ShowsPower s e (i + 1) (k - 2) (factorOf t)
+    (x : e ≡ factorOf t .exponent) (m : e < 2 ^ 63) {n : ℕ} (d : n ≡ markIn s i) where
+  same-mark : factorOf t .mark ≡ n
+  same-mark = factor-mark t ∙ sym (mark-number t (h .there)) ∙ sym d
+
+  pub power-part : kind s i ≡ 4 → ShowsPower s e (i + 1) (k - 2) n (factorOf t)
   power-part q =
       let z = power-size s i t (h .there) q in
       record {
+        mark = same-mark;
         sized = record { there = base-power t (h .there) q; size = omega (arith, h .size) };
         other = other;
         exponent = sym x;
@@ -154,10 +178,11 @@ module _ (s : List ℕ) (e i k : ℕ) (t : Tree) (h : Sized s i k t) (other : as
         good = factorOf-good t;
       }
 
-  pub base-part : (kind s i ≡ 4 → ⊥) → ShowsPower s e i k (factorOf t)
+  pub base-part : (kind s i ≡ 4 → ⊥) → ShowsPower s e i k n (factorOf t)
   base-part q =
       let z = other-size s i t (h .there) q in
       record {
+        mark = same-mark;
         sized = record { there = base-itself t (h .there) q; size = omega (arith, h .size) };
         other = other;
         exponent = sym x;
@@ -204,6 +229,7 @@ module _ (c : Term) (u : Tree) where
             record {
               member = h .member;
               there = h .there;
+              mark = h .mark;
               rest = h .rest;
               coefficient = total ∙ sym (z .2);
               bits = omega (arith, z .1, word-lt (signed n +ℤ signed m));
@@ -273,7 +299,7 @@ by-base c x n = go (eqb (c .exponent) (x .exponent)) _ n
     go false w e = refl
 
 -- a base that is no integer
-module _ {s : List ℕ} {e i k : ℕ} {c : Factor} (h : ShowsPower s e i k c) (x : Factor) where
+module _ {s : List ℕ} {e i k n : ℕ} {c : Factor} (h : ShowsPower s e i k n c) (x : Factor) where
   one-way : mergeFactors c x ≡ raiseIf (equal (c .base) (x .base)) c x
   unfolding bothIntegers
   one-way = by-base c x (rw (h .other) refl)
@@ -290,13 +316,13 @@ module _ {s : List ℕ} {e i k : ℕ} {c : Factor} (h : ShowsPower s e i k c) (x
     unfolding raiseIf addExponents
     raises = one-way ∙ rw q refl
 
-    pub power-into : {v : ℕ} → numOf (signed e +ℤ signed f) ≡ Is v → (d : Factor) × (mergeFactors c x ≡ some d) × ShowsPower s v i k d × (d .inRange ≡ true)
+    pub power-into : {v : ℕ} → numOf (signed e +ℤ signed f) ≡ Is v → (d : Factor) × (mergeFactors c x ≡ some d) × ShowsPower s v i k n d × (d .inRange ≡ true)
     unfolding addExponents
     power-into r =
         let z = exponents-in one-raised other r in (
           addExponents c x,
           raises,
-          record { sized = h .sized; other = h .other; exponent = z .exponent; most = z .most; good = z .good },
+          record { mark = h .mark; sized = h .sized; other = h .other; exponent = z .exponent; most = z .most; good = z .good },
           z .good,
         )
 
@@ -304,16 +330,16 @@ module _ {s : List ℕ} {e i k : ℕ} {c : Factor} (h : ShowsPower s e i k c) (x
     power-over r = (addExponents c x, raises, exponents-out one-raised other r)
 
 -- an integer base that meets one that is none
-pub number-apart : {e v : ℕ} {c : Factor} → ShowsNumber e v c → (x : Factor) → asInteger (x .base) ≡ none → mergeFactors c x ≡ none
+pub number-apart : {e v b n : ℕ} {c : Factor} → ShowsNumber e v b n c → (x : Factor) → asInteger (x .base) ≡ none → mergeFactors c x ≡ none
 unfolding bothIntegers raiseIf asInteger
-number-apart {e} {v} {c} h x n =
-    by-base c x (rw (h .base, n) refl) ∙ rw (ap (λ b. equal b (x .base)) (h .base) ∙ integer-apart 0 (signed v) (x .base) n) refl
+number-apart {v = v} {b = b} {c = c} h x n =
+    by-base c x (rw (h .base, n) refl) ∙ rw (ap (λ b. equal b (x .base)) (h .base) ∙ integer-apart b (signed v) (x .base) n) refl
 
 pub same-bits : (v w : ℕ) → v < 2 ^ 64 → w < 2 ^ 64 → signed v ≡ signed w → v ≡ w
 same-bits v w h k e = sym (word-signed v h) ∙ ap word e ∙ word-signed w k
 
 -- two integer bases: equal exponents multiply the bases, else equal bases add the exponents
-module _ {e v f w : ℕ} {c x : Factor} (h : ShowsNumber e v c) (k : ShowsNumber f w x) where
+module _ {e v b m f w a l : ℕ} {c x : Factor} (h : ShowsNumber e v b m c) (k : ShowsNumber f w a l x) where
   by-integers : mergeFactors c x ≡ multiplyIf (eqb e f) (some (signed v *ℤ signed w)) c x
   unfolding mergeFactors bothIntegers asInteger
   by-integers = rw (h .base, k .base, h .exponent, k .exponent) refl
@@ -323,16 +349,17 @@ module _ {e v f w : ℕ} {c x : Factor} (h : ShowsNumber e v c) (k : ShowsNumber
     unfolding multiplyIf timesBases
     multiplies = by-integers ∙ rw (eq-eqb e f q) refl
 
-    pub number-times : {n : ℕ} → numOf (signed v *ℤ signed w) ≡ Is n → (d : Factor) × (mergeFactors c x ≡ some d) × ShowsNumber e n d × (d .inRange ≡ true)
+    pub number-times : {n : ℕ} → numOf (signed v *ℤ signed w) ≡ Is n → (d : Factor) × (mergeFactors c x ≡ some d) × ShowsNumber e n m m d × (d .inRange ≡ true)
     unfolding timesBases
     number-times {n} r =
         let z = numOf-is (signed v *ℤ signed w) n r in
-        let l = word-lt (signed v *ℤ signed w) in
+        let least = word-lt (signed v *ℤ signed w) in
         let in-range : timesBases c x (signed v *ℤ signed w) .inRange ≡ true = rw (h .good, k .good, z .0) refl in (
           timesBases c x (signed v *ℤ signed w),
           multiplies,
           record {
-            base = ap (integer 0) (sym (z .2));
+            mark = h .mark;
+            base = ap (integer (c .mark)) (sym (z .2)) ∙ ap (λ y. integer y (signed n)) (h .mark);
             bits = omega (arith, z .1);
             exponent = h .exponent;
             most = h .most;
@@ -355,7 +382,7 @@ module _ {e v f w : ℕ} {c x : Factor} (h : ShowsNumber e v c) (k : ShowsNumber
     by-bits =
         by-integers
         ∙ rw (ne-eqb e f apart) refl
-        ∙ ap (λ b. raiseIf b c x) (ap (λ b. equal b (x .base)) (h .base) ∙ ap (equal (integer 0 (signed v))) (k .base))
+        ∙ ap (λ b. raiseIf b c x) (ap (λ b. equal b (x .base)) (h .base) ∙ ap (equal (integer b (signed v))) (k .base))
 
     pub number-other : (v ≡ w → ⊥) → mergeFactors c x ≡ none
     unfolding raiseIf
@@ -374,11 +401,11 @@ module _ {e v f w : ℕ} {c x : Factor} (h : ShowsNumber e v c) (k : ShowsNumber
       unfolding raiseIf addExponents
       merges = by-bits ∙ rw (ap (λ b. eqZ (signed v) (signed b)) (sym q) ∙ eqZ-self (signed v)) refl
 
-      pub number-raised : {n : ℕ} → numOf (signed e +ℤ signed f) ≡ Is n → (d : Factor) × (mergeFactors c x ≡ some d) × ShowsNumber n v d × (d .inRange ≡ true)
+      pub number-raised : {n : ℕ} → numOf (signed e +ℤ signed f) ≡ Is n → (d : Factor) × (mergeFactors c x ≡ some d) × ShowsNumber n v b m d × (d .inRange ≡ true)
       unfolding addExponents
       number-raised r =
           let z = exponents-in one-of other-of r in
-          (addExponents c x, merges, record { base = h .base; bits = h .bits; exponent = z .exponent; most = z .most; good = z .good }, z .good)
+          (addExponents c x, merges, record { mark = h .mark; base = h .base; bits = h .bits; exponent = z .exponent; most = z .most; good = z .good }, z .good)
 
       pub number-raised-over : numOf (signed e +ℤ signed f) ≡ Out → (d : Factor) × (mergeFactors c x ≡ some d) × (d .inRange ≡ false)
       number-raised-over r = (addExponents c x, merges, exponents-out one-of other-of r)
@@ -395,15 +422,15 @@ module _ (s : List ℕ) (t : Tree) (r : Merged) where
   of-wide i f true x h = f x h
   of-wide i f false x h = absurd h
 
-  pub of-power : (e i k : ℕ) → ((c : Factor) → ShowsPower s e i k c → MergedIs false s c (factorOf t) r)
-      → (b : Bool) (x : Like b) → Shows b s (part.Power e i k) x → MergedIs b s x (split b t) r
-  of-power e i k f true x h = absurd h
-  of-power e i k f false x h = f x h
+  pub of-power : (e i k m : ℕ) → ((c : Factor) → ShowsPower s e i k m c → MergedIs false s c (factorOf t) r)
+      → (b : Bool) (x : Like b) → Shows b s (part.Power e i k m) x → MergedIs b s x (split b t) r
+  of-power e i k m f true x h = absurd h
+  of-power e i k m f false x h = f x h
 
-  pub of-number : (e v : ℕ) → ((c : Factor) → ShowsNumber e v c → MergedIs false s c (factorOf t) r)
-      → (b : Bool) (x : Like b) → Shows b s (part.Number e v) x → MergedIs b s x (split b t) r
-  of-number e v f true x h = absurd h
-  of-number e v f false x h = f x h
+  pub of-number : (e v a m : ℕ) → ((c : Factor) → ShowsNumber e v a m c → MergedIs false s c (factorOf t) r)
+      → (b : Bool) (x : Like b) → Shows b s (part.Number e v a m) x → MergedIs b s x (split b t) r
+  of-number e v a m f true x h = absurd h
+  of-number e v a m f false x h = f x h
 
 -- a part that stands in a record, and a later member
 pub term-stands : (s : List ℕ) (n i : ℕ) (b : Bool) (x : Like b) → Shows b s (part.Term n i) x → SomeTree s i
@@ -414,9 +441,9 @@ pub wide-stands : (s : List ℕ) (i : ℕ) (b : Bool) (x : Like b) → Shows b s
 wide-stands s i true x h = record { tree = h .member; there = h .there }
 wide-stands s i false x h = absurd h
 
-pub power-stands : (s : List ℕ) (e i k : ℕ) (b : Bool) (x : Like b) → Shows b s (part.Power e i k) x → SomeTree s i
-power-stands s e i k true x h = absurd h
-power-stands s e i k false x h = record { tree = x .base; there = h .sized .there }
+pub power-stands : (s : List ℕ) (e i k m : ℕ) (b : Bool) (x : Like b) → Shows b s (part.Power e i k m) x → SomeTree s i
+power-stands s e i k m true x h = absurd h
+power-stands s e i k m false x h = record { tree = x .base; there = h .sized .there }
 
 -- ---- a part that left the range: so has the member that it becomes
 pub and-bad : (a b : Bool) → a ≡ false → a && b ≡ false

@@ -18,9 +18,9 @@ neutral true = 0
 neutral false = 1
 
 -- "An emptied sum becomes 0, an emptied product 1, a single member itself."
-abbrev pub nodeOf : Bool → List Tree → Tree
-nodeOf true l = sumOf l
-nodeOf false l = productOf l
+abbrev pub nodeOf : Bool → ℕ → List Tree → Tree
+nodeOf true μ l = sumOf μ l
+nodeOf false μ l = productOf μ l
 
 -- a part of a member, and how members are split, merged and put together
 abbrev pub Like : Bool → Type 0

@@ -1,6 +1,7 @@
--- A part of a member as the code holds it, and the paper's part that it shows: `Term n i`, the coefficient with the bits n and the rest
--- of the member at record i; `Wide i`, the term of the member at record i, whose coefficient is out of range; `Power e i k`, the exponent e and the base of k records at record i, no integer;
--- `Number e v`, the exponent e and the integer base with the bits v, which need not stand in a record.
+-- A part of a member as the code holds it, and the paper's part that it shows: `Term n i`, the coefficient with the bits n, and the rest
+-- and the mark of the member at record i; `Wide i`, the term of the member at record i, whose coefficient is out of range;
+-- `Power e i k m`, the exponent e, the base of k records at record i, no integer, and the mark m; `Number e v b m`, the exponent e, the
+-- integer base with the bits v and the mark b, which need not stand in a record, and the mark m.
 use Prim.Native.Nat.{ℕ, _^_, _<_, _≤_}
 use mathlib.Core.Path.{_≡_}
 use mathlib.Core.Bool.{Bool, true, false}
@@ -24,6 +25,7 @@ pub record Sized (s : List ℕ) (i k : ℕ) (t : Tree) : Type 0 where
 pub record ShowsTerm (s : List ℕ) (n i : ℕ) (x : Term) : Type 0 where
   pub member : Tree
   pub there : TreeIn s i member
+  pub mark : x .mark ≡ termOf member .mark
   pub rest : x .rest ≡ termOf member .rest
   pub coefficient : x .coefficient ≡ signed n
   pub bits : n < 2 ^ 64
@@ -35,15 +37,17 @@ pub record ShowsWide (s : List ℕ) (i : ℕ) (x : Term) : Type 0 where
   pub rest : x .rest ≡ termOf member .rest
   pub wide : x .inRange ≡ false
 
-pub record ShowsPower (s : List ℕ) (e i k : ℕ) (x : Factor) : Type 0 where
+pub record ShowsPower (s : List ℕ) (e i k m : ℕ) (x : Factor) : Type 0 where
+  pub mark : x .mark ≡ m
   pub sized : Sized s i k (x .base)
   pub other : asInteger (x .base) ≡ none
   pub exponent : x .exponent ≡ e
   pub most : e < 2 ^ 63
   pub good : x .inRange ≡ true
 
-pub record ShowsNumber (e v : ℕ) (x : Factor) : Type 0 where
-  pub base : x .base ≡ integer 0 (signed v)
+pub record ShowsNumber (e v b m : ℕ) (x : Factor) : Type 0 where
+  pub mark : x .mark ≡ m
+  pub base : x .base ≡ integer b (signed v)
   pub bits : v < 2 ^ 64
   pub exponent : x .exponent ≡ e
   pub most : e < 2 ^ 63
@@ -53,19 +57,19 @@ pub record ShowsNumber (e v : ℕ) (x : Factor) : Type 0 where
 abbrev pub Shows : (b : Bool) → List ℕ → Part → Like b → Type 0
 Shows true s (part.Term n i) x = ShowsTerm s n i x
 Shows true s (part.Wide i) x = ShowsWide s i x
-Shows true s (part.Power e i k) x = ⊥
-Shows true s (part.Number e v) x = ⊥
+Shows true s (part.Power e i k m) x = ⊥
+Shows true s (part.Number e v c m) x = ⊥
 Shows false s (part.Term n i) x = ⊥
 Shows false s (part.Wide i) x = ⊥
-Shows false s (part.Power e i k) x = ShowsPower s e i k x
-Shows false s (part.Number e v) x = ShowsNumber e v x
+Shows false s (part.Power e i k m) x = ShowsPower s e i k m x
+Shows false s (part.Number e v c m) x = ShowsNumber e v c m x
 
 -- what the part shows stands from record p on, if it stands in a record
 abbrev pub From : ℕ → Part → Type 0
 From p (part.Term n i) = p ≤ i
 From p (part.Wide i) = p ≤ i
-From p (part.Power e i k) = p ≤ i
-From p (part.Number e v) = Unit {0}
+From p (part.Power e i k m) = p ≤ i
+From p (part.Number e v c m) = Unit {0}
 
 abbrev pub IntoFrom : ℕ → Merged → Type 0
 IntoFrom p Apart = Unit {0}

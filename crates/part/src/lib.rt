@@ -14,13 +14,14 @@ ghost use Rattle.part.specs.Part.{Sized, Shows, ShowsTerm, ShowsWide, Sh
 ghost use Rattle.part.specs.Part.{From, MergedIs, IntoFrom, Mergeable};
 use number::Num;
 
-// A term's coefficient, and the record of the member whose rest is its rest; the same of a member whose own coefficient is out of range;
-// a factor's exponent, and the record and the size of its base; a factor's exponent and the bits of its integer base.
+// A term's coefficient, and the record of the member whose rest and mark are its own; the same of a member whose own coefficient is out
+// of range; a factor's exponent, the record and the size of its base, and its mark; a factor's exponent, the bits and the mark of its
+// integer base, and its mark.
 pub enum Part {
     Term(u64, usize),
     Wide(usize),
-    Power(u64, usize, usize),
-    Number(u64, u64),
+    Power(u64, usize, usize, usize),
+    Number(u64, u64, usize, usize),
 }
 
 // Whether a part takes up a later one: it does not; it does, and what it becomes; it does, and leaves the range.
@@ -60,13 +61,14 @@ pub fn part_of(s: &[u8], at: usize, size: usize, terms: bool) -> Part
     }
     let e = split::exponent(s, at);
     let b = split::base(s, at);
+    let m = record::mark(s, at);
     if record::kind(s, b) < 1 {
-        return Part::Number(e, record::bits(s, b));
+        return Part::Number(e, record::bits(s, b), record::mark(s, b), m);
     }
     if record::kind(s, at) == 4 {
-        return Part::Power(e, at + 1, size - 2);
+        return Part::Power(e, at + 1, size - 2, m);
     }
-    Part::Power(e, at, size)
+    Part::Power(e, at, size, m)
 }
 
 // The term with the coefficient n and the rest of the member at record i, where it meets the member at record `at`, with a look first
@@ -119,10 +121,18 @@ fn merge_wide(s: &[u8], wide: usize, at: usize, marks: &mut [u8]) -> Merged
     Merged::Apart
 }
 
-// The factor with the exponent e and the base at record i, no integer, where it meets the member at record `at`.
-fn merge_power(s: &[u8], e: u64, i: usize, k: usize, at: usize, marks: &mut [u8]) -> Merged
+// The factor with the exponent e, the base at record i, no integer, and the mark m, where it meets the member at record `at`.
+fn merge_power(
+    s: &[u8],
+    e: u64,
+    i: usize,
+    k: usize,
+    m: usize,
+    at: usize,
+    marks: &mut [u8],
+) -> Merged
     requires { ⌜ Comparable (now s) i (now s) at (length (now marks)) ⌝ }
-    ensures { λ r. ⌜ ((c : Factor) (t : Tree) → ShowsPower (now (s .entry)) e i k c → TreeIn (now (s .entry)) at t
+    ensures { λ r. ⌜ ((c : Factor) (t : Tree) → ShowsPower (now (s .entry)) e i k m c → TreeIn (now (s .entry)) at t
         → MergedIs false (now (s .entry)) c (factorOf t) r) ⌝ }
     ensures place { λ r. ⌜ ((p : ℕ) → p ≤ i → IntoFrom p r) ⌝ }
 {
@@ -133,18 +143,18 @@ fn merge_power(s: &[u8], e: u64, i: usize, k: usize, at: usize, marks: &mut [u8]
         equal::Match::Ends(_) => {
             let sum = number::add(e, split::exponent(s, at));
             match sum {
-                Num::Is(f) => Merged::Into(Part::Power(f, i, k)),
+                Num::Is(f) => Merged::Into(Part::Power(f, i, k, m)),
                 Num::Out => Merged::Over,
             }
         }
     }
 }
 
-// The factor with the exponent e and the integer base v, where it meets the member at record `at`: equal exponents multiply the bases,
-// equal bases add the exponents.
-fn merge_number(s: &[u8], e: u64, v: u64, at: usize) -> Merged
+// The factor with the exponent e, the integer base v with the mark b, and the mark m, where it meets the member at record `at`: equal
+// exponents multiply the bases, and the product takes the mark m; equal bases add the exponents.
+fn merge_number(s: &[u8], e: u64, v: u64, b: usize, m: usize, at: usize) -> Merged
     requires { ⌜ SomeTree (now s) at ⌝ }
-    ensures { λ r. ⌜ ((c : Factor) (t : Tree) → ShowsNumber e v c → TreeIn (now (s .entry)) at t
+    ensures { λ r. ⌜ ((c : Factor) (t : Tree) → ShowsNumber e v b m c → TreeIn (now (s .entry)) at t
         → MergedIs false (now (s .entry)) c (factorOf t) r) ⌝ }
     ensures place { λ r. ⌜ ((p : ℕ) → IntoFrom p r) ⌝ }
 {
@@ -157,7 +167,7 @@ fn merge_number(s: &[u8], e: u64, v: u64, at: usize) -> Merged
     if e == f {
         let product = number::mul(v, w);
         return match product {
-            Num::Is(x) => Merged::Into(Part::Number(e, x)),
+            Num::Is(x) => Merged::Into(Part::Number(e, x, m, m)),
             Num::Out => Merged::Over,
         };
     }
@@ -166,7 +176,7 @@ fn merge_number(s: &[u8], e: u64, v: u64, at: usize) -> Merged
     }
     let sum = number::add(e, f);
     match sum {
-        Num::Is(x) => Merged::Into(Part::Number(x, v)),
+        Num::Is(x) => Merged::Into(Part::Number(x, v, b, m)),
         Num::Out => Merged::Over,
     }
 }
@@ -181,7 +191,7 @@ pub fn merge(s: &[u8], c: Part, at: usize, marks: &mut [u8]) -> Merged
     match c {
         Part::Term(n, i) => merge_term(s, n, i, at, marks),
         Part::Wide(i) => merge_wide(s, i, at, marks),
-        Part::Power(e, i, k) => merge_power(s, e, i, k, at, marks),
-        Part::Number(e, v) => merge_number(s, e, v, at),
+        Part::Power(e, i, k, m) => merge_power(s, e, i, k, m, at, marks),
+        Part::Number(e, v, b, m) => merge_number(s, e, v, b, m, at),
     }
 }

@@ -1,4 +1,4 @@
--- A record that is tidy has no stray byte. Its first half being the kind and the count, bytes 1 and 4 to 7 are zero, and 2 and 3
+-- A record that is tidy has no stray byte. Its first half being the kind, the count and the mark, bytes 1, 6 and 7 are zero, and 2 and 3
 -- too where there is no count; its second half being below the room that its kind has, the bytes past that room are zero. So the search
 -- passes stretches of zeros and stretches that may be other than zero, up to the end. Assumes nothing.
 use Prim.Native.Nat.{ℕ, zero, suc, _+_, _-_, _*_, _<_, _≤_}
@@ -11,7 +11,7 @@ use borrow.Author.Tests.{eqb-true, ltb-true, ne-eqb, eqb-false}
 use lib.Dec.{eqb, ltb}
 use lib.ListN.{getD}
 use Rattle.paper.specs.Bytes.{le, le2, le8}
-use Rattle.paper.specs.Record.{countIn, bits, isNode, mayTable, mayBe, stray}
+use Rattle.paper.specs.Record.{countIn, markIn, bits, isNode, mayTable, mayBe, stray}
 use Rattle.paper.proofs.Tests.{and-both, true-not-false}
 use Rattle.record.specs.Tidy.{front, isTidy}
 use Rattle.record.proofs.StrayLaws.{stray-zero, stray-free, stray-done}
@@ -52,15 +52,22 @@ module _ (s : List ℕ) (i : ℕ) where
       passes false z f = stray-free s i k j (omega arith) (eqb-false _ 0 z) (other (eqb (mayBe k j) 0) refl f)
 
   -- the first half of a record without a count, and of one with a count
-  bare-front : (k : ℕ) → k < 5 → le8 s (i * 16) ≡ k → le (window 1 7) ≡ 0
-  unfolding le8 le window
-  bare-front k h e = let q : getD s (i * 16) 0 + 256 * le (window 1 7) ≡ k = e in omega (arith, q)
+  bare-front : (k : ℕ) → k < 5 → le8 s (i * 16) ≡ k + markIn s i * 4294967296 → (le (window 1 3) ≡ 0) × (le (window 6 2) ≡ 0)
+  unfolding le8 le le2 markIn window
+  bare-front k h e =
+      let q : getD s (i * 16) 0 + 256 * (getD s (i * 16 + 1) 0 + 256 * (getD s (i * 16 + 2) 0 + 256 * (getD s (i * 16 + 3) 0
+      + 256 * (getD s (i * 16 + 4) 0 + 256 * (getD s (i * 16 + 5) 0 + 256 * le (window 6 2))))))
+      ≡ k + (getD s (i * 16 + 4) 0 + 256 * (getD s (i * 16 + 5) 0 + 256 * 0)) * 4294967296 = simp add-assoc at e in
+      (omega (arith, q), omega (arith, q))
 
-  counted-front : (k : ℕ) → k < 5 → le8 s (i * 16) ≡ k + countIn s i * 65536 → (le (window 1 1) ≡ 0) × (le (window 4 4) ≡ 0)
-  unfolding le8 le countIn le2 window
+  counted-front : (k : ℕ) → k < 5 → le8 s (i * 16) ≡ k + countIn s i * 65536 + markIn s i * 4294967296
+      → (le (window 1 1) ≡ 0) × (le (window 6 2) ≡ 0)
+  unfolding le8 le countIn markIn le2 window
   counted-front k h e =
-      let q : getD s (i * 16) 0 + 256 * (getD s (i * 16 + 1) 0 + 256 * (getD s (i * 16 + 2) 0 + 256 * (getD s (i * 16 + 3) 0 + 256 * le (window 4 4))))
-      ≡ k + (getD s (i * 16 + 2) 0 + 256 * (getD s (i * 16 + 3) 0 + 256 * 0)) * 65536 = simp add-assoc at e in
+      let q : getD s (i * 16) 0 + 256 * (getD s (i * 16 + 1) 0 + 256 * (getD s (i * 16 + 2) 0 + 256 * (getD s (i * 16 + 3) 0
+      + 256 * (getD s (i * 16 + 4) 0 + 256 * (getD s (i * 16 + 5) 0 + 256 * le (window 6 2))))))
+      ≡ k + ((getD s (i * 16 + 2) 0 + 256 * (getD s (i * 16 + 3) 0 + 256 * 0)) * 65536
+      + (getD s (i * 16 + 4) 0 + 256 * (getD s (i * 16 + 5) 0 + 256 * 0)) * 4294967296) = simp add-assoc at e in
       (omega (arith, q), omega (arith, q))
 
   -- the second half, where it is one byte, and where it is nothing
@@ -79,23 +86,28 @@ module _ (s : List ℕ) (i : ℕ) where
       b : (eqb (le8 s (i * 16)) (front s i k) ≡ true) × ((eqb k 0 || ltb (bits s i) (cond (eqb k 1) 256 1)) ≡ true)
       b = and-both (eqb (le8 s (i * 16)) (front s i k)) (eqb k 0 || ltb (bits s i) (cond (eqb k 1) 256 1)) t
 
-      counted : (k : ℕ) → k < 5 → allMay k 2 2 ≡ true → allMay k 0 1 ≡ true → le8 s (i * 16) ≡ k + countIn s i * 65536
-          → bits s i < 1 → stray s i k 0 16 ≡ 16
-      counted k h m n e r =
+      counted : (k : ℕ) → k < 5 → allMay k 0 1 ≡ true → allMay k 2 4 ≡ true
+          → le8 s (i * 16) ≡ k + countIn s i * 65536 + markIn s i * 4294967296 → bits s i < 1 → stray s i k 0 16 ≡ 16
+      counted k h n m e r =
           let f = counted-front k h e in
-          free k 1 0 1 refl (omega arith) n ∙ zeros k 1 1 2 refl (omega arith) (f .0) ∙ free k 2 2 4 refl (omega arith) m
-          ∙ zeros k 4 4 8 refl (omega arith) (f .1) ∙ zeros k 8 8 16 refl (omega arith) (no-byte r) ∙ stray-done s i k 16 (omega arith)
+          free k 1 0 1 refl (omega arith) n ∙ zeros k 1 1 2 refl (omega arith) (f .0) ∙ free k 4 2 6 refl (omega arith) m
+          ∙ zeros k 2 6 8 refl (omega arith) (f .1) ∙ zeros k 8 8 16 refl (omega arith) (no-byte r) ∙ stray-done s i k 16 (omega arith)
+
+      -- the first half, where there is no count
+      bare : (k : ℕ) → k < 5 → allMay k 0 1 ≡ true → allMay k 4 2 ≡ true → le8 s (i * 16) ≡ k + markIn s i * 4294967296
+          → stray s i k 0 16 ≡ stray s i k 8 8
+      bare k h n m e =
+          let f = bare-front k h e in
+          free k 1 0 1 refl (omega arith) n ∙ zeros k 3 1 4 refl (omega arith) (f .0) ∙ free k 2 4 6 refl (omega arith) m
+          ∙ zeros k 2 6 8 refl (omega arith) (f .1)
 
       go : (k : ℕ) → k < 5 → le8 s (i * 16) ≡ front s i k → (eqb k 0 || ltb (bits s i) (cond (eqb k 1) 256 1)) ≡ true → stray s i k 0 16 ≡ 16
-      go zero h e r =
-          free 0 1 0 1 refl (omega arith) refl ∙ zeros 0 7 1 8 refl (omega arith) (bare-front 0 h e)
-          ∙ free 0 8 8 16 refl (omega arith) refl ∙ stray-done s i 0 16 (omega arith)
+      go zero h e r = bare 0 h refl refl e ∙ free 0 8 8 16 refl (omega arith) refl ∙ stray-done s i 0 16 (omega arith)
       go (suc zero) h e r =
-          free 1 1 0 1 refl (omega arith) refl ∙ zeros 1 7 1 8 refl (omega arith) (bare-front 1 h e)
-          ∙ free 1 1 8 9 refl (omega arith) refl ∙ zeros 1 7 9 16 refl (omega arith) (one-byte (ltb-true _ _ r)) ∙ stray-done s i 1 16 (omega arith)
+          bare 1 h refl refl e ∙ free 1 1 8 9 refl (omega arith) refl ∙ zeros 1 7 9 16 refl (omega arith) (one-byte (ltb-true _ _ r))
+          ∙ stray-done s i 1 16 (omega arith)
       go (suc (suc zero)) h e r = counted 2 h refl refl e (ltb-true _ _ r)
       go (suc (suc (suc zero))) h e r = counted 3 h refl refl e (ltb-true _ _ r)
       go (suc (suc (suc (suc zero)))) h e r =
-          free 4 1 0 1 refl (omega arith) refl ∙ zeros 4 7 1 8 refl (omega arith) (bare-front 4 h e)
-          ∙ zeros 4 8 8 16 refl (omega arith) (no-byte (ltb-true _ _ r)) ∙ stray-done s i 4 16 (omega arith)
+          bare 4 h refl refl e ∙ zeros 4 8 8 16 refl (omega arith) (no-byte (ltb-true _ _ r)) ∙ stray-done s i 4 16 (omega arith)
       go (suc (suc (suc (suc (suc k))))) h e r = absurd (omega arith)

@@ -1,6 +1,6 @@
 -- Each contract, as the check reads it off the source, leaves one answer open and no other: each answer equals one definition of what was
--- given. What is wrong with a record is told from every other flaw by the paper's value; of `write_record` it is the bytes at exit that are
--- one. Assumes nothing.
+-- given. What is wrong with a record is told from every other flaw by the paper's value; of `write_record` and `set_mark` it is the bytes at
+-- exit that are one. Assumes nothing.
 use Prim.Native.Nat.{ℕ}
 use mathlib.Core.Path.{_≡_, refl, sym, ap, _∙_}
 use mathlib.Core.List.{List}
@@ -15,6 +15,8 @@ use Rattle.record.proofs.kind.Reads as kind
 use Rattle.record.proofs.kind.Kinds as kind-kinds
 use Rattle.record.proofs.count.Reads as count
 use Rattle.record.proofs.count.Kinds as count-kinds
+use Rattle.record.proofs.mark.Reads as mark
+use Rattle.record.proofs.mark.Kinds as mark-kinds
 use Rattle.record.proofs.bits.Reads as bits
 use Rattle.record.proofs.bits.Kinds as bits-kinds
 use Rattle.record.proofs.symbol.Reads as symbol
@@ -31,12 +33,17 @@ use Rattle.record.proofs.flaw_numbers.Reads as flaw-numbers
 use Rattle.record.proofs.flaw_numbers.Kinds as flaw-numbers-kinds
 use Rattle.record.proofs.write_record.Reads as write-record
 use Rattle.record.proofs.write_record.Kinds as write-record-kinds
+use Rattle.record.proofs.set_mark.Reads as set-mark
+use Rattle.record.proofs.set_mark.Kinds as set-mark-kinds
 
 pub kind-once : Once 1 kind-kinds.ps kind-kinds.r kind.Pre kind.Post
 kind-once κs a v v' x x' q p p' = p ∙ sym p'
 
 pub count-once : Once 1 count-kinds.ps count-kinds.r count.Pre count.Post
 count-once κs a v v' x x' q p p' = p .0 ∙ sym (p' .0)
+
+pub mark-once : Once 1 mark-kinds.ps mark-kinds.r mark.Pre mark.Post
+mark-once κs a v v' x x' q p p' = p .0 ∙ sym (p' .0)
 
 pub bits-once : Once 1 bits-kinds.ps bits-kinds.r bits.Pre bits.Post
 bits-once κs a v v' x x' q p p' = p ∙ sym p'
@@ -90,3 +97,6 @@ judge-record-once κs a v v' x x' q p p' = flaw-once v v' (p ∙ sym p')
 
 pub write-record-once : OnceLeft 1 write-record-kinds.ps write-record-kinds.r write-record.Pre write-record.Post (List ℕ) (λ κs x. x .0 .now)
 write-record-once κs a v v' x x' q p p' = (refl, p ∙ sym p')
+
+pub set-mark-once : OnceLeft 1 set-mark-kinds.ps set-mark-kinds.r set-mark.Pre set-mark.Post (List ℕ) (λ κs x. x .0 .now)
+set-mark-once κs a v v' x x' q p p' = (refl, p ∙ sym p')

@@ -4,11 +4,11 @@ use mathlib.Core.Bool.{Bool, cond, _&&_, _||_}
 use mathlib.Core.List.{List}
 use lib.Dec.{eqb, ltb}
 use Rattle.paper.specs.Bytes.{le8}
-use Rattle.paper.specs.Record.{countIn, bits, isNode}
+use Rattle.paper.specs.Record.{countIn, markIn, bits, isNode}
 
--- bytes 0-7: the kind, and the count of a sum or a product in bytes 2-3
+-- bytes 0-7: the kind, the count of a sum or a product in bytes 2-3, and the mark in bytes 4-5
 unfoldable pub front : List ℕ → ℕ → ℕ → ℕ
-front s i k = cond (isNode k) (k + countIn s i * 65536) k
+front s i k = cond (isNode k) (k + countIn s i * 65536) k + markIn s i * 4294967296
 
 -- bytes 8-15: any number for an integer, one byte for a symbol, and nothing else
 unfoldable pub isTidy : List ℕ → ℕ → ℕ → Bool

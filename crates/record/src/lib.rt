@@ -3,8 +3,9 @@ ghost use mathlib.Core.Path.{_≡_};
 ghost use mathlib.Core.Bool.{not};
 ghost use Prim.Native.Nat.{_+_, _*_, _<_, _≤_};
 ghost use lib.ListN.{length};
-ghost use Rattle.paper.specs.Record.{kind, countIn, bits, symbolIn, stray, flaw, arity, isFlawed, flawNumbers};
+ghost use Rattle.paper.specs.Record.{kind, countIn, markIn, bits, symbolIn, stray, flaw, arity, isFlawed, flawNumbers};
 ghost use Rattle.paper.specs.Verdict.{isPositive};
+ghost use Rattle.paper.specs.Bytes.{bytes};
 ghost use Rattle.paper.specs.Table.{recordOf};
 ghost use Rattle.stretch.specs.Put.{put};
 ghost use Rattle.record.specs.Flaw.{flawOf, bothNumbers, byteFlaw, countFlaw, firstOf};
@@ -12,11 +13,11 @@ ghost use Rattle.record.specs.Tidy.{front, isTidy};
 
 // Which bytes of a record may be other than zero (1), by kind and byte.
 const MAY: [[u8; 16]; 5] = [
-    [1, 0, 0, 0, 0, 0, 0, 0, 1, 1, 1, 1, 1, 1, 1, 1],
-    [1, 0, 0, 0, 0, 0, 0, 0, 1, 0, 0, 0, 0, 0, 0, 0],
-    [1, 0, 1, 1, 0, 0, 0, 0, 0, 0, 0, 0, 0, 0, 0, 0],
-    [1, 0, 1, 1, 0, 0, 0, 0, 0, 0, 0, 0, 0, 0, 0, 0],
-    [1, 0, 0, 0, 0, 0, 0, 0, 0, 0, 0, 0, 0, 0, 0, 0],
+    [1, 0, 0, 0, 1, 1, 0, 0, 1, 1, 1, 1, 1, 1, 1, 1],
+    [1, 0, 0, 0, 1, 1, 0, 0, 1, 0, 0, 0, 0, 0, 0, 0],
+    [1, 0, 1, 1, 1, 1, 0, 0, 0, 0, 0, 0, 0, 0, 0, 0],
+    [1, 0, 1, 1, 1, 1, 0, 0, 0, 0, 0, 0, 0, 0, 0, 0],
+    [1, 0, 0, 0, 1, 1, 0, 0, 0, 0, 0, 0, 0, 0, 0, 0],
 ];
 
 // What is wrong with a record: nothing, its kind, the lowest byte that must be zero and is not, or its count.
@@ -48,6 +49,14 @@ pub fn count(s: &[u8], i: usize) -> usize
     ensures { λ r. ⌜ (r ≡ countIn (now (s .entry)) i) × (r < 65536) ⌝ }
 {
     number::read2(s, i * 16 + 2)
+}
+
+// The mark of record i: the line of the sheet that it came from, 0 for none.
+pub fn mark(s: &[u8], i: usize) -> usize
+    requires { ⌜ i * 16 + 16 ≤ length (now s) ⌝ }
+    ensures { λ r. ⌜ (r ≡ markIn (now (s .entry)) i) × (r < 65536) ⌝ }
+{
+    number::read2(s, i * 16 + 4)
 }
 
 // The 64 bits of record i, for an integer.
@@ -101,13 +110,14 @@ fn front(s: &[u8], i: usize, k: usize) -> u64
     requires { ⌜ (i * 16 + 16 ≤ length (now s)) × (k < 5) ⌝ }
     ensures { λ r. ⌜ r ≡ front (now (s .entry)) i k ⌝ }
 {
+    let m = mark(s, i) as u64 * 0x1_0000_0000;
     if k < 2 {
-        return k as u64;
+        return k as u64 + m;
     }
     if k == 4 {
-        return k as u64;
+        return k as u64 + m;
     }
-    k as u64 + count(s, i) as u64 * 0x1_0000
+    k as u64 + count(s, i) as u64 * 0x1_0000 + m
 }
 
 // Record i, of kind k, is seen by its two halves to have no byte that must be zero and is not.
@@ -233,21 +243,23 @@ pub fn is_sound(s: &[u8], i: usize) -> bool
     1 < count(s, i)
 }
 
-// Record i anew: its kind, its number of members, and the number in its bytes 8-15; all other bytes of d stay.
-pub fn write_record(d: &mut [u8], i: usize, kind: u8, count: usize, bits: u64)
+// Record i anew: its kind, its number of members, its mark, and the number in its bytes 8-15; all other bytes of d stay.
+pub fn write_record(d: &mut [u8], i: usize, kind: u8, count: usize, mark: usize, bits: u64)
     requires { ⌜ i * 16 + 16 ≤ length (now d) ⌝ }
-    ensures { λ _. ⌜ now (d .exit) ≡ put (now (d .entry)) (i * 16) (recordOf kind count bits) ⌝ }
+    ensures { λ _. ⌜ now (d .exit) ≡ put (now (d .entry)) (i * 16) (recordOf kind count mark bits) ⌝ }
 {
     let lo = (count % 256) as u8;
     let hi = (count / 256 % 256) as u8;
+    let mark_lo = (mark % 256) as u8;
+    let mark_hi = (mark / 256 % 256) as u8;
     let b = number::bytes8(bits);
     let r = [
         kind,
         0,
         lo,
         hi,
-        0,
-        0,
+        mark_lo,
+        mark_hi,
         0,
         0,
         b[0],
@@ -260,6 +272,15 @@ pub fn write_record(d: &mut [u8], i: usize, kind: u8, count: usize, bits: u64)
         b[7],
     ];
     stretch::copy_bytes(d, i * 16, &r, 0, 16);
+}
+
+// Another mark for record i; all other bytes of d stay.
+pub fn set_mark(d: &mut [u8], i: usize, mark: usize)
+    requires { ⌜ i * 16 + 16 ≤ length (now d) ⌝ }
+    ensures { λ _. ⌜ now (d .exit) ≡ put (now (d .entry)) (i * 16 + 4) (bytes 2 mark) ⌝ }
+{
+    let b = [(mark % 256) as u8, (mark / 256 % 256) as u8];
+    stretch::copy_bytes(d, i * 16 + 4, &b, 0, 2);
 }
 
 // What is wrong with the record, as numbers.

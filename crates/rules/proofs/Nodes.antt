@@ -70,23 +70,23 @@ integer-kind s i z t h k l = go (seen h)
     go (a-power e w b p q x y v) = absurd (omega arith)
 
 -- ---- the tree of some members
-pub of-none : (b : Bool) (l : List Tree) → length l < 1 → encode (nodeOf b l) ≡ recordOf 0 0 (neutral b)
+pub of-none : (b : Bool) (μ : ℕ) (l : List Tree) → length l < 1 → encode (nodeOf b μ l) ≡ recordOf 0 0 μ (neutral b)
 unfolding encode word paper.sumOf paper.productOf paper.collapse
-of-none true [] h = refl
-of-none false [] h = refl
-of-none b (t ∷ l) h = absurd (omega arith)
+of-none true μ [] h = refl
+of-none false μ [] h = refl
+of-none b μ (t ∷ l) h = absurd (omega arith)
 
-pub of-one : (b : Bool) (l : List Tree) → 1 ≤ length l → length l < 2 → encode (nodeOf b l) ≡ encodes (ofList l)
+pub of-one : (b : Bool) (μ : ℕ) (l : List Tree) → 1 ≤ length l → length l < 2 → encode (nodeOf b μ l) ≡ encodes (ofList l)
 unfolding encode ofList paper.sumOf paper.productOf paper.collapse
-of-one b [] g h = absurd (omega arith)
-of-one true (t ∷ []) g h = sym (append-nil (encode t))
-of-one false (t ∷ []) g h = sym (append-nil (encode t))
-of-one b (t ∷ u ∷ l) g h = absurd (omega arith)
+of-one b μ [] g h = absurd (omega arith)
+of-one true μ (t ∷ []) g h = sym (append-nil (encode t))
+of-one false μ (t ∷ []) g h = sym (append-nil (encode t))
+of-one b μ (t ∷ u ∷ l) g h = absurd (omega arith)
 
-pub of-more : (b : Bool) (l : List Tree) → 2 ≤ length l
-    → encode (nodeOf b l) ≡ recordOf (nodeKind b) (length l) 0 ++ encodes (ofList l)
+pub of-more : (b : Bool) (μ : ℕ) (l : List Tree) → 2 ≤ length l
+    → encode (nodeOf b μ l) ≡ recordOf (nodeKind b) (length l) μ 0 ++ encodes (ofList l)
 unfolding encode paper.sumOf paper.productOf paper.collapse
-of-more b [] h = absurd (omega arith)
-of-more b (t ∷ []) h = absurd (omega arith)
-of-more true (t ∷ u ∷ l) h = ap (λ n. recordOf 2 n 0 ++ encodes (ofList (t ∷ u ∷ l))) (list-count (t ∷ u ∷ l))
-of-more false (t ∷ u ∷ l) h = ap (λ n. recordOf 3 n 0 ++ encodes (ofList (t ∷ u ∷ l))) (list-count (t ∷ u ∷ l))
+of-more b μ [] h = absurd (omega arith)
+of-more b μ (t ∷ []) h = absurd (omega arith)
+of-more true μ (t ∷ u ∷ l) h = ap (λ n. recordOf 2 n μ 0 ++ encodes (ofList (t ∷ u ∷ l))) (list-count (t ∷ u ∷ l))
+of-more false μ (t ∷ u ∷ l) h = ap (λ n. recordOf 3 n μ 0 ++ encodes (ofList (t ∷ u ∷ l))) (list-count (t ∷ u ∷ l))

@@ -13,27 +13,27 @@ use lib.IntN.{pos, _*ℤ_}
 use mir.Syntax.{w64}
 use mir.Facts.{toZ-pos}
 use Rattle.paper.specs.Bytes.{signed, word}
-use Rattle.paper.specs.Tree.{Tree, power, records}
-use Rattle.paper.specs.Record.{kind, bits}
+use Rattle.paper.specs.Tree.{Tree, power, marked, markOf, records}
+use Rattle.paper.specs.Record.{kind, markIn, bits}
 use Rattle.paper.specs.Table.{recordOf, encode}
 use Rattle.paper.specs.Standing.{TreeIn}
 use Rattle.paper.specs.Rules as paper
 use Rattle.paper.specs.Rules.{fits, isThe, appliesIf, onPowerParts, powerOne, powerConstant, raisedIf, powerPower}
 use Rattle.paper.proofs.EncodeLaws.{encode-length, record-length}
 use Rattle.paper.proofs.Seen.{Seen, an-integer, a-symbol, a-sum, a-product, a-power, seen-power}
-use Rattle.paper.proofs.StandingLaws.{seen, power-parts, power-tree}
+use Rattle.paper.proofs.StandingLaws.{seen, power-parts, power-tree, mark-number, exponent-mark}
 use Rattle.stretch.specs.Put.{put, part}
 use Rattle.stretch.proofs.Laws.{drop-put-at, length-put}
 use Rattle.number.specs.Num.{numOf}
 use Rattle.number.specs.declared.Num.the-variants.{Is, Out}
 use Rattle.number.proofs.NumLaws.{numOf-is, numOf-is-out}
-use Rattle.write.proofs.Encoded.{stands-part, two-puts}
+use Rattle.write.proofs.Encoded.{marked-records, stands-part, two-puts}
 use Rattle.rules.specs.Asked.{Ready}
 use Rattle.rules.proofs.Nodes.{other-kind, integer-kind}
 use Rattle.rules.proofs.RuleLaws.{ready-tree, ready-length, ready-after}
 
 -- a rule on a power, at a tree of another kind
-pub on-no-power : {w : List ℕ} {i : ℕ} {t : Tree} → Seen w i t → (k : Tree → ℕ → paper.Tried) → (kind w i ≡ 4 → ⊥)
+pub on-no-power : {w : List ℕ} {i : ℕ} {t : Tree} → Seen w i t → (k : ℕ → Tree → ℕ → ℕ → paper.Tried) → (kind w i ≡ 4 → ⊥)
     → onPowerParts k t ≡ paper.does-not-apply
 unfolding onPowerParts
 on-no-power (an-integer e b w) k n = refl
@@ -46,7 +46,7 @@ on-no-power (a-power e w b p q x y z) k n = absurd (n e)
 pub record IsPower (w : List ℕ) (p : ℕ) (t : Tree) (rest : List ℕ) : Type 0 where
   pub base : Tree
   pub exponent : ℕ
-  pub on : (k : Tree → ℕ → paper.Tried) → onPowerParts k t ≡ k base exponent
+  pub on : (k : ℕ → Tree → ℕ → ℕ → paper.Tried) → onPowerParts k t ≡ k (markIn w p) base (markIn w (p + 1 + records base)) exponent
   pub there : TreeIn w (p + 1) base
   pub said : bits w (p + 1 + records base) ≡ exponent
   pub most : exponent < 2 ^ 63
@@ -54,7 +54,7 @@ pub record IsPower (w : List ℕ) (p : ℕ) (t : Tree) (rest : List ℕ) : Type 
   pub after : drop ((p + 2 + records base) * 16) w ≡ rest
 
 pub is-power : {o w : List ℕ} {d p : ℕ} {t : Tree} {rest : List ℕ} → Ready o w d p t rest → kind w p ≡ 4 → IsPower w p t rest
-unfolding onPowerParts records
+unfolding onPowerParts records markOf
 is-power {w = w} {p = p} {rest = rest} h k =
     let q = seen-power (seen (ready-tree h)) k in
     let b = q .1 in
@@ -65,7 +65,9 @@ is-power {w = w} {p = p} {rest = rest} h k =
     record {
       base = b;
       exponent = q .3;
-      on = λ k. ap (onPowerParts k) is;
+      on =
+          λ k. ap (onPowerParts k) is ∙ ap (λ m. k m b (q .2) (q .3)) (sym (mark-number _ tree))
+          ∙ ap (λ m. k (markIn w p) b m (q .3)) (sym (exponent-mark tree));
       there = power-tree tree;
       said = q .5 .exponent-bits;
       most = q .5 .most;
@@ -83,11 +85,12 @@ module _ {w : List ℕ} {p : ℕ} {t : Tree} {rest : List ℕ} (s : IsPower w p 
   unfolding powerOne appliesIf
   one-idle n = s .on _ ∙ ap (λ c. appliesIf c (s .base)) (ne-eqb _ _ n)
 
-  -- the base in place of the power
-  pub base-put : (w' : List ℕ) → w' ≡ put w ((p + 2) * 16) (encode (s .base)) → drop ((p + 2) * 16) w' ≡ encode (s .base) ++ rest
-  base-put w' e =
-      let x = encode (s .base) in
-      let place : (p + 2) * 16 + length x ≡ (p + 2 + records (s .base)) * 16 = omega (arith, encode-length (s .base)) in
+  -- the base, or a tree of as many records, in place of the power
+  base-put : (u : Tree) → records u ≡ records (s .base) → (w' : List ℕ) → w' ≡ put w ((p + 2) * 16) (encode u)
+      → drop ((p + 2) * 16) w' ≡ encode u ++ rest
+  base-put u m w' e =
+      let x = encode u in
+      let place : (p + 2) * 16 + length x ≡ (p + 2 + records (s .base)) * 16 = omega (arith, encode-length u) in
       ap (drop ((p + 2) * 16)) e
       ∙ drop-put-at w ((p + 2) * 16) x (omega (arith, s .long))
       ∙ ap (λ m. x ++ drop m w) place
@@ -96,12 +99,12 @@ module _ {w : List ℕ} {p : ℕ} {t : Tree} {rest : List ℕ} (s : IsPower w p 
   pub base-moved : (x : ℕ) (w' : List ℕ) → x ≡ p + 1 + records (s .base)
       → w' ≡ put w ((p + 2) * 16) (part w ((p + 1) * 16) ((x - (p + 1)) * 16)) → drop ((p + 2) * 16) w' ≡ encode (s .base) ++ rest
   base-moved x w' a e =
-      base-put w' (e ∙ ap (put w ((p + 2) * 16)) (stands-part w (p + 1) ((x - (p + 1)) * 16) (s .base) (s .there .stands) (omega arith)))
+      base-put (s .base) refl w' (e ∙ ap (put w ((p + 2) * 16)) (stands-part w (p + 1) ((x - (p + 1)) * 16) (s .base) (s .there .stands) (omega arith)))
 
   -- ---- step 8
-  constant-is : (c : Bool) → isThe (pos 0) (s .base) || isThe (pos 1) (s .base) ≡ c → powerConstant t ≡ appliesIf c (s .base)
+  constant-is : (c : Bool) → isThe (pos 0) (s .base) || isThe (pos 1) (s .base) ≡ c → powerConstant t ≡ appliesIf c (marked (markIn w p) (s .base))
   unfolding powerConstant
-  constant-is c e = s .on _ ∙ ap (λ c. appliesIf c (s .base)) e
+  constant-is c e = s .on _ ∙ ap (λ c. appliesIf c (marked (markIn w p) (s .base))) e
 
   pub constant-other : 0 < kind w (p + 1) → powerConstant t ≡ paper.does-not-apply
   unfolding appliesIf
@@ -115,7 +118,7 @@ module _ {w : List ℕ} {p : ℕ} {t : Tree} {rest : List ℕ} (s : IsPower w p 
     unfolding appliesIf
     constant-more m = constant-is false (either ∙ rw (ne-eqb (bits w (p + 1)) 0 (λ e. omega arith), ne-eqb (bits w (p + 1)) 1 (λ e. omega arith)) refl)
 
-    pub constant-applies : bits w (p + 1) ≤ 1 → powerConstant t ≡ paper.applies (s .base)
+    pub constant-applies : bits w (p + 1) ≤ 1 → powerConstant t ≡ paper.applies (marked (markIn w p) (s .base))
     unfolding appliesIf
     constant-applies m = constant-is true (either ∙ small (bits w (p + 1)) m)
       where
@@ -124,12 +127,14 @@ module _ {w : List ℕ} {p : ℕ} {t : Tree} {rest : List ℕ} (s : IsPower w p 
         small (suc zero) l = refl
         small (suc (suc v)) l = absurd (omega arith)
 
-    pub constant-put : (w' : List ℕ) → w' ≡ put w ((p + 2) * 16) (recordOf 0 0 (bits w (p + 1))) → drop ((p + 2) * 16) w' ≡ encode (s .base) ++ rest
-    unfolding encode
-    constant-put w' e = base-put w' (e ∙ ap (put w ((p + 2) * 16)) (go (seen (s .there))))
+    pub constant-put : (μ : ℕ) (w' : List ℕ) → w' ≡ put w ((p + 2) * 16) (recordOf 0 0 μ (bits w (p + 1)))
+        → drop ((p + 2) * 16) w' ≡ encode (marked μ (s .base)) ++ rest
+    unfolding encode marked
+    constant-put μ w' e =
+        base-put (marked μ (s .base)) (marked-records μ (s .base)) w' (e ∙ ap (put w ((p + 2) * 16)) (go (seen (s .there))))
       where
-        go : {b : Tree} → Seen w (p + 1) b → recordOf 0 0 (bits w (p + 1)) ≡ encode b
-        go (an-integer e b w) = ap (recordOf 0 0) b
+        go : {b : Tree} → Seen w (p + 1) b → recordOf 0 0 μ (bits w (p + 1)) ≡ encode (marked μ b)
+        go (an-integer e b w) = ap (recordOf 0 0 μ) b
         go (a-symbol e v w) = absurd (omega arith)
         go (a-sum e n c w m) = absurd (omega arith)
         go (a-product e n c w m) = absurd (omega arith)
@@ -145,7 +150,7 @@ pub record IsTower (w : List ℕ) (p : ℕ) (t : Tree) (rest : List ℕ) : Type 
   pub base : Tree
   pub inner : ℕ
   pub outer : ℕ
-  pub is : powerPower t ≡ raisedIf (ltb (inner * outer) (2 ^ 63)) base (inner * outer)
+  pub is : powerPower t ≡ raisedIf (ltb (inner * outer) (2 ^ 63)) (markIn w p) base (markIn w (p + 3 + records base)) (inner * outer)
   pub there : TreeIn w (p + 2) base
   pub inner-said : bits w (p + 2 + records base) ≡ inner
   pub outer-said : bits w (p + 3 + records base) ≡ outer
@@ -170,7 +175,9 @@ is-tower {w} {p} {t} {rest} s k =
       base = c;
       inner = q .3;
       outer = s .exponent;
-      is = s .on _ ∙ ap (onPowerParts _) is;
+      is =
+          s .on _ ∙ ap (onPowerParts _) is
+          ∙ ap (λ i. raisedIf (ltb (q .3 * s .exponent) (2 ^ 63)) (markIn w p) c (markIn w i) (q .3 * s .exponent)) (sym at-outer);
       there = subst (λ i. TreeIn w i c) next (power-tree tree);
       inner-said = ap (bits w) (sym at-inner) ∙ q .5 .exponent-bits;
       outer-said = ap (bits w) at-outer ∙ s .said;
@@ -188,30 +195,34 @@ module _ {w : List ℕ} {p : ℕ} {t : Tree} {rest : List ℕ} (s : IsTower w p 
   multiplied = rw (toZ-pos w64 {n = s .inner} (s .inner-most), toZ-pos w64 {n = s .outer} (s .outer-most)) refl
 
   -- the product of the exponents, in range and out of it
-  pub tower-applies : (n : ℕ) → numOf (signed (s .inner) *ℤ signed (s .outer)) ≡ Is n → powerPower t ≡ paper.applies (power 0 (s .base) 0 n)
+  pub tower-applies : (n : ℕ) → numOf (signed (s .inner) *ℤ signed (s .outer)) ≡ Is n
+      → powerPower t ≡ paper.applies (power (markIn w p) (s .base) (markIn w (p + 3 + records (s .base))) n)
   unfolding raisedIf fits word
   tower-applies n e =
       let q = numOf-is (pos product) n (ap numOf (sym multiplied) ∙ e) in
       let l = ltb-true product (2 ^ 63) (q .0) in
       let same : product ≡ n = omega (arith, q .1) in
-      s .is ∙ ap (λ c. raisedIf c (s .base) product) (q .0) ∙ ap (λ n. paper.applies (power 0 (s .base) 0 n)) same
+      s .is ∙ ap (λ c. raisedIf c (markIn w p) (s .base) (markIn w (p + 3 + records (s .base))) product) (q .0)
+      ∙ ap (λ n. paper.applies (power (markIn w p) (s .base) (markIn w (p + 3 + records (s .base))) n)) same
 
   pub tower-over : numOf (signed (s .inner) *ℤ signed (s .outer)) ≡ Out → powerPower t ≡ paper.range-exceeded
   unfolding raisedIf fits
-  tower-over e = s .is ∙ ap (λ c. raisedIf c (s .base) product) (numOf-is-out (pos product) (ap numOf (sym multiplied) ∙ e))
+  tower-over e =
+      s .is
+      ∙ ap (λ c. raisedIf c (markIn w p) (s .base) (markIn w (p + 3 + records (s .base))) product) (numOf-is-out (pos product) (ap numOf (sym multiplied) ∙ e))
 
-  -- the inner base between a power's record and the exponent n
-  pub tower-put : (y n : ℕ) (w₁ w₂ w₃ : List ℕ) → y ≡ p + 2 + records (s .base)
-      → w₁ ≡ put w ((p + 3) * 16) (part w ((p + 2) * 16) ((y - (p + 2)) * 16)) → w₂ ≡ put w₁ ((y + 1) * 16) (recordOf 0 0 n)
-      → w₃ ≡ put w₂ ((p + 2) * 16) (recordOf 4 0 0) → drop ((p + 2) * 16) w₃ ≡ encode (power 0 (s .base) 0 n) ++ rest
+  -- the inner base between a power's record and the exponent n, with these marks
+  pub tower-put : (y n μ ξ : ℕ) (w₁ w₂ w₃ : List ℕ) → y ≡ p + 2 + records (s .base)
+      → w₁ ≡ put w ((p + 3) * 16) (part w ((p + 2) * 16) ((y - (p + 2)) * 16)) → w₂ ≡ put w₁ ((y + 1) * 16) (recordOf 0 0 ξ n)
+      → w₃ ≡ put w₂ ((p + 2) * 16) (recordOf 4 0 μ 0) → drop ((p + 2) * 16) w₃ ≡ encode (power μ (s .base) ξ n) ++ rest
   unfolding encode
-  tower-put y n w₁ w₂ w₃ a e₁ e₂ e₃ =
+  tower-put y n μ ξ w₁ w₂ w₃ a e₁ e₂ e₃ =
       let b = encode (s .base) in
-      let r = recordOf 4 0 0 in
-      let x = recordOf 0 0 n in
+      let r = recordOf 4 0 μ 0 in
+      let x = recordOf 0 0 ξ n in
       let lb = encode-length (s .base) in
-      let lr = record-length 4 0 0 in
-      let lx = record-length 0 0 n in
+      let lr = record-length 4 0 μ 0 in
+      let lx = record-length 0 0 ξ n in
       let lbx = length-append b x in
       let moved = e₁ ∙ ap (put w ((p + 3) * 16)) (stands-part w (p + 2) ((y - (p + 2)) * 16) (s .base) (s .there .stands) (omega arith)) in
       let both = two-puts w w₁ w₂ b x ((p + 3) * 16) ((y + 1) * 16) moved e₂ (omega arith) (omega (arith, s .long)) in

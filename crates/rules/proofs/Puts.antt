@@ -22,7 +22,7 @@ unfolding ofList records
 no-records [] h = refl
 no-records (t ∷ l) h = absurd (omega arith)
 
-module _ (b : Bool) (l : List Tree) (out : List ℕ) (d e : ℕ) (h : Built out d e l) where
+module _ (b : Bool) (μ : ℕ) (l : List Tree) (out : List ℕ) (d e : ℕ) (h : Built out d e l) where
   built-drop : drop ((d + 1) * 16) out ≡ encodes (ofList l) ++ drop (e * 16) out
   built-drop =
       ap (drop ((d + 1) * 16)) (sym (take-append-drop (e * 16) out) ∙ ap (λ (x : List ℕ). x ++ drop (e * 16) out) (h .built))
@@ -32,65 +32,65 @@ module _ (b : Bool) (l : List Tree) (out : List ℕ) (d e : ℕ) (h : Built out 
   room : (d + 1) * 16 ≤ length out
   room = omega (arith, h .end, h .within)
 
-  module _ (out' : List ℕ) (k n v : ℕ) (w : out' ≡ put out (d * 16) (recordOf k n v)) where
-    written : drop (d * 16) out' ≡ recordOf k n v ++ drop ((d + 1) * 16) out
+  module _ (out' : List ℕ) (k n v : ℕ) (w : out' ≡ put out (d * 16) (recordOf k n μ v)) where
+    written : drop (d * 16) out' ≡ recordOf k n μ v ++ drop ((d + 1) * 16) out
     written =
-        let r = record-length k n v in
-        let at : d * 16 + length (recordOf k n v) ≡ (d + 1) * 16 = omega arith in
-        ap (drop (d * 16)) w ∙ drop-put-at out (d * 16) (recordOf k n v) (omega (arith, room)) ∙ ap (λ m. recordOf k n v ++ drop m out) at
+        let r = record-length k n μ v in
+        let at : d * 16 + length (recordOf k n μ v) ≡ (d + 1) * 16 = omega arith in
+        ap (drop (d * 16)) w ∙ drop-put-at out (d * 16) (recordOf k n μ v) (omega (arith, room)) ∙ ap (λ m. recordOf k n μ v ++ drop m out) at
 
     stays : take (d * 16) out' ≡ take (d * 16) out
-    stays = ap (take (d * 16)) w ∙ take-put out (d * 16) (recordOf k n v) (d * 16) (omega arith) (omega (arith, room))
+    stays = ap (take (d * 16)) w ∙ take-put out (d * 16) (recordOf k n μ v) (d * 16) (omega arith) (omega (arith, room))
 
-  pub collapse-none : (out' : List ℕ) (v : ℕ) → length l < 1 → v ≡ neutral b → out' ≡ put out (d * 16) (recordOf 0 0 v)
-      → Collapsed b l out out' d e d
+  pub collapse-none : (out' : List ℕ) (v : ℕ) → length l < 1 → v ≡ neutral b → out' ≡ put out (d * 16) (recordOf 0 0 μ v)
+      → Collapsed b μ l out out' d e d
   collapse-none out' v c q w =
-      let same : encode (nodeOf b l) ≡ recordOf 0 0 v = of-none b l c ∙ ap (recordOf 0 0) (sym q) in
+      let same : encode (nodeOf b μ l) ≡ recordOf 0 0 μ v = of-none b μ l c ∙ ap (recordOf 0 0 μ) (sym q) in
       record {
         stands = record { after = drop ((d + 1) * 16) out; there = rw same (written out' 0 0 v w) };
         low = omega arith;
-        end = omega (arith, h .end, no-records l c, encode-length (nodeOf b l), ap length same, record-length 0 0 v);
+        end = omega (arith, h .end, no-records l c, encode-length (nodeOf b μ l), ap length same, record-length 0 0 μ v);
         done = stays out' 0 0 v w;
       }
 
-  pub collapse-one : 1 ≤ length l → length l < 2 → Collapsed b l out out d e (d + 1)
+  pub collapse-one : 1 ≤ length l → length l < 2 → Collapsed b μ l out out d e (d + 1)
   collapse-one g c =
-      let same = of-one b l g c in
+      let same = of-one b μ l g c in
       record {
         stands = record { after = drop (e * 16) out; there = rw same built-drop };
         low = omega arith;
-        end = omega (arith, h .end, encode-length (nodeOf b l), ap length same, encodes-length (ofList l));
+        end = omega (arith, h .end, encode-length (nodeOf b μ l), ap length same, encodes-length (ofList l));
         done = refl;
       }
 
-  pub collapse-more : (out' : List ℕ) (k : ℕ) → 2 ≤ length l → k ≡ nodeKind b → out' ≡ put out (d * 16) (recordOf k (length l) 0)
-      → Collapsed b l out out' d e d
+  pub collapse-more : (out' : List ℕ) (k : ℕ) → 2 ≤ length l → k ≡ nodeKind b → out' ≡ put out (d * 16) (recordOf k (length l) μ 0)
+      → Collapsed b μ l out out' d e d
   collapse-more out' k c q w =
-      let same : encode (nodeOf b l) ≡ recordOf k (length l) 0 ++ encodes (ofList l) =
-      of-more b l c ∙ ap (λ k. recordOf k (length l) 0 ++ encodes (ofList l)) (sym q) in
-      let long = length-append (recordOf k (length l) 0) (encodes (ofList l)) in
+      let same : encode (nodeOf b μ l) ≡ recordOf k (length l) μ 0 ++ encodes (ofList l) =
+      of-more b μ l c ∙ ap (λ k. recordOf k (length l) μ 0 ++ encodes (ofList l)) (sym q) in
+      let long = length-append (recordOf k (length l) μ 0) (encodes (ofList l)) in
       record {
         stands = record {
           after = drop (e * 16) out;
           there =
               written out' k (length l) 0 w
-              ∙ ap (λ (x : List ℕ). recordOf k (length l) 0 ++ x) built-drop
-              ∙ sym (append-assoc (recordOf k (length l) 0) (encodes (ofList l)) (drop (e * 16) out))
+              ∙ ap (λ (x : List ℕ). recordOf k (length l) μ 0 ++ x) built-drop
+              ∙ sym (append-assoc (recordOf k (length l) μ 0) (encodes (ofList l)) (drop (e * 16) out))
               ∙ ap (λ (x : List ℕ). x ++ drop (e * 16) out) (sym same);
         };
         low = omega arith;
-        end = omega (arith, h .end, encode-length (nodeOf b l), ap length same, long, record-length k (length l) 0, encodes-length (ofList l));
+        end = omega (arith, h .end, encode-length (nodeOf b μ l), ap length same, long, record-length k (length l) μ 0, encodes-length (ofList l));
         done = stays out' k (length l) 0 w;
       }
 
 -- the copy of the result before what followed the node
-pub put-back : (b : Bool) (l : List Tree) (out out' work work' : List ℕ) (d e end r q : ℕ) → Collapsed b l out out' d e r
+pub put-back : (b : Bool) (μ : ℕ) (l : List Tree) (out out' work work' : List ℕ) (d e end r q : ℕ) → Collapsed b μ l out out' d e r
     → q ≡ end - (e - r) → e - r ≤ end → end * 16 ≤ length work → work' ≡ put work (q * 16) (part out' (r * 16) ((e - r) * 16))
-    → PutBack b l (drop (end * 16) work) out out' work' d q
+    → PutBack b μ l (drop (end * 16) work) out out' work' d q
 unfolding part
-put-back b l out out' work work' d e end r q h at low high w =
-    let x = encode (nodeOf b l) in
-    let size : length x ≡ (e - r) * 16 = encode-length (nodeOf b l) ∙ omega (arith, h .end) in
+put-back b μ l out out' work work' d e end r q h at low high w =
+    let x = encode (nodeOf b μ l) in
+    let size : length x ≡ (e - r) * 16 = encode-length (nodeOf b μ l) ∙ omega (arith, h .end) in
     let taken : part out' (r * 16) ((e - r) * 16) ≡ x =
     ap (take ((e - r) * 16)) (h .stands .there) ∙ take-at x (h .stands .after) ((e - r) * 16) size in
     let place : q * 16 + length x ≡ end * 16 = omega arith in
@@ -102,7 +102,8 @@ put-back b l out out' work work' d e end r q h at low high w =
       done = h .done;
     }
 
--- what followed the node is known, and what was done before the members were built
-pub put-follows : {b : Bool} {l : List Tree} {x rest o o₀ o' w' : List ℕ} {d q : ℕ} → PutBack b l x o o' w' d q → x ≡ rest
-    → take (d * 16) o ≡ take (d * 16) o₀ → PutBack b l rest o₀ o' w' d q
-put-follows {b} {l} h e k = record { stands = h .stands ∙ ap (λ y. encode (nodeOf b l) ++ y) e; done = h .done ∙ k }
+-- the node's mark and what followed it are known, and what was done before the members were built
+pub put-follows : {b : Bool} {μ ν : ℕ} {l : List Tree} {x rest o o₀ o' w' : List ℕ} {d q : ℕ} → PutBack b μ l x o o' w' d q → μ ≡ ν → x ≡ rest
+    → take (d * 16) o ≡ take (d * 16) o₀ → PutBack b ν l rest o₀ o' w' d q
+put-follows {b} {μ} {ν} {l} {x} h m e k =
+    record { stands = h .stands ∙ ap (λ n. encode (nodeOf b n l) ++ x) m ∙ ap (λ y. encode (nodeOf b ν l) ++ y) e; done = h .done ∙ k }

@@ -9,8 +9,8 @@ use native.Mathlib.Omega.{arith}
 use lib.ListN.{length, drop, length-append, length-drop}
 use lib.Seq.{drop-drop, drop-at}
 use lib.IntN.{pos}
-use Rattle.paper.specs.Tree.{Tree, Forest, integer, sum, product, toList, count, weight, weights, records}
-use Rattle.paper.specs.Record.{kind}
+use Rattle.paper.specs.Tree.{Tree, Forest, integer, sum, product, toList, count, markOf, weight, weights, records}
+use Rattle.paper.specs.Record.{kind, markIn}
 use Rattle.paper.specs.Standing.{SeenMembers}
 use Rattle.paper.specs.Bytes.{word}
 use Rattle.paper.specs.Table.{recordOf, encode, encodes}
@@ -19,6 +19,7 @@ use Rattle.paper.specs.Rules.{onSumMembers, onProductMembers, appliesIf, anyOf,
 use Rattle.paper.specs.Rules.{addZero, combineLikeTerms, multiplyZero, multiplyOne, combineLikeFactors}
 use Rattle.paper.proofs.EncodeLaws.{encode-length, records-pos, records-weight, record-length}
 use Rattle.paper.proofs.Seen.{Seen, an-integer, a-symbol, a-sum, a-product, a-power, see, seen-sum, seen-product}
+use Rattle.paper.proofs.StandingLaws.{mark-number}
 use Rattle.split.specs.Standing.{TreeIn}
 use Rattle.stretch.specs.Put.{put}
 use Rattle.stretch.proofs.Laws.{drop-put-at}
@@ -33,32 +34,32 @@ abbrev node : Bool → ℕ → Forest → Tree
 node true μ f = sum μ f
 node false μ f = product μ f
 
-abbrev pub onMembers : Bool → (List Tree → paper.Tried) → Tree → paper.Tried
+abbrev pub onMembers : Bool → (ℕ → List Tree → paper.Tried) → Tree → paper.Tried
 onMembers true k t = onSumMembers k t
 onMembers false k t = onProductMembers k t
 
--- what such a rule does to the members l, if it applies where one of them is the integer z, and makes u of them
-abbrev pub ifAny : ℕ → (List Tree → Tree) → List Tree → paper.Tried
-ifAny z u l = appliesIf (anyOf (isThe (pos z)) l) (u l)
+-- what such a rule does to the mark μ and the members l, if it applies where one of them is the integer z, and makes u of them
+abbrev pub ifAny : ℕ → (ℕ → List Tree → Tree) → ℕ → List Tree → paper.Tried
+ifAny z u μ l = appliesIf (anyOf (isThe (pos z)) l) (u μ l)
 
-if-any : (z : ℕ) (u : List Tree → Tree) (l : List Tree) → anyOf (isThe (pos z)) l ≡ true → ifAny z u l ≡ paper.applies (u l)
+if-any : (z : ℕ) (u : ℕ → List Tree → Tree) (μ : ℕ) (l : List Tree) → anyOf (isThe (pos z)) l ≡ true → ifAny z u μ l ≡ paper.applies (u μ l)
 unfolding appliesIf
-if-any z u l e = ap (λ c. appliesIf c (u l)) e
+if-any z u μ l e = ap (λ c. appliesIf c (u μ l)) e
 
-if-none : (z : ℕ) (u : List Tree → Tree) (l : List Tree) → anyOf (isThe (pos z)) l ≡ false → ifAny z u l ≡ paper.does-not-apply
+if-none : (z : ℕ) (u : ℕ → List Tree → Tree) (μ : ℕ) (l : List Tree) → anyOf (isThe (pos z)) l ≡ false → ifAny z u μ l ≡ paper.does-not-apply
 unfolding appliesIf
-if-none z u l e = ap (λ c. appliesIf c (u l)) e
+if-none z u μ l e = ap (λ c. appliesIf c (u μ l)) e
 
 -- the paper's rules are such rules: r looks for a member that is z
-pub record LooksFor (b : Bool) (z : ℕ) (u : List Tree → Tree) (r : Tree → paper.Tried) : Type 0 where
+pub record LooksFor (b : Bool) (z : ℕ) (u : ℕ → List Tree → Tree) (r : Tree → paper.Tried) : Type 0 where
   pub is : (t : Tree) → r t ≡ onMembers b (ifAny z u) t
 
-pub drops : (b : Bool) → LooksFor b (neutral b) (λ l. nodeOf b (dropAll (isThe (pos (neutral b))) l)) (dropNeutral b)
+pub drops : (b : Bool) → LooksFor b (neutral b) (λ μ l. nodeOf b μ (dropAll (isThe (pos (neutral b))) l)) (dropNeutral b)
 unfolding addZero multiplyOne
 drops true = record { is = λ t. refl }
 drops false = record { is = λ t. refl }
 
-pub zeroes : LooksFor false 0 (λ l. integer 0 (pos 0)) multiplyZero
+pub zeroes : LooksFor false 0 (λ μ l. integer μ (pos 0)) multiplyZero
 unfolding multiplyZero
 zeroes = record { is = λ t. refl }
 
@@ -103,7 +104,7 @@ module _ {o w : List ℕ} {d p : ℕ} {t : Tree} {rest : List ℕ} (h : Ready o 
       }
 
   -- a rule for another kind
-  on-other : (b : Bool) (k : List Tree → paper.Tried) → (kind w p ≡ nodeKind b → ⊥) → onMembers b k t ≡ paper.does-not-apply
+  on-other : (b : Bool) (k : ℕ → List Tree → paper.Tried) → (kind w p ≡ nodeKind b → ⊥) → onMembers b k t ≡ paper.does-not-apply
   unfolding onSumMembers onProductMembers
   on-other b k = go b ready-seen
     where
@@ -119,7 +120,7 @@ module _ {o w : List ℕ} {d p : ℕ} {t : Tree} {rest : List ℕ} (h : Ready o 
       go false (a-product e m c w s) n = absurd (n e)
       go false (a-power e w b p q x y z) n = refl
 
-  pub looks-elsewhere : {b : Bool} {z : ℕ} {u : List Tree → Tree} {r : Tree → paper.Tried} → LooksFor b z u r → (kind w p ≡ nodeKind b → ⊥)
+  pub looks-elsewhere : {b : Bool} {z : ℕ} {u : ℕ → List Tree → Tree} {r : Tree → paper.Tried} → LooksFor b z u r → (kind w p ≡ nodeKind b → ⊥)
       → r t ≡ paper.does-not-apply
   looks-elsewhere {b} {z} {u} q n = q .is t ∙ on-other b (ifAny z u) n
 
@@ -130,15 +131,15 @@ module _ {o w : List ℕ} {d p : ℕ} {t : Tree} {rest : List ℕ} (h : Ready o 
 pub record IsNode (b : Bool) (o w : List ℕ) (d p : ℕ) (t : Tree) (rest : List ℕ) : Type 0 where
   pub members : Forest
   pub held : Held o w d p members rest
-  pub on : (k : List Tree → paper.Tried) → onMembers b k t ≡ k (toList members)
+  pub on : (k : ℕ → List Tree → paper.Tried) → onMembers b k t ≡ k (markIn w p) (toList members)
 
-behind-record : (w : List ℕ) (p k c : ℕ) (x rest : List ℕ) → drop (p * 16) w ≡ (recordOf k c 0 ++ x) ++ rest → drop ((p + 1) * 16) w ≡ x ++ rest
-behind-record w p k c x rest e =
+behind-record : (w : List ℕ) (p k c μ : ℕ) (x rest : List ℕ) → drop (p * 16) w ≡ (recordOf k c μ 0 ++ x) ++ rest → drop ((p + 1) * 16) w ≡ x ++ rest
+behind-record w p k c μ x rest e =
     let places : (p + 1) * 16 ≡ p * 16 + 16 = omega arith in
     ap (λ n. drop n w) places
     ∙ sym (drop-drop 16 (p * 16) w)
-    ∙ ap (drop 16) (e ∙ append-assoc (recordOf k c 0) x rest)
-    ∙ drop-at (recordOf k c 0) (x ++ rest) 16 (record-length k c 0)
+    ∙ ap (drop 16) (e ∙ append-assoc (recordOf k c μ 0) x rest)
+    ∙ drop-at (recordOf k c μ 0) (x ++ rest) 16 (record-length k c μ 0)
 
 module _ (b : Bool) (μ : ℕ) (f : Forest) where
   node-weight : weight (node b μ f) ≡ 1 + weights f
@@ -149,19 +150,27 @@ module _ (b : Bool) (μ : ℕ) (f : Forest) where
       go true = refl
       go false = refl
 
-  node-encode : encode (node b μ f) ≡ recordOf (nodeKind b) (count f) 0 ++ encodes f
+  node-encode : encode (node b μ f) ≡ recordOf (nodeKind b) (count f) μ 0 ++ encodes f
   unfolding encode
   node-encode = go b
     where
-      go : (b : Bool) → encode (node b μ f) ≡ recordOf (nodeKind b) (count f) 0 ++ encodes f
+      go : (b : Bool) → encode (node b μ f) ≡ recordOf (nodeKind b) (count f) μ 0 ++ encodes f
       go true = refl
       go false = refl
 
-  on-node : (k : List Tree → paper.Tried) → onMembers b k (node b μ f) ≡ k (toList f)
+  node-mark : markOf (node b μ f) ≡ μ
+  unfolding markOf
+  node-mark = go b
+    where
+      go : (b : Bool) → markOf (node b μ f) ≡ μ
+      go true = refl
+      go false = refl
+
+  on-node : (k : ℕ → List Tree → paper.Tried) → onMembers b k (node b μ f) ≡ k μ (toList f)
   unfolding onSumMembers onProductMembers
   on-node k = go b
     where
-      go : (b : Bool) → onMembers b k (node b μ f) ≡ k (toList f)
+      go : (b : Bool) → onMembers b k (node b μ f) ≡ k μ (toList f)
       go true = refl
       go false = refl
 
@@ -177,6 +186,7 @@ module _ {o w : List ℕ} {d p : ℕ} {t : Tree} {rest : List ℕ} (h : Ready o 
       let f = q .1 in
       let s = q .3 in
       let heavy = ap weight (q .2) ∙ node-weight b μ f in
+      let marked : markIn w p ≡ μ = mark-number _ (ready-tree h) ∙ ap markOf (q .2) ∙ node-mark b μ f in
       let stands = h .stands ∙ ap (λ x. x ++ rest) (ap encode (q .2) ∙ node-encode b μ f) in
       record {
         members = f;
@@ -185,33 +195,33 @@ module _ {o w : List ℕ} {d p : ℕ} {t : Tree} {rest : List ℕ} (h : Ready o 
           two = s .two;
           light = omega (arith, heavy, h .light);
           counted = s .counted;
-          stand = behind-record w p (nodeKind b) (count f) (encodes f) rest stands;
+          stand = behind-record w p (nodeKind b) (count f) μ (encodes f) rest stands;
           out-room = omega (arith, heavy, h .out-room);
           work-room = omega (arith, heavy, h .work-room);
         };
-        on = λ k. ap (onMembers b k) (q .2) ∙ on-node b μ f k;
+        on = λ k. ap (onMembers b k) (q .2) ∙ on-node b μ f k ∙ ap (λ m. k m (toList f)) (sym marked);
       }
 
 -- the rules at such a node
 module _ {b : Bool} {o w : List ℕ} {d p : ℕ} {t : Tree} {rest : List ℕ} (s : IsNode b o w d p t rest) where
-  module _ {z : ℕ} {u : List Tree → Tree} {r : Tree → paper.Tried} (q : LooksFor b z u r) where
-    pub finds : anyOf (isThe (pos z)) (toList (s .members)) ≡ true → r t ≡ paper.applies (u (toList (s .members)))
-    finds e = q .is t ∙ s .on (ifAny z u) ∙ if-any z u (toList (s .members)) e
+  module _ {z : ℕ} {u : ℕ → List Tree → Tree} {r : Tree → paper.Tried} (q : LooksFor b z u r) where
+    pub finds : anyOf (isThe (pos z)) (toList (s .members)) ≡ true → r t ≡ paper.applies (u (markIn w p) (toList (s .members)))
+    finds e = q .is t ∙ s .on (ifAny z u) ∙ if-any z u (markIn w p) (toList (s .members)) e
 
     pub finds-none : anyOf (isThe (pos z)) (toList (s .members)) ≡ false → r t ≡ paper.does-not-apply
-    finds-none e = q .is t ∙ s .on (ifAny z u) ∙ if-none z u (toList (s .members)) e
+    finds-none e = q .is t ∙ s .on (ifAny z u) ∙ if-none z u (markIn w p) (toList (s .members)) e
 
-  pub combine-at : combineLike b t ≡ combined b (toList (s .members))
+  pub combine-at : combineLike b t ≡ combined b (markIn w p) (toList (s .members))
   combine-at = combine-is b t ∙ s .on (combined b)
 
 -- ---- 0 in place of the whole product
-pub zero-put : (w w' : List ℕ) (q : ℕ) (rest : List ℕ) → (q + 1) * 16 ≤ length w → drop ((q + 1) * 16) w ≡ rest
-    → w' ≡ put w (q * 16) (recordOf 0 0 0) → drop (q * 16) w' ≡ encode (integer 0 (pos 0)) ++ rest
+pub zero-put : (w w' : List ℕ) (q μ : ℕ) (rest : List ℕ) → (q + 1) * 16 ≤ length w → drop ((q + 1) * 16) w ≡ rest
+    → w' ≡ put w (q * 16) (recordOf 0 0 μ 0) → drop (q * 16) w' ≡ encode (integer μ (pos 0)) ++ rest
 unfolding encode word
-zero-put w w' q rest r e s =
-    let long = record-length 0 0 0 in
-    let place : q * 16 + length (recordOf 0 0 0) ≡ (q + 1) * 16 = omega arith in
+zero-put w w' q μ rest r e s =
+    let long = record-length 0 0 μ 0 in
+    let place : q * 16 + length (recordOf 0 0 μ 0) ≡ (q + 1) * 16 = omega arith in
     ap (drop (q * 16)) s
-    ∙ drop-put-at w (q * 16) (recordOf 0 0 0) (omega arith)
-    ∙ ap (λ n. recordOf 0 0 0 ++ drop n w) place
-    ∙ ap (λ (x : List ℕ). recordOf 0 0 0 ++ x) e
+    ∙ drop-put-at w (q * 16) (recordOf 0 0 μ 0) (omega arith)
+    ∙ ap (λ n. recordOf 0 0 μ 0 ++ drop n w) place
+    ∙ ap (λ (x : List ℕ). recordOf 0 0 μ 0 ++ x) e

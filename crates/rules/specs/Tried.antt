@@ -46,14 +46,14 @@ pub record Built (out : List ℕ) (d e : ℕ) (l : List Tree) : Type 0 where
   pub end : e ≡ d + 1 + recordses (ofList l)
   pub within : e * 16 ≤ length out
 
--- the sum or product of l stands in out' from record r up to record e, and what is done stays
-pub record Collapsed (b : Bool) (l : List Tree) (out out' : List ℕ) (d e r : ℕ) : Type 0 where
-  pub stands : Stands out' r (encode (nodeOf b l))
+-- the sum or product of l with the mark μ stands in out' from record r up to record e, and what is done stays
+pub record Collapsed (b : Bool) (μ : ℕ) (l : List Tree) (out out' : List ℕ) (d e r : ℕ) : Type 0 where
+  pub stands : Stands out' r (encode (nodeOf b μ l))
   pub low : d ≤ r
-  pub end : e ≡ r + records (nodeOf b l)
+  pub end : e ≡ r + records (nodeOf b μ l)
   pub done : take (d * 16) out' ≡ take (d * 16) out
 
--- the sum or product of l is pending from record q on, and `rest` after it; what is done stays
-pub record PutBack (b : Bool) (l : List Tree) (rest out out' work' : List ℕ) (d q : ℕ) : Type 0 where
-  pub stands : drop (q * 16) work' ≡ encode (nodeOf b l) ++ rest
+-- the sum or product of l with the mark μ is pending from record q on, and `rest` after it; what is done stays
+pub record PutBack (b : Bool) (μ : ℕ) (l : List Tree) (rest out out' work' : List ℕ) (d q : ℕ) : Type 0 where
+  pub stands : drop (q * 16) work' ≡ encode (nodeOf b μ l) ++ rest
   pub done : take (d * 16) out' ≡ take (d * 16) out

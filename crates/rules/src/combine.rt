@@ -18,6 +18,7 @@ pub fn combine(out: &mut [u8], work: &mut [u8], d: usize, p: usize, terms: bool)
         return Tried::Idle;
     }
     let n = record::count(work, p);
+    let mark = record::mark(work, p);
     let end = walk::list_members(work, p);
     let walked = walk::walk(out, work, d, p, n, terms);
     match walked {
@@ -31,6 +32,7 @@ pub fn combine(out: &mut [u8], work: &mut [u8], d: usize, p: usize, terms: bool)
             end,
             count,
             terms,
+            mark,
         )),
     }
 }

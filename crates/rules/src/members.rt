@@ -4,6 +4,7 @@ ghost use mathlib.Core.List.{List};
 ghost use Prim.Native.Nat.{ℕ, _+_, _*_, _<_, _≤_};
 ghost use lib.ListN.{length, drop};
 ghost use lib.IntN.{pos};
+ghost use Rattle.paper.specs.Record.{markIn};
 ghost use Rattle.paper.specs.Tree.{Tree, Forest, toList};
 ghost use Rattle.paper.specs.Rules.{isThe, anyOf, dropAll};
 ghost use Rattle.split.specs.Standing.{TreeIn, SomeTree};
@@ -55,24 +56,26 @@ pub fn any_member(s: &[u8], p: usize, z: u64) -> bool
     false
 }
 
-// Makes a tree of the members behind record d of out: of none the integer that stands for none, one alone is itself.
-fn collapse(out: &mut [u8], d: usize, count: usize, sum: bool) -> usize
+// Makes a tree of the members behind record d of out: of none the integer that stands for none, one alone is itself; the integer, or
+// the node, has the mark.
+fn collapse(out: &mut [u8], d: usize, count: usize, sum: bool, mark: usize) -> usize
     requires { ⌜ ((e : ℕ) × (l : List Tree) × Built (now out) d e l × (length l ≡ count)) ⌝ }
     ensures { λ r. ⌜ ((e : ℕ) (l : List Tree) → Built (now (out .entry)) d e l → length l ≡ count
-        → Collapsed sum l (now (out .entry)) (now (out .exit)) d e r) ⌝ }
+        → Collapsed sum mark l (now (out .entry)) (now (out .exit)) d e r) ⌝ }
 {
     if count < 1 {
-        record::write_record(out, d, 0, 0, neutral(sum));
+        record::write_record(out, d, 0, 0, mark, neutral(sum));
         return d;
     }
     if count < 2 {
         return d + 1;
     }
-    record::write_record(out, d, node_kind(sum), count, 0);
+    record::write_record(out, d, node_kind(sum), count, mark, 0);
     d
 }
 
-// Puts the tree of the members behind record d of out, up to record e, into the pending records, so that it ends at record `end`.
+// Puts the tree of the members behind record d of out, up to record e, into the pending records, so that it ends at record `end`; a
+// node, or the integer that stands for none, has the mark.
 pub fn put_back(
     out: &mut [u8],
     work: &mut [u8],
@@ -81,12 +84,13 @@ pub fn put_back(
     end: usize,
     count: usize,
     sum: bool,
+    mark: usize,
 ) -> usize
     requires { ⌜ ((l : List Tree) × Built (now out) d e l × (length l ≡ count)) × (e ≤ d + end) × (end * 16 ≤ length (now work)) ⌝ }
     ensures { λ r. ⌜ ((l : List Tree) → Built (now (out .entry)) d e l → length l ≡ count
-        → PutBack sum l (drop (end * 16) (now (work .entry))) (now (out .entry)) (now (out .exit)) (now (work .exit)) d r) ⌝ }
+        → PutBack sum mark l (drop (end * 16) (now (work .entry))) (now (out .entry)) (now (out .exit)) (now (work .exit)) d r) ⌝ }
 {
-    let from = collapse(out, d, count, sum);
+    let from = collapse(out, d, count, sum, mark);
     let n = e - from;
     let q = end - n;
     stretch::copy_bytes(work, q * 16, out, from * 16, n * 16);
@@ -97,8 +101,9 @@ pub fn put_back(
 fn drop_members(out: &mut [u8], work: &mut [u8], d: usize, p: usize, sum: bool, z: u64) -> usize
     requires { ⌜ ((f : Forest) × (rest : List ℕ) × Held (now out) (now work) d p f rest) × (z < 2) ⌝ }
     ensures { λ r. ⌜ ((f : Forest) (rest : List ℕ) → Held (now (out .entry)) (now (work .entry)) d p f rest
-        → PutBack sum (dropAll (isThe (pos z)) (toList f)) rest (now (out .entry)) (now (out .exit)) (now (work .exit)) d r) ⌝ }
+        → PutBack sum (markIn (now (work .entry)) p) (dropAll (isThe (pos z)) (toList f)) rest (now (out .entry)) (now (out .exit)) (now (work .exit)) d r) ⌝ }
 {
+    let mark = record::mark(work, p);
     let mut at = p + 1;
     let mut left = record::count(work, p);
     let mut e = d + 1;
@@ -113,7 +118,7 @@ fn drop_members(out: &mut [u8], work: &mut [u8], d: usize, p: usize, sum: bool, 
         at = next;
         left -= 1;
     }
-    put_back(out, work, d, e, at, kept, sum)
+    put_back(out, work, d, e, at, kept, sum, mark)
 }
 
 // Steps 1 and 4 alike: where a member of the sum, or of the product, at record p is the integer it can do without, drops all such.

@@ -9,7 +9,7 @@ use crate::Tried;
 use crate::combine;
 use crate::members;
 
-// Step 3: 0 * a = 0.
+// Step 3: 0 * a = 0, with the product's mark.
 pub fn multiply_zero(out: &mut [u8], work: &mut [u8], d: usize, p: usize) -> Tried
     requires { ⌜ ((t : Tree) × (rest : List ℕ) × Ready (now out) (now work) d p t rest) ⌝ }
     ensures { λ r. ⌜ ((t : Tree) (rest : List ℕ) → Ready (now (out .entry)) (now (work .entry)) d p t rest
@@ -19,8 +19,9 @@ pub fn multiply_zero(out: &mut [u8], work: &mut [u8], d: usize, p: usize) -> Tri
         return Tried::Idle;
     }
     if members::any_member(work, p, 0) {
+        let mark = record::mark(work, p);
         let q = split::skip_tree(work, p) - 1;
-        record::write_record(work, q, 0, 0, 0);
+        record::write_record(work, q, 0, 0, mark, 0);
         return Tried::Applied(q);
     }
     Tried::Idle

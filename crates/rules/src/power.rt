@@ -25,7 +25,7 @@ pub fn power_one(out: &mut [u8], work: &mut [u8], d: usize, p: usize) -> Tried
     Tried::Applied(p + 2)
 }
 
-// Step 8: 0^n = 0 and 1^n = 1.
+// Step 8: 0^n = 0 and 1^n = 1, with the power's mark.
 pub fn power_constant(out: &mut [u8], work: &mut [u8], d: usize, p: usize) -> Tried
     requires { ⌜ ((t : Tree) × (rest : List ℕ) × Ready (now out) (now work) d p t rest) ⌝ }
     ensures { λ r. ⌜ ((t : Tree) (rest : List ℕ) → Ready (now (out .entry)) (now (work .entry)) d p t rest
@@ -41,11 +41,13 @@ pub fn power_constant(out: &mut [u8], work: &mut [u8], d: usize, p: usize) -> Tr
     if 1 < v {
         return Tried::Idle;
     }
-    record::write_record(work, p + 2, 0, 0, v);
+    let mark = record::mark(work, p);
+    record::write_record(work, p + 2, 0, 0, mark, v);
     Tried::Applied(p + 2)
 }
 
-// Step 9: (a^m)^n = a^(m*n). The base moves one record to the right, between the power's record and the product of the exponents.
+// Step 9: (a^m)^n = a^(m*n). The base moves one record to the right, between the power's record and the product of the exponents,
+// which have the outer power's mark and its exponent's.
 pub fn power_power(out: &mut [u8], work: &mut [u8], d: usize, p: usize) -> Tried
     requires { ⌜ ((t : Tree) × (rest : List ℕ) × Ready (now out) (now work) d p t rest) ⌝ }
     ensures { λ r. ⌜ ((t : Tree) (rest : List ℕ) → Ready (now (out .entry)) (now (work .entry)) d p t rest
@@ -61,9 +63,11 @@ pub fn power_power(out: &mut [u8], work: &mut [u8], d: usize, p: usize) -> Tried
     let product = number::mul(record::bits(work, y), record::bits(work, y + 1));
     match product {
         Num::Is(n) => {
+            let mark = record::mark(work, p);
+            let exponent_mark = record::mark(work, y + 1);
             stretch::shift_right(work, (p + 3) * 16, (p + 2) * 16, (y - (p + 2)) * 16);
-            record::write_record(work, y + 1, 0, 0, n);
-            record::write_record(work, p + 2, 4, 0, 0);
+            record::write_record(work, y + 1, 0, 0, exponent_mark, n);
+            record::write_record(work, p + 2, 4, 0, mark, 0);
             Tried::Applied(p + 2)
         }
         Num::Out => Tried::Over,

@@ -11,7 +11,7 @@ use lib.IntN.{ℤ, pos, _*ℤ_}
 use borrow.Author.Tests.{lt-ltb, le-ltb, eq-eqb, ne-eqb}
 use Rattle.paper.specs.Bytes.{signed, word}
 use Rattle.paper.specs.Record.{kind, countIn, bits}
-use Rattle.paper.specs.Tree.{Tree, Forest, integer, symbol, sum, product, power, nil, cons, count, records, toList, ofList}
+use Rattle.paper.specs.Tree.{Tree, Forest, integer, symbol, sum, product, power, nil, cons, count, markOf, records, toList, ofList}
 use Rattle.paper.specs.Rules.{fits, asInteger, productOf, collapse, withInteger, integersOf, withOther, othersOf}
 use Rattle.paper.specs.Rules.{Multiplied, timesOne, timesEach, unit, productTerm, Term, term, termOf, factor, factorOf}
 use Rattle.paper.proofs.Congruence.{word-lt}
@@ -201,9 +201,9 @@ unfolding unit
 multiplying-start {f = f} h = record { rest = f; stand = product-trees h; bits-fit = omega arith; same = refl }
 
 module _ {s : List ℕ} {n at left : ℕ} {f : Forest} (h : Multiplying s n at left f) where
-  pub multiplied-all : left ≡ 0 → Is n ≡ coefficientOf (productTerm (toList f))
+  pub multiplied-all : (μ : ℕ) → left ≡ 0 → Is n ≡ coefficientOf (productTerm μ (toList f))
   unfolding coefficientOf productTerm timesEach integersOf toList
-  multiplied-all e =
+  multiplied-all μ e =
       let q : multiplied (signed n) true ≡ timesEach unit (integersOf (toList f)) =
       ap (λ r. timesEach (multiplied (signed n) true) (integersOf (toList r))) (sym (none-of (h .rest) (h .stand) e)) ∙ h .same in
       ap Is (sym (word-signed n (h .bits-fit))) ∙ ap (λ (c : Multiplied). cond (c .inRange) (Is (word (c .number))) Out) q
@@ -246,9 +246,9 @@ module _ {s : List ℕ} {n at left : ℕ} {f : Forest} (h : Multiplying s n at l
                 ∙ ap (timesEach (multiplied (signed n) true)) (sym (z .2)) ∙ h .same;
           })
 
-      pub multiplied-out : numOf (signed n *ℤ signed (bits s at)) ≡ Out → Out ≡ coefficientOf (productTerm (toList f))
+      pub multiplied-out : (μ : ℕ) → numOf (signed n *ℤ signed (bits s at)) ≡ Out → Out ≡ coefficientOf (productTerm μ (toList f))
       unfolding coefficientOf productTerm timesEach timesOne
-      multiplied-out r =
+      multiplied-out μ r =
           let z = integer-next in
           let out : fits (signed n *ℤ z .0) ≡ false = ap (λ y. fits (signed n *ℤ y)) (sym (z .1)) ∙ numOf-is-out (signed n *ℤ signed (bits s at)) r in
           let q : timesEach unit (integersOf (toList f)) .inRange ≡ false =
@@ -339,22 +339,22 @@ module _ {s : List ℕ} {i at left many last : ℕ} {f : Forest} (h : Counting s
 
 -- ---- coefficient and rest, by the kind of the record
 module _ {s : List ℕ} {i : ℕ} where
-  pub term-integer : (t : Tree) → TreeIn s i t → kind s i < 1 → (Is (bits s i) ≡ coefficientOf (termOf t)) × (termOf t .rest ≡ integer 0 (pos 1))
+  pub term-integer : (t : Tree) → TreeIn s i t → kind s i < 1 → (Is (bits s i) ≡ coefficientOf (termOf t)) × ((μ : ℕ) × (termOf t .rest ≡ integer μ (pos 1)))
   unfolding coefficientOf termOf term
   term-integer t h k = by t (seen h)
     where
-      by : (t : Tree) → Seen s i t → (Is (bits s i) ≡ coefficientOf (termOf t)) × (termOf t .rest ≡ integer 0 (pos 1))
-      by (integer μ z) (an-integer e b w) = (ap Is b, refl)
+      by : (t : Tree) → Seen s i t → (Is (bits s i) ≡ coefficientOf (termOf t)) × ((μ : ℕ) × (termOf t .rest ≡ integer μ (pos 1)))
+      by (integer μ z) (an-integer e b w) = (ap Is b, (0, refl))
       by (symbol μ v) (a-symbol e b w) = absurd (omega arith)
       by (sum μ f) (a-sum e n c w m) = absurd (omega arith)
       by (product μ f) (a-product e n c w m) = absurd (omega arith)
       by (power μ b ξ x) (a-power e w m p q o y z) = absurd (omega arith)
 
-  pub term-other : (t : Tree) → TreeIn s i t → 1 ≤ kind s i → (kind s i ≡ 3 → ⊥) → termOf t ≡ term (pos 1) t
-  unfolding termOf
+  pub term-other : (t : Tree) → TreeIn s i t → 1 ≤ kind s i → (kind s i ≡ 3 → ⊥) → termOf t ≡ term (markOf t) (pos 1) t
+  unfolding termOf markOf
   term-other t h k n = by t (seen h)
     where
-      by : (t : Tree) → Seen s i t → termOf t ≡ term (pos 1) t
+      by : (t : Tree) → Seen s i t → termOf t ≡ term (markOf t) (pos 1) t
       by (integer μ z) (an-integer e b w) = absurd (omega arith)
       by (symbol μ v) q = refl
       by (sum μ f) q = refl
@@ -398,7 +398,7 @@ module _ {s : List ℕ} {i : ℕ} where
 -- the coefficient of a product, by its members
 module _ {s : List ℕ} {i : ℕ} where
   pub term-product : (t : Tree) → TreeIn s i t → kind s i ≡ 3 → {r : Num}
-      → ((μ : ℕ) (f : Forest) → TreeIn s i (product μ f) → r ≡ coefficientOf (productTerm (toList f))) → r ≡ coefficientOf (termOf t)
+      → ((μ : ℕ) (f : Forest) → TreeIn s i (product μ f) → r ≡ coefficientOf (productTerm μ (toList f))) → r ≡ coefficientOf (termOf t)
   unfolding termOf
   term-product t h k told =
       let p = seen-product (seen h) k in
@@ -406,11 +406,11 @@ module _ {s : List ℕ} {i : ℕ} where
 
 -- ---- the rest of a product, by its number of others and the record of the last
 -- two members or more make a product
-two-collapse : (l : List Tree) → 2 ≤ length l → productOf l ≡ product 0 (ofList l)
+two-collapse : (μ : ℕ) (l : List Tree) → 2 ≤ length l → productOf μ l ≡ product μ (ofList l)
 unfolding productOf collapse
-two-collapse [] h = absurd (omega arith)
-two-collapse (t ∷ []) h = absurd (omega arith)
-two-collapse (t ∷ u ∷ l) h = refl
+two-collapse μ [] h = absurd (omega arith)
+two-collapse μ (t ∷ []) h = absurd (omega arith)
+two-collapse μ (t ∷ u ∷ l) h = refl
 
 abbrev Told : (s : List ℕ) (i m last : ℕ) → Type 0
 Told s i m last = (μ : ℕ) (f : Forest) → TreeIn s i (product μ f) → (m ≡ length (othersOf (toList f))) × (last ≡ lastOther (i + 1) i f)
@@ -424,7 +424,7 @@ record Product (s : List ℕ) (i n m last : ℕ) (t : Tree) : Type 0 where
   counted : n ≡ count members
   many : m ≡ length (othersOf (toList members))
   place : last ≡ lastOther (i + 1) i members
-  rest : termOf t .rest ≡ productOf (othersOf (toList members))
+  rest : termOf t .rest ≡ productOf mark (othersOf (toList members))
 
 module _ {s : List ℕ} {i : ℕ} (t : Tree) (h : TreeIn s i t) (k : kind s i ≡ 3) {n m last : ℕ} (c : n ≡ countIn s i) (told : Told s i m last) where
   is-product : Product s i n m last t
@@ -458,8 +458,8 @@ module _ {s : List ℕ} {i : ℕ} (t : Tree) (h : TreeIn s i t) (k : kind s i �
       let f = p .members in
       let all : othersOf (toList f) ≡ toList f = others-all (toList f) (omega (arith, p .many, p .counted, count-list f)) in
       let itself : termOf t .rest ≡ t =
-      p .rest ∙ ap productOf all ∙ two-collapse (toList f) (omega (arith, count-list f, p .there .wf .0)) ∙ ap (product 0) (of-to-list f)
-      ∙ ap (λ x. product x f) (sym (p .there .wf .2)) ∙ sym (p .is) in
+      p .rest ∙ ap (productOf (p .mark)) all ∙ two-collapse (p .mark) (toList f) (omega (arith, count-list f, p .there .wf .0))
+      ∙ ap (product (p .mark)) (of-to-list f) ∙ sym (p .is) in
       (subst (TreeIn s i) (sym itself) h, ap asInteger itself ∙ no-integer h (omega arith))
 
   pub place-whole : m ≡ n → At i ≡ restAt i t
@@ -468,9 +468,11 @@ module _ {s : List ℕ} {i : ℕ} (t : Tree) (h : TreeIn s i t) (k : kind s i �
 
   module _ (some-out : m ≡ n → ⊥) where
     -- integers alone
-    pub rest-one : m < 1 → termOf t .rest ≡ integer 0 (pos 1)
+    pub rest-one : m < 1 → (μ : ℕ) × (termOf t .rest ≡ integer μ (pos 1))
     unfolding productOf collapse
-    rest-one l = let p = is-product in p .rest ∙ ap productOf (nil-of (othersOf (toList (p .members))) (omega (arith, p .many)))
+    rest-one l =
+        let p = is-product in
+        (p .mark, p .rest ∙ ap (productOf (p .mark)) (nil-of (othersOf (toList (p .members))) (omega (arith, p .many))))
       where
         nil-of : (l : List Tree) → length l ≡ 0 → l ≡ []
         nil-of [] e = refl
@@ -491,7 +493,7 @@ module _ {s : List ℕ} {i : ℕ} (t : Tree) (h : TreeIn s i t) (k : kind s i �
         by p (u ∷ v ∷ l) e n = absurd (omega arith)
         by p (u ∷ []) e n =
             let there = single-there s (i + 1) (countIn s i) i (p .members) (product-trees (p .there)) u e in
-            let is : termOf t .rest ≡ u = p .rest ∙ ap productOf e in (
+            let is : termOf t .rest ≡ u = p .rest ∙ ap (productOf (p .mark)) e in (
               subst (TreeIn s last) (sym is) (subst (λ j. TreeIn s j u) (sym (p .place)) there),
               ap asInteger is ∙ first-other (toList (p .members)) u [] e,
             )
@@ -508,7 +510,7 @@ module _ {s : List ℕ} {i : ℕ} (t : Tree) (h : TreeIn s i t) (k : kind s i �
           mark = p .mark;
           members = p .members;
           whole = p .there;
-          left = p .rest ∙ two-collapse (othersOf (toList (p .members))) (omega (arith, p .many));
+          left = p .rest ∙ two-collapse (p .mark) (othersOf (toList (p .members))) (omega (arith, p .many));
           many = p .many;
           two = l;
         }

@@ -19,18 +19,18 @@ use Rattle.split.specs.declared.Rest.the-variants.{One, At, Others}
 unfoldable pub coefficientOf : Term → Num
 coefficientOf x = cond (x .inRange) (Is (word (x .coefficient))) Out
 
--- the product at record i of the table s without its integers is the product t, of n members, two or more
+-- the product at record i of the table s without its integers is the product t with its mark, of n members, two or more
 pub record Lessened (s : List ℕ) (i n : ℕ) (t : Tree) : Type 0 where
   pub mark : ℕ
   pub members : Forest
   pub whole : TreeIn s i (product mark members)
-  pub left : t ≡ product 0 (ofList (othersOf (toList members)))
+  pub left : t ≡ product mark (ofList (othersOf (toList members)))
   pub many : n ≡ length (othersOf (toList members))
   pub two : 2 ≤ n
 
 -- the tree that a rest, of the tree at record i, stands for: 1, which stands in no record; the tree at a record, no integer; the
 -- product at record i itself without its integers
 abbrev pub StandsFor : List ℕ → ℕ → Rest → Tree → Type 0
-StandsFor s i One t = t ≡ integer 0 (pos 1)
+StandsFor s i One t = (μ : ℕ) × (t ≡ integer μ (pos 1))
 StandsFor s i (At p) t = TreeIn s p t × (asInteger t ≡ none)
 StandsFor s i (Others p n) t = (p ≡ i) × Lessened s p n t

@@ -43,7 +43,7 @@ pub fn skip_tree(s: &[u8], i: usize) -> usize
 // The product of the integers among the members of the product at record i, in order; `Out` as soon as a partial product leaves the range.
 fn product_coefficient(s: &[u8], i: usize) -> Num
     requires { ⌜ SomeProduct (now s) i ⌝ }
-    ensures { λ r. ⌜ ((μ : ℕ) (f : Forest) → TreeIn (now (s .entry)) i (product μ f) → r ≡ coefficientOf (productTerm (toList f))) ⌝ }
+    ensures { λ r. ⌜ ((μ : ℕ) (f : Forest) → TreeIn (now (s .entry)) i (product μ f) → r ≡ coefficientOf (productTerm μ (toList f))) ⌝ }
 {
     let mut n = 1;
     let mut at = i + 1;

@@ -11,10 +11,10 @@ use lib.Dec.{eqb}
 use lib.ListN.{length}
 use lib.IntN.{ℤ, pos, _+ℤ_, _*ℤ_}
 use borrow.Author.Tests.{eqb-true}
-use Rattle.paper.specs.Tree.{Tree, Forest, integer, symbol, sum, product, power, toList, ofList, weight, records}
+use Rattle.paper.specs.Tree.{Tree, Forest, integer, symbol, sum, product, power, marked, toList, ofList, weight, records}
 use Rattle.paper.specs.WellFormed.{WF}
 use Rattle.paper.specs.Equal.{equal, eqZ}
-use Rattle.paper.specs.Rules.{asInteger, collapse, productOf, Term, term, integersOf, othersOf, timesEach, unit, productTerm, termOf}
+use Rattle.paper.specs.Rules.{asInteger, collapse, productOf, Term, term, integersOf, othersOf, Multiplied, timesEach, unit, productTerm, termOf}
 use Rattle.paper.specs.Rules.{added, coefficientTimes, timesUnless, fromTerm}
 use Rattle.paper.specs.Rules.{Factor, factor, factorOf, bothIntegers, powerUnless, fromFactor}
 use Rattle.paper.proofs.EncodeLaws.{records-pos, records-weight, recordses-weights}
@@ -27,7 +27,7 @@ use Rattle.paper.proofs.MergeFactors.{timesBases, addExponents, Merged, by-base
 use Rattle.part.specs.Like.{Like, split, merge, join}
 use Rattle.part.specs.Part.{inRange}
 use Rattle.part.proofs.PartLaws.{and-bad}
-use Rattle.write.proofs.Encoded.{longer-records}
+use Rattle.write.proofs.Encoded.{marked-records, longer-records}
 
 -- ---- out of range
 added-bad : (c x : Term) → c .inRange ≡ false → added c x .inRange ≡ false
@@ -48,27 +48,27 @@ abbrev Extra : Option ℤ → ℕ → ℕ → Type 0
 Extra (some z) n m = m ≡ 1
 Extra none n m = (n ≤ m) × (m ≤ n + 2)
 
-times-records : (z : ℤ) (t : Tree) → Extra (asInteger t) (records t) (records (coefficientTimes z t .0))
+times-records : (μ : ℕ) (z : ℤ) (t : Tree) → Extra (asInteger t) (records t) (records (coefficientTimes μ z t .0))
 unfolding coefficientTimes asInteger records ofList
-times-records z (integer μ y) = refl
-times-records z (symbol μ s) = (omega arith, omega arith)
-times-records z (sum μ f) = (omega arith, omega arith)
-times-records z (product μ f) = let r = longer-records μ f z in (omega arith, omega arith)
-times-records z (power μ b ξ e) = (omega arith, omega arith)
+times-records μ z (integer ν y) = refl
+times-records μ z (symbol ν s) = (omega arith, omega arith)
+times-records μ z (sum ν f) = (omega arith, omega arith)
+times-records μ z (product ν f) = let r = longer-records μ ν f z in (omega arith, omega arith)
+times-records μ z (power ν b ξ e) = (omega arith, omega arith)
 
-same-records : (t : Tree) → Extra (asInteger t) (records t) (records t)
-unfolding asInteger records
-same-records (integer μ y) = refl
-same-records (symbol μ s) = (omega arith, omega arith)
-same-records (sum μ f) = (omega arith, omega arith)
-same-records (product μ f) = (omega arith, omega arith)
-same-records (power μ b ξ e) = (omega arith, omega arith)
+same-records : (μ : ℕ) (t : Tree) → Extra (asInteger t) (records t) (records (marked μ t))
+unfolding asInteger records marked
+same-records μ (integer ν y) = refl
+same-records μ (symbol ν s) = (omega arith, omega arith)
+same-records μ (sum ν f) = (omega arith, omega arith)
+same-records μ (product ν f) = (omega arith, omega arith)
+same-records μ (power ν b ξ e) = (omega arith, omega arith)
 
 -- with a coefficient of 1, or any other
 timed-records : (b : Bool) (c : Term) → Extra (asInteger (c .rest)) (records (c .rest)) (records (timesUnless b c .0))
 unfolding timesUnless
-timed-records true c = same-records (c .rest)
-timed-records false c = times-records (c .coefficient) (c .rest)
+timed-records true c = same-records (c .mark) (c .rest)
+timed-records false c = times-records (c .mark) (c .coefficient) (c .rest)
 
 extra-most : (a : Option ℤ) (n m : ℕ) → 1 ≤ n → Extra a n m → m ≤ n + 2
 extra-most (some z) n m l h = omega arith
@@ -94,64 +94,67 @@ rest-integer (power μ b ξ x) e = refl
 
 -- ---- a member by itself
 -- the product of l, and a coefficient times it
-whole-records : (l : List Tree) → records (productOf l) ≤ 1 + total weight l
+whole-records : (μ : ℕ) (l : List Tree) → records (productOf μ l) ≤ 1 + total weight l
 unfolding productOf collapse total records ofList
-whole-records [] = omega arith
-whole-records (t ∷ []) = omega (arith, records-weight t)
-whole-records (t ∷ u ∷ l) = omega (arith, records-weight t, records-weight u, recordses-weights (ofList l), list-weights l)
+whole-records μ [] = omega arith
+whole-records μ (t ∷ []) = omega (arith, records-weight t)
+whole-records μ (t ∷ u ∷ l) = omega (arith, records-weight t, records-weight u, recordses-weights (ofList l), list-weights l)
 
-others-records : (b : Bool) (c : Term) (l : List Tree) → c .rest ≡ productOf l → records (timesUnless b c .0) ≤ 2 + total weight l
+others-records : (b : Bool) (c : Term) (μ : ℕ) (l : List Tree) → c .rest ≡ productOf μ l → records (timesUnless b c .0) ≤ 2 + total weight l
 unfolding timesUnless productOf collapse total coefficientTimes records ofList
-others-records true c l e = omega (arith, ap records e, whole-records l)
-others-records false c l e = omega (arith, ap (λ t. records (coefficientTimes (c .coefficient) t .0)) e, timed l)
+others-records true c μ l e = omega (arith, marked-records (c .mark) (c .rest), ap records e, whole-records μ l)
+others-records false c μ l e = omega (arith, ap (λ t. records (coefficientTimes (c .mark) (c .coefficient) t .0)) e, timed l)
   where
-    timed : (l : List Tree) → records (coefficientTimes (c .coefficient) (productOf l) .0) ≤ 2 + total weight l
+    timed : (l : List Tree) → records (coefficientTimes (c .mark) (c .coefficient) (productOf μ l) .0) ≤ 2 + total weight l
     timed [] = omega arith
     timed (t ∷ []) =
-        let e = extra-most (asInteger t) (records t) (records (coefficientTimes (c .coefficient) t .0)) (records-pos t) (times-records (c .coefficient) t) in
+        let e = extra-most (asInteger t) (records t) (records (coefficientTimes (c .mark) (c .coefficient) t .0)) (records-pos t)
+        (times-records (c .mark) (c .coefficient) t) in
         omega (arith, records-weight t)
     timed (t ∷ u ∷ l) =
-        let e = longer-records 0 (ofList (t ∷ u ∷ l)) (c .coefficient) in
+        let e = longer-records (c .mark) μ (ofList (t ∷ u ∷ l)) (c .coefficient) in
         omega (arith, records-weight t, records-weight u, recordses-weights (ofList l), list-weights l)
 
 -- with no integer the coefficient is 1 and adds nothing; else an integer pays for it
-product-records : (l : List Tree) → records (fromTerm (productTerm l) .0) ≤ 1 + total weight l
+product-records : (μ : ℕ) (l : List Tree) → records (fromTerm (productTerm μ l) .0) ≤ 1 + total weight l
 unfolding productTerm fromTerm timesEach unit eqZ timesUnless
-product-records l = go (integersOf l) (parted-weight l)
+product-records μ l = go (integersOf l) (parted-weight l)
   where
+    termWith : Multiplied → Term
+    termWith c = record { mark = μ; coefficient = c .number; rest = productOf μ (othersOf l); inRange = c .inRange }
+
     go : (is : List ℤ) → length is + total weight (othersOf l) ≡ total weight l
-        → records (timesUnless (eqZ (timesEach unit is .number) (pos 1)) (record { coefficient = timesEach unit is .number; rest = productOf (othersOf l); inRange = timesEach unit is .inRange }) .0)
-        ≤ 1 + total weight l
-    go [] h = omega (arith, whole-records (othersOf l))
+        → records (timesUnless (eqZ (timesEach unit is .number) (pos 1)) (termWith (timesEach unit is)) .0) ≤ 1 + total weight l
+    go [] h = omega (arith, marked-records μ (productOf μ (othersOf l)), whole-records μ (othersOf l))
     go (z ∷ is) h =
         let c = timesEach unit (z ∷ is) in
-        omega (arith, others-records (eqZ (c .number) (pos 1)) (record { coefficient = c .number; rest = productOf (othersOf l); inRange = c .inRange }) (othersOf l) refl)
+        omega (arith, others-records (eqZ (c .number) (pos 1)) (termWith c) μ (othersOf l) refl)
 
-integer-term : (b : Bool) (μ : ℕ) (z : ℤ) → records (timesUnless b (term z (integer 0 (pos 1))) .0) ≤ weight (integer μ z)
-unfolding timesUnless term coefficientTimes records weight
+integer-term : (b : Bool) (μ : ℕ) (z : ℤ) → records (timesUnless b (term μ z (integer 0 (pos 1))) .0) ≤ weight (integer μ z)
+unfolding timesUnless term coefficientTimes records weight marked
 integer-term true μ z = omega arith
 integer-term false μ z = omega arith
 
 term-records : (t : Tree) → records (fromTerm (termOf t) .0) ≤ weight t
-unfolding termOf fromTerm term timesUnless eqZ weight
+unfolding termOf fromTerm term timesUnless eqZ weight marked
 term-records (integer μ z) = integer-term (eqZ z (pos 1)) μ z
 term-records (symbol μ s) = records-weight (symbol μ s)
 term-records (sum μ f) = records-weight (sum μ f)
-term-records (product μ f) = omega (arith, product-records (toList f), weights-list f)
+term-records (product μ f) = omega (arith, product-records μ (toList f), weights-list f)
 term-records (power μ b ξ e) = records-weight (power μ b ξ e)
 
 raised-records : (b : Bool) (c : Factor) → records (powerUnless b c .0) ≤ records (c .base) + 2
 unfolding powerUnless records
-raised-records true c = omega arith
+raised-records true c = omega (arith, marked-records (c .mark) (c .base))
 raised-records false c = omega arith
 
 factor-records : (t : Tree) → records (fromFactor (factorOf t) .0) ≤ weight t
-unfolding factorOf factor fromFactor powerUnless weight
+unfolding factorOf factor fromFactor powerUnless weight marked
 factor-records (integer μ z) = records-weight (integer μ z)
 factor-records (symbol μ s) = records-weight (symbol μ s)
 factor-records (sum μ f) = records-weight (sum μ f)
 factor-records (product μ f) = records-weight (product μ f)
-factor-records (power μ b ξ e) = omega (arith, raised-records (eqb e 1) (factor b e), records-weight b)
+factor-records (power μ b ξ e) = omega (arith, raised-records (eqb e 1) (factor μ b e), records-weight b)
 
 pub join-first : (b : Bool) (t : Tree) → records (join b (split b t) .0) ≤ weight t
 join-first true t = term-records t
@@ -187,12 +190,12 @@ no-integer c (power μ b ξ y) x e h = refl
 exponents-grow : (b b' : Bool) (c d : Factor) (w : ℕ) → d .base ≡ c .base → (b ≡ true → 2 ≤ w)
     → records (powerUnless b' d .0) ≤ records (powerUnless b c .0) + w
 unfolding powerUnless records
-exponents-grow true b' c d w q h = omega (arith, raised-records b' d, h refl, ap records q)
+exponents-grow true b' c d w q h = omega (arith, raised-records b' d, h refl, ap records q, marked-records (c .mark) (c .base))
 exponents-grow false b' c d w q h = omega (arith, raised-records b' d, ap records q)
 
 bases-grow : (b : Bool) (c d : Factor) → records (d .base) ≡ records (c .base) → records (powerUnless b d .0) ≡ records (powerUnless b c .0)
 unfolding powerUnless records
-bases-grow true c d q = q
+bases-grow true c d q = marked-records (d .mark) (d .base) ∙ q ∙ sym (marked-records (c .mark) (c .base))
 bases-grow false c d q = omega arith
 
 factor-grows : (c : Factor) (t : Tree) {d : Factor} → WF t → Merged c (factorOf t) d

@@ -31,30 +31,30 @@ walked b l = walk (merge b) (length l) (map (split b) l)
 abbrev pub outs : (b : Bool) → List (Like b) → List Tree
 outs b done = map (λ r. r .0) (map (join b) done)
 
-module _ (b : Bool) (l : List Tree) (done : List (Like b)) (r : ℕ) (w : walked b l ≡ record { parts = done; removed = r }) where
-  as-outcome : combined b l ≡ outcome (nodeOf b) (map (join b) done) r
+module _ (b : Bool) (l : List Tree) (done : List (Like b)) (r : ℕ) (w : walked b l ≡ record { parts = done; removed = r }) (μ : ℕ) where
+  as-outcome : combined b μ l ≡ outcome (nodeOf b μ) (map (join b) done) r
   unfolding combine
-  as-outcome = ap (λ w. outcome (nodeOf b) (map (join b) (w .parts)) (w .removed)) w
+  as-outcome = ap (λ w. outcome (nodeOf b μ) (map (join b) (w .parts)) (w .removed)) w
 
-  pub idle-outcome : r ≡ 0 → combined b l ≡ paper.does-not-apply
+  pub idle-outcome : r ≡ 0 → combined b μ l ≡ paper.does-not-apply
   unfolding outcome
-  idle-outcome e = as-outcome ∙ ap (outcome (nodeOf b) (map (join b) done)) e
+  idle-outcome e = as-outcome ∙ ap (outcome (nodeOf b μ) (map (join b) done)) e
 
-  judged : 1 ≤ r → outcome (nodeOf b) (map (join b) done) r ≡ rebuilt (nodeOf b) (map (join b) done) (allInRange (map (join b) done))
+  judged : 1 ≤ r → outcome (nodeOf b μ) (map (join b) done) r ≡ rebuilt (nodeOf b μ) (map (join b) done) (allInRange (map (join b) done))
   unfolding outcome
   judged h = go r h
     where
-      go : (r : ℕ) → 1 ≤ r → outcome (nodeOf b) (map (join b) done) r ≡ rebuilt (nodeOf b) (map (join b) done) (allInRange (map (join b) done))
+      go : (r : ℕ) → 1 ≤ r → outcome (nodeOf b μ) (map (join b) done) r ≡ rebuilt (nodeOf b μ) (map (join b) done) (allInRange (map (join b) done))
       go zero h = absurd (omega arith)
       go (suc r) h = refl
 
-  pub over-outcome : 1 ≤ r → allInRange (map (join b) done) ≡ false → combined b l ≡ paper.range-exceeded
+  pub over-outcome : 1 ≤ r → allInRange (map (join b) done) ≡ false → combined b μ l ≡ paper.range-exceeded
   unfolding rebuilt
-  over-outcome h e = as-outcome ∙ judged h ∙ ap (rebuilt (nodeOf b) (map (join b) done)) e
+  over-outcome h e = as-outcome ∙ judged h ∙ ap (rebuilt (nodeOf b μ) (map (join b) done)) e
 
-  pub done-outcome : 1 ≤ r → allInRange (map (join b) done) ≡ true → combined b l ≡ paper.applies (nodeOf b (outs b done))
+  pub done-outcome : 1 ≤ r → allInRange (map (join b) done) ≡ true → combined b μ l ≡ paper.applies (nodeOf b μ (outs b done))
   unfolding rebuilt
-  done-outcome h e = as-outcome ∙ judged h ∙ ap (rebuilt (nodeOf b) (map (join b) done)) e
+  done-outcome h e = as-outcome ∙ judged h ∙ ap (rebuilt (nodeOf b μ) (map (join b) done)) e
 
 pub all-snoc : (b : Bool) (done rest : List (Like b)) (c : Like b) → join b c .1 ≡ false → allInRange (map (join b) (done ++ (c ∷ rest))) ≡ false
 unfolding allInRange
@@ -173,6 +173,7 @@ shows-still true w w' p (part.Term n i) x s f h =
     record {
       member = h .member;
       there = tree-still w w' p s i (h .member) f (h .there);
+      mark = h .mark;
       rest = h .rest;
       coefficient = h .coefficient;
       bits = h .bits;
@@ -180,16 +181,17 @@ shows-still true w w' p (part.Term n i) x s f h =
     }
 shows-still true w w' p (part.Wide i) x s f h =
     record { member = h .member; there = tree-still w w' p s i (h .member) f (h .there); rest = h .rest; wide = h .wide }
-shows-still true w w' p (part.Power e i k) x s f h = h
-shows-still true w w' p (part.Number e v) x s f h = h
+shows-still true w w' p (part.Power e i k m) x s f h = h
+shows-still true w w' p (part.Number e v a m) x s f h = h
 shows-still false w w' p (part.Term n i) x s f h = h
 shows-still false w w' p (part.Wide i) x s f h = h
-shows-still false w w' p (part.Power e i k) x s f h =
+shows-still false w w' p (part.Power e i k m) x s f h =
     record {
+      mark = h .mark;
       sized = record { there = tree-still w w' p s i (x .base) f (h .sized .there); size = h .sized .size };
       other = h .other;
       exponent = h .exponent;
       most = h .most;
       good = h .good;
     }
-shows-still false w w' p (part.Number e v) x s f h = h
+shows-still false w w' p (part.Number e v a m) x s f h = h

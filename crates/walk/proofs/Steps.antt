@@ -150,12 +150,12 @@ module _ {b : Bool} {l : List Tree} {o₀ w₀ : List ℕ} {d p count : ℕ} whe
           ∙ ap (rest-of-walk b (v .done) (v .removed)) no-more
           ∙ walk-ends (merge b) (v .done) (v .removed)
 
-      pub says-idle : count ≤ n → combined b l ≡ paper.does-not-apply
-      says-idle h = idle-outcome b l (v .done) (v .removed) all-out (omega (arith, v .gone))
+      pub says-idle : count ≤ n → (μ : ℕ) → combined b μ l ≡ paper.does-not-apply
+      says-idle h μ = idle-outcome b l (v .done) (v .removed) all-out μ (omega (arith, v .gone))
 
-      pub says-late : n < count → late ≡ true → combined b l ≡ paper.range-exceeded
-      says-late h q =
-          over-outcome b l (v .done) (v .removed) all-out (omega (arith, v .gone)) (subst (Came b d o₀ o e (v .done)) q (v .common .came))
+      pub says-late : n < count → late ≡ true → (μ : ℕ) → combined b μ l ≡ paper.range-exceeded
+      says-late h q μ =
+          over-outcome b l (v .done) (v .removed) all-out μ (omega (arith, v .gone)) (subst (Came b d o₀ o e (v .done)) q (v .common .came))
 
       pub says-done : n < count → late ≡ false → CameOut b l o₀ o d i e
       says-done h q =
@@ -163,8 +163,8 @@ module _ {b : Bool} {l : List Tree} {o₀ w₀ : List ℕ} {d p count : ℕ} whe
           let these : cameOut b l ≡ outs b (v .done) = ap (λ w. outs b (w .parts)) all-out in
           record {
             applies =
-                done-outcome b l (v .done) (v .removed) all-out (omega (arith, v .gone)) (came .0)
-                ∙ ap (λ m. paper.applies (nodeOf b m)) (sym these);
+                λ μ. done-outcome b l (v .done) (v .removed) all-out μ (omega (arith, v .gone)) (came .0)
+                ∙ ap (λ m. paper.applies (nodeOf b μ m)) (sym these);
             many = ap length these ∙ outs-many b (v .done) ∙ v .common .many;
             built = came .1 ∙ ap (λ m. take ((d + 1) * 16) o₀ ++ encodes (ofList m)) (sym these);
             end = came .2 ∙ ap (λ m. d + 1 + recordses (ofList m)) (sym these);
@@ -255,9 +255,9 @@ module _ {b : Bool} {l : List Tree} {o₀ w₀ : List ℕ} {d p count : ℕ} whe
           }
 
       -- it is taken up, and the range is left
-      pub says-over : (x : Like b) → merge b (v .current) (split b (next .tree)) ≡ some x → inRange b x ≡ false → combined b l ≡ paper.range-exceeded
+      pub says-over : (x : Like b) → merge b (v .current) (split b (next .tree)) ≡ some x → inRange b x ≡ false → (μ : ℕ) → combined b μ l ≡ paper.range-exceeded
       unfolding resumed after thenWalk
-      says-over x q bad =
+      says-over x q bad μ =
           let t = next .tree in
           let m = parts b (next .others) in
           let last = turn (merge b) (length m) x (parts b (v .passed)) (lastFirst m) in
@@ -266,7 +266,7 @@ module _ {b : Bool} {l : List Tree} {o₀ w₀ : List ℕ} {d p count : ℕ} whe
           over-outcome b l (v .done ++ (last .current ∷ rest .parts)) (v .removed + 1 + (last .removed + rest .removed))
           (faced
           ∙ takes-up (merge b) (v .done) (v .removed) (length m) (v .current) (split b t) x (parts b (v .passed)) m q)
-          (omega arith) (all-snoc b (v .done) (rest .parts) (last .current) (joins-bad b (last .current) stays))
+          μ (omega arith) (all-snoc b (v .done) (rest .parts) (last .current) (joins-bad b (last .current) stays))
 
     -- ---- the turn is done
     module _ (over : n ≤ j) where

@@ -35,13 +35,13 @@ BuiltAlike o o' (Done n e) = take (e * 16) o ≡ take (e * 16) o'
 module _ (b : Bool) (l : List Tree) (s o o' : List ℕ) (d : ℕ) where
   says-once : (r r' : Walked) → Says b l s o d r → Says b l s o' d r' → (r ≡ r') × BuiltAlike o o' r
   says-once Idle Idle h h' = (refl, tt)
-  says-once Idle Over h h' = absurd (let z : _≡_ {A = ℕ} 0 1 = cc in omega arith)
-  says-once Idle (Done n e) h h' = let a = h' .applies in absurd (let z : _≡_ {A = ℕ} 0 1 = cc in omega arith)
-  says-once Over Idle h h' = absurd (let z : _≡_ {A = ℕ} 0 1 = cc in omega arith)
+  says-once Idle Over h h' = let a = h 0 in let c = h' 0 in absurd (let z : _≡_ {A = ℕ} 0 1 = cc in omega arith)
+  says-once Idle (Done n e) h h' = let a = h' .applies 0 in let c = h 0 in absurd (let z : _≡_ {A = ℕ} 0 1 = cc in omega arith)
+  says-once Over Idle h h' = let a = h 0 in let c = h' 0 in absurd (let z : _≡_ {A = ℕ} 0 1 = cc in omega arith)
   says-once Over Over h h' = (refl, tt)
-  says-once Over (Done n e) h h' = let a = h' .applies in absurd (let z : _≡_ {A = ℕ} 0 1 = cc in omega arith)
-  says-once (Done n e) Idle h h' = let a = h .applies in absurd (let z : _≡_ {A = ℕ} 0 1 = cc in omega arith)
-  says-once (Done n e) Over h h' = let a = h .applies in absurd (let z : _≡_ {A = ℕ} 0 1 = cc in omega arith)
+  says-once Over (Done n e) h h' = let a = h' .applies 0 in let c = h 0 in absurd (let z : _≡_ {A = ℕ} 0 1 = cc in omega arith)
+  says-once (Done n e) Idle h h' = let a = h .applies 0 in let c = h' 0 in absurd (let z : _≡_ {A = ℕ} 0 1 = cc in omega arith)
+  says-once (Done n e) Over h h' = let a = h .applies 0 in let c = h' 0 in absurd (let z : _≡_ {A = ℕ} 0 1 = cc in omega arith)
   says-once (Done n e) (Done n' e') h h' =
       let many : n ≡ n' = sym (h .many) ∙ h' .many in
       let end : e ≡ e' = h .end ∙ sym (h' .end) in

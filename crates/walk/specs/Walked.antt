@@ -20,9 +20,9 @@ pub record Walkable (out work : List ℕ) (d p n : ℕ) (l : List Tree) : Type 0
   pub listed : Listed work p n l
   pub room : (d + (1 + weights (ofList l))) * 16 ≤ length out
 
--- the rule that walks over the members l
-abbrev pub combined : Bool → List Tree → paper.Tried
-combined b l = paper.combine (nodeOf b) (split b) (merge b) (join b) l
+-- the rule that walks over the members l of a node with the mark μ
+abbrev pub combined : Bool → ℕ → List Tree → paper.Tried
+combined b μ l = paper.combine (nodeOf b μ) (split b) (merge b) (join b) l
 
 -- the members that come out of it
 abbrev pub cameOut : Bool → List Tree → List Tree
@@ -30,16 +30,16 @@ cameOut b l = map (λ r. r .0) (map (join b) (walk (merge b) (length l) (map (sp
 
 -- the rule applies: the members that come out stand in out' behind record d, up to record e
 pub record CameOut (b : Bool) (l : List Tree) (out out' : List ℕ) (d n e : ℕ) : Type 0 where
-  pub applies : combined b l ≡ paper.applies (nodeOf b (cameOut b l))
+  pub applies : (μ : ℕ) → combined b μ l ≡ paper.applies (nodeOf b μ (cameOut b l))
   pub many : length (cameOut b l) ≡ n
   pub built : take (e * 16) out' ≡ take ((d + 1) * 16) out ++ encodes (ofList (cameOut b l))
   pub end : e ≡ d + 1 + recordses (ofList (cameOut b l))
   pub small : e ≤ d + (1 + weights (ofList l))
 
--- `Idle`, nothing was removed; `Over`, something was, and the range is left; `Done n e`, the n members that came out stand up to record e
+-- whatever the node's mark is: `Idle`, nothing was removed; `Over`, something was, and the range is left; `Done n e`, the n members that came out stand up to record e
 abbrev pub Says : Bool → List Tree → (out out' : List ℕ) (d : ℕ) → Walked → Type 0
-Says b l out out' d Idle = combined b l ≡ paper.does-not-apply
-Says b l out out' d Over = combined b l ≡ paper.range-exceeded
+Says b l out out' d Idle = (μ : ℕ) → combined b μ l ≡ paper.does-not-apply
+Says b l out out' d Over = (μ : ℕ) → combined b μ l ≡ paper.range-exceeded
 Says b l out out' d (Done n e) = CameOut b l out out' d n e
 
 -- what is pending and what is done stay

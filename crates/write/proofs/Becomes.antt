@@ -12,8 +12,8 @@ use lib.ListN.{length}
 use lib.IntN.{ℤ, pos, one, *ℤ-one}
 use lib.Signed.{mag}
 use Rattle.paper.specs.Bytes.{signed}
-use Rattle.paper.specs.Tree.{Tree, Forest, integer, product, power, toList, ofList, records}
-use Rattle.paper.specs.Record.{kind}
+use Rattle.paper.specs.Tree.{Tree, Forest, integer, product, power, marked, toList, ofList, records}
+use Rattle.paper.specs.Record.{kind, markIn}
 use Rattle.paper.specs.Table.{encode}
 use Rattle.paper.specs.Equal.{eqZ}
 use Rattle.paper.specs.Rules.{fits, Term, term, termOf, coefficientTimes, timesUnless, fromTerm, Factor, powerUnless, fromFactor}
@@ -22,12 +22,12 @@ use Rattle.paper.proofs.Tests.{eqZ-true, not-so}
 use Rattle.paper.proofs.Seen.{Seen, an-integer, a-symbol, a-sum, a-product, a-power}
 use Rattle.stretch.specs.Put.{put}
 use Rattle.split.specs.Standing.{TreeIn}
-use Rattle.paper.proofs.StandingLaws.{seen}
+use Rattle.paper.proofs.StandingLaws.{seen, mark-number}
 use Rattle.part.specs.Part.{ShowsTerm, ShowsPower, ShowsNumber}
-use Rattle.part.proofs.PartLaws.{same-bits}
+use Rattle.part.proofs.PartLaws.{same-bits, term-mark}
 use Rattle.write.specs.Written.{timed, WrittenIs, Fitting}
 use Rattle.write.specs.declared.Written.the-variants.{To}
-use Rattle.write.proofs.Encoded.{pair-records, longer-records, power-records}
+use Rattle.write.proofs.Encoded.{marked-records, pair-records, longer-records, power-records}
 
 -- the member x, a tree and whether it is in range, is the tree u of k records, in range
 pub record Becomes (x : Tree × Bool) (u : Tree) (k : ℕ) : Type 0 where
@@ -49,97 +49,107 @@ module _ {x : Tree × Bool} {u : Tree} {k : ℕ} (h : Becomes x u k) (out : List
   )
 
 -- ---- coefficient times rest
-timed-one : (n : ℕ) (t : Tree) → n ≡ 1 → timed n t ≡ (t, true)
+timed-one : (μ n : ℕ) (t : Tree) → n ≡ 1 → timed μ n t ≡ (marked μ t, true)
 unfolding timed timesUnless term eqZ
-timed-one n t e = rw e refl
+timed-one μ n t e = rw e refl
 
-timed-more : (n : ℕ) (t : Tree) → n < 2 ^ 64 → (n ≡ 1 → ⊥) → timed n t ≡ coefficientTimes (signed n) t
+timed-more : (μ n : ℕ) (t : Tree) → n < 2 ^ 64 → (n ≡ 1 → ⊥) → timed μ n t ≡ coefficientTimes μ (signed n) t
 unfolding timed timesUnless term
-timed-more n t l h = rw (not-so (eqZ (signed n) (pos 1)) (λ e. h (same-bits n 1 l (omega arith) (eqZ-true (signed n) (pos 1) e)))) refl
+timed-more μ n t l h = rw (not-so (eqZ (signed n) (pos 1)) (λ e. h (same-bits n 1 l (omega arith) (eqZ-true (signed n) (pos 1) e)))) refl
 
-times-product : (μ : ℕ) (z : ℤ) (f : Forest) → coefficientTimes z (product μ f) ≡ (product 0 (ofList (toList f ++ (integer 0 z ∷ []))), true)
+times-product : (μ ν : ℕ) (z : ℤ) (f : Forest)
+    → coefficientTimes μ z (product ν f) ≡ (product μ (ofList (toList f ++ (integer μ z ∷ []))), true)
 unfolding coefficientTimes
-times-product μ z f = refl
+times-product μ ν z f = refl
 
-times-other : (s : List ℕ) (i : ℕ) (z : ℤ) (t : Tree) → TreeIn s i t → 1 ≤ kind s i → (kind s i ≡ 3 → ⊥)
-    → coefficientTimes z t ≡ (product 0 (ofList (integer 0 z ∷ t ∷ [])), true)
+times-other : (s : List ℕ) (i μ : ℕ) (z : ℤ) (t : Tree) → TreeIn s i t → 1 ≤ kind s i → (kind s i ≡ 3 → ⊥)
+    → coefficientTimes μ z t ≡ (product μ (ofList (integer μ z ∷ t ∷ [])), true)
 unfolding coefficientTimes
-times-other s i z t h k o = go (seen h)
+times-other s i μ z t h k o = go (seen h)
   where
-    go : {t : Tree} → Seen s i t → coefficientTimes z t ≡ (product 0 (ofList (integer 0 z ∷ t ∷ [])), true)
+    go : {t : Tree} → Seen s i t → coefficientTimes μ z t ≡ (product μ (ofList (integer μ z ∷ t ∷ [])), true)
     go (an-integer e b w) = absurd (omega arith)
     go (a-symbol e v w) = refl
     go (a-sum e n c w m) = refl
     go (a-product e n c w m) = absurd (o e)
     go (a-power e w b p q x y v) = refl
 
-integer-records : (z : ℤ) → records (integer 0 z) ≡ 1
+integer-records : (μ : ℕ) (z : ℤ) → records (integer μ z) ≡ 1
 unfolding records
-integer-records z = refl
+integer-records μ z = refl
 
--- the coefficient n times the tree t of k records: t itself; or the product t with n appended, one record more; or the product of n and t,
+-- the coefficient n times the tree t of k records, with the mark μ: t itself; or the product t with n appended, one record more; or the product of n and t,
 -- two records more
-module _ (n : ℕ) {t : Tree} {k : ℕ} (size : k ≡ records t) where
-  pub one-becomes : n ≡ 1 → Becomes (timed n t) t k
-  one-becomes e = record { is = timed-one n t e; size = size }
+module _ (μ n : ℕ) (t : Tree) {k : ℕ} (size : k ≡ records t) where
+  pub one-becomes : n ≡ 1 → Becomes (timed μ n t) (marked μ t) k
+  one-becomes e = record { is = timed-one μ n t e; size = size ∙ sym (marked-records μ t) }
 
   module _ (l : n < 2 ^ 64) (more : n ≡ 1 → ⊥) where
-    pub longer-becomes : {μ : ℕ} {f : Forest} → t ≡ product μ f
-        → Becomes (timed n t) (product 0 (ofList (toList f ++ (integer 0 (signed n) ∷ [])))) (k + 1)
-    longer-becomes {μ} {f} e =
+    pub longer-becomes : {ν : ℕ} {f : Forest} → t ≡ product ν f
+        → Becomes (timed μ n t) (product μ (ofList (toList f ++ (integer μ (signed n) ∷ [])))) (k + 1)
+    longer-becomes {ν} {f} e =
         record {
-          is = timed-more n t l more ∙ ap (coefficientTimes (signed n)) e ∙ times-product μ (signed n) f;
-          size = omega (arith, ap records e, longer-records μ f (signed n));
+          is = timed-more μ n t l more ∙ ap (coefficientTimes μ (signed n)) e ∙ times-product μ ν (signed n) f;
+          size = omega (arith, ap records e, longer-records μ ν f (signed n));
         }
 
     pub pair-becomes : (s : List ℕ) (i : ℕ) → TreeIn s i t → 1 ≤ kind s i → (kind s i ≡ 3 → ⊥)
-        → Becomes (timed n t) (product 0 (ofList (integer 0 (signed n) ∷ t ∷ []))) (k + 2)
+        → Becomes (timed μ n t) (product μ (ofList (integer μ (signed n) ∷ t ∷ []))) (k + 2)
     pair-becomes s i h a o =
-        record { is = timed-more n t l more ∙ times-other s i (signed n) t h a o; size = omega (arith, pair-records (signed n) t) }
+        record { is = timed-more μ n t l more ∙ times-other s i μ (signed n) t h a o; size = omega (arith, pair-records μ (signed n) t) }
 
 -- ---- a term: its coefficient times its rest; where the rest is 1, the coefficient
 fits-signed : (n : ℕ) → n < 2 ^ 64 → fits (signed n) ≡ true
 unfolding fits
 fits-signed n l = lt-ltb (mag (signed n)) (2 ^ 63) (signed-in-range n l)
 
-timed-unit : (n : ℕ) → n < 2 ^ 64 → timed n (integer 0 (pos 1)) ≡ (integer 0 (signed n), true)
-unfolding timed timesUnless term coefficientTimes one
-timed-unit n l = go (eqZ (signed n) (pos 1)) refl
+timed-unit : (μ ν n : ℕ) → n < 2 ^ 64 → timed μ n (integer ν (pos 1)) ≡ (integer μ (signed n), true)
+unfolding timed timesUnless term coefficientTimes one marked
+timed-unit μ ν n l = go (eqZ (signed n) (pos 1)) refl
   where
-    go : (b : Bool) → eqZ (signed n) (pos 1) ≡ b → timesUnless b (term (signed n) (integer 0 (pos 1))) ≡ (integer 0 (signed n), true)
-    go true e = ap (λ z. (integer 0 z, true)) (sym (eqZ-true (signed n) (pos 1) e))
+    go : (b : Bool) → eqZ (signed n) (pos 1) ≡ b → timesUnless b (term μ (signed n) (integer ν (pos 1))) ≡ (integer μ (signed n), true)
+    go true e = ap (λ z. (integer μ z, true)) (sym (eqZ-true (signed n) (pos 1) e))
     go false e = rw (*ℤ-one (signed n), fits-signed n l) refl
 
-module _ {s : List ℕ} {n i : ℕ} {c : Term} (h : ShowsTerm s n i c) where
-  pub from-term : fromTerm c ≡ timed n (termOf (h .member) .rest)
+module _ {s : List ℕ} {n i μ : ℕ} {c : Term} (h : ShowsTerm s n i c) (m : μ ≡ markIn s i) where
+  same-mark : c .mark ≡ μ
+  same-mark = h .mark ∙ term-mark (h .member) ∙ sym (mark-number (h .member) (h .there)) ∙ sym m
+
+  pub from-term : fromTerm c ≡ timed μ n (termOf (h .member) .rest)
   unfolding fromTerm timed timesUnless term
-  from-term = rw (h .coefficient, h .rest, h .good) refl
+  from-term = rw (h .coefficient, h .rest, h .good, same-mark) refl
 
-  pub unit-becomes : termOf (h .member) .rest ≡ integer 0 (pos 1) → Becomes (fromTerm c) (integer 0 (signed n)) 1
-  unit-becomes e = record { is = from-term ∙ ap (timed n) e ∙ timed-unit n (h .bits); size = sym (integer-records (signed n)) }
+  pub unit-becomes : {ν : ℕ} → termOf (h .member) .rest ≡ integer ν (pos 1) → Becomes (fromTerm c) (integer μ (signed n)) 1
+  unit-becomes {ν} e =
+      record { is = from-term ∙ ap (timed μ n) e ∙ timed-unit μ ν n (h .bits); size = sym (integer-records μ (signed n)) }
 
--- ---- a factor: its base, of k records, and its exponent e
-pub record Shown (c : Factor) (e k : ℕ) : Type 0 where
+-- ---- a factor: its base, of k records, its exponent e and its mark μ
+pub record Shown (c : Factor) (e k μ : ℕ) : Type 0 where
+  pub mark : c .mark ≡ μ
   pub exponent : c .exponent ≡ e
   pub good : c .inRange ≡ true
   pub size : k ≡ records (c .base)
 
-pub power-shown : {s : List ℕ} {e i k : ℕ} {c : Factor} → ShowsPower s e i k c → Shown c e k
-power-shown h = record { exponent = h .exponent; good = h .good; size = h .sized .size }
+pub power-shown : {s : List ℕ} {e i k μ : ℕ} {c : Factor} → ShowsPower s e i k μ c → Shown c e k μ
+power-shown h = record { mark = h .mark; exponent = h .exponent; good = h .good; size = h .sized .size }
 
-pub number-shown : {e v : ℕ} {c : Factor} → ShowsNumber e v c → Shown c e 1
-number-shown {v = v} h =
-    record { exponent = h .exponent; good = h .good; size = sym (ap records (h .base) ∙ integer-records (signed v)) }
+pub number-shown : {e v b μ : ℕ} {c : Factor} → ShowsNumber e v b μ c → Shown c e 1 μ
+number-shown {v = v} {b = b} h =
+    record { mark = h .mark; exponent = h .exponent; good = h .good; size = sym (ap records (h .base) ∙ integer-records b (signed v)) }
 
-module _ {c : Factor} {e k : ℕ} (h : Shown c e k) where
-  pub base-becomes : e ≡ 1 → Becomes (fromFactor c) (c .base) k
+module _ {c : Factor} {e k μ : ℕ} (h : Shown c e k μ) where
+  pub base-becomes : e ≡ 1 → Becomes (fromFactor c) (marked μ (c .base)) k
   unfolding fromFactor powerUnless
-  base-becomes o = record { is = rw (eq-eqb (c .exponent) 1 (h .exponent ∙ o), h .good) refl; size = h .size }
+  base-becomes o =
+      record {
+        is = rw (eq-eqb (c .exponent) 1 (h .exponent ∙ o), h .good, h .mark) refl;
+        size = h .size ∙ sym (marked-records μ (c .base));
+      }
 
-  pub power-becomes : (e ≡ 1 → ⊥) → Becomes (fromFactor c) (power 0 (c .base) 0 e) (k + 2)
+  pub power-becomes : (e ≡ 1 → ⊥) → Becomes (fromFactor c) (power μ (c .base) μ e) (k + 2)
   unfolding fromFactor powerUnless
   power-becomes o =
       record {
-        is = rw (ne-eqb (c .exponent) 1 (λ x. o (sym (h .exponent) ∙ x)), h .good, h .exponent) refl;
-        size = omega (arith, h .size, power-records (c .base) e);
+        is = rw (ne-eqb (c .exponent) 1 (λ x. o (sym (h .exponent) ∙ x)), h .good, h .exponent, h .mark) refl;
+        size = omega (arith, h .size, power-records μ (c .base) e);
       }

@@ -4,17 +4,17 @@ use Prim.Native.Nat.{ℕ, _+_, _*_, _≤_}
 use mathlib.Core.Path.{_≡_, refl, sym, ap, _∙_}
 use mathlib.Core.List.{List, [], _∷_, _++_, append-assoc, append-nil}
 use native.Mathlib.Omega.{arith}
-use lib.ListN.{length, take, length-append}
-use lib.Seq.{take-at}
+use lib.ListN.{length, take, drop, length-append}
+use lib.Seq.{take-at, drop-drop, drop-at}
 use lib.IntN.{ℤ}
-use Rattle.paper.specs.Bytes.{word}
-use Rattle.paper.specs.Tree.{Tree, Forest, integer, product, power, toList, ofList, count, records, recordses}
+use Rattle.paper.specs.Bytes.{bytes, word}
+use Rattle.paper.specs.Tree.{Tree, Forest, integer, symbol, sum, product, power, marked, toList, ofList, count, records, recordses}
 use Rattle.paper.specs.Table.{recordOf, encode, encodes}
 use Rattle.paper.proofs.EncodeLaws.{encode-length}
 use Rattle.paper.proofs.WFLaws.{count-list, list-count, of-to-list}
 use Rattle.paper.proofs.Stands.{Stands}
 use Rattle.stretch.specs.Put.{put, part}
-use Rattle.stretch.proofs.Laws.{take-put-end, put-put}
+use Rattle.stretch.proofs.Laws.{take-put, take-put-end, drop-put-at, length-put, put-put}
 
 -- ---- rows of members
 pub encodes-append : (l m : List Tree) → encodes (ofList (l ++ m)) ≡ encodes (ofList l) ++ encodes (ofList m)
@@ -37,39 +37,114 @@ unfolding records ofList
 recordses-snoc l t = recordses-append l (t ∷ []) ∙ omega arith
 
 -- ---- the products and the power that are written
-pub pair-encoded : (z : ℤ) (t : Tree)
-    → encode (product 0 (ofList (integer 0 z ∷ t ∷ []))) ≡ (recordOf 3 2 0 ++ recordOf 0 0 (word z)) ++ encode t
+pub pair-encoded : (μ : ℕ) (z : ℤ) (t : Tree)
+    → encode (product μ (ofList (integer μ z ∷ t ∷ []))) ≡ (recordOf 3 2 μ 0 ++ recordOf 0 0 μ (word z)) ++ encode t
 unfolding encode ofList count
-pair-encoded z t =
-    ap (λ (x : List ℕ). recordOf 3 2 0 ++ (recordOf 0 0 (word z) ++ x)) (append-nil (encode t))
-    ∙ sym (append-assoc (recordOf 3 2 0) (recordOf 0 0 (word z)) (encode t))
+pair-encoded μ z t =
+    ap (λ (x : List ℕ). recordOf 3 2 μ 0 ++ (recordOf 0 0 μ (word z) ++ x)) (append-nil (encode t))
+    ∙ sym (append-assoc (recordOf 3 2 μ 0) (recordOf 0 0 μ (word z)) (encode t))
 
-pub pair-records : (z : ℤ) (t : Tree) → records (product 0 (ofList (integer 0 z ∷ t ∷ []))) ≡ records t + 2
+pub pair-records : (μ : ℕ) (z : ℤ) (t : Tree) → records (product μ (ofList (integer μ z ∷ t ∷ []))) ≡ records t + 2
 unfolding records ofList
-pair-records z t = omega arith
+pair-records μ z t = omega arith
 
-pub longer-encoded : (f : Forest) (z : ℤ)
-    → encode (product 0 (ofList (toList f ++ (integer 0 z ∷ [])))) ≡ (recordOf 3 (count f + 1) 0 ++ encodes f) ++ recordOf 0 0 (word z)
+pub longer-encoded : (μ : ℕ) (f : Forest) (z : ℤ)
+    → encode (product μ (ofList (toList f ++ (integer μ z ∷ [])))) ≡ (recordOf 3 (count f + 1) μ 0 ++ encodes f) ++ recordOf 0 0 μ (word z)
 unfolding encode
-longer-encoded f z =
-    let l = toList f ++ (integer 0 z ∷ []) in
-    let n : count (ofList l) ≡ count f + 1 = omega (arith, list-count l, length-append (toList f) (integer 0 z ∷ []), count-list f) in
-    ap (λ n. recordOf 3 n 0 ++ encodes (ofList l)) n
-    ∙ ap (λ (x : List ℕ). recordOf 3 (count f + 1) 0 ++ x)
-    (encodes-snoc (toList f) (integer 0 z) ∙ ap (λ g. encodes g ++ recordOf 0 0 (word z)) (of-to-list f))
-    ∙ sym (append-assoc (recordOf 3 (count f + 1) 0) (encodes f) (recordOf 0 0 (word z)))
+longer-encoded μ f z =
+    let l = toList f ++ (integer μ z ∷ []) in
+    let n : count (ofList l) ≡ count f + 1 = omega (arith, list-count l, length-append (toList f) (integer μ z ∷ []), count-list f) in
+    ap (λ n. recordOf 3 n μ 0 ++ encodes (ofList l)) n
+    ∙ ap (λ (x : List ℕ). recordOf 3 (count f + 1) μ 0 ++ x)
+    (encodes-snoc (toList f) (integer μ z) ∙ ap (λ g. encodes g ++ recordOf 0 0 μ (word z)) (of-to-list f))
+    ∙ sym (append-assoc (recordOf 3 (count f + 1) μ 0) (encodes f) (recordOf 0 0 μ (word z)))
 
-pub longer-records : (μ : ℕ) (f : Forest) (z : ℤ) → records (product 0 (ofList (toList f ++ (integer 0 z ∷ [])))) ≡ records (product μ f) + 1
+pub longer-records : (μ ν : ℕ) (f : Forest) (z : ℤ) → records (product μ (ofList (toList f ++ (integer μ z ∷ [])))) ≡ records (product ν f) + 1
 unfolding records
-longer-records μ f z = omega (arith, recordses-snoc (toList f) (integer 0 z), ap recordses (of-to-list f))
+longer-records μ ν f z = omega (arith, recordses-snoc (toList f) (integer μ z), ap recordses (of-to-list f))
 
-pub power-encoded : (b : Tree) (e : ℕ) → encode (power 0 b 0 e) ≡ (recordOf 4 0 0 ++ encode b) ++ recordOf 0 0 e
+pub power-encoded : (μ : ℕ) (b : Tree) (e : ℕ) → encode (power μ b μ e) ≡ (recordOf 4 0 μ 0 ++ encode b) ++ recordOf 0 0 μ e
 unfolding encode
-power-encoded b e = sym (append-assoc (recordOf 4 0 0) (encode b) (recordOf 0 0 e))
+power-encoded μ b e = sym (append-assoc (recordOf 4 0 μ 0) (encode b) (recordOf 0 0 μ e))
 
-pub power-records : (b : Tree) (e : ℕ) → records (power 0 b 0 e) ≡ records b + 2
+pub power-records : (μ : ℕ) (b : Tree) (e : ℕ) → records (power μ b μ e) ≡ records b + 2
 unfolding records
-power-records b e = omega arith
+power-records μ b e = omega arith
+
+-- ---- another mark at the root: the same records, but for bytes 4-5 of the first
+pub marked-records : (μ : ℕ) (t : Tree) → records (marked μ t) ≡ records t
+unfolding marked records
+marked-records μ (integer ν z) = refl
+marked-records μ (symbol ν s) = refl
+marked-records μ (sum ν f) = refl
+marked-records μ (product ν f) = refl
+marked-records μ (power ν b ξ e) = refl
+
+record MarkAt (μ : ℕ) (t : Tree) : Type 0 where
+  mark : ℕ
+  before : List ℕ
+  behind : List ℕ
+  four : length before ≡ 4
+  is : encode t ≡ before ++ (bytes 2 mark ++ behind)
+  other : encode (marked μ t) ≡ before ++ (bytes 2 μ ++ behind)
+
+mark-at : (μ : ℕ) (t : Tree) → MarkAt μ t
+unfolding marked encode recordOf bytes
+mark-at μ (integer ν z) =
+    record { mark = ν; before = 0 ∷ 0 ∷ bytes 2 0; behind = 0 ∷ 0 ∷ bytes 8 (word z); four = refl; is = refl; other = refl }
+mark-at μ (symbol ν s) =
+    record { mark = ν; before = 1 ∷ 0 ∷ bytes 2 0; behind = 0 ∷ 0 ∷ bytes 8 s; four = refl; is = refl; other = refl }
+mark-at μ (sum ν f) =
+    record { mark = ν; before = 2 ∷ 0 ∷ bytes 2 (count f); behind = 0 ∷ 0 ∷ bytes 8 0 ++ encodes f; four = refl; is = refl; other = refl }
+mark-at μ (product ν f) =
+    record { mark = ν; before = 3 ∷ 0 ∷ bytes 2 (count f); behind = 0 ∷ 0 ∷ bytes 8 0 ++ encodes f; four = refl; is = refl; other = refl }
+mark-at μ (power ν b ξ e) =
+    record {
+      mark = ν;
+      before = 4 ∷ 0 ∷ bytes 2 0;
+      behind = 0 ∷ 0 ∷ bytes 8 0 ++ (encode b ++ recordOf 0 0 ξ e);
+      four = refl;
+      is = refl;
+      other = refl;
+    }
+
+-- bytes put over the first of those that were put
+put-over : (d : List ℕ) (a : ℕ) (x y z : List ℕ) → length x ≡ length y → a + length (x ++ z) ≤ length d
+    → put (put d a (x ++ z)) a y ≡ put d a (y ++ z)
+unfolding put
+put-over d a x y z e h =
+    let long : a + length (y ++ z) ≡ a + length (x ++ z) = omega (arith, length-append x z, length-append y z) in
+    let low : a ≤ length d = omega arith in
+    let past : drop (a + length y) (put d a (x ++ z)) ≡ z ++ drop (a + length (x ++ z)) d =
+    sym (drop-drop (length y) a (put d a (x ++ z))) ∙ ap (drop (length y)) (drop-put-at d a (x ++ z) low ∙ append-assoc x z _)
+    ∙ drop-at x (z ++ drop (a + length (x ++ z)) d) (length y) e in
+    ap (λ (u : List ℕ). u ++ (y ++ drop (a + length y) (put d a (x ++ z)))) (take-put d a (x ++ z) a (omega arith) low)
+    ∙ ap (λ (u : List ℕ). take a d ++ (y ++ u)) past
+    ∙ ap (λ (u : List ℕ). take a d ++ u) (sym (append-assoc y z (drop (a + length (x ++ z)) d)))
+    ∙ ap (λ n. take a d ++ ((y ++ z) ++ drop n d)) (sym long)
+
+-- and over some in the middle
+put-inside : (d : List ℕ) (a b : ℕ) (w x y z : List ℕ) → b ≡ a + length w → length x ≡ length y → a + length (w ++ (x ++ z)) ≤ length d
+    → put (put d a (w ++ (x ++ z))) b y ≡ put d a (w ++ (y ++ z))
+put-inside d a b w x y z p e h =
+    let all = length-append w (x ++ z) in
+    let less = length-append w (y ++ z) in
+    let one = length-append x z in
+    let other = length-append y z in
+    let front = length-put d a w (omega arith) in
+    ap (λ (u : List ℕ). put u b y) (sym (put-put d a w b (x ++ z) p (omega arith)))
+    ∙ put-over (put d a w) b x y z e (omega arith)
+    ∙ put-put d a w b (y ++ z) p (omega arith)
+
+pub mark-put : (d d₁ d₂ : List ℕ) (a b μ : ℕ) (t : Tree) → b ≡ a + 4 → a + records t * 16 ≤ length d → d₁ ≡ put d a (encode t)
+    → d₂ ≡ put d₁ b (bytes 2 μ) → d₂ ≡ put d a (encode (marked μ t))
+mark-put d d₁ d₂ a b μ t e h p q =
+    let m = mark-at μ t in
+    let long = ap length (m .is) in
+    q ∙ ap (λ (u : List ℕ). put u b (bytes 2 μ)) (p ∙ ap (put d a) (m .is))
+    ∙ put-inside d a b (m .before) (bytes 2 (m .mark)) (bytes 2 μ) (m .behind) (omega (arith, m .four)) (unfold bytes in refl)
+    (omega (arith, encode-length t))
+    ∙ ap (put d a) (sym (m .other))
 
 -- ---- bytes that stand in a table, and puts one after the other
 pub stands-bytes : (s : List ℕ) (i n : ℕ) (x : List ℕ) → Stands s i x → length x ≡ n → part s (i * 16) n ≡ x

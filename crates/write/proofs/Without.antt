@@ -8,13 +8,13 @@ use native.Mathlib.Omega.{arith}
 use lib.ListN.{length}
 use Rattle.paper.specs.Bytes.{signed}
 use Rattle.paper.specs.Record.{kind, countIn}
-use Rattle.paper.specs.Tree.{Tree, Forest, integer, product, cons, toList, ofList, records, recordses}
+use Rattle.paper.specs.Tree.{Tree, Forest, integer, symbol, sum, product, power, cons, marked, toList, ofList, records, recordses}
 use Rattle.paper.specs.Table.{recordOf, encode, encodes}
 use Rattle.paper.specs.Rules.{asInteger, withOther, othersOf}
 use Rattle.paper.proofs.EncodeLaws.{encode-length, encodes-length, record-length, count-records}
 use Rattle.paper.proofs.WFLaws.{list-count}
 use Rattle.paper.proofs.Seen.{seen-integer}
-use Rattle.paper.proofs.StandingLaws.{seen, product-trees, FirstOf, first-of, none-of, one-tree, one-product}
+use Rattle.paper.proofs.StandingLaws.{seen, product-trees, FirstOf, first-of, none-of, one-tree}
 use Rattle.stretch.specs.Put.{put}
 use Rattle.stretch.proofs.Laws.{put-none}
 use Rattle.split.specs.Standing.{TreeIn, TreesIn, SomeTree}
@@ -112,7 +112,15 @@ module _ {s : List ℕ} {i many : ℕ} where
   -- there is one
   pub lessened-once : {t u : Tree} → Lessened s i many t → Lessened s i many u → t ≡ u
   lessened-once h g =
-      h .left ∙ ap (λ f. product 0 (ofList (others f))) (one-product (h .whole) (g .whole)) ∙ sym (g .left)
+      h .left ∙ ap without (one-tree (h .whole) (g .whole)) ∙ sym (g .left)
+    where
+      -- what is left of a product
+      without : Tree → Tree
+      without (integer μ z) = integer μ z
+      without (symbol μ v) = symbol μ v
+      without (sum μ f) = sum μ f
+      without (product μ f) = product μ (ofList (others f))
+      without (power μ b ξ e) = power μ b ξ e
 
   module _ {t : Tree} (h : Lessened s i many t) where
     abbrev left : List Tree
@@ -126,22 +134,23 @@ module _ {s : List ℕ} {i many : ℕ} where
     pub left-many : many + 1 ≤ records t
     left-many = omega (arith, left-records, h .many, list-count left, count-records (ofList left))
 
-    left-encoded : encode t ≡ recordOf 3 many 0 ++ encodes (ofList left)
-    unfolding encode
-    left-encoded = ap encode (h .left) ∙ ap (λ n. recordOf 3 n 0 ++ encodes (ofList left)) (list-count left ∙ sym (h .many))
+    left-encoded : (μ : ℕ) → encode (marked μ t) ≡ recordOf 3 many μ 0 ++ encodes (ofList left)
+    unfolding encode marked
+    left-encoded μ = ap (λ u. encode (marked μ u)) (h .left) ∙ ap (λ n. recordOf 3 n μ 0 ++ encodes (ofList left)) (list-count left ∙ sym (h .many))
 
     -- written: a record that counts the members, and the members; or, with the integer n after them, one that counts one more
-    module _ (out d₁ d₂ : List ℕ) (m : ℕ) (q : d₂ ≡ put d₁ ((m + 1) * 16) (encodes (ofList left))) where
-      pub left-written : (m + records t) * 16 ≤ length out → d₁ ≡ put out (m * 16) (recordOf 3 many 0) → d₂ ≡ put out (m * 16) (encode t)
+    module _ (out d₁ d₂ : List ℕ) (m μ : ℕ) (q : d₂ ≡ put d₁ ((m + 1) * 16) (encodes (ofList left))) where
+      pub left-written : (m + records t) * 16 ≤ length out → d₁ ≡ put out (m * 16) (recordOf 3 many μ 0)
+          → d₂ ≡ put out (m * 16) (encode (marked μ t))
       left-written r p =
-          let a = record-length 3 many 0 in
+          let a = record-length 3 many μ 0 in
           let k = encodes-length (ofList left) in
-          two-puts out d₁ d₂ (recordOf 3 many 0) (encodes (ofList left)) (m * 16) ((m + 1) * 16) p q (omega arith) (omega (arith, left-records))
-          ∙ ap (put out (m * 16)) (sym left-encoded)
+          two-puts out d₁ d₂ (recordOf 3 many μ 0) (encodes (ofList left)) (m * 16) ((m + 1) * 16) p q (omega arith) (omega (arith, left-records))
+          ∙ ap (put out (m * 16)) (sym (left-encoded μ))
 
       pub left-longer-written : (d₃ : List ℕ) (n a : ℕ) → n < 2 ^ 64 → a ≡ m + records t → (m + (records t + 1)) * 16 ≤ length out
-          → d₁ ≡ put out (m * 16) (recordOf 3 (many + 1) 0) → d₃ ≡ put d₂ (a * 16) (recordOf 0 0 n)
-          → d₃ ≡ put out (m * 16) (encode (product 0 (ofList (toList (ofList left) ++ (integer 0 (signed n) ∷ [])))))
+          → d₁ ≡ put out (m * 16) (recordOf 3 (many + 1) μ 0) → d₃ ≡ put d₂ (a * 16) (recordOf 0 0 μ n)
+          → d₃ ≡ put out (m * 16) (encode (product μ (ofList (toList (ofList left) ++ (integer μ (signed n) ∷ [])))))
       left-longer-written d₃ n a b e r p w =
-          longer-written out d₁ d₂ d₃ m n b (ofList left) (many + 1) (records t) a
+          longer-written out d₁ d₂ d₃ m n b μ (ofList left) (many + 1) (records t) a
           (ap (λ c. c + 1) (h .many ∙ sym (list-count left))) left-records e r p q w

@@ -9,7 +9,7 @@ use mathlib.Core.Option.{none}
 use native.Mathlib.Omega.{arith}
 use lib.ListN.{length}
 use Rattle.paper.specs.Bytes.{word, signed}
-use Rattle.paper.specs.Tree.{Tree, Forest, integer, symbol, sum, product, power, toList, ofList, count, records, recordses}
+use Rattle.paper.specs.Tree.{Tree, Forest, integer, symbol, sum, product, power, marked, toList, ofList, count, records, recordses}
 use Rattle.paper.specs.Record.{kind, countIn}
 use Rattle.paper.specs.Table.{recordOf, encode, encodes}
 use Rattle.paper.specs.Rules.{asInteger, Term, fromTerm, Factor, fromFactor}
@@ -64,72 +64,80 @@ kind-other {s} {i} {t} h n = by t n (seen h)
     by (power μ b ξ x) n (views.a-power e w m p q o y z) = omega arith
 
 -- ---- the records that are written one after the other
-integer-is : (n : ℕ) → n < 2 ^ 64 → recordOf 0 0 (word (signed n)) ≡ recordOf 0 0 n
-integer-is n l = ap (recordOf 0 0) (word-signed n l)
+integer-is : (μ n : ℕ) → n < 2 ^ 64 → recordOf 0 0 μ (word (signed n)) ≡ recordOf 0 0 μ n
+integer-is μ n l = ap (recordOf 0 0 μ) (word-signed n l)
 
-pub integer-written : (out d : List ℕ) (a n : ℕ) → n < 2 ^ 64 → d ≡ put out a (recordOf 0 0 n) → d ≡ put out a (encode (integer 0 (signed n)))
+pub integer-written : (out d : List ℕ) (a μ n : ℕ) → n < 2 ^ 64 → d ≡ put out a (recordOf 0 0 μ n)
+    → d ≡ put out a (encode (integer μ (signed n)))
 unfolding encode
-integer-written out d a n l p = p ∙ ap (put out a) (sym (integer-is n l))
+integer-written out d a μ n l p = p ∙ ap (put out a) (sym (integer-is μ n l))
 
-module _ (out d₁ d₂ d₃ : List ℕ) (m n : ℕ) (l : n < 2 ^ 64) where
-  pub pair-written : (t : Tree) → (m + (records t + 2)) * 16 ≤ length out → d₁ ≡ put out (m * 16) (recordOf 3 2 0)
-      → d₂ ≡ put d₁ ((m + 1) * 16) (recordOf 0 0 n) → d₃ ≡ put d₂ ((m + 2) * 16) (encode t)
-      → d₃ ≡ put out (m * 16) (encode (product 0 (ofList (integer 0 (signed n) ∷ t ∷ []))))
+module _ (out d₁ d₂ d₃ : List ℕ) (m n : ℕ) (l : n < 2 ^ 64) (μ : ℕ) where
+  pub pair-written : (t : Tree) → (m + (records t + 2)) * 16 ≤ length out → d₁ ≡ put out (m * 16) (recordOf 3 2 μ 0)
+      → d₂ ≡ put d₁ ((m + 1) * 16) (recordOf 0 0 μ n) → d₃ ≡ put d₂ ((m + 2) * 16) (encode t)
+      → d₃ ≡ put out (m * 16) (encode (product μ (ofList (integer μ (signed n) ∷ t ∷ []))))
   pair-written t r p q w =
-      let a = record-length 3 2 0 in
-      let b = record-length 0 0 n in
+      let a = record-length 3 2 μ 0 in
+      let b = record-length 0 0 μ n in
       let c = encode-length t in
-      three-puts out d₁ d₂ d₃ (recordOf 3 2 0) (recordOf 0 0 n) (encode t) (m * 16) ((m + 1) * 16) ((m + 2) * 16) p q w
+      three-puts out d₁ d₂ d₃ (recordOf 3 2 μ 0) (recordOf 0 0 μ n) (encode t) (m * 16) ((m + 1) * 16) ((m + 2) * 16) p q w
       (omega arith) (omega arith) (omega arith)
-      ∙ ap (λ (x : List ℕ). put out (m * 16) ((recordOf 3 2 0 ++ x) ++ encode t)) (sym (integer-is n l))
-      ∙ ap (put out (m * 16)) (sym (pair-encoded (signed n) t))
+      ∙ ap (λ (x : List ℕ). put out (m * 16) ((recordOf 3 2 μ 0 ++ x) ++ encode t)) (sym (integer-is μ n l))
+      ∙ ap (put out (m * 16)) (sym (pair-encoded μ (signed n) t))
 
   pub longer-written : (f : Forest) (c k a : ℕ) → c ≡ count f + 1 → k ≡ 1 + recordses f → a ≡ m + k → (m + (k + 1)) * 16 ≤ length out
-      → d₁ ≡ put out (m * 16) (recordOf 3 c 0) → d₂ ≡ put d₁ ((m + 1) * 16) (encodes f) → d₃ ≡ put d₂ (a * 16) (recordOf 0 0 n)
-      → d₃ ≡ put out (m * 16) (encode (product 0 (ofList (toList f ++ (integer 0 (signed n) ∷ [])))))
+      → d₁ ≡ put out (m * 16) (recordOf 3 c μ 0) → d₂ ≡ put d₁ ((m + 1) * 16) (encodes f) → d₃ ≡ put d₂ (a * 16) (recordOf 0 0 μ n)
+      → d₃ ≡ put out (m * 16) (encode (product μ (ofList (toList f ++ (integer μ (signed n) ∷ [])))))
   longer-written f c k a e g h r p q w =
-      let j = record-length 3 c 0 in
-      let b = record-length 0 0 n in
+      let j = record-length 3 c μ 0 in
+      let b = record-length 0 0 μ n in
       let i = encodes-length f in
-      three-puts out d₁ d₂ d₃ (recordOf 3 c 0) (encodes f) (recordOf 0 0 n) (m * 16) ((m + 1) * 16) (a * 16) p q w
+      three-puts out d₁ d₂ d₃ (recordOf 3 c μ 0) (encodes f) (recordOf 0 0 μ n) (m * 16) ((m + 1) * 16) (a * 16) p q w
       (omega arith) (omega arith) (omega arith)
-      ∙ ap (λ c. put out (m * 16) ((recordOf 3 c 0 ++ encodes f) ++ recordOf 0 0 n)) e
-      ∙ ap (λ (x : List ℕ). put out (m * 16) ((recordOf 3 (count f + 1) 0 ++ encodes f) ++ x)) (sym (integer-is n l))
-      ∙ ap (put out (m * 16)) (sym (longer-encoded f (signed n)))
+      ∙ ap (λ c. put out (m * 16) ((recordOf 3 c μ 0 ++ encodes f) ++ recordOf 0 0 μ n)) e
+      ∙ ap (λ (x : List ℕ). put out (m * 16) ((recordOf 3 (count f + 1) μ 0 ++ encodes f) ++ x)) (sym (integer-is μ n l))
+      ∙ ap (put out (m * 16)) (sym (longer-encoded μ f (signed n)))
 
 -- a factor whose base has k records: with the exponent 1 the base, with any other the record of a power, the base, and the exponent
-power-written : (out d₁ d₂ d₃ : List ℕ) (m e : ℕ) (b : Tree) (a : ℕ) → a ≡ m + 1 + records b → (m + (records b + 2)) * 16 ≤ length out
-    → d₁ ≡ put out (m * 16) (recordOf 4 0 0) → d₂ ≡ put d₁ ((m + 1) * 16) (encode b) → d₃ ≡ put d₂ (a * 16) (recordOf 0 0 e)
-    → d₃ ≡ put out (m * 16) (encode (power 0 b 0 e))
-power-written out d₁ d₂ d₃ m e b a h r p q w =
-    let j = record-length 4 0 0 in
-    let c = record-length 0 0 e in
+power-written : (out d₁ d₂ d₃ : List ℕ) (m e μ : ℕ) (b : Tree) (a : ℕ) → a ≡ m + 1 + records b → (m + (records b + 2)) * 16 ≤ length out
+    → d₁ ≡ put out (m * 16) (recordOf 4 0 μ 0) → d₂ ≡ put d₁ ((m + 1) * 16) (encode b) → d₃ ≡ put d₂ (a * 16) (recordOf 0 0 μ e)
+    → d₃ ≡ put out (m * 16) (encode (power μ b μ e))
+power-written out d₁ d₂ d₃ m e μ b a h r p q w =
+    let j = record-length 4 0 μ 0 in
+    let c = record-length 0 0 μ e in
     let i = encode-length b in
-    three-puts out d₁ d₂ d₃ (recordOf 4 0 0) (encode b) (recordOf 0 0 e) (m * 16) ((m + 1) * 16) (a * 16) p q w
+    three-puts out d₁ d₂ d₃ (recordOf 4 0 μ 0) (encode b) (recordOf 0 0 μ e) (m * 16) ((m + 1) * 16) (a * 16) p q w
     (omega arith) (omega arith) (omega arith)
-    ∙ ap (put out (m * 16)) (sym (power-encoded b e))
+    ∙ ap (put out (m * 16)) (sym (power-encoded μ b e))
 
-module _ {c : Factor} {e k : ℕ} (h : Shown c e k) (out : List ℕ) (m : ℕ) where
+module _ {c : Factor} {e k μ : ℕ} (h : Shown c e k μ) (out : List ℕ) (m : ℕ) where
   pub base-room : e ≡ 1 → Fitting (fromFactor c) out m → (m + k) * 16 ≤ length out
   base-room o = room (base-becomes h o) out m
 
-  pub base-answer : e ≡ 1 → (d : List ℕ) → d ≡ put out (m * 16) (encode (c .base)) → WrittenIs (fromFactor c) out d m (To (m + k))
+  pub base-answer : e ≡ 1 → (d : List ℕ) → d ≡ put out (m * 16) (encode (marked μ (c .base))) → WrittenIs (fromFactor c) out d m (To (m + k))
   base-answer o d = written (base-becomes h o) out m d (m + k) refl
 
   pub power-room : (e ≡ 1 → ⊥) → Fitting (fromFactor c) out m → (m + (k + 2)) * 16 ≤ length out
   power-room o = room (power-becomes h o) out m
 
   pub power-answer : (e ≡ 1 → ⊥) → (m + (k + 2)) * 16 ≤ length out → (d₁ d₂ d₃ : List ℕ) (a b : ℕ) → a ≡ m + 1 + k → b ≡ m + (k + 2)
-      → d₁ ≡ put out (m * 16) (recordOf 4 0 0) → d₂ ≡ put d₁ ((m + 1) * 16) (encode (c .base)) → d₃ ≡ put d₂ (a * 16) (recordOf 0 0 e)
+      → d₁ ≡ put out (m * 16) (recordOf 4 0 μ 0) → d₂ ≡ put d₁ ((m + 1) * 16) (encode (c .base)) → d₃ ≡ put d₂ (a * 16) (recordOf 0 0 μ e)
       → WrittenIs (fromFactor c) out d₃ m (To b)
   power-answer o r d₁ d₂ d₃ a b x y p q w =
       let z = h .size in
-      written (power-becomes h o) out m d₃ b y (power-written out d₁ d₂ d₃ m e (c .base) a (omega arith) (omega arith) p q w)
+      written (power-becomes h o) out m d₃ b y (power-written out d₁ d₂ d₃ m e μ (c .base) a (omega arith) (omega arith) p q w)
 
-pub number-written : {e v : ℕ} {c : Factor} → ShowsNumber e v c → (out d : List ℕ) (a : ℕ) → d ≡ put out a (recordOf 0 0 v)
+-- an integer base, with its own mark, and with the factor's
+pub number-written : {e v b μ : ℕ} {c : Factor} → ShowsNumber e v b μ c → (out d : List ℕ) (a : ℕ) → d ≡ put out a (recordOf 0 0 b v)
     → d ≡ put out a (encode (c .base))
-number-written {v = v} h out d a p =
-    integer-written out d a v (h .bits) p ∙ ap (λ (b : Tree). put out a (encode b)) (sym (h .base))
+number-written {v = v} {b = b} h out d a p =
+    integer-written out d a b v (h .bits) p ∙ ap (λ (t : Tree). put out a (encode t)) (sym (h .base))
+
+pub number-marked : {e v b μ : ℕ} {c : Factor} → ShowsNumber e v b μ c → (out d : List ℕ) (a : ℕ) → d ≡ put out a (recordOf 0 0 μ v)
+    → d ≡ put out a (encode (marked μ (c .base)))
+unfolding marked
+number-marked {v = v} {μ = μ} h out d a p =
+    integer-written out d a μ v (h .bits) p ∙ ap (λ (t : Tree). put out a (encode (marked μ t))) (sym (h .base))
 
 -- ---- a part p of a sum is a term, one of a product a factor, and the member that it becomes is that of the term or the factor
 module _ (s : List ℕ) {p : Part} where
@@ -142,12 +150,12 @@ module _ (s : List ℕ) {p : Part} where
   a-wide e true x h = joins-bad true x (subst (λ (p : Part). Shows true s p x) e h .wide)
   a-wide e false x h = absurd (subst (λ (p : Part). Shows false s p x) e h)
 
-  pub a-power : {e i k : ℕ} → p ≡ part.Power e i k → (b : Bool) (x : Like b) → Shows b s p x
-      → (c : Factor) × ShowsPower s e i k c × (join b x ≡ fromFactor c)
+  pub a-power : {e i k μ : ℕ} → p ≡ part.Power e i k μ → (b : Bool) (x : Like b) → Shows b s p x
+      → (c : Factor) × ShowsPower s e i k μ c × (join b x ≡ fromFactor c)
   a-power e true x h = absurd (subst (λ (p : Part). Shows true s p x) e h)
   a-power e false x h = (x, subst (λ (p : Part). Shows false s p x) e h, refl)
 
-  pub a-number : {e v : ℕ} → p ≡ part.Number e v → (b : Bool) (x : Like b) → Shows b s p x
-      → (c : Factor) × ShowsNumber e v c × (join b x ≡ fromFactor c)
+  pub a-number : {e v a μ : ℕ} → p ≡ part.Number e v a μ → (b : Bool) (x : Like b) → Shows b s p x
+      → (c : Factor) × ShowsNumber e v a μ c × (join b x ≡ fromFactor c)
   a-number e true x h = absurd (subst (λ (p : Part). Shows true s p x) e h)
   a-number e false x h = (x, subst (λ (p : Part). Shows false s p x) e h, refl)

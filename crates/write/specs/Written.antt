@@ -24,6 +24,6 @@ WrittenIs x out out' m Over = (x .1 ≡ false) × (out' ≡ out)
 abbrev pub Fitting : Tree × Bool → List ℕ → ℕ → Type 0
 Fitting x out m = (m + records (x .0)) * 16 ≤ length out
 
--- "its rest if the coefficient is 1, else coefficient times rest", for the coefficient with the bits n
-unfoldable pub timed : ℕ → Tree → Tree × Bool
-timed n t = timesUnless (eqZ (signed n) (pos 1)) (term (signed n) t)
+-- "its rest if the coefficient is 1, else coefficient times rest", for the mark μ and the coefficient with the bits n
+unfoldable pub timed : ℕ → ℕ → Tree → Tree × Bool
+timed μ n t = timesUnless (eqZ (signed n) (pos 1)) (term μ (signed n) t)

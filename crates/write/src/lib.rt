@@ -6,7 +6,7 @@ ghost use Prim.Native.Nat.{ℕ, _+_, _*_, _≤_};
 ghost use lib.ListN.{length};
 ghost use mathlib.Core.Option.{none};
 ghost use Rattle.paper.specs.Bytes.{signed};
-ghost use Rattle.paper.specs.Tree.{Tree, Forest, integer, product, toList, ofList, recordses};
+ghost use Rattle.paper.specs.Tree.{Tree, Forest, integer, product, marked, toList, ofList, recordses};
 ghost use Rattle.paper.specs.Table.{encode, encodes};
 ghost use Rattle.paper.specs.Rules.{asInteger, othersOf, Term, Factor, fromTerm, fromFactor};
 ghost use Rattle.stretch.specs.Put.{put};
@@ -30,44 +30,54 @@ fn copy_tree(out: &mut [u8], m: usize, s: &[u8], i: usize, k: usize)
     stretch::copy_bytes(out, m * 16, s, i * 16, k * 16);
 }
 
-// The product of the integer n and the tree of k records at record i.
-fn write_pair(out: &mut [u8], m: usize, n: u64, s: &[u8], i: usize, k: usize)
+// Copies the tree of k records at record i, with another mark at its root.
+fn copy_marked(out: &mut [u8], m: usize, s: &[u8], i: usize, k: usize, mark: usize)
+    requires { ⌜ ((t : Tree) × Sized (now s) i k t) × ((m + k) * 16 ≤ length (now out)) ⌝ }
+    ensures { λ _. ⌜ ((t : Tree) → Sized (now (s .entry)) i k t
+        → now (out .exit) ≡ put (now (out .entry)) (m * 16) (encode (marked mark t))) ⌝ }
+{
+    copy_tree(out, m, s, i, k);
+    record::set_mark(out, m, mark);
+}
+
+// The product of the integer n and the tree of k records at record i; it and the integer have the mark.
+fn write_pair(out: &mut [u8], m: usize, n: u64, mark: usize, s: &[u8], i: usize, k: usize)
     requires { ⌜ ((t : Tree) × Sized (now s) i k t) × ((m + (k + 2)) * 16 ≤ length (now out)) ⌝ }
     ensures { λ _. ⌜ ((t : Tree) → Sized (now (s .entry)) i k t
-        → now (out .exit) ≡ put (now (out .entry)) (m * 16) (encode (product 0 (ofList (integer 0 (signed n) ∷ t ∷ []))))) ⌝ }
+        → now (out .exit) ≡ put (now (out .entry)) (m * 16) (encode (product mark (ofList (integer mark (signed n) ∷ t ∷ []))))) ⌝ }
 {
-    record::write_record(out, m, 3, 2, 0);
-    record::write_record(out, m + 1, 0, 0, n);
+    record::write_record(out, m, 3, 2, mark, 0);
+    record::write_record(out, m + 1, 0, 0, mark, n);
     copy_tree(out, m + 2, s, i, k);
 }
 
-// The product of k records at record i with the integer n appended last.
-fn write_longer(out: &mut [u8], m: usize, n: u64, s: &[u8], i: usize, k: usize)
+// The product of k records at record i with the integer n appended last; it and the integer have the mark.
+fn write_longer(out: &mut [u8], m: usize, n: u64, mark: usize, s: &[u8], i: usize, k: usize)
     requires { ⌜ ((μ : ℕ) × (f : Forest) × Sized (now s) i k (product μ f)) × ((m + (k + 1)) * 16 ≤ length (now out)) ⌝ }
     ensures { λ _. ⌜ ((μ : ℕ) (f : Forest) → Sized (now (s .entry)) i k (product μ f)
-        → now (out .exit) ≡ put (now (out .entry)) (m * 16) (encode (product 0 (ofList (toList f ++ (integer 0 (signed n) ∷ [])))))) ⌝ }
+        → now (out .exit) ≡ put (now (out .entry)) (m * 16) (encode (product mark (ofList (toList f ++ (integer mark (signed n) ∷ [])))))) ⌝ }
 {
-    record::write_record(out, m, 3, record::count(s, i) + 1, 0);
+    record::write_record(out, m, 3, record::count(s, i) + 1, mark, 0);
     stretch::copy_bytes(out, (m + 1) * 16, s, (i + 1) * 16, (k - 1) * 16);
-    record::write_record(out, m + k, 0, 0, n);
+    record::write_record(out, m + k, 0, 0, mark, n);
 }
 
 // The coefficient n times the tree at record i, which is no integer: a product gets the coefficient appended last, any other tree stands
-// after it; 1 times the tree is the tree.
-fn write_times(out: &mut [u8], m: usize, n: u64, s: &[u8], i: usize) -> Written
-    requires { ⌜ ((t : Tree) × TreeIn (now s) i t × Fitting (timed n t) (now out) m × (asInteger t ≡ none)) ⌝ }
-    ensures { λ r. ⌜ ((t : Tree) → TreeIn (now (s .entry)) i t → WrittenIs (timed n t) (now (out .entry)) (now (out .exit)) m r) ⌝ }
+// after it; 1 times the tree is the tree. What is written has the mark at its root, and so has the coefficient.
+fn write_times(out: &mut [u8], m: usize, n: u64, mark: usize, s: &[u8], i: usize) -> Written
+    requires { ⌜ ((t : Tree) × TreeIn (now s) i t × Fitting (timed mark n t) (now out) m × (asInteger t ≡ none)) ⌝ }
+    ensures { λ r. ⌜ ((t : Tree) → TreeIn (now (s .entry)) i t → WrittenIs (timed mark n t) (now (out .entry)) (now (out .exit)) m r) ⌝ }
 {
     let k = split::skip_tree(s, i) - i;
     if n == 1 {
-        copy_tree(out, m, s, i, k);
+        copy_marked(out, m, s, i, k, mark);
         return Written::To(m + k);
     }
     if record::kind(s, i) == 3 {
-        write_longer(out, m, n, s, i, k);
+        write_longer(out, m, n, mark, s, i, k);
         return Written::To(m + k + 1);
     }
-    write_pair(out, m, n, s, i, k);
+    write_pair(out, m, n, mark, s, i, k);
     Written::To(m + k + 2)
 }
 
@@ -95,64 +105,83 @@ fn copy_others(out: &mut [u8], m: usize, s: &[u8], i: usize) -> usize
 }
 
 // The coefficient n times the product at record i without its integers, of `many` members: the coefficient is appended last, unless it
-// is 1.
-fn write_without(out: &mut [u8], m: usize, n: u64, s: &[u8], i: usize, many: usize) -> Written
-    requires { ⌜ ((t : Tree) × Lessened (now s) i many t × Fitting (timed n t) (now out) m) ⌝ }
-    ensures { λ r. ⌜ ((t : Tree) → Lessened (now (s .entry)) i many t → WrittenIs (timed n t) (now (out .entry)) (now (out .exit)) m r) ⌝ }
+// is 1. The product and the coefficient have the mark.
+fn write_without(
+    out: &mut [u8],
+    m: usize,
+    n: u64,
+    mark: usize,
+    s: &[u8],
+    i: usize,
+    many: usize,
+) -> Written
+    requires { ⌜ ((t : Tree) × Lessened (now s) i many t × Fitting (timed mark n t) (now out) m) ⌝ }
+    ensures { λ r. ⌜ ((t : Tree) → Lessened (now (s .entry)) i many t → WrittenIs (timed mark n t) (now (out .entry)) (now (out .exit)) m r) ⌝ }
 {
     if n == 1 {
-        record::write_record(out, m, 3, many, 0);
+        record::write_record(out, m, 3, many, mark, 0);
         return Written::To(copy_others(out, m + 1, s, i));
     }
-    record::write_record(out, m, 3, many + 1, 0);
+    record::write_record(out, m, 3, many + 1, mark, 0);
     let e = copy_others(out, m + 1, s, i);
-    record::write_record(out, e, 0, 0, n);
+    record::write_record(out, e, 0, 0, mark, n);
     Written::To(e + 1)
 }
 
-// The coefficient n times the rest of the member at record i.
+// The coefficient n times the rest of the member at record i, whose mark it takes.
 fn write_term(out: &mut [u8], m: usize, n: u64, s: &[u8], i: usize) -> Written
     requires { ⌜ ((c : Term) × ShowsTerm (now s) n i c × Fitting (fromTerm c) (now out) m) ⌝ }
     ensures { λ r. ⌜ ((c : Term) → ShowsTerm (now (s .entry)) n i c → WrittenIs (fromTerm c) (now (out .entry)) (now (out .exit)) m r) ⌝ }
 {
+    let mark = record::mark(s, i);
     let rest = split::rest_of(s, i);
     match rest {
         split::Rest::One => {
-            record::write_record(out, m, 0, 0, n);
+            record::write_record(out, m, 0, 0, mark, n);
             Written::To(m + 1)
         }
-        split::Rest::At(j) => write_times(out, m, n, s, j),
-        split::Rest::Others(j, many) => write_without(out, m, n, s, j, many),
+        split::Rest::At(j) => write_times(out, m, n, mark, s, j),
+        split::Rest::Others(j, many) => write_without(out, m, n, mark, s, j, many),
     }
 }
 
-// The base of k records at record i with the exponent e, unless that is 1.
-fn write_power(out: &mut [u8], m: usize, e: u64, s: &[u8], i: usize, k: usize) -> Written
-    requires { ⌜ ((c : Factor) × ShowsPower (now s) e i k c × Fitting (fromFactor c) (now out) m) ⌝ }
-    ensures { λ r. ⌜ ((c : Factor) → ShowsPower (now (s .entry)) e i k c → WrittenIs (fromFactor c) (now (out .entry)) (now (out .exit)) m r) ⌝ }
+// The base of k records at record i with the exponent e, unless that is 1. What is written has the mark at its root, and so has the
+// exponent.
+fn write_power(
+    out: &mut [u8],
+    m: usize,
+    e: u64,
+    s: &[u8],
+    i: usize,
+    k: usize,
+    mark: usize,
+) -> Written
+    requires { ⌜ ((c : Factor) × ShowsPower (now s) e i k mark c × Fitting (fromFactor c) (now out) m) ⌝ }
+    ensures { λ r. ⌜ ((c : Factor) → ShowsPower (now (s .entry)) e i k mark c → WrittenIs (fromFactor c) (now (out .entry)) (now (out .exit)) m r) ⌝ }
 {
     if e == 1 {
-        copy_tree(out, m, s, i, k);
+        copy_marked(out, m, s, i, k, mark);
         return Written::To(m + k);
     }
-    record::write_record(out, m, 4, 0, 0);
+    record::write_record(out, m, 4, 0, mark, 0);
     copy_tree(out, m + 1, s, i, k);
-    record::write_record(out, m + 1 + k, 0, 0, e);
+    record::write_record(out, m + 1 + k, 0, 0, mark, e);
     Written::To(m + 2 + k)
 }
 
-// The integer base v with the exponent e, unless that is 1.
-fn write_number(out: &mut [u8], m: usize, e: u64, v: u64) -> Written
-    requires { ⌜ ((c : Factor) × ShowsNumber e v c × Fitting (fromFactor c) (now out) m) ⌝ }
-    ensures { λ r. ⌜ ((c : Factor) → ShowsNumber e v c → WrittenIs (fromFactor c) (now (out .entry)) (now (out .exit)) m r) ⌝ }
+// The integer base v, its mark being b, with the exponent e, unless that is 1. What is written has the mark at its root, and so has the
+// exponent.
+fn write_number(out: &mut [u8], m: usize, e: u64, v: u64, b: usize, mark: usize) -> Written
+    requires { ⌜ ((c : Factor) × ShowsNumber e v b mark c × Fitting (fromFactor c) (now out) m) ⌝ }
+    ensures { λ r. ⌜ ((c : Factor) → ShowsNumber e v b mark c → WrittenIs (fromFactor c) (now (out .entry)) (now (out .exit)) m r) ⌝ }
 {
     if e == 1 {
-        record::write_record(out, m, 0, 0, v);
+        record::write_record(out, m, 0, 0, mark, v);
         return Written::To(m + 1);
     }
-    record::write_record(out, m, 4, 0, 0);
-    record::write_record(out, m + 1, 0, 0, v);
-    record::write_record(out, m + 2, 0, 0, e);
+    record::write_record(out, m, 4, 0, mark, 0);
+    record::write_record(out, m + 1, 0, 0, b, v);
+    record::write_record(out, m + 2, 0, 0, mark, e);
     Written::To(m + 3)
 }
 
@@ -165,7 +194,7 @@ pub fn write_part(out: &mut [u8], m: usize, s: &[u8], c: part::Part) -> Written
     match c {
         part::Part::Term(n, i) => write_term(out, m, n, s, i),
         part::Part::Wide(_) => Written::Over,
-        part::Part::Power(e, i, k) => write_power(out, m, e, s, i, k),
-        part::Part::Number(e, v) => write_number(out, m, e, v),
+        part::Part::Power(e, i, k, mark) => write_power(out, m, e, s, i, k, mark),
+        part::Part::Number(e, v, b, mark) => write_number(out, m, e, v, b, mark),
     }
 }

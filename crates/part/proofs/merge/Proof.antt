@@ -84,7 +84,7 @@ merge-power-requires c κs =
     let entry = power-entry power in
     let q = entry .pre in
     let shown = subst (λ k. Shows (q .flag) (entry .args .s .now) k (q .current)) (power .c3 .given .1) (q .shown) in
-    let one = power-stands _ _ _ _ (q .flag) (q .current) shown in
+    let one = power-stands _ _ _ _ _ (q .flag) (q .current) shown in
     record { one = one .tree; other = q .later; one-there = one .there; other-there = q .there; enough = q .enough }
 
 enum-known-c-4 : tie.Need-enum-known-c-4
@@ -125,7 +125,7 @@ returns-3 c =
     let merged = c .before .before in
     let is = power-of merged .c3 .given .1 in
     let says = merged .merge-power in (
-      λ b x t h there. of-power _ t (says .result) _ _ _ (λ y k. says .ensures .0 y t k there) b x (rw is at h),
+      λ b x t h there. of-power _ t (says .result) _ _ _ _ (λ y k. says .ensures .0 y t k there) b x (rw is at h),
       λ p h. says .ensures .1 p (rw is at h),
     )
 
@@ -134,7 +134,7 @@ returns-4 c =
     let number : Number = c .before .before in
     let is = number .c4 .given .1 in
     let says = c .merge-number in (
-      λ b x t h there. of-number _ t (says .result) _ _ (λ y k. says .ensures .0 y t k there) b x (rw is at h),
+      λ b x t h there. of-number _ t (says .result) _ _ _ _ (λ y k. says .ensures .0 y t k there) b x (rw is at h),
       λ p h. says .ensures .1 p,
     )
 

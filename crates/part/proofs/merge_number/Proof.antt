@@ -2,9 +2,10 @@
 -- integers only. Where it is one, its bits and the exponent that was read show the later member as a number (`later`), and the tests
 -- decide as the paper's rule does: equal exponents multiply the bases; else equal bases add the exponents; else the two stay apart. Each
 -- return is the law of its case. Assumes nothing.
-use mathlib.Core.Path.{sym, _∙_}
+use mathlib.Core.Path.{refl, sym, _∙_}
 use native.Mathlib.Omega.{arith}
 use borrow.Author.Needs.{needs}
+use Rattle.paper.specs.Record.{markIn}
 use Rattle.paper.specs.Tree.{Tree}
 use Rattle.paper.specs.Rules.{factorOf}
 use Rattle.split.specs.Standing.{TreeIn}
@@ -54,14 +55,17 @@ read-by c = c .before .before .before
 -- the later member, once it is read
 later : (c : Read) (t : Tree)
     → let g = entry-of (found-of (known-of c)) .args in
-    TreeIn (g .s .now) (g .at) t → ShowsNumber (c .exponent .result) (c .before .bits .result) (factorOf t)
+    let j = found-of (known-of c) .base .result in
+    TreeIn (g .s .now) (g .at) t
+    → ShowsNumber (c .exponent .result) (c .before .bits .result) (markIn (g .s .now) j) (markIn (g .s .now) (g .at)) (factorOf t)
 later c t there =
     let known = known-of c in
     let found = found-of known in
     let integer = c .before .before .if1 .left in
     let base = found .base .ensures .0 t there in
     let exponent = c .exponent .ensures t there in
-    number-part _ _ (found .base .result) _ t base (omega (arith, known .kind .ensures, integer)) (c .before .bits .ensures) (exponent .0) (exponent .1)
+    number-part _ _ _ (found .base .result) _ _ _ t there base (omega (arith, known .kind .ensures, integer)) (c .before .bits .ensures) refl refl
+    (exponent .0) (exponent .1)
 
 base-requires : tie.Need-base-requires
 base-requires c κs = search needs

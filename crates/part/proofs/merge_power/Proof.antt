@@ -53,7 +53,7 @@ alike-by c = c .before .before .before .before
 -- the current part is x and the later member is t: what is known of their bases, and of the later exponent
 module _ (x : Factor) (t : Tree) where
   abbrev Meets : Entry → Type 0
-  Meets c = let g = c .args in ShowsPower (g .s .now) (g .e) (g .i) (g .k) x × TreeIn (g .s .now) (g .at) t
+  Meets c = let g = c .args in ShowsPower (g .s .now) (g .e) (g .i) (g .k) (g .m) x × TreeIn (g .s .now) (g .at) t
 
   bases-differ : (c : Unlike) → Meets (entry-of (found-of (unlike-by c))) → equal (x .base) (factorOf t .base) ≡ false
   bases-differ c m =

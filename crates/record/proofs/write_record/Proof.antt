@@ -21,11 +21,14 @@ cast-lo c = search needs
 cast-hi : tie.Need-cast-hi
 cast-hi c = search needs
 
+cast-mark-lo : tie.Need-cast-mark-lo
+cast-mark-lo c = search needs
+
+cast-mark-hi : tie.Need-cast-mark-hi
+cast-mark-hi c = search needs
+
 bytes8-requires : tie.Need-bytes8-requires
 bytes8-requires c κs = search needs
-
-array-read-t15 : tie.Need-array-read-t15
-array-read-t15 c = search needs
 
 array-read-t18 : tie.Need-array-read-t18
 array-read-t18 c = search needs
@@ -48,6 +51,9 @@ array-read-t33 c = search needs
 array-read-t36 : tie.Need-array-read-t36
 array-read-t36 c = search needs
 
+array-read-t39 : tie.Need-array-read-t39
+array-read-t39 c = search needs
+
 mul-copy-bytes : tie.Need-mul-copy-bytes
 mul-copy-bytes c = search needs
 
@@ -64,7 +70,7 @@ returns : tie.Need-returns
 unfolding part recordOf bytes
 returns c =
     let g = c .before .before .before .before .before .before .before .args in
-    let record-of : List ℕ → List ℕ = λ b. g .kind ∷ 0 ∷ g .count % 256 ∷ g .count / 256 % 256 ∷ 0 ∷ 0 ∷ 0 ∷ 0
+    let record-of : List ℕ → List ℕ = λ b. g .kind ∷ 0 ∷ g .count % 256 ∷ g .count / 256 % 256 ∷ g .mark % 256 ∷ g .mark / 256 % 256 ∷ 0 ∷ 0
     ∷ getD b 0 0 ∷ getD b 1 0 ∷ getD b 2 0 ∷ getD b 3 0 ∷ getD b 4 0 ∷ getD b 5 0 ∷ getD b 6 0 ∷ getD b 7 0 ∷ [] in
     c .before .before .copy-bytes .ensures
     ∙ ap (λ b. put (g .d .now) (g .i * 16) (record-of b)) (c .before .before .before .before .before .bytes8 .ensures)
@@ -75,8 +81,9 @@ write-record-spec =
     (tie.spec
     cast-lo
     cast-hi
+    cast-mark-lo
+    cast-mark-hi
     bytes8-requires
-    array-read-t15
     array-read-t18
     array-read-t21
     array-read-t24
@@ -84,6 +91,7 @@ write-record-spec =
     array-read-t30
     array-read-t33
     array-read-t36
+    array-read-t39
     mul-copy-bytes
     slice-aggregate-copy-bytes
     copy-bytes-requires

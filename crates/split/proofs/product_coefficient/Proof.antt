@@ -58,7 +58,7 @@ returns c = λ μ f h.
     let answer =
     ap (λ b. numOf (signed (left .before .loop .n) *ℤ signed b)) (sym (mul .before .bits .ensures)) ∙ sym (mul .mul .ensures)
     ∙ c .enum-told .given .1 in
-    multiplied-out (left .before .loop .inv μ f h) (left .loop-test .taken) (omega (arith, kinded .kind .ensures, mul .before .before .if1 .taken)) answer
+    multiplied-out (left .before .loop .inv μ f h) (left .loop-test .taken) (omega (arith, kinded .kind .ensures, mul .before .before .if1 .taken)) μ answer
 
 skip-tree-requires : tie.Need-skip-tree-requires Inv-loop μ-loop
 skip-tree-requires c κs =
@@ -89,7 +89,7 @@ loop-again c =
     (c .before .if1 .came)
 
 returns-2 : tie.Need-returns-2 Inv-loop μ-loop
-returns-2 c = λ μ f h. multiplied-all (c .before .loop .inv μ f h) (omega arith)
+returns-2 c = λ μ f h. multiplied-all (c .before .loop .inv μ f h) μ (omega arith)
 
 pub product-coefficient-spec : {M : Type 1} → statement M
 product-coefficient-spec =

@@ -100,7 +100,7 @@ returns c μ f h =
     let g = start .args in
     let p = product-at (g .s .now) (g .i) (g .k) f h in
     let size : length (encodes f) ≡ (g .k - 1) * 16 = omega (arith, encodes-length f, p .size) in
-    longer-written (g .out .now) _ _ _ (g .m) (g .n) (start .fits .n .fits) f _ (g .k) _ (omega (arith, counted .count .ensures .0, p .counted))
+    longer-written (g .out .now) _ _ _ (g .m) (g .n) (start .fits .n .fits) (g .mark) f _ (g .k) _ (omega (arith, counted .count .ensures .0, p .counted))
     (p .size) refl (start .pre .1)
     (copy .before .before .before .write-record .ensures)
     (copied _ _ (g .s .now) ((g .m + 1) * 16) (g .i + 1) ((g .k - 1) * 16) (encodes f) (p .stand) size

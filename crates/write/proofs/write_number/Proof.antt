@@ -5,7 +5,7 @@ use Prim.Native.Nat.{_+_, _*_, _≤_}
 use native.Mathlib.Omega.{arith}
 use lib.ListN.{length}
 use Rattle.write.proofs.Becomes.{number-shown}
-use Rattle.write.proofs.WriteLaws.{base-room, base-answer, power-room, power-answer, number-written}
+use Rattle.write.proofs.WriteLaws.{base-room, base-answer, power-room, power-answer, number-written, number-marked}
 use borrow.Author.Needs.{needs}
 use Rattle.write.proofs.write_number.Statement.{statement}
 use Rattle.write.proofs.write_number.Tie as tie
@@ -22,8 +22,8 @@ room-for-base c =
 write-record-requires : tie.Need-write-record-requires
 write-record-requires c κs = omega (arith, room-for-base (c .before))
 
-add-t9 : tie.Need-add-t9
-add-t9 c = search needs
+add-t11 : tie.Need-add-t11
+add-t11 c = search needs
 
 same-length : tie.Need-same-length
 same-length c = search needs
@@ -33,7 +33,7 @@ returns c x h =
     let test = one-of c in
     let g = test .before .before .args in
     base-answer (number-shown h) (g .out .now) (g .m) (test .if1 .taken) _
-    (number-written h (g .out .now) _ (g .m * 16) (c .before .before .write-record .ensures))
+    (number-marked h (g .out .now) _ (g .m * 16) (c .before .before .write-record .ensures))
 
 -- ---- with any other: from where the base is written, where the exponent is, and the end, the place before
 abbrev more-of : tie.After-write-record-arg3 → tie.Else1
@@ -69,8 +69,8 @@ write-record-requires-4 c κs =
     let kept-2 = c .before .before .before .write-record3 .kept .0 in
     omega (arith, room-for-power (more-of base))
 
-add-t15 : tie.Need-add-t15
-add-t15 c = search needs
+add-t17 : tie.Need-add-t17
+add-t17 c = search needs
 
 same-length-2 : tie.Need-same-length-2
 same-length-2 c = search needs
@@ -91,7 +91,7 @@ write-number-spec =
     tie.close
     (tie.spec
     write-record-requires
-    add-t9
+    add-t11
     same-length
     returns
     write-record-requires-2
@@ -99,6 +99,6 @@ write-number-spec =
     write-record-requires-3
     add-write-record-2
     write-record-requires-4
-    add-t15
+    add-t17
     same-length-2
     returns-2)

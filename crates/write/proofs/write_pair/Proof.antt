@@ -46,7 +46,7 @@ returns c t h =
     let second = second-of copy in
     let start = start-of second in
     let g = start .args in
-    pair-written (g .out .now) _ _ _ (g .m) (g .n) (start .fits .n .fits) t (omega (arith, h .size, start .pre .1))
+    pair-written (g .out .now) _ _ _ (g .m) (g .n) (start .fits .n .fits) (g .mark) t (omega (arith, h .size, start .pre .1))
     (second .before .before .before .write-record .ensures)
     (copy .before .before .before .write-record2 .ensures)
     (c .before .before .copy-tree .ensures t h)

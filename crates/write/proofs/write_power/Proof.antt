@@ -23,11 +23,11 @@ room-for-base c =
     let start = start-of (c .before) in
     base-room (power-shown (start .pre .1)) (start .args .out .now) (start .args .m) (c .if1 .taken) (start .pre .2)
 
-copy-tree-requires : tie.Need-copy-tree-requires
-copy-tree-requires c κs = let q = start-of (c .before .before) .pre in ((q .0 .base, q .1 .sized), room-for-base (c .before))
+copy-marked-requires : tie.Need-copy-marked-requires
+copy-marked-requires c κs = let q = start-of (c .before .before) .pre in ((q .0 .base, q .1 .sized), room-for-base (c .before))
 
-add-t11 : tie.Need-add-t11
-add-t11 c = search needs
+add-t12 : tie.Need-add-t12
+add-t12 c = search needs
 
 same-length : tie.Need-same-length
 same-length c = search needs
@@ -36,13 +36,13 @@ returns : tie.Need-returns
 returns c x h =
     let test = one-of c in
     let g = start-of (test .before) .args in
-    base-answer (power-shown h) (g .out .now) (g .m) (test .if1 .taken) _ (c .before .before .copy-tree .ensures (x .base) (h .sized))
+    base-answer (power-shown h) (g .out .now) (g .m) (test .if1 .taken) _ (c .before .before .copy-marked .ensures (x .base) (h .sized))
 
 -- ---- with any other: from where the base is copied, where the exponent is written, and the end, the place before
-abbrev more-of : tie.After-copy-tree-arg2 → tie.Else1
+abbrev more-of : tie.After-copy-tree-arg → tie.Else1
 more-of c = c .before .before .before .before .before
 
-abbrev base-of : tie.After-write-record-arg2 → tie.After-copy-tree-arg2
+abbrev base-of : tie.After-write-record-arg2 → tie.After-copy-tree-arg
 base-of c = c .before .before .before .before
 
 abbrev exponent-of : tie.After-slice-known5 → tie.After-write-record-arg2
@@ -59,8 +59,8 @@ write-record-requires c κs = omega (arith, room-for-power (c .before))
 add-copy-tree : tie.Need-add-copy-tree
 add-copy-tree c = search needs
 
-copy-tree-requires-2 : tie.Need-copy-tree-requires-2
-copy-tree-requires-2 c κs =
+copy-tree-requires : tie.Need-copy-tree-requires
+copy-tree-requires c κs =
     let test = more-of c in
     let q = start-of (test .before) .pre in
     ((q .0 .base, q .1 .sized), omega (arith, room-for-power test, c .before .before .before .write-record .kept .0))
@@ -75,14 +75,14 @@ write-record-requires-2 : tie.Need-write-record-requires-2
 write-record-requires-2 c κs =
     let base = base-of c in
     let kept = base .before .before .before .write-record .kept .0 in
-    let kept-2 = c .before .before .before .copy-tree2 .kept .0 in
+    let kept-2 = c .before .before .before .copy-tree .kept .0 in
     omega (arith, room-for-power (more-of base))
 
-add-t17 : tie.Need-add-t17
-add-t17 c = search needs
+add-t18 : tie.Need-add-t18
+add-t18 c = search needs
 
-add-t20 : tie.Need-add-t20
-add-t20 c = search needs
+add-t21 : tie.Need-add-t21
+add-t21 c = search needs
 
 same-length-2 : tie.Need-same-length-2
 same-length-2 c = search needs
@@ -95,24 +95,24 @@ returns-2 c x h =
     let g = start-of (test .before) .args in
     power-answer (power-shown h) (g .out .now) (g .m) (test .if1 .left) (room-for-power test) _ _ _ _ _ refl (omega arith)
     (base .before .before .before .write-record .ensures)
-    (exponent .before .before .before .copy-tree2 .ensures (x .base) (h .sized))
+    (exponent .before .before .before .copy-tree .ensures (x .base) (h .sized))
     (c .before .before .write-record2 .ensures)
 
 pub write-power-spec : {M : Type 1} → statement M
 write-power-spec =
     tie.close
     (tie.spec
-    copy-tree-requires
-    add-t11
+    copy-marked-requires
+    add-t12
     same-length
     returns
     write-record-requires
     add-copy-tree
-    copy-tree-requires-2
+    copy-tree-requires
     add-write-record
     add-write-record-2
     write-record-requires-2
-    add-t17
-    add-t20
+    add-t18
+    add-t21
     same-length-2
     returns-2)

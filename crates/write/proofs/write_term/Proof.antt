@@ -6,9 +6,11 @@ use mathlib.Core.Path.{_≡_, refl, sym, subst}
 use mathlib.Core.Bool.{Bool}
 use mathlib.Core.List.{List}
 use native.Mathlib.Omega.{arith}
+use Rattle.paper.specs.Record.{markIn}
 use Rattle.paper.specs.Tree.{Tree}
 use Rattle.paper.specs.Rules.{Term, termOf, fromTerm}
 use Rattle.paper.proofs.EncodeLaws.{records-pos}
+use Rattle.paper.proofs.StandingLaws.{record-within}
 use Rattle.split.specs.Rest.{StandsFor}
 use Rattle.split.specs.declared.Rest.{Rest}
 use Rattle.part.specs.Part.{ShowsTerm}
@@ -24,8 +26,11 @@ use Rattle.write.proofs.write_term.Tie as tie
 abbrev Known : Type 0
 Known = tie.After-rest-of
 
+abbrev mark-of : Known → tie.After-mark
+mark-of c = c .before
+
 abbrev start-of : Known → tie.Start
-start-of c = c .before .before .before
+start-of c = mark-of c .before .before .before
 
 abbrev one-of : tie.After-slice-known2 → tie.After-enum-told
 one-of c = c .before .before .before .before
@@ -49,22 +54,33 @@ module _ (c : Known) where
   stands-for h r e =
       let g = start-of c .args in subst (λ (r : Rest). StandsFor (g .s .now) (g .i) r (rest h)) e (c .rest-of .ensures .0 (h .member) (h .there))
 
+  -- the mark that was read is the member's
+  abbrev μ : ℕ
+  μ = mark-of c .mark .result
+
+  is-mark : let g = start-of c .args in μ ≡ markIn (g .s .now) (g .i)
+  is-mark = mark-of c .mark .ensures .0
+
   answered : {x : Term} (h : Shown x) (out' : List ℕ) (r : Written)
       → let g = start-of c .args in
-      WrittenIs (timed (g .n) (rest h)) (g .out .now) out' (g .m) r → WrittenIs (fromTerm x) (g .out .now) out' (g .m) r
-  answered h out' r = let g = start-of c .args in subst (λ (x : Tree × Bool). WrittenIs x (g .out .now) out' (g .m) r) (sym (from-term h))
+      WrittenIs (timed μ (g .n) (rest h)) (g .out .now) out' (g .m) r → WrittenIs (fromTerm x) (g .out .now) out' (g .m) r
+  answered h out' r =
+      let g = start-of c .args in subst (λ (x : Tree × Bool). WrittenIs x (g .out .now) out' (g .m) r) (sym (from-term h is-mark))
 
   -- the term that the contract asks for
   abbrev asked : Shown (start-of c .pre .0)
   asked = start-of c .pre .1
 
-  fitting : let g = start-of c .args in Fitting (timed (g .n) (rest asked)) (g .out .now) (g .m)
+  fitting : let g = start-of c .args in Fitting (timed μ (g .n) (rest asked)) (g .out .now) (g .m)
   fitting =
       let start = start-of c in
-      subst (λ (x : Tree × Bool). Fitting x (start .args .out .now) (start .args .m)) (from-term asked) (start .pre .2)
+      subst (λ (x : Tree × Bool). Fitting x (start .args .out .now) (start .args .m)) (from-term asked is-mark) (start .pre .2)
+
+mark-requires : tie.Need-mark-requires
+mark-requires c κs = record-within (c .before .before .pre .1 .there)
 
 rest-of-requires : tie.Need-rest-of-requires
-rest-of-requires c κs = let h = c .before .before .pre .1 in record { tree = h .member; there = h .there }
+rest-of-requires c κs = let h = c .before .before .before .pre .1 in record { tree = h .member; there = h .there }
 
 -- ---- the rest is 1
 enum-told : tie.Need-enum-told
@@ -75,8 +91,8 @@ write-record-requires c κs =
     let q = start-of (c .before .before .before) .pre in
     omega (arith, records-pos (fromTerm (q .0) .0), q .2)
 
-add-t14 : tie.Need-add-t14
-add-t14 c = search needs
+add-t15 : tie.Need-add-t15
+add-t15 c = search needs
 
 -- ---- the rest is a tree at a record
 enum-known-rest : tie.Need-enum-known-rest
@@ -108,8 +124,8 @@ returns c x h =
     let answer = one-of c in
     let known = answer .before .before in
     let g = start-of known .args in
-    written (unit-becomes h (stands-for known h _ (answer .enum-told .given .1))) (g .out .now) (g .m) _ _ refl
-    (integer-written (g .out .now) _ (g .m * 16) (g .n) (h .bits) (c .before .before .write-record .ensures))
+    written (unit-becomes h (is-mark known) (stands-for known h _ (answer .enum-told .given .1) .1)) (g .out .now) (g .m) _ _ refl
+    (integer-written (g .out .now) _ (g .m * 16) (μ known) (g .n) (h .bits) (c .before .before .write-record .ensures))
 
 same-length-2 : tie.Need-same-length-2
 same-length-2 c = search needs
@@ -135,10 +151,11 @@ pub write-term-spec : {M : Type 1} → statement M
 write-term-spec =
     tie.close
     (tie.spec
+    mark-requires
     rest-of-requires
     enum-told
     write-record-requires
-    add-t14
+    add-t15
     enum-known-rest
     write-times-requires
     enum-known-rest-2

@@ -1,5 +1,5 @@
 -- `write::write_times` meets its contract. By the tests that the code makes, the coefficient n times the tree of k records is one of three
--- members: with n = 1 the tree itself; for a product the same with n after its members, one record more; for any other tree the product of n and the tree, two records more (the laws of Becomes). The contract
+-- members: with n = 1 the tree itself, but for its mark; for a product the same with n after its members, one record more; for any other tree the product of n and the tree, two records more (the laws of Becomes). The contract
 -- asks for room for that member, so there is room for the records that are written; and the function that is called puts that member
 -- there. Assumes nothing.
 use Prim.Native.Nat.{ℕ, _+_, _-_, _*_, _≤_}
@@ -8,7 +8,7 @@ use mathlib.Core.List.{[], _∷_, _++_}
 use native.Mathlib.Omega.{arith}
 use lib.ListN.{length}
 use Rattle.paper.specs.Bytes.{signed}
-use Rattle.paper.specs.Tree.{Tree, integer, product, toList, ofList, records}
+use Rattle.paper.specs.Tree.{Tree, integer, product, marked, toList, ofList, records}
 use Rattle.paper.proofs.EncodeLaws.{records-pos}
 use Rattle.split.specs.Standing.{TreeIn}
 use Rattle.paper.proofs.StandingLaws.{record-within}
@@ -68,7 +68,7 @@ module _ (c : Known) where
   abbrev Room : ℕ → Type 0
   Room r = let g = start-of c .args in (g .m + r) * 16 ≤ length (g .out .now)
 
-  fitting : {u : Tree} {r : ℕ} → Becomes (timed (start-of c .args .n) asked) u r → Room r
+  fitting : {u : Tree} {r : ℕ} → Becomes (timed (start-of c .args .mark) (start-of c .args .n) asked) u r → Room r
   fitting b = let start = start-of c in room b (start .args .out .now) (start .args .m) (start .pre .2)
 
 skip-tree-requires : tie.Need-skip-tree-requires
@@ -79,17 +79,19 @@ sub-k c = omega (arith, c .skip-tree .ensures (asked c) (there c))
 
 -- ---- with n = 1, the tree
 module _ (c : tie.Then1) where
-  one : (t : Tree) → At (c .before) t → Becomes (timed (start-of (c .before) .args .n) t) t (k (c .before))
-  one t h = one-becomes _ (size (c .before) t h) (c .if1 .taken)
+  one : (t : Tree) → At (c .before) t
+      → let g = start-of (c .before) .args in
+      Becomes (timed (g .mark) (g .n) t) (marked (g .mark) t) (k (c .before))
+  one t h = one-becomes _ _ t (size (c .before) t h) (c .if1 .taken)
 
   one-room : Room (c .before) (k (c .before))
   one-room = fitting (c .before) (one (asked (c .before)) (there (c .before)))
 
-copy-tree-requires : tie.Need-copy-tree-requires
-copy-tree-requires c κs = let known = c .before .before in ((asked known, stands known (asked known) (there known)), one-room (c .before))
+copy-marked-requires : tie.Need-copy-marked-requires
+copy-marked-requires c κs = let known = c .before .before in ((asked known, stands known (asked known) (there known)), one-room (c .before))
 
-add-t12 : tie.Need-add-t12
-add-t12 c = record { fits = omega (arith, one-room (one-of c)) }
+add-t13 : tie.Need-add-t13
+add-t13 c = record { fits = omega (arith, one-room (one-of c)) }
 
 same-length : tie.Need-same-length
 same-length c = search needs
@@ -98,7 +100,7 @@ returns : tie.Need-returns
 returns c t h =
     let known = one-of c .before in
     let g = start-of known .args in
-    written (one (one-of c) t h) (g .out .now) (g .m) _ _ refl (c .before .before .copy-tree .ensures t (stands known t h))
+    written (one (one-of c) t h) (g .out .now) (g .m) _ _ refl (c .before .before .copy-marked .ensures t (stands known t h))
 
 kind-requires : tie.Need-kind-requires
 kind-requires c κs = record-within (there (c .before))
@@ -119,9 +121,10 @@ module _ (c : tie.Then2) where
 
   longer : (t : Tree) (h : At product-known t)
       → let g = start-of product-known .args in
-      Becomes (timed (g .n) t) (product 0 (ofList (toList (a-product t h .members) ++ (integer 0 (signed (g .n)) ∷ [])))) (k product-known + 1)
+      Becomes (timed (g .mark) (g .n) t) (product (g .mark) (ofList (toList (a-product t h .members) ++ (integer (g .mark) (signed (g .n)) ∷ []))))
+      (k product-known + 1)
   longer t h =
-      longer-becomes _ (size product-known t h) (start-of product-known .fits .n .fits) (c .before .before .if1 .left)
+      longer-becomes _ _ t (size product-known t h) (start-of product-known .fits .n .fits) (c .before .before .if1 .left)
       (a-product t h .is)
 
   longer-room : Room product-known (k product-known + 1)
@@ -132,11 +135,11 @@ write-longer-requires c κs =
     let known = product-known (c .before) in
     ((_, _, product-stands (c .before) (asked known) (there known)), longer-room (c .before))
 
-add-t17 : tie.Need-add-t17
-add-t17 c = record { fits = omega (arith, longer-room (product-of c)) }
-
 add-t18 : tie.Need-add-t18
 add-t18 c = record { fits = omega (arith, longer-room (product-of c)) }
+
+add-t19 : tie.Need-add-t19
+add-t19 c = record { fits = omega (arith, longer-room (product-of c)) }
 
 same-length-2 : tie.Need-same-length-2
 same-length-2 c = search needs
@@ -155,11 +158,11 @@ module _ (c : tie.Else2) where
 
   pair : (t : Tree) → At other-known t
       → let g = start-of other-known .args in
-      Becomes (timed (g .n) t) (product 0 (ofList (integer 0 (signed (g .n)) ∷ t ∷ []))) (k other-known + 2)
+      Becomes (timed (g .mark) (g .n) t) (product (g .mark) (ofList (integer (g .mark) (signed (g .n)) ∷ t ∷ []))) (k other-known + 2)
   pair t h =
       let kind = c .before in
       let start = start-of other-known in
-      pair-becomes _ (size other-known t h) (start .fits .n .fits) (kind .before .if1 .left) (start .args .s .now) (start .args .i) h
+      pair-becomes _ _ t (size other-known t h) (start .fits .n .fits) (kind .before .if1 .left) (start .args .s .now) (start .args .i) h
       (kind-other (start .pre .1) (start .pre .3)) (λ e. c .if2 .left (kind .kind .ensures ∙ e))
 
   pair-room : Room other-known (k other-known + 2)
@@ -170,11 +173,11 @@ write-pair-requires c κs =
     let known = other-known (c .before) in
     ((asked known, stands known (asked known) (there known)), pair-room (c .before))
 
-add-t7 : tie.Need-add-t7
-add-t7 c = record { fits = omega (arith, pair-room (other-of c)) }
+add-t8 : tie.Need-add-t8
+add-t8 c = record { fits = omega (arith, pair-room (other-of c)) }
 
-add-t22 : tie.Need-add-t22
-add-t22 c = record { fits = omega (arith, pair-room (other-of c)) }
+add-t23 : tie.Need-add-t23
+add-t23 c = record { fits = omega (arith, pair-room (other-of c)) }
 
 same-length-3 : tie.Need-same-length-3
 same-length-3 c = search needs
@@ -192,18 +195,18 @@ write-times-spec =
     (tie.spec
     skip-tree-requires
     sub-k
-    copy-tree-requires
-    add-t12
+    copy-marked-requires
+    add-t13
     same-length
     returns
     kind-requires
     write-longer-requires
-    add-t17
     add-t18
+    add-t19
     same-length-2
     returns-2
     write-pair-requires
-    add-t7
-    add-t22
+    add-t8
+    add-t23
     same-length-3
     returns-3)

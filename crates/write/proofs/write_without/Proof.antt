@@ -9,7 +9,7 @@ use native.Mathlib.Omega.{arith}
 use borrow.Author.Needs.{needs}
 use lib.ListN.{length}
 use Rattle.paper.specs.Bytes.{signed}
-use Rattle.paper.specs.Tree.{Tree, integer, product, toList, ofList, records, recordses}
+use Rattle.paper.specs.Tree.{Tree, integer, product, marked, toList, ofList, records, recordses}
 use Rattle.split.specs.Rest.{Lessened}
 use Rattle.write.specs.Written.{timed}
 use Rattle.write.proofs.Becomes.{Becomes, room, written, one-becomes, longer-becomes}
@@ -41,8 +41,10 @@ abbrev one-start : tie.Then1 → tie.Start
 one-start c = c .before .before .before
 
 module _ (c : tie.Then1) where
-  one : (t : Tree) → Is (one-start c) t → Becomes (timed (one-start c .args .n) t) t (records t)
-  one t h = one-becomes _ refl (c .if1 .taken)
+  one : (t : Tree) → Is (one-start c) t
+      → let g = one-start c .args in
+      Becomes (timed (g .mark) (g .n) t) (marked (g .mark) t) (records t)
+  one t h = one-becomes _ _ t refl (c .if1 .taken)
 
   one-room : Room (one-start c) (records (asked (one-start c)))
   one-room =
@@ -56,8 +58,9 @@ more-start c = c .before .before .before
 module _ (c : tie.Else1) where
   longer : (t : Tree) (h : Is (more-start c) t)
       → let n = more-start c .args .n in
-      Becomes (timed n t) (product 0 (ofList (toList (ofList (others (h .members))) ++ (integer 0 (signed n) ∷ [])))) (records t + 1)
-  longer t h = longer-becomes _ refl (more-start c .fits .n .fits) (c .if1 .left) (h .left)
+      let μ = more-start c .args .mark in
+      Becomes (timed μ n t) (product μ (ofList (toList (ofList (others (h .members))) ++ (integer μ (signed n) ∷ [])))) (records t + 1)
+  longer t h = longer-becomes _ _ t refl (more-start c .fits .n .fits) (c .if1 .left) (h .left)
 
   longer-room : Room (more-start c) (records (asked (more-start c)) + 1)
   longer-room =
@@ -90,7 +93,7 @@ returns c t h =
     let copy = called .copy-others .ensures (h .mark) (h .members) (h .whole) in
     let fit : Room start (records t) = omega (arith, one-room test, as-many start t h) in
     written (one test t h) (g .out .now) (g .m) _ _ (copy .0 ∙ omega (arith, left-records h))
-    (left-written h (g .out .now) _ _ (g .m) (copy .1) fit (wrote .write-record .ensures))
+    (left-written h (g .out .now) _ _ (g .m) (g .mark) (copy .1) fit (wrote .write-record .ensures))
 
 add-write-record : tie.Need-add-write-record
 add-write-record c =
@@ -130,8 +133,8 @@ write-record-requires-3 c κs =
     omega
     (arith, copied-to copied (asked start) (is-asked start), longer-room (more-of copied), copied .copy-others2 .kept .0, wrote-of copied .write-record2 .kept .0)
 
-add-t19 : tie.Need-add-t19
-add-t19 c =
+add-t20 : tie.Need-add-t20
+add-t20 c =
     let copied = c .before .before .before .before .before .before in
     let start = more-start (more-of copied) in
     record { fits = omega (arith, copied-to copied (asked start) (is-asked start), longer-room (more-of copied)) }
@@ -149,7 +152,7 @@ returns-2 c t h =
     let copy = copied .copy-others2 .ensures (h .mark) (h .members) (h .whole) in
     let fit : Room start (records t + 1) = omega (arith, longer-room test, as-many start t h) in
     written (longer test t h) (g .out .now) (g .m) _ _ (omega (arith, to))
-    (left-longer-written h (g .out .now) _ _ (g .m) (copy .1) _ (g .n) _ (start .fits .n .fits) to fit
+    (left-longer-written h (g .out .now) _ _ (g .m) (g .mark) (copy .1) _ (g .n) _ (start .fits .n .fits) to fit
     (wrote-of copied .write-record2 .ensures) (c .before .before .write-record3 .ensures))
 
 pub write-without-spec : {M : Type 1} → statement M
@@ -166,6 +169,6 @@ write-without-spec =
     add-copy-others-2
     copy-others-requires-2
     write-record-requires-3
-    add-t19
+    add-t20
     same-length-2
     returns-2)

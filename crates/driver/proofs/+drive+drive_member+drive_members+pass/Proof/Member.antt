@@ -23,8 +23,7 @@ use Rattle.driver.proofs.drive.Reads as drive
 use Rattle.driver.proofs.opens.Reads as opens-reads
 use Rattle.record.proofs.count.Reads as count-reads
 use Rattle.record.proofs.kind.Reads as kind-reads
-use Rattle.record.proofs.bits.Reads as bits-reads
-use Rattle.record.proofs.write_record.Reads as write-record-reads
+use Rattle.stretch.proofs.copy_bytes.Reads as copy-bytes-reads
 use Rattle.stretch.proofs.shift_left.Reads as shift-left-reads
 use Rattle.driver.proofs.+drive+drive_member+drive_members+pass.Lts-drive_member as lts
 use Rattle.driver.proofs.+drive+drive_member+drive_members+pass.Proof.Cycle.{drive-member-at, drive-below}
@@ -33,10 +32,8 @@ abbrev pub claims : ℕ → lts.Claims
 claims t = (
   kind-reads.Asked,
   kind-reads.Learnt,
-  bits-reads.Asked,
-  bits-reads.Learnt,
-  write-record-reads.Asked,
-  write-record-reads.Learnt,
+  copy-bytes-reads.Asked,
+  copy-bytes-reads.Learnt,
   drive-below t,
   drive.Post,
   opens-reads.Asked,
@@ -121,22 +118,27 @@ module _ (t : ℕ) where
   Kept = lts.After-slice-known4 (claims t) (drive-member-at t) reads.Post
 
   abbrev leaf-entry : Kept → Entry
-  leaf-entry c = c .before .before .before .before .before .before .before .before .before .before .before .before
+  leaf-entry c = c .before .before .before .before .before .before .before .before .before .before .before
 
   pub kind-requires : lts.Need-kind-requires (claims t) (drive-member-at t) reads.Post
   kind-requires c κs = let entry = unread-entry (c .before) in record-fits (entry .pre .1 .2) .0
 
-  pub bits-requires : lts.Need-bits-requires (claims t) (drive-member-at t) reads.Post
-  bits-requires c κs = let entry = unread-entry (c .before .before .before .before .before) in record-fits (entry .pre .1 .2) .0
+  pub mul-copy-bytes : lts.Need-mul-copy-bytes (claims t) (drive-member-at t) reads.Post
+  mul-copy-bytes c = omega (arith, record-fits (unread-entry (c .before .before .before .before) .pre .1 .2))
 
-  pub write-record-requires : lts.Need-write-record-requires (claims t) (drive-member-at t) reads.Post
-  write-record-requires c κs = let entry = unread-entry (c .before .before .before .before .before .before) in record-fits (entry .pre .1 .2) .1
+  pub mul-copy-bytes-2 : lts.Need-mul-copy-bytes-2 (claims t) (drive-member-at t) reads.Post
+  mul-copy-bytes-2 c = omega (arith, record-fits (unread-entry (c .before .before .before .before .before) .pre .1 .2))
+
+  pub copy-bytes-requires : lts.Need-copy-bytes-requires (claims t) (drive-member-at t) reads.Post
+  copy-bytes-requires c κs =
+      let fits = record-fits (unread-entry (c .before .before .before .before .before) .pre .1 .2) in
+      (omega (arith, fits), omega (arith, fits))
+
+  pub add-t24 : lts.Need-add-t24 (claims t) (drive-member-at t) reads.Post
+  add-t24 c = omega (arith, record-fits (leaf-entry c .pre .1 .2) .1)
 
   pub add-t27 : lts.Need-add-t27 (claims t) (drive-member-at t) reads.Post
-  add-t27 c = omega (arith, record-fits (leaf-entry c .pre .1 .2) .1)
-
-  pub add-t28 : lts.Need-add-t28 (claims t) (drive-member-at t) reads.Post
-  add-t28 c = omega (arith, record-fits (leaf-entry c .pre .1 .2) .0)
+  add-t27 c = omega (arith, record-fits (leaf-entry c .pre .1 .2) .0)
 
   pub same-length : lts.Need-same-length (claims t) (drive-member-at t) reads.Post
   same-length c = search needs
@@ -148,12 +150,10 @@ module _ (t : ℕ) where
   returns c u rest set =
       let entry = leaf-entry c in
       let g = entry .args in
-      let wrote = c .before .before .write-record in
-      let number = c .before .before .before .bits .ensures in
-      let first = c .before .before .before .before .before .before .before in
-      let k = first .kind .ensures in
-      let leaf : kind (g .work .now) (g .p) < 2 = subst (λ (j : ℕ). j < 2) k (c .before .before .before .before .before .before .if1 .taken) in
-      leaf-kept (g .edition) set leaf (wrote .last .0) (rw (k, number) at (wrote .ensures)) (wrote .kept .0) (g .k)
+      let copied = c .before .before .copy-bytes in
+      let first = c .before .before .before .before .before in
+      let leaf : kind (g .work .now) (g .p) < 2 = subst (λ (j : ℕ). j < 2) (first .before .kind .ensures) (first .if1 .taken) in
+      leaf-kept (g .edition) set leaf (copied .last .0) (copied .ensures) (copied .kept .0) (g .k)
 
   -- ---- any other tree
   pub drive-requires : lts.Need-drive-requires (claims t) (drive-member-at t) reads.Post
@@ -198,11 +198,11 @@ module _ (t : ℕ) where
   pub shift-left-requires : lts.Need-shift-left-requires (claims t) (drive-member-at t) reads.Post
   shift-left-requires c κs = let fits = bounds (gathered-of (c .before .before .before .before .before)) in (omega (arith, fits), omega (arith, fits))
 
-  pub sub-t45 : lts.Need-sub-t45 (claims t) (drive-member-at t) reads.Post
-  sub-t45 c = omega (arith, bounds (gathered-of (c .before .before .before .before .before .before .before .before)))
+  pub sub-t44 : lts.Need-sub-t44 (claims t) (drive-member-at t) reads.Post
+  sub-t44 c = omega (arith, bounds (gathered-of (c .before .before .before .before .before .before .before .before)))
 
-  pub add-t50 : lts.Need-add-t50 (claims t) (drive-member-at t) reads.Post
-  add-t50 c = omega (arith, bounds (gathered-of (c .before .before .before .before .before .before .before .before)))
+  pub add-t49 : lts.Need-add-t49 (claims t) (drive-member-at t) reads.Post
+  add-t49 c = omega (arith, bounds (gathered-of (c .before .before .before .before .before .before .before .before)))
 
   pub same-length-3 : lts.Need-same-length-3 (claims t) (drive-member-at t) reads.Post
   same-length-3 c = search needs

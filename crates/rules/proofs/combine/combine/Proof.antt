@@ -5,6 +5,7 @@ use mathlib.Core.Path.{_≡_, refl, sym, _∙_, subst}
 use mathlib.Core.List.{List}
 use native.Mathlib.Omega.{arith}
 use borrow.Author.Needs.{needs}
+use Rattle.paper.specs.Record.{markIn}
 use Rattle.paper.specs.Tree.{Tree, toList}
 use Rattle.part.specs.Like.{nodeOf}
 use Rattle.paper.proofs.StandingLaws.{record-within}
@@ -43,7 +44,7 @@ abbrev entry-of : OfKind → Entry
 entry-of c = c .before .before .before .before .before .before
 
 abbrev kind-of : Listed → OfKind
-kind-of c = c .before .before .before .before
+kind-of c = c .before .before .before .before .before .before
 
 abbrev listed-of : Walked → Listed
 listed-of c = c .before .before .before .before .before
@@ -80,7 +81,7 @@ walked : (c : Walked) {t : Tree} {rest : List ℕ} (h : Pending (entry-of (kind-
 walked c h =
     let list = listed-of c in
     let s = node (kind-of list) h in
-    c .walk .ensures (toList (s .members)) (walkable (s .held) (listed list h) _ (list .before .before .count .ensures .0))
+    c .walk .ensures (toList (s .members)) (walkable (s .held) (listed list h) _ (list .before .before .before .before .count .ensures .0))
 
 -- what the walk's answer x says
 says : (c : Walked) {t : Tree} {rest : List ℕ} (h : Pending (entry-of (kind-of (listed-of c))) t rest) (x : Answer)
@@ -118,9 +119,15 @@ returns c =
 count-requires : tie.Need-count-requires
 count-requires c κs = let s = node (c .before) (entry-of (c .before) .pre .2) in omega (arith, held-length (s .held))
 
+mark-requires : tie.Need-mark-requires
+mark-requires c κs =
+    let here = c .before .before .before in
+    let s = node here (entry-of here .pre .2) in
+    omega (arith, held-length (s .held))
+
 list-members-requires : tie.Need-list-members-requires
 list-members-requires c κs =
-    let here = c .before .before .before in
+    let here = c .before .before .before .before .before in
     let s = node here (entry-of here .pre .2) in
     (s .members, listable (s .held))
 
@@ -129,7 +136,7 @@ walk-requires c κs =
     let list = c .before .before .before .before in
     let h = entry-of (kind-of list) .pre .2 in
     let s = node (kind-of list) h in
-    (toList (s .members), walkable (s .held) (listed list h) _ (list .before .before .count .ensures .0))
+    (toList (s .members), walkable (s .held) (listed list h) _ (list .before .before .before .before .count .ensures .0))
 
 enum-told : tie.Need-enum-told
 enum-told c = search needs
@@ -166,7 +173,7 @@ returns-2 c =
     let list = listed-of walk in
     λ t rest h.
     let v = walked walk h in (
-      combine-at (node (kind-of list) h) ∙ says walk h _ (c .enum-told .given .1),
+      combine-at (node (kind-of list) h) ∙ says walk h _ (c .enum-told .given .1) _,
       v .pending ∙ listed list h .pending,
       v .done,
     )
@@ -181,7 +188,7 @@ returns-3 : tie.Need-returns-3
 returns-3 c =
     let walk = walked-of (c .before .before) in
     λ t rest h.
-    combine-at (node (kind-of (listed-of walk)) h) ∙ says walk h _ (c .enum-told2 .given .1)
+    combine-at (node (kind-of (listed-of walk)) h) ∙ says walk h _ (c .enum-told2 .given .1) _
 
 same-length-6 : tie.Need-same-length-6
 same-length-6 c = search needs
@@ -203,8 +210,8 @@ returns-4 c =
     let m = came here h in
     let l = cameOut (g .terms) (toList (s .members)) in
     let r = put .put-back .ensures l (came-built (s .held) k m (walk .walk .kept .0)) (m .many) in
-    let b = put-follows r (after-walk (s .held) k _ (v .pending)) (v .done) in
-    (nodeOf (g .terms) l, combine-at s ∙ m .applies, b .stands, b .done)
+    let b = put-follows r (list .before .before .mark .ensures .0) (after-walk (s .held) k _ (v .pending)) (v .done) in
+    (nodeOf (g .terms) (markIn (g .work .now) (g .p)) l, combine-at s ∙ m .applies _, b .stands, b .done)
 
 pub combine-spec : {M : Type 1} → statement M
 combine-spec =
@@ -215,6 +222,7 @@ combine-spec =
     same-length
     returns
     count-requires
+    mark-requires
     list-members-requires
     walk-requires
     enum-told

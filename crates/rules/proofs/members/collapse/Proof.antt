@@ -21,7 +21,7 @@ returns c =
     let wrote = c .before .before in
     let empty = wrote .before .before .before in
     let g = empty .before .before .args in
-    λ e l b n. collapse-none (g .sum) l (g .out .now) (g .d) e b _ _ (omega arith) (wrote .before .neutral .ensures .0) (wrote .write-record .ensures)
+    λ e l b n. collapse-none (g .sum) (g .mark) l (g .out .now) (g .d) e b _ _ (omega arith) (wrote .before .neutral .ensures .0) (wrote .write-record .ensures)
 
 add-result : tie.Need-add-result
 add-result c = search needs
@@ -29,7 +29,7 @@ add-result c = search needs
 returns-2 : tie.Need-returns-2
 returns-2 c =
     let g = c .before .before .before .args in
-    λ e l b n. collapse-one (g .sum) l (g .out .now) (g .d) e b (omega arith) (omega arith)
+    λ e l b n. collapse-one (g .sum) (g .mark) l (g .out .now) (g .d) e b (omega arith) (omega arith)
 
 node-kind-requires : tie.Need-node-kind-requires
 node-kind-requires c κs = search needs
@@ -46,7 +46,7 @@ returns-3 c =
     let many = wrote .before .before .before in
     let g = many .before .before .before .args in
     λ e l b n.
-    collapse-more (g .sum) l (g .out .now) (g .d) e b _ _ (omega arith) (wrote .before .node-kind .ensures) (rw (sym n) at (wrote .write-record2 .ensures))
+    collapse-more (g .sum) (g .mark) l (g .out .now) (g .d) e b _ _ (omega arith) (wrote .before .node-kind .ensures) (rw (sym n) at (wrote .write-record2 .ensures))
 
 pub collapse-spec : {M : Type 1} → statement M
 collapse-spec =

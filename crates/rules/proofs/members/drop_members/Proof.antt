@@ -27,17 +27,20 @@ was-true true e = refl
 was-true false e = sym e
 
 abbrev Inv-loop : tie.InvT-loop
-Inv-loop out₀ work d p sum z at₀ left₀ e₀ kept₀ out at left e kept =
+Inv-loop out₀ work d p sum z mark at₀ left₀ e₀ kept₀ out at left e kept =
     (length out ≡ length out₀)
     × ((f : Forest) (rest : List ℕ) → Held out₀ work d p f rest → Dropping z out₀ work d p f rest out at left e kept)
 
 abbrev μ-loop : tie.MeasureT-loop
-μ-loop out₀ work d p sum z at₀ left₀ e₀ kept₀ out at left e kept = left
+μ-loop out₀ work d p sum z mark at₀ left₀ e₀ kept₀ out at left e kept = left
 
--- places on the way through the code, and from each the one before it: the entry, the loop's head, where a member is left, where
+-- places on the way through the code, and from each the one before it: the entry, after the mark was read, the loop's head, where a member is left, where
 -- `skip_tree` has told its end, where it is to be copied, and where none is left
 abbrev Entry : Type 0
 Entry = tie.Start Inv-loop μ-loop
+
+abbrev Marked : Type 0
+Marked = tie.After-mark Inv-loop μ-loop
 
 abbrev Head : Type 0
 Head = tie.At-loop Inv-loop μ-loop
@@ -54,8 +57,11 @@ Copying = tie.After-copy-bytes-arg2 Inv-loop μ-loop
 abbrev Done : Type 0
 Done = tie.After-loop Inv-loop μ-loop
 
+abbrev marked-of : Head → Marked
+marked-of c = c .before .before .before
+
 abbrev entry-of : Head → Entry
-entry-of c = c .before .before .before .before .before
+entry-of c = marked-of c .before .before .before .before
 
 abbrev left-of : Skipped → Left
 left-of c = c .before .before
@@ -92,14 +98,17 @@ ended c h =
     let u = c .before .loop in
     ends h (u .inv .0) (u .inv .1 _ _ h) (c .loop-test .left)
 
+mark-requires : tie.Need-mark-requires Inv-loop μ-loop
+mark-requires c κs = let h = c .before .before .before .pre .0 .2 in omega (arith, held-length h)
+
 add-at : tie.Need-add-at Inv-loop μ-loop
-add-at c = let h = c .before .before .pre .0 .2 in record { fits = omega (arith, held-length h) }
+add-at c = let h = c .before .before .before .before .pre .0 .2 in record { fits = omega (arith, held-length h) }
 
 count-requires : tie.Need-count-requires Inv-loop μ-loop
-count-requires c κs = let h = c .before .before .before .pre .0 .2 in omega (arith, held-length h)
+count-requires c κs = let h = c .before .before .before .before .before .pre .0 .2 in omega (arith, held-length h)
 
 add-e : tie.Need-add-e Inv-loop μ-loop
-add-e c = let h = c .before .before .before .before .pre .0 .2 in record { fits = omega (arith, h .out-room) }
+add-e c = let h = c .before .before .before .before .before .before .pre .0 .2 in record { fits = omega (arith, h .out-room) }
 
 loop-holds : tie.Need-loop-holds Inv-loop μ-loop
 loop-holds c = (refl, λ f rest h. begins h (c .count .ensures .0))
@@ -190,7 +199,8 @@ returns c =
     let g = entry-of (done .before) .args in
     λ f rest h.
     let e = ended done h in
-    put-follows (put .put-back .ensures (kept (g .z) (toList f)) (e .built) (e .many)) (e .follow) (e .done)
+    put-follows (put .put-back .ensures (kept (g .z) (toList f)) (e .built) (e .many)) (marked-of (done .before) .mark .ensures .0) (e .follow)
+    (e .done)
 
 pub drop-members-spec : {M : Type 1} → statement M
 drop-members-spec =
@@ -198,6 +208,7 @@ drop-members-spec =
     (tie.spec
     Inv-loop
     μ-loop
+    mark-requires
     add-at
     count-requires
     add-e

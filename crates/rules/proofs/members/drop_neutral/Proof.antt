@@ -5,6 +5,7 @@ use mathlib.Core.Path.{_≡_, refl, sym, ap, _∙_}
 use mathlib.Core.List.{List}
 use borrow.Author.Needs.{needs}
 use lib.IntN.{pos}
+use Rattle.paper.specs.Record.{markIn}
 use Rattle.paper.specs.Tree.{Tree, toList}
 use Rattle.paper.specs.Rules as paper
 use Rattle.paper.specs.Rules.{isThe, anyOf, dropAll}
@@ -96,7 +97,7 @@ returns-2 c =
     let l = toList (s .members) in
     let b = dropped .drop-members .ensures (s .members) rest (s .held) in
     let applies = finds s (drops (g .sum)) (sym (searched at h) ∙ any .if2 .taken) in
-    let same = ap (λ z. paper.applies (nodeOf (g .sum) (dropAll (isThe (pos z)) l))) (sym (at .before .before .neutral .ensures .0)) in
+    let same = ap (λ z. paper.applies (nodeOf (g .sum) (markIn (g .work .now) (g .p)) (dropAll (isThe (pos z)) l))) (sym (at .before .before .neutral .ensures .0)) in
     (_, applies ∙ same, b .stands, b .done)
 
 same-length-4 : tie.Need-same-length-4

@@ -32,7 +32,7 @@ module _ (c : Made) (l : List Tree) where
   made : Built (entry-of c .args .out .now) (entry-of c .args .d) (entry-of c .args .e) l → length l ≡ entry-of c .args .count
       → let g = entry-of c .args in
       let r = c .before .before .collapse in
-      Collapsed (g .sum) l (g .out .now) (r .last .0) (g .d) (g .e) (r .result)
+      Collapsed (g .sum) (g .mark) l (g .out .now) (r .last .0) (g .d) (g .e) (r .result)
   made b n = c .before .before .collapse .ensures (entry-of c .args .e) l b n
 
 -- and of those that stand there by what is required
@@ -40,7 +40,7 @@ abbrev Stands : Made → Type 0
 Stands c =
     let g = entry-of c .args in
     let r = c .before .before .collapse in
-    Collapsed (g .sum) (entry-of c .pre .0 .0) (g .out .now) (r .last .0) (g .d) (g .e) (r .result)
+    Collapsed (g .sum) (g .mark) (entry-of c .pre .0 .0) (g .out .now) (r .last .0) (g .d) (g .e) (r .result)
 
 stands : (c : Made) → Stands c
 stands c = let q = entry-of c .pre .0 in made c (q .0) (q .1) (q .2)
@@ -86,7 +86,7 @@ returns c =
     let q = entry-of made-at .pre in
     λ l b n.
     let h = made made-at l b n in
-    put-back (g .sum) l (g .out .now) _ (g .work .now) _ (g .d) (g .e) (g .end) _ _ h refl (omega (arith, h .end, h .low, q .1)) (q .2)
+    put-back (g .sum) (g .mark) l (g .out .now) _ (g .work .now) _ (g .d) (g .e) (g .end) _ _ h refl (omega (arith, h .end, h .low, q .1)) (q .2)
     (copied .copy-bytes .ensures)
 
 pub put-back-spec : {M : Type 1} → statement M

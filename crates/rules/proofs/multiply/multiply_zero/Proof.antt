@@ -9,6 +9,7 @@ use borrow.Author.Needs.{needs}
 use lib.ListN.{length, drop}
 use lib.IntN.{pos}
 use Rattle.paper.specs.Tree.{Tree, integer, toList, records}
+use Rattle.paper.specs.Rules as paper
 use Rattle.paper.specs.Rules.{isThe, anyOf}
 use Rattle.paper.proofs.EncodeLaws.{records-pos}
 use Rattle.paper.proofs.StandingLaws.{record-within}
@@ -39,7 +40,7 @@ abbrev product-of : Searched → Product
 product-of c = c .before .before
 
 abbrev searched-of : Skipped → Searched
-searched-of c = c .before .before .before
+searched-of c = c .before .before .before .before .before
 
 -- a tree t is pending at the entry, and `rest` after it
 abbrev Pending : Entry → Tree → List ℕ → Type 0
@@ -81,9 +82,12 @@ any-member-requires c κs =
     let s = node (c .before) (entry-of (c .before) .pre .2) in
     ((s .members, held-members (s .held)), omega arith)
 
+mark-requires : tie.Need-mark-requires
+mark-requires c κs = record-within (ready-tree (entry-of (product-of (c .before .before)) .pre .2))
+
 skip-tree-requires : tie.Need-skip-tree-requires
 skip-tree-requires c κs =
-    let q = entry-of (product-of (c .before .before)) .pre in
+    let q = entry-of (product-of (c .before .before .before .before)) .pre in
     record { tree = q .0; there = ready-tree (q .2) }
 
 sub-q : tie.Need-sub-q
@@ -104,13 +108,15 @@ returns-2 c =
     let at = searched-of skipped in
     let w = entry-of (product-of at) .args .work .now in
     let q = skipped .skip-tree .result - 1 in
+    let marked = skipped .before .before in
+    let μ = marked .mark .result in
     λ t rest h.
     let e = end skipped h in
-    let any = sym (searched at h) ∙ skipped .before .before .if2 .taken in
+    let any = sym (searched at h) ∙ skipped .before .before .before .before .if2 .taken in
     let place : (q + 1) * 16 ≡ (entry-of (product-of at) .args .p + records t) * 16 = omega (arith, e .is, e .some) in (
-      integer 0 (pos 0),
-      finds (node (product-of at) h) zeroes any,
-      zero-put w _ q rest (omega (arith, e .some, e .within)) (ap (λ n. drop n w) place ∙ ready-after h) (wrote .write-record .ensures),
+      integer μ (pos 0),
+      finds (node (product-of at) h) zeroes any ∙ ap (λ m. paper.applies (integer m (pos 0))) (sym (marked .mark .ensures .0)),
+      zero-put w _ q μ rest (omega (arith, e .some, e .within)) (ap (λ n. drop n w) place ∙ ready-after h) (wrote .write-record .ensures),
       refl,
     )
 
@@ -129,6 +135,7 @@ multiply-zero-spec =
     same-length
     returns
     any-member-requires
+    mark-requires
     skip-tree-requires
     sub-q
     write-record-requires

@@ -6,7 +6,7 @@ use mathlib.Core.List.{List}
 use native.Mathlib.Omega.{arith}
 use borrow.Author.Needs.{needs}
 use Rattle.paper.specs.Tree.{Tree}
-use Rattle.paper.specs.Record.{kind}
+use Rattle.paper.specs.Record.{kind, markIn}
 use Rattle.paper.proofs.EncodeLaws.{records-pos}
 use Rattle.paper.proofs.StandingLaws.{record-within}
 use Rattle.paper.specs.Table.{recordOf}
@@ -96,20 +96,23 @@ returns-3 c =
     let at = power-of (integer-of read) in
     λ t rest h. (constant-more (power at h) (integer (integer-of read)) (omega (arith, c .if3 .taken, read .bits .ensures)), refl, refl)
 
+mark-requires : tie.Need-mark-requires
+mark-requires c κs = record-within (ready-tree (entry-of (power-of (integer-of (c .before .before))) .pre .2))
+
 add-write-record : tie.Need-add-write-record
 add-write-record c =
-    let at = power-of (integer-of (c .before .before)) in
+    let at = power-of (integer-of (c .before .before .before .before)) in
     omega (arith, power at (entry-of at .pre .2) .long)
 
 write-record-requires : tie.Need-write-record-requires
 write-record-requires c κs =
-    let at = power-of (integer-of (c .before .before)) in
+    let at = power-of (integer-of (c .before .before .before .before)) in
     let s = power at (entry-of at .pre .2) in
     omega (arith, s .long, records-pos (s .base))
 
-add-t12 : tie.Need-add-t12
-add-t12 c =
-    let at = power-of (integer-of (c .before .before .before .before .before)) in
+add-t13 : tie.Need-add-t13
+add-t13 c =
+    let at = power-of (integer-of (c .before .before .before .before .before .before .before)) in
     omega (arith, power at (entry-of at .pre .2) .long)
 
 same-length-4 : tie.Need-same-length-4
@@ -118,7 +121,8 @@ same-length-4 c = search needs
 returns-4 : tie.Need-returns-4
 returns-4 c =
     let wrote = c .before .before in
-    let small = wrote .before .before in
+    let marked = wrote .before .before in
+    let small = marked .before .before in
     let read = small .before in
     let at = power-of (integer-of read) in
     let w = entry-of at .args .work .now in
@@ -126,9 +130,11 @@ returns-4 c =
     λ t rest h.
     let s = power at h in
     let k = integer (integer-of read) in (
-      s .base,
+      _,
       constant-applies s k (omega (arith, small .if3 .left, read .bits .ensures)),
-      constant-put s k _ (wrote .write-record .ensures ∙ ap (λ v. put w q (recordOf 0 0 v)) (read .bits .ensures)),
+      constant-put s k _ _
+          (wrote .write-record .ensures ∙ ap (λ m. put w q (recordOf 0 0 m (read .bits .result))) (marked .mark .ensures .0)
+          ∙ ap (λ v. put w q (recordOf 0 0 (markIn w (entry-of at .args .p)) v)) (read .bits .ensures)),
       refl,
     )
 
@@ -147,8 +153,9 @@ power-constant-spec =
     bits-requires
     same-length-3
     returns-3
+    mark-requires
     add-write-record
     write-record-requires
-    add-t12
+    add-t13
     same-length-4
     returns-4)

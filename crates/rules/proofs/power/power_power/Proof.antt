@@ -8,12 +8,13 @@ use native.Mathlib.Omega.{arith}
 use borrow.Author.Needs.{needs}
 use lib.IntN.{_*ℤ_}
 use Rattle.paper.specs.Tree.{Tree, power, records}
-use Rattle.paper.specs.Record.{bits}
+use Rattle.paper.specs.Record.{markIn, bits}
 use Rattle.paper.proofs.EncodeLaws.{records-pos}
 use Rattle.paper.proofs.StandingLaws.{record-within}
 use Rattle.rules.specs.Asked.{Ready}
 use Rattle.rules.proofs.RuleLaws.{ready-tree, ready-seen}
 use Rattle.paper.specs.Bytes.{signed}
+use Rattle.paper.specs.Rules as paper
 use Rattle.paper.specs.Rules.{powerPower}
 use Rattle.number.specs.Num.{numOf}
 use Rattle.rules.proofs.PowerLaws.{on-no-power, IsPower, is-power, no-tower, IsTower, is-tower, tower-applies, tower-over, tower-put}
@@ -53,7 +54,7 @@ abbrev skipped-of : Multiplied → Skipped
 skipped-of c = c .before .before .before .before .before
 
 abbrev multiplied-of : Moving → Multiplied
-multiplied-of c = c .before .before .before .before
+multiplied-of c = c .before .before .before .before .before .before .before .before
 
 abbrev start-of : Tower → Entry
 start-of c = entry-of (power-of c)
@@ -145,6 +146,21 @@ mul-requires c κs = search needs
 enum-known-product : tie.Need-enum-known-product
 enum-known-product c = search needs
 
+mark-requires : tie.Need-mark-requires
+mark-requires c κs = record-within (ready-tree (start-of (tower-of (skipped-of (c .before .before .before .before))) .pre .2))
+
+add-mark : tie.Need-add-mark
+add-mark c =
+    let at = skipped-of (c .before .before .before .before .before .before) in
+    let h = start-of (tower-of at) .pre .2 in
+    omega (arith, place at h, tower (tower-of at) h .long)
+
+mark-requires-2 : tie.Need-mark-requires-2
+mark-requires-2 c κs =
+    let at = skipped-of (c .before .before .before .before .before .before) in
+    let h = start-of (tower-of at) .pre .2 in
+    omega (arith, place at h, tower (tower-of at) h .long)
+
 add-shift-right : tie.Need-add-shift-right
 add-shift-right c =
     let at = skipped-of (multiplied-of c) in
@@ -217,8 +233,8 @@ write-record-requires-2 c κs =
     let h = start-of (tower-of at) .pre .2 in
     omega (arith, c .before .before .before .write-record .kept .0, c .before .before .before .before .before .before .before .shift-right .kept .0, tower (tower-of at) h .long)
 
-add-t33 : tie.Need-add-t33
-add-t33 c =
+add-t39 : tie.Need-add-t39
+add-t39 c =
     let at = skipped-of (multiplied-of (c .before .before .before .before .before .before .before .before .before .before .before)) in
     let h = start-of (tower-of at) .pre .2 in
     omega (arith, tower (tower-of at) h .long)
@@ -237,12 +253,19 @@ returns-3 c =
     let moving = moved .before in
     let mul = multiplied-of moving in
     let at = skipped-of mul in
-    let known = moving .before .before .product .given in
+    let second-mark = moving .before .mark2 in
+    let first-mark = moving .before .before .before .mark in
+    let known = moving .before .before .before .before .before .before .product .given in
+    let g = start-of (tower-of at) .args in
     λ t rest h.
-    let s = tower (tower-of at) h in (
-      power 0 (s .base) 0 (known .0 .0),
-      tower-applies s _ (sym (product mul h) ∙ known .1),
-      tower-put s _ _ _ _ _ (place at h) (moved .shift-right .ensures) (first .write-record .ensures) (second .write-record2 .ensures),
+    let s = tower (tower-of at) h in
+    let outer : at .skip-tree .result + 1 ≡ g .p + 3 + records (s .base) = omega (arith, place at h) in (
+      power (first-mark .result) (s .base) (second-mark .result) (known .0 .0),
+      tower-applies s _ (sym (product mul h) ∙ known .1)
+          ∙ ap (λ m. paper.applies (power m (s .base) (markIn (g .work .now) (g .p + 3 + records (s .base))) (known .0 .0))) (sym (first-mark .ensures .0))
+          ∙ ap (λ m. paper.applies (power (first-mark .result) (s .base) m (known .0 .0)))
+          (ap (markIn (g .work .now)) (sym outer) ∙ sym (second-mark .ensures .0)),
+      tower-put s _ _ _ _ _ _ _ (place at h) (moved .shift-right .ensures) (first .write-record .ensures) (second .write-record2 .ensures),
       refl,
     )
 
@@ -272,6 +295,9 @@ power-power-spec =
     bits-requires-2
     mul-requires
     enum-known-product
+    mark-requires
+    add-mark
+    mark-requires-2
     add-shift-right
     mul-shift-right
     add-shift-right-2
@@ -284,7 +310,7 @@ power-power-spec =
     write-record-requires
     add-write-record-2
     write-record-requires-2
-    add-t33
+    add-t39
     enum-told
     same-length-3
     returns-3
