@@ -1,4 +1,4 @@
-/* Simmergate: formulas as tables of records, judged, weighed, evaluated, compared and simplified.
+/* Simmergate: formulas as tables of records, judged, weighed, evaluated, compared, told apart and simplified.
 
    A table holds records of 16 bytes, the tree in the order parent, then members from first to last; numbers are little-endian. Byte 0 is the
    kind (0 integer, 1 symbol, 2 sum, 3 product, 4 power), bytes 2-3 the number of members of a sum or a product, bytes 4-5 a line mark, bytes
@@ -16,9 +16,9 @@
 
    Every call returns the refusal number, 0 where nothing is refused, and writes the numbers of its answer to `answer`, 8 bytes each,
    little-endian, in the order named at the call. The first two are always the refusal number and its place, as the table below says (records
-   count from 0); after a refusal all other numbers are 0, but for the one of simmergate_equal that says which table is refused and, after 2,
-   WHAT and BYTE. The lowest number wins, but 19 comes before all others and 9 after it; of two tables, the first is judged by 1 to 5 before the
-   second:
+   count from 0); after a refusal all other numbers are 0, but for the one of simmergate_equal and simmergate_differ that says which table is
+   refused and, after 2, WHAT and BYTE. The lowest number wins, but 19 comes before all others and 9 after it; of two tables, the first is judged
+   by 1 to 5 before the second:
 
      number   given exactly when                                                               place
      1        the table's length is zero, no multiple of 16, or over 16 x L bytes              0
@@ -30,7 +30,8 @@
      5        an exponent is no integer record of at least 1                                   first such exponent record
      6        a lent area has the wrong length: the registers are not 2,048 bytes; W being     0
               the weight of the table, `out` is under 16 x W bytes, `steps` under W, or
-              `work` under 65,536 at L = 3,072 and under 524,288 at L = 16,384
+              `work` under 65,536 at L = 3,072 and under 524,288 at L = 16,384; `list` has
+              under 16 bytes a pair
      7        simplifying meets an integer outside the signed 64-bit range                     steps completed before it
      9        there is no such edition of the rules: it is neither 1 nor 2                     0
      19       there is no such limit: it is neither 3,072 nor 16,384                           0
@@ -40,7 +41,8 @@
    15, where WHAT is 2. Else both are 0.
 
    Where `answer` is too short for the numbers, a call returns 6 before all else and changes nothing. Bytes of `answer` past the numbers never
-   change. Refusals 1 to 6, 9 and 19 change no byte of any other area; of the calls on tables only simmergate_simplify writes to others at all.
+   change. Refusals 1 to 6, 9 and 19 change no byte of any other area; of the calls on tables only simmergate_simplify and simmergate_differ
+   write to others at all.
 
    All lengths are in bytes. The areas of one call must not overlap; a pointer may be anything where its length is 0, and needs no alignment.
    Nothing is allocated, nothing is kept between calls, and calls on different areas may run at the same time. */
@@ -57,6 +59,7 @@
      simmergate_weight       170,376      915,848
      simmergate_value        196,840    1,048,808
      simmergate_equal        555,176    2,898,088
+     simmergate_differ       170,456      915,928
      simmergate_simplify     588,584    3,144,488     by either edition */
 #define SIMMERGATE_STACK 606208
 #define SIMMERGATE_STACK_16384 3211264
@@ -71,6 +74,7 @@
 #define SIMMERGATE_WEIGHT_BYTES 40
 #define SIMMERGATE_VALUE_BYTES 40
 #define SIMMERGATE_EQUAL_BYTES 48
+#define SIMMERGATE_DIFFER_BYTES 48
 #define SIMMERGATE_SIMPLIFY_BYTES 80
 
 /* Judges a table. The answer: refusal number, place, WHAT, BYTE. */
@@ -87,6 +91,16 @@ uint32_t simmergate_value(size_t limit, const uint8_t *table, size_t table_bytes
    each as often in the one as in the other; nothing is opened first. The first table is judged before the second. The answer: refusal number, place,
    which table is refused (1, 2, or 0 for neither), yes 1 or no 0 (no after a refusal), WHAT, BYTE. */
 uint32_t simmergate_equal(size_t limit, const uint8_t *a, size_t a_bytes, const uint8_t *b, size_t b_bytes, uint8_t *answer, size_t answer_bytes);
+
+/* Lists what differs between two tables, their trees walked in step: where kind, count and number of two records agree the walk goes on to their
+   members, where they do not it reports the pair of record numbers and goes no deeper. A power's exponent is its second member. The pairs
+   go to the front of `list`, each once, in walking order, 16 bytes each: the record number in the first table, then that in the second, 8
+   bytes each; the bytes of `list` past them never change. There is no pair exactly when the tables are the same bytes; trees that are equal in
+   another order of members have pairs, and simmergate_equal says that they are equal. The first table is judged before the second, and both
+   before the list: one with under 16 bytes a pair is refused by 6 and does not change. A list as long as the shorter of the two tables always
+   suffices, and so does one of SIMMERGATE_TABLE_BYTES(L). The answer: refusal number, place, which table is refused (1, 2, or 0 for neither), pairs (0 after a refusal), WHAT, BYTE. */
+uint32_t simmergate_differ(size_t limit, const uint8_t *a, size_t a_bytes, const uint8_t *b, size_t b_bytes, uint8_t *list, size_t list_bytes,
+                           uint8_t *answer, size_t answer_bytes);
 
 /* Simplifies a table by the rules of an edition, 1 or 2; edition two has those of edition one and besides them the steps 7, 8 and 9, on powers.
    A result of edition one may be unfinished in edition two: both machines of a takeover must take the same. Where the table is accepted, the result's records go to `out` and the numbers of its steps, one byte each, to `steps`, with

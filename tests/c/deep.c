@@ -1,5 +1,5 @@
 /* The deepest tables that are accepted, 1,535 nodes one inside the other at the limit 3,072 and 8,191 at 16,384, checked, weighed, evaluated,
-   compared and simplified by both editions on a stack of 1 MiB, and of 4 MiB, that lies behind a page that nothing may touch. The stack is painted before each call, and what is painted over is what the call needed. The
+   compared, walked in step and simplified by both editions on a stack of 1 MiB, and of 4 MiB, that lies behind a page that nothing may touch. The stack is painted before each call, and what is painted over is what the call needed. The
    widest tables are simplified there, too. */
 #include "../../include/simmergate.h"
 #include "own.h"
@@ -30,6 +30,7 @@ static void *check(void *unused) { returned = simmergate_check(at.limit, table, 
 static void *weigh(void *unused) { returned = simmergate_weight(at.limit, table, bytes, answer, sizeof answer); return unused; }
 static void *evaluate(void *unused) { returned = simmergate_value(at.limit, table, bytes, registers, sizeof registers, answer, sizeof answer); return unused; }
 static void *compare(void *unused) { returned = simmergate_equal(at.limit, table, bytes, second, second_bytes, answer, sizeof answer); return unused; }
+static void *walk(void *unused) { returned = simmergate_differ(at.limit, table, bytes, second, second_bytes, out, sizeof out, answer, sizeof answer); return unused; }
 
 static void *simplify(void *unused) {
     returned = simmergate_simplify(at.limit, edition, table, bytes, out, sizeof out, steps, sizeof steps, work, sizeof work, answer, sizeof answer);
@@ -109,7 +110,7 @@ static void widest(unsigned n, int which, size_t records, size_t taken, size_t t
 /* All calls on the deepest tables of the level; says what each needed at the most. */
 static void deepest(void) {
     static const unsigned kinds[][3] = {{4, 4, 0}, {2, 2, 0}, {2, 2, 1}, {3, 3, 0}, {3, 3, 1}, {2, 3, 0}, {3, 2, 1}, {4, 2, 0}, {4, 3, 1}};
-    size_t shapes = sizeof kinds / sizeof *kinds, most[5] = {0, 0, 0, 0, 0}, need = 0;
+    size_t shapes = sizeof kinds / sizeof *kinds, most[6] = {0, 0, 0, 0, 0, 0}, need = 0;
     uint64_t own_registers[REGISTERS] = {0};
     used(nothing);
     size_t thread = used(nothing);
@@ -136,6 +137,12 @@ static void deepest(void) {
             if (n > most[3]) most[3] = n;
             if (returned != 0) differ("the return", a, b, 0, returned);
             if (own_number(answer + 24) != (k < 2)) differ("the comparison", a, b, k < 2, own_number(answer + 24));
+            /* and walked in step: no pair of a copy, and some pair of the two others unless they are the copy again */
+            n = used(walk) - thread;
+            if (n > most[5]) most[5] = n;
+            uint64_t same = bytes == second_bytes && memcmp(table, second, bytes) == 0;
+            if (returned != 0) differ("the return of the walk", a, b, 0, returned);
+            if ((own_number(answer + 24) == 0) != same) differ("the pairs", a, b, !same, own_number(answer + 24));
         }
         nest(a, b, first, 3);
         for (edition = 1; edition <= 2; edition++) {
@@ -144,14 +151,14 @@ static void deepest(void) {
         }
     }
     edition = 1;
-    for (int k = 0; k < 5; k++)
+    for (int k = 0; k < 6; k++)
         if (most[k] > need) need = most[k];
     if (need > at.said) {
         printf("deep: a call needs %zu bytes of stack at the limit %zu, and the header says %zu\n", need, at.limit, at.said);
         exit(1);
     }
-    printf("deep: at the limit %zu, %zu shapes of %d nested nodes on a stack of %zu MiB: check needs %zu bytes of it, weight %zu, value %zu, equal %zu, simplify %zu; the header says %zu\n",
-           at.limit, shapes, at.depth, at.stack >> 20, most[0], most[1], most[2], most[3], most[4], at.said);
+    printf("deep: at the limit %zu, %zu shapes of %d nested nodes on a stack of %zu MiB: check needs %zu bytes of it, weight %zu, value %zu, equal %zu, simplify %zu, differ %zu; the header says %zu\n",
+           at.limit, shapes, at.depth, at.stack >> 20, most[0], most[1], most[2], most[3], most[4], most[5], at.said);
 }
 
 int main(void) {

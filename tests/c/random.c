@@ -66,15 +66,6 @@ static int equal_trees(const uint8_t *a, const uint8_t *b) {
 
 /* ---- Tables to try. ---- */
 
-/* Marks for the records of a table: none, a few lines, or any. */
-static void put_marks(uint8_t *t, size_t n) {
-    uint64_t lines = chance(3) ? 1 : chance(2) ? 10 : 65536;
-    for (size_t i = 0; i + 16 <= n; i += 16) {
-        uint64_t mark = below(lines);
-        t[i + 4] = (uint8_t)mark, t[i + 5] = (uint8_t)(mark >> 8);
-    }
-}
-
 /* The records without their marks; whether there was one. */
 static int erase(uint8_t *t, const uint8_t *from, size_t n) {
     int any_mark = 0;

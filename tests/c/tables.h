@@ -127,3 +127,12 @@ static inline size_t random_table(uint8_t *table, uint64_t seed, uint64_t index,
         if (weight_of_records(table, making.records) <= heaviest) return making.records;
     }
 }
+
+/* Marks for the records of a table: none, a few lines, or any. */
+static inline void put_marks(uint8_t *table, size_t bytes) {
+    uint64_t lines = chance(3) ? 1 : chance(2) ? 10 : 65536;
+    for (size_t i = 0; i + 16 <= bytes; i += 16) {
+        uint64_t mark = below(lines);
+        table[i + 4] = (uint8_t)mark, table[i + 5] = (uint8_t)(mark >> 8);
+    }
+}

@@ -1,0 +1,4 @@
+pub mod DifferLaws
+pub mod PairLaws
+pub mod RefusalLaws
+pub mod Computed

@@ -1,0 +1,276 @@
+// What differs between the tables in two files, in words: a line for each pair of records, and in the second mode whether the trees are equal. All
+// of that goes to standard output; standard error tells why there is nothing to compare: a file that cannot be read, or what is wrong with a
+// table that is refused.
+use libc::STDERR_FILENO;
+use libc::STDOUT_FILENO;
+
+// 2^63: the bits of the negative numbers start here.
+const TOP: u64 = 0x8000_0000_0000_0000;
+
+// The limit that the small programs keep.
+const LIMIT: usize = 3072;
+
+// What reading answers where a file cannot be read.
+const UNREAD: isize = -1;
+
+// Writes a word and a number.
+fn say(word: &[u8], number: u64) {
+    io::write_all(STDOUT_FILENO, word);
+    io::print_decimal(STDOUT_FILENO, number);
+}
+
+// Writes an integer, which its 64 bits stand for.
+fn say_integer(bits: u64) {
+    if bits < TOP {
+        say(b"integer ", bits);
+        return;
+    }
+    say(b"integer -", u64::MAX - bits + 1);
+}
+
+// Writes the line of the sheet that record i comes from, where it says one.
+fn say_line(s: &[u8], i: usize) {
+    if s.len() / 16 <= i {
+        return;
+    }
+    let line = record::mark(s, i);
+    if 0 < line {
+        say(b", line ", line as u64);
+    }
+}
+
+// Writes what stands at record i of an accepted table.
+fn say_record(s: &[u8], i: usize) {
+    if s.len() / 16 <= i {
+        return;
+    }
+    let k = record::kind(s, i);
+    if k == 0 {
+        say_integer(record::bits(s, i));
+    }
+    if k == 1 {
+        say(b"symbol ", record::symbol(s, i) as u64);
+    }
+    if k == 2 {
+        say(b"sum of ", record::count(s, i) as u64);
+    }
+    if k == 3 {
+        say(b"product of ", record::count(s, i) as u64);
+    }
+    if k == 4 {
+        io::write_all(STDOUT_FILENO, b"power");
+    }
+    say_line(s, i);
+}
+
+// Writes pair p of the list, a line.
+fn say_pair(a: &[u8], b: &[u8], list: &[u8], p: usize) {
+    if list.len() / 16 <= p {
+        return;
+    }
+    let i = number::read8(list, p * 16);
+    let j = number::read8(list, p * 16 + 8);
+    say(b"record ", i);
+    say(b", record ", j);
+    io::write_all(STDOUT_FILENO, b": ");
+    say_record(a, i as usize);
+    io::write_all(STDOUT_FILENO, b", ");
+    say_record(b, j as usize);
+    io::write_all(STDOUT_FILENO, b"\n");
+}
+
+// Writes how many pairs there are, and each.
+fn say_pairs(a: &[u8], b: &[u8], list: &[u8], pairs: usize) {
+    say(b"differences ", pairs as u64);
+    io::write_all(STDOUT_FILENO, b"\n");
+    let mut p = 0;
+    while p < pairs {
+        say_pair(a, b, list, p);
+        p += 1;
+    }
+}
+
+// Writes what is wrong with a record, as the listing does; nothing where nothing is.
+fn say_flaw(what: u64, byte: u64) {
+    if what == 1 {
+        io::write_all(STDOUT_FILENO, b" kind");
+    }
+    if what == 2 {
+        say(b" byte ", byte);
+    }
+    if what == 3 {
+        io::write_all(STDOUT_FILENO, b" count");
+    }
+}
+
+// Tells what is wrong with a record, in words.
+fn explain_record(what: u64) {
+    if what == 1 {
+        io::write_all(STDERR_FILENO, b"its kind is none of the five");
+    }
+    if what == 2 {
+        io::write_all(STDERR_FILENO, b"a byte of it that must be zero is not");
+    }
+    if what == 3 {
+        io::write_all(
+            STDERR_FILENO,
+            b"it is a sum or a product of fewer than two members",
+        );
+    }
+}
+
+// Tells what is wrong with a table, in words.
+fn explain(number: u32, what: u64) {
+    if number == 1 {
+        io::write_all(
+            STDERR_FILENO,
+            b"its length is zero, no multiple of 16, or over 49,152 bytes",
+        );
+    }
+    if number == 2 {
+        explain_record(what);
+    }
+    if number == 3 {
+        io::write_all(STDERR_FILENO, b"it weighs over 3,072");
+    }
+    if number == 4 {
+        io::write_all(
+            STDERR_FILENO,
+            b"its records end before the tree, or the tree ends here before the records",
+        );
+    }
+    if number == 5 {
+        io::write_all(
+            STDERR_FILENO,
+            b"it is an exponent, and no integer of at least 1",
+        );
+    }
+}
+
+// Writes which table is refused, the refusal's number and place, and what is wrong with the record; on standard error the same in words. The list
+// being as long as any table, one of the two is.
+fn say_refusal(d: differ::Differed) {
+    let flaw = d.flaw;
+    let wrong = record::flaw_numbers(flaw);
+    if d.which < 2 {
+        say(b"first: refused ", d.number as u64);
+        io::write_all(STDERR_FILENO, b"differs: first table, record ");
+    } else {
+        say(b"second: refused ", d.number as u64);
+        io::write_all(STDERR_FILENO, b"differs: second table, record ");
+    }
+    say(b" at ", d.place as u64);
+    say_flaw(wrong.what, wrong.byte);
+    io::write_all(STDOUT_FILENO, b"\n");
+    io::print_decimal(STDERR_FILENO, d.place as u64);
+    io::write_all(STDERR_FILENO, b": ");
+    explain(d.number, wrong.what);
+    io::write_all(STDERR_FILENO, b"\n");
+}
+
+// Writes whether the trees are equal, the order of members not counting.
+fn say_equal(a: &[u8], b: &[u8]) {
+    if equal::equal(LIMIT, a, b).yes {
+        io::write_all(STDOUT_FILENO, b"trees equal\n");
+        return;
+    }
+    io::write_all(STDOUT_FILENO, b"trees not equal\n");
+}
+
+// Writes what differs between two tables; the list is as long as any table.
+fn compare(a: &[u8], b: &[u8], with_equal: bool) {
+    let mut list = [0u8; 49152];
+    let d = differ::differ(LIMIT, a, b, &mut list);
+    if 0 < d.number {
+        say_refusal(d);
+        return;
+    }
+    say_pairs(a, b, &list, d.pairs);
+    if with_equal {
+        say_equal(a, b);
+    }
+}
+
+// Tells that a file cannot be read, and why.
+fn unread(name: &[u8]) -> isize {
+    io::write_all(STDERR_FILENO, b"differs: cannot read ");
+    os::fail(name);
+    UNREAD
+}
+
+// Reads the file that argument k names, up to as many bytes as there is room for, and answers how many there are. Where it cannot be opened, or
+// reading stops before the file ends, it tells so and answers UNREAD.
+fn read_named(k: usize, room: &mut [u8]) -> isize {
+    let mut space = io::buffer();
+    let n = os::arg(k, &mut space);
+    let fd = os::open_read(&space[..n]);
+    if fd < 0 {
+        return unread(&space[..n]);
+    }
+    let got = io::read_full(fd, room);
+    let mut more = [0u8; 1];
+    if got < room.len() {
+        if libc::read(fd, &mut more) != 0 {
+            return unread(&space[..n]);
+        }
+    }
+    got as isize
+}
+
+// Compares the tables in the files that arguments k and l name. Of a file that is longer than any table only as much is read as shows that it
+// is.
+fn compare_files(k: usize, l: usize, with_equal: bool) {
+    let mut first = [0u8; 49168];
+    let mut second = [0u8; 49168];
+    let got = read_named(k, &mut first);
+    if got < 0 {
+        return;
+    }
+    let also = read_named(l, &mut second);
+    if also < 0 {
+        return;
+    }
+    let n = io::count(got, &first);
+    let m = io::count(also, &second);
+    compare(&first[..n], &second[..m], with_equal);
+}
+
+// Argument 1 is the word `equal`.
+fn asks_equal() -> bool {
+    let mut word = io::buffer();
+    if os::arg(1, &mut word) != 5 {
+        return false;
+    }
+    if word[0] != b'e' {
+        return false;
+    }
+    if word[1] != b'q' {
+        return false;
+    }
+    if word[2] != b'u' {
+        return false;
+    }
+    if word[3] != b'a' {
+        return false;
+    }
+    word[4] == b'l'
+}
+
+// The two modes, by the number of arguments.
+pub fn run() {
+    let n = os::arg_count();
+    if n == 3 {
+        compare_files(1, 2, false);
+        return;
+    }
+    if n == 4 {
+        if asks_equal() {
+            compare_files(2, 3, true);
+            return;
+        }
+    }
+    io::write_all(
+        STDERR_FILENO,
+        b"usage: differs [equal] FIRST SECOND (two files with a table each; records count from 0, marks count as numbers do; `equal` also says whether the trees are equal, in any order of members and whatever their marks)\n",
+    );
+}
