@@ -14,7 +14,7 @@
    the lower limit has the same answers and the same bytes at both. Both machines of a takeover take the same limit, or a heavy result is
    refused with 1 or 3 by the one that has the lower, never misread.
 
-   Every call returns the refusal number, 0 where nothing is refused, and writes the numbers of its answer to `answer`, 8 bytes each,
+   Every call on a whole table returns the refusal number, 0 where nothing is refused, and writes the numbers of its answer to `answer`, 8 bytes each,
    little-endian, in the order named at the call. The first two are always the refusal number and its place, as the table below says (records
    count from 0); after a refusal all other numbers are 0, but for the one of simmergate_equal and simmergate_differ that says which table is
    refused and, after 2, WHAT and BYTE. The lowest number wins, but 19 comes before all others and 9 after it; of two tables, the first is judged
@@ -41,7 +41,7 @@
    15, where WHAT is 2. Else both are 0.
 
    Where `answer` is too short for the numbers, a call returns 6 before all else and changes nothing. Bytes of `answer` past the numbers never
-   change. Refusals 1 to 6, 9 and 19 change no byte of any other area; of the calls on tables only simmergate_simplify and simmergate_differ
+   change. Refusals 1 to 6, 9 and 19 change no byte of any other area; of the calls on whole tables only simmergate_simplify and simmergate_differ
    write to others at all.
 
    All lengths are in bytes. The areas of one call must not overlap; a pointer may be anything where its length is 0, and needs no alignment.
@@ -112,6 +112,37 @@ uint32_t simmergate_differ(size_t limit, const uint8_t *a, size_t a_bytes, const
    asking, at one node, whether any rule applies; there are at most as many as the cube of the table's weight. */
 uint32_t simmergate_simplify(size_t limit, size_t edition, const uint8_t *table, size_t table_bytes, uint8_t *out, size_t out_bytes, uint8_t *steps,
                              size_t steps_bytes, uint8_t *work, size_t work_bytes, uint8_t *answer, size_t answer_bytes);
+
+/* ---- Tables over the serial link ----
+
+   A receiver takes a table in pieces of any lengths, one byte or none among them, keeps their bytes in an area and answers at the finish as
+   simmergate_check does on the whole: no cut alters the answer, its place or the bytes kept.
+
+   The link task keeps the receiver's record, SIMMERGATE_RECEIVER bytes: how many bytes of the area are the table's, and whether more came than are kept
+   (0 for no), 8 bytes each, little-endian. Zero bytes begin. Any 16 bytes are a record: they are judged at every call and never trusted, so that
+   a record of rubbish costs one refused table, and no byte outside the area. Bytes past the 16 never change.
+
+   The area has at least SIMMERGATE_TABLE_BYTES(L) bytes, and the same bytes are handed to every call from the first piece to the finish. Nobody
+   else may write its first bytes, as many as the record counts, between the calls: what the checker finds is what stands there at the finish. The library
+   writes behind them what a piece brings, and no byte from SIMMERGATE_TABLE_BYTES(L) on.
+
+   Past the limit: of a piece that is longer than the room that is left, the front is kept that there is room for, the record says that more came, and
+   nothing more is kept; the finish answers 1 at 0, as the checker does on so long a table. A record whose count is over
+   SIMMERGATE_TABLE_BYTES(L) is past the limit, too, and so is any second number that is not 0. Such a record stays as it is until the finish.
+
+   Refusals, in this order, each changing nothing: 6 where the record has fewer than 16 bytes, or at the finish `answer` fewer than
+   SIMMERGATE_CHECK_BYTES; 19; 6 where the area is shorter than SIMMERGATE_TABLE_BYTES(L), so that the same call can be made again with the whole
+   area. After these a piece is always taken, and the finish gives 0 or 1 to 5. Every finish but one with 6 or 19 empties the receiver, an
+   accepted one as well as a refused one: 16 zero bytes, ready for the next table. The area's bytes stay. */
+#define SIMMERGATE_RECEIVER 16
+
+/* Takes a piece. The number that it returns, 0, 6 or 19, is its whole answer. */
+uint32_t simmergate_receive(size_t limit, uint8_t *receiver, size_t receiver_bytes, uint8_t *area, size_t area_bytes, const uint8_t *piece, size_t piece_bytes);
+
+/* Finishes the table. The answer is that of simmergate_check on all the bytes that came: refusal number, place, WHAT, BYTE; after 6 for the area and
+   after 19, too, it is written. */
+uint32_t simmergate_receive_finish(size_t limit, uint8_t *receiver, size_t receiver_bytes, const uint8_t *area, size_t area_bytes, uint8_t *answer,
+                                   size_t answer_bytes);
 
 /* ---- Settings that survive an upgrade ----
 

@@ -1,6 +1,7 @@
 // The entry points for C. Each call returns the refusal number and writes the numbers of its answer to a lent slice; those that take tables
 // take the limit first.
 mod differ_calls;
+mod receiver_calls;
 mod settings_calls;
 
 ghost use mathlib.Core.Path.{_≡_};

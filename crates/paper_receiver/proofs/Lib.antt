@@ -1,0 +1,4 @@
+pub mod PieceLaws
+pub mod ReceiverLaws
+pub mod CallLaws
+pub mod Computed

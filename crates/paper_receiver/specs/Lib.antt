@@ -1,0 +1,3 @@
+pub mod Receiver
+pub mod Calls
+pub mod Examples
