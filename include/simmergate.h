@@ -1,4 +1,4 @@
-/* Simmergate: formulas as tables of records, judged, weighed, evaluated, compared, told apart and simplified.
+/* Simmergate: formulas as tables of records, judged, weighed, evaluated, compared, told apart and simplified, one by one or a whole site in one call.
 
    A table holds records of 16 bytes, the tree in the order parent, then members from first to last; numbers are little-endian. Byte 0 is the
    kind (0 integer, 1 symbol, 2 sum, 3 product, 4 power), bytes 2-3 the number of members of a sum or a product, bytes 4-5 a line mark, bytes
@@ -17,7 +17,7 @@
    Every call on a whole table returns the refusal number, 0 where nothing is refused, and writes the numbers of its answer to `answer`, 8 bytes each,
    little-endian, in the order named at the call. The first two are always the refusal number and its place, as the table below says (records
    count from 0); after a refusal all other numbers are 0, but for the one of simmergate_equal and simmergate_differ that says which table is
-   refused and, after 2, WHAT and BYTE. The lowest number wins, but 19 comes before all others and 9 after it; of two tables, the first is judged
+   refused and, after 2, WHAT and BYTE. The lowest number wins, but 19 comes before all others, then 9, then 8; of two tables, the first is judged
    by 1 to 5 before the second:
 
      number   given exactly when                                                               place
@@ -33,6 +33,8 @@
               `work` under 65,536 at L = 3,072 and under 524,288 at L = 16,384; `list` has
               under 16 bytes a pair
      7        simplifying meets an integer outside the signed 64-bit range                     steps completed before it
+     8        simmergate_batch alone: over 200 items, lengths that do not add up to the        none
+              bytes given or are no multiple of 8 bytes, or fewer places than items
      9        there is no such edition of the rules: it is neither 1 nor 2                     0
      19       there is no such limit: it is neither 3,072 nor 16,384                           0
 
@@ -41,7 +43,7 @@
    15, where WHAT is 2. Else both are 0.
 
    Where `answer` is too short for the numbers, a call returns 6 before all else and changes nothing. Bytes of `answer` past the numbers never
-   change. Refusals 1 to 6, 9 and 19 change no byte of any other area; of the calls on whole tables only simmergate_simplify and simmergate_differ
+   change. Refusals 1 to 6, 8, 9 and 19 change no byte of any other area; of the calls on whole tables only simmergate_simplify, simmergate_batch and simmergate_differ
    write to others at all.
 
    All lengths are in bytes. The areas of one call must not overlap; a pointer may be anything where its length is 0, and needs no alignment.
@@ -60,7 +62,8 @@
      simmergate_value        196,840    1,048,808
      simmergate_equal        555,176    2,898,088
      simmergate_differ       170,456      915,928
-     simmergate_simplify     588,584    3,144,488     by either edition */
+     simmergate_simplify     588,728    3,144,632     by either edition
+     simmergate_batch        588,872    3,144,776     by either edition */
 #define SIMMERGATE_STACK 606208
 #define SIMMERGATE_STACK_16384 3211264
 
@@ -112,6 +115,21 @@ uint32_t simmergate_differ(size_t limit, const uint8_t *a, size_t a_bytes, const
    asking, at one node, whether any rule applies; there are at most as many as the cube of the table's weight. */
 uint32_t simmergate_simplify(size_t limit, size_t edition, const uint8_t *table, size_t table_bytes, uint8_t *out, size_t out_bytes, uint8_t *steps,
                              size_t steps_bytes, uint8_t *work, size_t work_bytes, uint8_t *answer, size_t answer_bytes);
+
+/* Simplifies a whole site, at most 200 items: their tables end to end in `tables`, and in `lengths` their lengths in bytes, 8 bytes each,
+   little-endian. The call as a whole is refused, and changes nothing, by 19, then by 9, then by 8, as the table above says; its number is what it
+   returns, and there is no other answer. Else it returns 0, whatever becomes of the items: look at each item's own answer. `answers` has a place of
+   SIMMERGATE_SIMPLIFY_BYTES for each item, in their order, which gets the numbers that simmergate_simplify answers; bytes of `answers` past the
+   last item's never change. It is no `answer` in the sense above: where it is too short for the items the call returns 8, not 6.
+
+   Each item is handed what remains of `out` and `steps`, and all of `work`. An item with 0 or 7 in its place uses up 16 x W bytes of `out` and W
+   of `steps`, W being the weight of its table, and any other none; so what item i left begins in `out` at 16 times, and in `steps` at, the sum of
+   the W of the items before it that have 0 or 7. After 0, W is the sixth number of the item's place; after 7 it is not there, and
+   simmergate_weight tells it. An item with 6 found too little left; the next one is tried all the same, and may have the room. With `out`
+   of 16 x W and `steps` of W bytes for all items together, and `work` of SIMMERGATE_WORK_BYTES(L), each item answers as it would alone. */
+uint32_t simmergate_batch(size_t limit, size_t edition, const uint8_t *tables, size_t tables_bytes, const uint8_t *lengths, size_t lengths_bytes,
+                          uint8_t *out, size_t out_bytes, uint8_t *steps, size_t steps_bytes, uint8_t *work, size_t work_bytes, uint8_t *answers,
+                          size_t answers_bytes);
 
 /* ---- Tables over the serial link ----
 

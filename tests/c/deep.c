@@ -1,5 +1,5 @@
 /* The deepest tables that are accepted, 1,535 nodes one inside the other at the limit 3,072 and 8,191 at 16,384, checked, weighed, evaluated,
-   compared, walked in step and simplified by both editions on a stack of 1 MiB, and of 4 MiB, that lies behind a page that nothing may touch. The stack is painted before each call, and what is painted over is what the call needed. The
+   compared, walked in step and simplified by both editions, alone and as a site of one item, on a stack of 1 MiB, and of 4 MiB, that lies behind a page that nothing may touch. The stack is painted before each call, and what is painted over is what the call needed. The
    widest tables are simplified there, too. */
 #include "../../include/simmergate.h"
 #include "own.h"
@@ -21,7 +21,7 @@ static const struct level levels[] = {{LOWER, 1 << 20, SIMMERGATE_STACK, 1535}, 
 static struct level at;
 
 static uint8_t table[RECORD * HIGHER], second[RECORD * HIGHER], registers[8 * REGISTERS], answer[SIMMERGATE_SIMPLIFY_BYTES];
-static uint8_t out[RECORD * HIGHER], steps[HIGHER], work[524288];
+static uint8_t out[RECORD * HIGHER], steps[HIGHER], work[524288], lengths[8];
 static size_t bytes, second_bytes, edition = 1;
 static uint32_t returned;
 
@@ -34,6 +34,12 @@ static void *walk(void *unused) { returned = simmergate_differ(at.limit, table, 
 
 static void *simplify(void *unused) {
     returned = simmergate_simplify(at.limit, edition, table, bytes, out, sizeof out, steps, sizeof steps, work, sizeof work, answer, sizeof answer);
+    return unused;
+}
+
+static void *site(void *unused) {
+    own_bytes(lengths, bytes);
+    returned = simmergate_batch(at.limit, edition, table, bytes, lengths, sizeof lengths, out, sizeof out, steps, sizeof steps, work, sizeof work, answer, sizeof answer);
     return unused;
 }
 
@@ -107,10 +113,14 @@ static void widest(unsigned n, int which, size_t records, size_t taken, size_t t
     if (own_number(answer + 24) != taken) differ("the steps of a wide sum", 2, 2, taken, own_number(answer + 24));
 }
 
+/* The calls that are measured. */
+enum { CHECK, WEIGHT, VALUE, EQUAL, SIMPLIFY, DIFFER, BATCH, CALLS };
+static const char *const names[CALLS] = {"check", "weight", "value", "equal", "simplify", "differ", "batch"};
+
 /* All calls on the deepest tables of the level; says what each needed at the most. */
 static void deepest(void) {
     static const unsigned kinds[][3] = {{4, 4, 0}, {2, 2, 0}, {2, 2, 1}, {3, 3, 0}, {3, 3, 1}, {2, 3, 0}, {3, 2, 1}, {4, 2, 0}, {4, 3, 1}};
-    size_t shapes = sizeof kinds / sizeof *kinds, most[6] = {0, 0, 0, 0, 0, 0}, need = 0;
+    size_t shapes = sizeof kinds / sizeof *kinds, most[CALLS] = {0}, need = 0;
     uint64_t own_registers[REGISTERS] = {0};
     used(nothing);
     size_t thread = used(nothing);
@@ -134,12 +144,12 @@ static void deepest(void) {
             second_bytes = bytes;
             nest(a, b, first, 3);
             size_t n = used(compare) - thread;
-            if (n > most[3]) most[3] = n;
+            if (n > most[EQUAL]) most[EQUAL] = n;
             if (returned != 0) differ("the return", a, b, 0, returned);
             if (own_number(answer + 24) != (k < 2)) differ("the comparison", a, b, k < 2, own_number(answer + 24));
             /* and walked in step: no pair of a copy, and some pair of the two others unless they are the copy again */
             n = used(walk) - thread;
-            if (n > most[5]) most[5] = n;
+            if (n > most[DIFFER]) most[DIFFER] = n;
             uint64_t same = bytes == second_bytes && memcmp(table, second, bytes) == 0;
             if (returned != 0) differ("the return of the walk", a, b, 0, returned);
             if ((own_number(answer + 24) == 0) != same) differ("the pairs", a, b, !same, own_number(answer + 24));
@@ -147,18 +157,23 @@ static void deepest(void) {
         nest(a, b, first, 3);
         for (edition = 1; edition <= 2; edition++) {
             size_t n = simplified(a, b, thread);
-            if (n > most[4]) most[4] = n;
+            if (n > most[SIMPLIFY]) most[SIMPLIFY] = n;
+            uint32_t alone = returned;
+            n = used(site) - thread;
+            if (n > most[BATCH]) most[BATCH] = n;
+            if (returned != 0 || own_number(answer) != alone) differ("the answer of a site", a, b, alone, own_number(answer));
         }
     }
     edition = 1;
-    for (int k = 0; k < 6; k++)
+    for (int k = 0; k < CALLS; k++)
         if (most[k] > need) need = most[k];
     if (need > at.said) {
         printf("deep: a call needs %zu bytes of stack at the limit %zu, and the header says %zu\n", need, at.limit, at.said);
         exit(1);
     }
-    printf("deep: at the limit %zu, %zu shapes of %d nested nodes on a stack of %zu MiB: check needs %zu bytes of it, weight %zu, value %zu, equal %zu, simplify %zu, differ %zu; the header says %zu\n",
-           at.limit, shapes, at.depth, at.stack >> 20, most[0], most[1], most[2], most[3], most[4], most[5], at.said);
+    printf("deep: at the limit %zu, %zu shapes of %d nested nodes on a stack of %zu MiB: bytes of it that a call needs:", at.limit, shapes, at.depth, at.stack >> 20);
+    for (int k = 0; k < CALLS; k++) printf(" %s %zu", names[k], most[k]);
+    printf("; the header says %zu\n", at.said);
 }
 
 int main(void) {

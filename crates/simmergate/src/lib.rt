@@ -3,27 +3,14 @@
 mod differ_calls;
 mod receiver_calls;
 mod settings_calls;
+mod site_calls;
 
+use eights::write_numbers;
 ghost use mathlib.Core.Path.{_≡_};
-ghost use mathlib.Core.List.{_++_};
-ghost use Prim.Native.Nat.{_*_, _≤_};
-ghost use lib.ListN.{length, drop};
 ghost use Rattle.paper.specs.Equal.{one};
-ghost use Rattle.paper.specs.Calls.{eights, checkReturns, checkAnswers, weightReturns, weightAnswers, valueReturns, valueAnswers, equalReturns, equalAnswers};
+ghost use Rattle.paper.specs.Calls.{checkReturns, checkAnswers, weightReturns, weightAnswers, valueReturns, valueAnswers, equalReturns, equalAnswers};
 ghost use Rattle.paper.specs.Calls.{simplifyReturns, simplifyAnswers, simplifyLeaves};
 ghost use Rattle.simplify.specs.Answer.{lent};
-
-// Writes the numbers of an answer, eight bytes each, at the front of the slice; its bytes past them stay.
-fn write_numbers(answer: &mut [u8], numbers: &[u64])
-    requires { ⌜ 8 * length (now numbers) ≤ length (now answer) ⌝ }
-    ensures { λ _. ⌜ now (answer .exit) ≡ eights (now (numbers .entry)) ++ drop (8 * length (now (numbers .entry))) (now (answer .entry)) ⌝ }
-{
-    let mut i: usize = 0;
-    while i < numbers.len() {
-        number::write8(answer, i * 8, numbers[i]);
-        i += 1;
-    }
-}
 
 // Yes is 1, no is 0.
 fn number_of(yes: bool) -> u64

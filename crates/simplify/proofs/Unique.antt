@@ -1,16 +1,18 @@
 -- Two answers that meet the contract of `simplify`, as the check reads it from the source, are the same, and so are the areas
--- afterwards: the contract is an equation with a function of what is handed in. Assumes nothing.
+-- afterwards: the contract is an equation with a function of what is handed in. So it is with `is_edition`. Assumes nothing.
 use mathlib.Core.Path.{_≡_, sym, ap, _∙_}
 use borrow.Fn.Kinds.{endedOf}
 use contract.Lifetimes.{Lfts}
 use denote.Triple.Clauses.{AtExit}
 use Rattle.paper.specs.Record as paper-record
 use Rattle.paper.specs.Answers as paper
-use Rattle.paper.specs.Once.{OnceLeft}
+use Rattle.paper.specs.Once.{Once, OnceLeft}
 use Rattle.record.specs.declared.Flaw.{Flaw}
 use Rattle.record.proofs.Unique.{codeOf, code-of, flaw-of}
 use Rattle.simplify.specs.declared.Answer.{Answer}
 use Rattle.simplify.specs.Answer.{says, lent}
+use Rattle.simplify.proofs.is_edition.Reads as is-edition
+use Rattle.simplify.proofs.is_edition.Kinds as is-edition-kinds
 use Rattle.simplify.proofs.simplify.Reads as reads
 use Rattle.simplify.proofs.simplify.Kinds as kinds
 
@@ -74,3 +76,6 @@ areasLeft κs x =
 
 pub simplify-once : OnceLeft 4 kinds.ps kinds.r reads.Pre reads.Post paper.Lent areasLeft
 simplify-once κs a v v' x x' q p p' = let e = p ∙ sym p' in (says-once v v' (ap (λ g. g .answer) e), ap (λ g. g .lent) e)
+
+pub is-edition-once : Once 0 is-edition-kinds.ps is-edition-kinds.r is-edition.Pre is-edition.Post
+is-edition-once κs a v v' x x' h p q = p ∙ sym q

@@ -44,7 +44,7 @@ fn refusal(number: u32, place: usize, flaw: Flaw) -> Answer
 }
 
 // There is such an edition.
-fn is_edition(edition: usize) -> bool
+pub fn is_edition(edition: usize) -> bool
     ensures { λ r. ⌜ r ≡ isEdition edition ⌝ }
 {
     if edition == 1 {

@@ -1,4 +1,4 @@
--- `simmergate::write_numbers` meets its contract. The loop's invariant: the first i numbers are written, and nothing else changed.
+-- `eights::write_numbers` meets its contract. The loop's invariant: the first i numbers are written, and nothing else changed.
 -- The measure is what is left of the numbers. Assumes nothing.
 use Prim.Native.Nat.{ℕ, _+_, _-_, _*_, _≤_}
 use mathlib.Core.Path.{_≡_, refl, sym, ap, _∙_}
@@ -7,9 +7,9 @@ use native.Mathlib.Omega.{arith}
 use lib.ListN.{length, getD}
 use Rattle.paper.specs.Bytes.{bytes}
 use Rattle.stretch.specs.Put.{put}
-use Rattle.simmergate.proofs.NumbersLaws.{upTo, upTo-none, upTo-length, upTo-more, upTo-all}
-use Rattle.simmergate.proofs.write_numbers.Statement.{statement}
-use Rattle.simmergate.proofs.write_numbers.Tie as tie
+use Rattle.eights.proofs.EightsLaws.{upTo, upTo-none, upTo-length, upTo-more, upTo-all}
+use Rattle.eights.proofs.write_numbers.Statement.{statement}
+use Rattle.eights.proofs.write_numbers.Tie as tie
 
 abbrev Inv-loop : tie.InvT-loop
 Inv-loop answer₀ numbers i₀ answer i = (i ≤ length numbers) × (length answer ≡ length answer₀) × (answer ≡ upTo answer₀ numbers i)

@@ -1,0 +1,248 @@
+-- `batch::in_turn` meets its contract. The loop's invariant: what is still to do, from what stands there now, is what was to do at the
+-- beginning; the items to come have the bytes from `at` on, and what is used up is within the areas. The measure is the number of items to
+-- come. Assumes nothing.
+use Prim.Native.Nat.{ℕ, _+_, _-_, _*_, _/_, _≤_}
+use mathlib.Core.Path.{_≡_, refl, sym, ap, _∙_}
+use mathlib.Core.List.{List}
+use native.Mathlib.Omega.{arith}
+use borrow.Author.Needs.{needs}
+use lib.ListN.{length, drop, length-take, length-drop}
+use Rattle.paper.proofs.BytesLaws.{are-bytes}
+use Rattle.simplify.specs.Answer.{lent}
+use Rattle.paper_batch.specs.Batch.{lengthsIn, total}
+use Rattle.batch.specs.Turn.{turned, lengthsFrom, still}
+use Rattle.batch.proofs.LengthsLaws.{from-all, from-none, total-turn}
+use Rattle.batch.proofs.StillLaws.{still-none}
+use Rattle.batch.proofs.TurnLaws.{Gone, turn-gone}
+use Rattle.batch.proofs.in_turn.Statement.{statement}
+use Rattle.batch.proofs.in_turn.Tie as tie
+
+abbrev Inv-loop : tie.InvT-loop
+Inv-loop limit edition tables lengths out₀ steps₀ work₀ answers₀ n i₀ at₀ used₀ out steps work answers i at used =
+    (i ≤ n)
+    × (at + total (lengthsFrom lengths n i) ≡ length tables)
+    × (16 * used ≤ length out)
+    × (used ≤ length steps)
+    × (length out ≡ length out₀)
+    × (length steps ≡ length steps₀)
+    × (length work ≡ length work₀)
+    × (length answers ≡ length answers₀)
+    × (still limit edition i used (lengthsFrom lengths n i) (drop at tables) (lent out steps work) answers
+    ≡ still limit edition 0 0 (lengthsIn lengths) tables (lent out₀ steps₀ work₀) answers₀)
+
+abbrev μ-loop : tie.MeasureT-loop
+μ-loop limit edition tables lengths out₀ steps₀ work₀ answers₀ n i₀ at₀ used₀ out steps work answers i at used = n - i
+
+-- places on the way through the loop, and from each the one before it: the function's beginning, where the loop is entered for an item, where
+-- there is one, where its length is read, and where the item has come back
+abbrev Entered : Type 0
+Entered = tie.At-loop Inv-loop μ-loop
+
+abbrev More : Type 0
+More = tie.In-loop Inv-loop μ-loop
+
+abbrev Read : Type 0
+Read = tie.After-read8 Inv-loop μ-loop
+
+abbrev Back : Type 0
+Back = tie.After-slice-known8 Inv-loop μ-loop
+
+abbrev known-of : Entered → tie.After-shared-slice-known Inv-loop μ-loop
+known-of c = c .before .before .before .before .before .before
+
+abbrev entered-of : More → Entered
+entered-of c = c .before
+
+abbrev more-of : Read → More
+more-of c = c .before
+
+abbrev read-of : Back → Read
+read-of c = c .before .before .before .before .before .before .before .before .before .before .before .before .before .before
+
+-- the lengths from the item on are its own and those of the items after it
+length-read : (c : Read) → let more = more-of c in
+    let entered = entered-of more in
+    let s = known-of entered .before .args .lengths .now in
+    total (lengthsFrom s (length s / 8) (entered .loop .i)) ≡ c .read8 .result + total (lengthsFrom s (length s / 8) (entered .loop .i + 1))
+length-read c =
+    let more = more-of c in
+    let entered = entered-of more in
+    let s = known-of entered .before .args .lengths .now in
+    omega (arith, total-turn s (length s / 8) (entered .loop .i) (more .loop-test .taken), c .read8 .ensures)
+
+-- the item's turn
+gone : (c : Back) → let read = read-of c in
+    let entered = entered-of (more-of read) in
+    let g = known-of entered .before .args in
+    let l = entered .loop in
+    let call = c .before .before .before .before .before .before .before .before .item in
+    Gone (g .limit) (g .edition) (g .tables .now) (g .lengths .now) (l .answers) (lent (l .out) (l .steps) (l .work)) (length (g .lengths .now) / 8) (l .i) (l .at) (l .used)
+    (read .read8 .result)
+    (turned (call .result) (call .last .1 .1 .1 .0) (call .last .1 .1 .1 .1 .0) (call .last .1 .1 .1 .1 .1 .0) (call .last .1 .1 .1 .1 .1 .1 .0))
+gone c =
+    let read = read-of c in
+    let more = more-of read in
+    let entered = entered-of more in
+    let known = known-of entered in
+    let g = known .before .args in
+    let l = entered .loop in
+    let call = c .before .before .before .before .before .before .before .before .item in
+    turn-gone (g .limit) (g .edition) (g .tables .now) (g .lengths .now) (l .answers) (lent (l .out) (l .steps) (l .work)) (length (g .lengths .now) / 8) (l .i) (l .at)
+    (l .used) (read .read8 .result)
+    (turned (call .result) (call .last .1 .1 .1 .0) (call .last .1 .1 .1 .1 .0) (call .last .1 .1 .1 .1 .1 .0) (call .last .1 .1 .1 .1 .1 .1 .0))
+    (are-bytes (g .tables .now) (known .shared-slice-known .given)) (more .loop-test .taken) (l .inv .2) (l .inv .3) (omega arith)
+    (read .read8 .ensures) (call .ensures)
+
+loop-holds : tie.Need-loop-holds Inv-loop μ-loop
+loop-holds c =
+    let g = c .before .before .before .before .before .before .args in
+    let all = from-all (g .lengths .now) in (
+      omega arith,
+      omega (arith, ap total all, c .before .before .before .before .before .before .pre .0),
+      omega arith,
+      omega arith,
+      refl,
+      refl,
+      refl,
+      refl,
+      ap (λ (ns : List ℕ). still (g .limit) (g .edition) 0 0 ns (g .tables .now) (lent (g .out .now) (g .steps .now) (g .work .now)) (g .answers .now)) all,
+    )
+
+mul-read8 : tie.Need-mul-read8 Inv-loop μ-loop
+mul-read8 c = omega arith
+
+read8-requires : tie.Need-read8-requires Inv-loop μ-loop
+read8-requires c κs = omega arith
+
+add-end : tie.Need-add-end Inv-loop μ-loop
+add-end c = omega (arith, length-read c)
+
+mul-o : tie.Need-mul-o Inv-loop μ-loop
+mul-o c = omega arith
+
+mul-p : tie.Need-mul-p Inv-loop μ-loop
+mul-p c = omega arith
+
+sub-item : tie.Need-sub-item Inv-loop μ-loop
+sub-item c = omega arith
+
+part-item-start : tie.Need-part-item-start Inv-loop μ-loop
+part-item-start c = search needs
+
+part-item-end : tie.Need-part-item-end Inv-loop μ-loop
+part-item-end c = search (needs, length-read c)
+
+sub-item-2 : tie.Need-sub-item-2 Inv-loop μ-loop
+sub-item-2 c = omega arith
+
+part-item-start-2 : tie.Need-part-item-start-2 Inv-loop μ-loop
+part-item-start-2 c = search needs
+
+part-item-end-2 : tie.Need-part-item-end-2 Inv-loop μ-loop
+part-item-end-2 c = search needs
+
+sub-item-3 : tie.Need-sub-item-3 Inv-loop μ-loop
+sub-item-3 c = omega arith
+
+part-item-start-3 : tie.Need-part-item-start-3 Inv-loop μ-loop
+part-item-start-3 c = search needs
+
+part-item-end-3 : tie.Need-part-item-end-3 Inv-loop μ-loop
+part-item-end-3 c = search needs
+
+sub-item-4 : tie.Need-sub-item-4 Inv-loop μ-loop
+sub-item-4 c = omega arith
+
+part-item-start-4 : tie.Need-part-item-start-4 Inv-loop μ-loop
+part-item-start-4 c = search needs
+
+part-item-end-4 : tie.Need-part-item-end-4 Inv-loop μ-loop
+part-item-end-4 c = search needs
+
+item-requires : tie.Need-item-requires Inv-loop μ-loop
+item-requires c κs = simp (length-take, length-drop) (omega arith)
+
+add-used : tie.Need-add-used Inv-loop μ-loop
+add-used c =
+    let entered = entered-of (more-of (read-of c)) in
+    let turn = gone c in
+    omega (arith, turn .out-fits)
+
+add-i : tie.Need-add-i Inv-loop μ-loop
+add-i c = omega arith
+
+loop-less : tie.Need-loop-less Inv-loop μ-loop
+loop-less c = omega arith
+
+loop-again : tie.Need-loop-again Inv-loop μ-loop
+loop-again c =
+    let read = read-of c in
+    let l = entered-of (more-of read) .loop in
+    let turn = gone c in (
+      omega arith,
+      omega (arith, length-read read),
+      omega (arith, turn .out-kept, turn .out-fits),
+      omega (arith, turn .steps-kept, turn .steps-fit),
+      turn .out-kept ∙ l .inv .4,
+      turn .steps-kept ∙ l .inv .5,
+      turn .work-kept ∙ l .inv .6,
+      turn .answers-kept ∙ l .inv .7,
+      turn .goes-on ∙ l .inv .8,
+    )
+
+same-length : tie.Need-same-length Inv-loop μ-loop
+same-length c = omega arith
+
+same-length-2 : tie.Need-same-length-2 Inv-loop μ-loop
+same-length-2 c = omega arith
+
+same-length-3 : tie.Need-same-length-3 Inv-loop μ-loop
+same-length-3 c = omega arith
+
+same-length-4 : tie.Need-same-length-4 Inv-loop μ-loop
+same-length-4 c = omega arith
+
+returns : tie.Need-returns Inv-loop μ-loop
+returns c =
+    let g = c .before .before .before .before .before .before .before .before .args in
+    let l = c .before .loop in
+    let now = lent (l .out) (l .steps) (l .work) in
+    let none = from-none (g .lengths .now) (length (g .lengths .now) / 8) (l .i) (c .loop-test .left) in
+    sym (still-none (g .limit) (g .edition) (l .i) (l .used) (drop (l .at) (g .tables .now)) now (l .answers))
+    ∙ ap (λ (ns : List ℕ). still (g .limit) (g .edition) (l .i) (l .used) ns (drop (l .at) (g .tables .now)) now (l .answers)) (sym none)
+    ∙ l .inv .8
+
+pub in-turn-spec : {M : Type 1} → statement M
+in-turn-spec =
+    tie.close
+    (tie.spec
+    Inv-loop
+    μ-loop
+    loop-holds
+    mul-read8
+    read8-requires
+    add-end
+    mul-o
+    mul-p
+    sub-item
+    part-item-start
+    part-item-end
+    sub-item-2
+    part-item-start-2
+    part-item-end-2
+    sub-item-3
+    part-item-start-3
+    part-item-end-3
+    sub-item-4
+    part-item-start-4
+    part-item-end-4
+    item-requires
+    add-used
+    add-i
+    loop-less
+    loop-again
+    same-length
+    same-length-2
+    same-length-3
+    same-length-4
+    returns)

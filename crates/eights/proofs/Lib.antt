@@ -1,0 +1,2 @@
+pub mod EightsLaws
+pub mod Unique
