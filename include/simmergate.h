@@ -43,8 +43,8 @@
    15, where WHAT is 2. Else both are 0.
 
    Where `answer` is too short for the numbers, a call returns 6 before all else and changes nothing. Bytes of `answer` past the numbers never
-   change. Refusals 1 to 6, 8, 9 and 19 change no byte of any other area; of the calls on whole tables only simmergate_simplify, simmergate_batch and simmergate_differ
-   write to others at all.
+   change. Refusals 1 to 6, 8, 9 and 19 change no byte of any other area; of the calls on whole tables only simmergate_simplify, simmergate_batch,
+   simmergate_differ and the two on formulas that share sub-formulas write to others at all.
 
    All lengths are in bytes. The areas of one call must not overlap; a pointer may be anything where its length is 0, and needs no alignment.
    Nothing is allocated, nothing is kept between calls, and calls on different areas may run at the same time. */
@@ -78,7 +78,8 @@
 #define SIMMERGATE_VALUE_BYTES 40
 #define SIMMERGATE_EQUAL_BYTES 48
 #define SIMMERGATE_DIFFER_BYTES 48
-#define SIMMERGATE_SIMPLIFY_BYTES 80
+#define SIMMERGATE_SIMPLIFY_BYTES 80 /* simmergate_simplify_shared, too */
+#define SIMMERGATE_OPEN_BYTES 48
 
 /* Judges a table. The answer: refusal number, place, WHAT, BYTE. */
 uint32_t simmergate_check(size_t limit, const uint8_t *table, size_t table_bytes, uint8_t *answer, size_t answer_bytes);
@@ -161,6 +162,42 @@ uint32_t simmergate_receive(size_t limit, uint8_t *receiver, size_t receiver_byt
    after 19, too, it is written. */
 uint32_t simmergate_receive_finish(size_t limit, uint8_t *receiver, size_t receiver_bytes, const uint8_t *area, size_t area_bytes, uint8_t *answer,
                                    size_t answer_bytes);
+
+/* ---- Formulas that share sub-formulas ----
+
+   Up to 16 symbols may be defined by tables of their own, and each is replaced by the tree of its definition, again inside the replacement, until
+   none is left. `symbols` has one byte for each definition, the symbol that it defines; `lengths` has 8 bytes for each, little-endian: the bytes
+   of its table; `definitions` holds the tables end to end, in that order. Beside the formula's own 1 to 5 these calls answer
+
+     number   given exactly when
+     8        `lengths` is not 8 bytes for each of `symbols`, or the lengths do not add up to the bytes of `definitions`
+     15       a definition, used or not, would be refused by 1 to 5
+     16       there are over 16 definitions, or a symbol is defined twice
+     17       a definition that the formula reaches, by itself or by way of others, leads back to itself
+     18       the opened table weighs over L
+     6        W being the weight of the opened table, `opened` is under 16 x W bytes, or for simmergate_simplify_shared another area is too
+              short for W, as above
+
+   each with place 0. The order is 19, 9, 8, 1 to 5, 15, 16, 17, 18, 6, 7; the definitions are judged at the same limit. Of a definition that is refused no more is told: hand it to simmergate_check.
+   All refusals but 7 change no area.
+
+   Opening replaces and does nothing else: a sum put inside a sum stands there nested. A formula may become lighter by it (a symbol weighs 3, an
+   integer 1); W is always the opened weight. Symbols that are replaced are not read any more: their registers are free. The value of the
+   opened table is that of the formula under registers in which each defined symbol has the value of its definition. */
+
+/* Opens a formula: the opened table goes to the front of `opened`, whose other bytes stay. The answer: refusal number, place, records and weight
+   of the opened table, WHAT, BYTE. */
+uint32_t simmergate_open(size_t limit, const uint8_t *table, size_t table_bytes, const uint8_t *symbols, size_t symbols_bytes, const uint8_t *lengths,
+                         size_t lengths_bytes, const uint8_t *definitions, size_t definitions_bytes, uint8_t *opened, size_t opened_bytes,
+                         uint8_t *answer, size_t answer_bytes);
+
+/* Opens a formula and simplifies the opened table by the rules of an edition. After 0 and after 7 the opened table stands at the front of `opened`,
+   whose other bytes stay; the rest is what simmergate_simplify answers and writes for the opened table, with its weight as weight in. It was
+   measured to need 656 bytes of stack more than that call, and so no more than SIMMERGATE_STACK. */
+uint32_t simmergate_simplify_shared(size_t limit, size_t edition, const uint8_t *table, size_t table_bytes, const uint8_t *symbols, size_t symbols_bytes,
+                                    const uint8_t *lengths, size_t lengths_bytes, const uint8_t *definitions, size_t definitions_bytes,
+                                    uint8_t *opened, size_t opened_bytes, uint8_t *out, size_t out_bytes, uint8_t *steps, size_t steps_bytes,
+                                    uint8_t *work, size_t work_bytes, uint8_t *answer, size_t answer_bytes);
 
 /* ---- Settings that survive an upgrade ----
 

@@ -43,6 +43,16 @@ static void *site(void *unused) {
     return unused;
 }
 
+/* The same of a formula, a symbol by itself, that the table defines. */
+static void *simplify_shared(void *unused) {
+    static uint8_t formula[RECORD] = {1, [8] = 7}, symbols[1] = {7}, lengths[8], opened[RECORD * HIGHER];
+    own_bytes(lengths, bytes);
+    returned = simmergate_simplify_shared(at.limit, edition, formula, sizeof formula, symbols, sizeof symbols, lengths, sizeof lengths, table, bytes,
+                                          opened, sizeof opened, out, sizeof out, steps, sizeof steps, work, sizeof work, answer, sizeof answer);
+    if (memcmp(opened, table, bytes) != 0) printf("deep: the opened table is another one\n"), exit(1);
+    return unused;
+}
+
 /* Bytes of the stack that a thread uses. */
 static size_t used(void *(*call)(void *)) {
     pthread_attr_t attributes;
@@ -89,10 +99,10 @@ static void differ(const char *call, unsigned a, unsigned b, uint64_t expected, 
 }
 
 /* Simplifies the table that stands there; the result has its value, and says what is expected of the records and the steps. */
-static size_t simplified(unsigned a, unsigned b, size_t thread) {
+static size_t simplified(void *(*call)(void *), unsigned a, unsigned b, size_t thread) {
     static const uint64_t own_registers[REGISTERS] = {5, 7, 11};
     uint64_t v = own_value(table, own_registers);
-    size_t n = used(simplify) - thread;
+    size_t n = used(call) - thread;
     if (returned != 0 && returned != 7) differ("the return of simplifying", a, b, 0, returned);
     if (returned == 0 && own_value(out, own_registers) != v) differ("the value of the result", a, b, v, own_value(out, own_registers));
     return n;
@@ -107,15 +117,15 @@ static void widest(unsigned n, int which, size_t records, size_t taken, size_t t
         if (which == 1) put(1, 0, 0);
         if (which == 2) { put(4, 0, 0); put(0, 0, 2); put(0, 0, i + 1); }
     }
-    simplified(2, 2, thread);
+    simplified(simplify, 2, 2, thread);
     if (returned != 0) differ("the return of simplifying", 2, 2, 0, returned);
     if (own_number(answer + 16) != records) differ("the records of a wide sum", 2, 2, records, own_number(answer + 16));
     if (own_number(answer + 24) != taken) differ("the steps of a wide sum", 2, 2, taken, own_number(answer + 24));
 }
 
 /* The calls that are measured. */
-enum { CHECK, WEIGHT, VALUE, EQUAL, SIMPLIFY, DIFFER, BATCH, CALLS };
-static const char *const names[CALLS] = {"check", "weight", "value", "equal", "simplify", "differ", "batch"};
+enum { CHECK, WEIGHT, VALUE, EQUAL, SIMPLIFY, DIFFER, BATCH, SHARED, CALLS };
+static const char *const names[CALLS] = {"check", "weight", "value", "equal", "simplify", "differ", "batch", "simplify_shared"};
 
 /* All calls on the deepest tables of the level; says what each needed at the most. */
 static void deepest(void) {
@@ -156,12 +166,14 @@ static void deepest(void) {
         }
         nest(a, b, first, 3);
         for (edition = 1; edition <= 2; edition++) {
-            size_t n = simplified(a, b, thread);
+            size_t n = simplified(simplify, a, b, thread);
             if (n > most[SIMPLIFY]) most[SIMPLIFY] = n;
             uint32_t alone = returned;
             n = used(site) - thread;
             if (n > most[BATCH]) most[BATCH] = n;
             if (returned != 0 || own_number(answer) != alone) differ("the answer of a site", a, b, alone, own_number(answer));
+            n = simplified(simplify_shared, a, b, thread);
+            if (n > most[SHARED]) most[SHARED] = n;
         }
     }
     edition = 1;

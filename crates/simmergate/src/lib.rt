@@ -4,6 +4,7 @@ mod differ_calls;
 mod receiver_calls;
 mod settings_calls;
 mod site_calls;
+mod shared_calls;
 
 use eights::write_numbers;
 ghost use mathlib.Core.Path.{_≡_};

@@ -1,5 +1,5 @@
--- Two answers that meet the contract of `simplify`, as the check reads it from the source, are the same, and so are the areas
--- afterwards: the contract is an equation with a function of what is handed in. So it is with `is_edition`. Assumes nothing.
+-- Two answers that meet the contract of `simplify`, of `refusal`, of `is_edition` or of `work_bytes`, as the check reads it from the source, are the same, and so
+-- are the areas afterwards: each contract is an equation with a function of what is handed in. Assumes nothing.
 use mathlib.Core.Path.{_≡_, sym, ap, _∙_}
 use borrow.Fn.Kinds.{endedOf}
 use contract.Lifetimes.{Lfts}
@@ -11,10 +11,14 @@ use Rattle.record.specs.declared.Flaw.{Flaw}
 use Rattle.record.proofs.Unique.{codeOf, code-of, flaw-of}
 use Rattle.simplify.specs.declared.Answer.{Answer}
 use Rattle.simplify.specs.Answer.{says, lent}
-use Rattle.simplify.proofs.is_edition.Reads as is-edition
-use Rattle.simplify.proofs.is_edition.Kinds as is-edition-kinds
 use Rattle.simplify.proofs.simplify.Reads as reads
 use Rattle.simplify.proofs.simplify.Kinds as kinds
+use Rattle.simplify.proofs.refusal.Reads as refusal-reads
+use Rattle.simplify.proofs.refusal.Kinds as refusal-kinds
+use Rattle.simplify.proofs.is_edition.Reads as is-edition-reads
+use Rattle.simplify.proofs.is_edition.Kinds as is-edition-kinds
+use Rattle.simplify.proofs.work_bytes.Reads as work-bytes-reads
+use Rattle.simplify.proofs.work_bytes.Kinds as work-bytes-kinds
 
 -- the paper's answer, as the code's
 abbrev pub answerOf : paper.Answer → Answer
@@ -63,8 +67,17 @@ says-answer a =
     })
     (flaw-of (a .flaw))
 
-says-once : (r r′ : Answer) → says r ≡ says r′ → r ≡ r′
+pub says-once : (r r′ : Answer) → says r ≡ says r′ → r ≡ r′
 says-once r r′ e = sym (answer-of r) ∙ ap answerOf e ∙ answer-of r′
+
+pub refusal-once : Once 0 refusal-kinds.ps refusal-kinds.r refusal-reads.Pre refusal-reads.Post
+refusal-once κs a v v' x x' q p p' = says-once v v' (p ∙ sym p')
+
+pub is-edition-once : Once 0 is-edition-kinds.ps is-edition-kinds.r is-edition-reads.Pre is-edition-reads.Post
+is-edition-once κs a v v' x x' q p p' = p ∙ sym p'
+
+pub work-bytes-once : Once 0 work-bytes-kinds.ps work-bytes-kinds.r work-bytes-reads.Pre work-bytes-reads.Post
+work-bytes-once κs a v v' x x' q p p' = p ∙ sym p'
 
 -- the three areas at exit
 abbrev pub areasLeft : (κs : Lfts 4) → AtExit (endedOf 4 kinds.ps kinds.r) κs → paper.Lent
@@ -76,6 +89,3 @@ areasLeft κs x =
 
 pub simplify-once : OnceLeft 4 kinds.ps kinds.r reads.Pre reads.Post paper.Lent areasLeft
 simplify-once κs a v v' x x' q p p' = let e = p ∙ sym p' in (says-once v v' (ap (λ g. g .answer) e), ap (λ g. g .lent) e)
-
-pub is-edition-once : Once 0 is-edition-kinds.ps is-edition-kinds.r is-edition.Pre is-edition.Post
-is-edition-once κs a v v' x x' h p q = p ∙ sym q

@@ -27,7 +27,7 @@ pub struct Answer {
 }
 
 // A refusal: its number and place, what is wrong with the record, and zeros.
-fn refusal(number: u32, place: usize, flaw: Flaw) -> Answer
+pub fn refusal(number: u32, place: usize, flaw: Flaw) -> Answer
     ensures { λ r. ⌜ says r ≡ refusedBy (told number place (flawOf flaw)) ⌝ }
 {
     Answer {
@@ -54,7 +54,7 @@ pub fn is_edition(edition: usize) -> bool
 }
 
 // The bytes of `work` that the limit asks for.
-fn work_bytes(limit: usize) -> usize
+pub fn work_bytes(limit: usize) -> usize
     ensures { λ r. ⌜ r ≡ workBytes limit ⌝ }
 {
     if limit == 3072 {

@@ -1,0 +1,5 @@
+pub mod PartLaws
+pub mod WeighLaws
+pub mod OpenLaws
+pub mod PlanLaws
+pub mod Unique

@@ -1,0 +1,112 @@
+-- `opening::round` meets its contract: each turn writes the weight of one definition. Assumes nothing.
+use Prim.Native.Nat.{ℕ, zero, suc, _+_, _-_, _*_, _/_, _≤_, _<_}
+use mathlib.Core.Path.{_≡_, refl, sym, ap, _∙_}
+use mathlib.Core.Bool.{true, false, cond, _||_}
+use mathlib.Core.Logic.{⊎-elim}
+use mathlib.Core.Option.{some, none}
+use native.Mathlib.Nat.{zero-add, add-zero, sub-zero}
+use native.Mathlib.Omega.{arith}
+use borrow.Author.Needs.{needs}
+use borrow.Author.Tests.{eq-eqb, ne-eqb, eqb-true, eqb-false}
+use lib.ListN.{length, getD, set, replicate, length-set}
+use lib.Dec.{eqb, lit≤}
+use Rattle.opening.specs.Weighed.{weighs, mostCounted}
+use Rattle.opening.specs.Index.{pieceAt, Lies}
+use Rattle.opening.proofs.PartLaws.{zeros}
+use Rattle.opening.proofs.WeighLaws.{piece-short, next-turn, next-bound}
+use Rattle.opening.proofs.round.Statement.{statement}
+use Rattle.opening.proofs.round.Tie as tie
+
+abbrev Inv-loop : tie.InvT-loop
+Inv-loop limit definitions which from n weights next₀ j₀ next j = (j ≤ n) × (length next ≡ 16) × ((k : ℕ) → k < j → getD next k 0 ≡ weighs limit which weights (pieceAt definitions from k)) × ((k : ℕ) → k < 16 → getD next k 0 ≤ mostCounted)
+
+abbrev μ-loop : tie.MeasureT-loop
+μ-loop limit definitions which from n weights next₀ j₀ next j = n - j
+
+loop-holds : tie.Need-loop-holds Inv-loop μ-loop
+loop-holds c = (omega arith, refl, (λ k l. absurd (omega (arith, l))), λ k l. (let z = zeros 16 k in omega (arith, z)))
+
+mul-a : tie.Need-mul-a Inv-loop μ-loop
+mul-a c = omega arith
+
+element-copy-out-a : tie.Need-element-copy-out-a Inv-loop μ-loop
+element-copy-out-a c = omega arith
+
+add-e : tie.Need-add-e Inv-loop μ-loop
+add-e c = omega arith
+
+mul-e : tie.Need-mul-e Inv-loop μ-loop
+mul-e c = omega arith
+
+element-copy-out-e : tie.Need-element-copy-out-e Inv-loop μ-loop
+element-copy-out-e c = omega arith
+
+sub-weigh : tie.Need-sub-weigh Inv-loop μ-loop
+sub-weigh c = let y = c .before .before .before .before .before .pre .2 (c .before .before .before .loop .j) (omega arith) in y .up
+
+part-weigh-start : tie.Need-part-weigh-start Inv-loop μ-loop
+part-weigh-start c = let y = c .before .before .before .before .before .pre .2 (c .before .before .before .loop .j) (omega arith) in omega arith
+
+part-weigh-end : tie.Need-part-weigh-end Inv-loop μ-loop
+part-weigh-end c = let y = c .before .before .before .before .before .pre .2 (c .before .before .before .loop .j) (omega arith) in omega arith
+
+weigh-requires : tie.Need-weigh-requires Inv-loop μ-loop
+unfolding pieceAt
+weigh-requires c κs =
+    let s = c .before .before .before .before .before .before in
+    let j = c .before .before .before .before .loop .j in
+    let a = s .args in
+    (s .pre .0, piece-short (a .definitions .now) (a .from .now) j (s .pre .2 j (omega arith)), s .pre .3, s .pre .4)
+
+mul-next : tie.Need-mul-next Inv-loop μ-loop
+mul-next c = omega arith
+
+array-write-next : tie.Need-array-write-next Inv-loop μ-loop
+array-write-next c = omega arith
+
+add-j : tie.Need-add-j Inv-loop μ-loop
+add-j c = omega arith
+
+loop-less : tie.Need-loop-less Inv-loop μ-loop
+loop-less c = omega arith
+
+loop-again : tie.Need-loop-again Inv-loop μ-loop
+unfolding pieceAt
+loop-again c =
+    let s = c .before .before .before .before .before .before .before in
+    let a = s .args in
+    let l = c .before .before .before .before .before .loop in
+    let w = c .weigh in (
+      omega arith,
+      length-set (l .next) (l .j) (w .result) ∙ l .inv .1,
+      next-turn (l .next) (λ k. weighs (a .limit) (a .which .now) (a .weights .now) (pieceAt (a .definitions .now) (a .from .now) k)) (l .j) (w .result) (l .inv .1) (omega arith) (w .ensures .0) (l .inv .2),
+      next-bound (l .next) (l .j) (w .result) (l .inv .1) (omega arith) (w .ensures .1) (l .inv .3),
+    )
+
+returns : tie.Need-returns Inv-loop μ-loop
+returns c =
+    let l = c .before .loop in
+    ((λ j h. l .inv .2 j (omega (arith, h))), l .inv .3)
+
+pub round-spec : {M : Type 1} → statement M
+round-spec =
+    tie.close
+    (tie.spec
+    Inv-loop
+    μ-loop
+    loop-holds
+    mul-a
+    element-copy-out-a
+    add-e
+    mul-e
+    element-copy-out-e
+    sub-weigh
+    part-weigh-start
+    part-weigh-end
+    weigh-requires
+    mul-next
+    array-write-next
+    add-j
+    loop-less
+    loop-again
+    returns)

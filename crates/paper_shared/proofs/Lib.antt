@@ -1,0 +1,11 @@
+pub mod SharedLaws
+pub mod CircleLaws
+pub mod OpenedLaws
+pub mod FlatLaws
+pub mod Words
+pub mod Refusals
+pub mod Tables
+pub mod Judgement
+pub mod Demands
+pub mod Slices
+pub mod Computed
