@@ -132,10 +132,9 @@ static void read_line(char **parts) {
     if (*end != 0) fail("no answer of seven numbers, or of ten");
 }
 
-/* Every call on the site of the line at a limit. */
-static void try_site(size_t limit) {
+/* Every call on the site of the line at a limit, with so much `work` where the line says what is lent. */
+static void try_site(size_t limit, size_t work) {
     uint64_t number = wanted.numbers[0], w;
-    size_t work = limit == LOWER ? wanted.areas[3] : wanted.areas[3] + own_work(limit) - own_work(LOWER);
     site.limit = limit;
     wanted.open = own_open(&site, own_table);
     w = wanted.open.weight;
@@ -193,9 +192,9 @@ int main(int argc, char **argv) {
         if (unhex_repeated(parts[12], wanted_steps, sizeof wanted_steps) != wanted.numbers[3]) fail("the steps are not as many as the answer says");
         site.limit = limit;
         if ((number == 0 || number == 7) && own_open(&site, own_table).records != records) fail("the test's own reading opens to other records");
-        try_site(limit);
+        try_site(limit, wanted.areas[3]);
         site.limit = HIGHER;
-        if (limit == LOWER && own_open(&site, own_table).number == (number == 6 || number == 7 ? 0 : number)) try_site(HIGHER), at_both++;
+        if (limit == LOWER && own_open(&site, own_table).number == (number == 6 || number == 7 ? 0 : number)) try_site(HIGHER, wanted.areas[3] + own_work(HIGHER) - own_work(LOWER)), at_both++;
         lines++;
         simplified += number == 0;
         left_range += number == 7;

@@ -180,7 +180,8 @@ receives =
     -- a mark of 2^63 is not 0
     ∷ receive 3072 (replicate 15 0 ++ (128 ∷ [])) (marked 49152) (7 ∷ []) 0 (replicate 15 0 ++ (128 ∷ [])) (marked 49152)
     -- a record of 15 bytes is 6 before all else, then 19, then 6 for the area: nothing changes
-    ∷ receive 3073 (replicate 15 0) (marked 49152) (7 ∷ []) 6 (replicate 15 0) (marked 49152)
+    ∷ receive 3072 (replicate 15 0) (marked 49152) (7 ∷ []) 6 (replicate 15 0) (marked 49152)
+    ∷ receive 3073 (replicate 15 0) (marked 4) (7 ∷ []) 6 (replicate 15 0) (marked 4)
     ∷ receive 3073 (replicate 16 0) (marked 4) (7 ∷ []) 19 (replicate 16 0) (marked 4)
     ∷ receive 3072 (replicate 17 165) (marked 4) (7 ∷ []) 6 (replicate 17 165) (marked 4)
     ∷ []
