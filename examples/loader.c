@@ -3,8 +3,8 @@
      loader [-l LIMIT] [-e EDITION] FILE [SYMBOL=NUMBER ...]
 
    The limit is 3,072, or the one that is named; the rules are those of edition one, or of the edition that is named.
-   It writes the formula, the shortened one, both with the line marks behind what they belong to (a@12 is a symbol of line 12), the steps by name, and the value of both with the symbols named set and all others 0.
-   Symbols 0 to 25 are a to z, the others s26 to s255. What goes wrong goes to standard error in words; the exit code is then 1.
+   It writes the formula, the shortened one, the lines of the sheet that the records of that one come from, where any is marked, the steps by name, and the value of both with the symbols named set and all others 0.
+   Symbols are s0 to s255. What goes wrong goes to standard error in words; the exit code is then 1.
 
    All memory is lent from here; the library has none of its own. No two areas overlap. */
 #include "../include/simmergate.h"
@@ -19,6 +19,7 @@ static uint8_t table[SIMMERGATE_TABLE_BYTES(HIGHEST) + 1]; /* one byte more, to 
 static uint8_t out[SIMMERGATE_TABLE_BYTES(HIGHEST)], steps[HIGHEST], work[SIMMERGATE_WORK_BYTES(HIGHEST)]; /* enough for every table that is accepted */
 static size_t limit = 3072;
 static uint8_t registers[2048];
+static uint8_t text[SIMMERGATE_TEXT_BYTES(HIGHEST)];    /* of any table that is accepted */
 
 /* Number i of an answer. */
 static uint64_t number(const uint8_t *answer, int i) {
@@ -78,41 +79,23 @@ static const char *step_name(uint8_t step) {
     }
 }
 
-static void print_symbol(unsigned symbol) {
-    if (symbol < 26) putchar('a' + (int)symbol);
-    else printf("s%u", symbol);
+/* Prints the line of the sheet that each record comes from, in their order and 0 for none, where any of them has one. */
+static void print_lines(const uint8_t *from, size_t length) {
+    unsigned any = 0;
+    for (size_t i = 0; i < length; i += 16) any |= from[i + 4] | from[i + 5];
+    if (any == 0) return;
+    printf("lines     ");
+    for (size_t i = 0; i < length; i += 16) printf(" %u", from[i + 4] + 256u * from[i + 5]);
+    putchar('\n');
 }
 
-/* Prints the line that a record comes from, where it says one. */
-static void print_mark(const uint8_t *record) {
-    unsigned mark = record[4] + 256u * record[5];
-    if (mark > 0) printf("@%u", mark);
-}
-
-/* Prints the formula at `record`, which has been accepted; the answer is the first record after it. */
-static const uint8_t *print_formula(const uint8_t *record, int inside) {
-    const uint8_t *next = record + 16;
-    unsigned kind = record[0], members = kind == 4 ? 2 : record[2] + 256u * record[3];
-    if (kind == 0) {
-        long long n = (long long)number(record, 1);
-        printf(inside && n < 0 ? "(%lld)" : "%lld", n);
-        print_mark(record);
-        return next;
-    }
-    if (kind == 1) {
-        print_symbol(record[8]);
-        print_mark(record);
-        return next;
-    }
-    inside = inside || record[4] + record[5] > 0; /* the mark of a sum, product or power stands behind a parenthesis */
-    if (inside) putchar('(');
-    for (unsigned i = 0; i < members; i++) {
-        if (i > 0) fputs(kind == 2 ? " + " : kind == 3 ? "*" : "^", stdout);
-        next = print_formula(next, !(kind == 2 && (next[0] == 3 || next[0] == 4)) && !(kind == 3 && next[0] == 4));
-    }
-    if (inside) putchar(')');
-    print_mark(record);
-    return next;
+/* Prints the text of a table that has been accepted, after a word; 0 after a refusal. */
+static int print_formula(const char *file, const char *word, const uint8_t *from, size_t length) {
+    uint8_t answer[SIMMERGATE_WRITE_TEXT_BYTES];
+    uint32_t why = simmergate_write_text(limit, from, length, text, sizeof text, answer, sizeof answer);
+    if (why != 0) return !refused(file, length, why, number(answer, 1), answer + 24);
+    printf("%s%.*s\n", word, (int)number(answer, 2), (const char *)text);
+    return 1;
 }
 
 /* ---- The three things that a loader does ---- */
@@ -140,18 +123,17 @@ static long read_table(const char *file) {
     return (long)n;
 }
 
-/* Sets the register that `text`, SYMBOL=NUMBER, names; 0 after a message. */
-static int set_register(const char *text) {
+/* Sets the register that `word`, SYMBOL=NUMBER, names; 0 after a message. */
+static int set_register(const char *word) {
     char *end;
-    const char *equals = strchr(text, '=');
+    const char *equals = strchr(word, '=');
     long symbol = -1;
-    if (equals == text + 1 && *text >= 'a' && *text <= 'z') symbol = *text - 'a';
-    else if (equals != NULL && *text == 's' && equals > text + 1) {
-        symbol = strtol(text + 1, &end, 10);
+    if (equals != NULL && *word == 's' && equals > word + 1 && word[1] >= '0' && word[1] <= '9') {
+        symbol = strtol(word + 1, &end, 10);
         if (end != equals || symbol > 255) symbol = -1;
     }
     if (symbol < 0 || equals[1] == 0) {
-        fprintf(stderr, "loader: not SYMBOL=NUMBER with a symbol a to z or s0 to s255: %s\n", text);
+        fprintf(stderr, "loader: not SYMBOL=NUMBER with a symbol s0 to s255: %s\n", word);
         return 0;
     }
     errno = 0;
@@ -190,16 +172,14 @@ int main(int argc, char **argv) {
 
     uint32_t why = simmergate_value(limit, table, n, registers, sizeof registers, before, sizeof before);
     if (why != 0) return refused(argv[1], n, why, number(before, 1), before + 24);
-    fputs("formula    ", stdout);
-    print_formula(table, 0);
-    putchar('\n');
+    if (!print_formula(argv[1], "formula    ", table, n)) return 1;
 
     why = simmergate_simplify(limit, edition, table, n, out, sizeof out, steps, sizeof steps, work, sizeof work, answer, sizeof answer);
     if (why != 0) return refused(argv[1], n, why, number(answer, 1), answer + 56);
     size_t shortened = 16 * (size_t)number(answer, 2);
-    fputs("shortened  ", stdout);
-    print_formula(out, 0);
-    printf("\nweight     %llu to %llu\n", (unsigned long long)number(answer, 5), (unsigned long long)number(answer, 6));
+    if (!print_formula(argv[1], "shortened  ", out, shortened)) return 1;
+    print_lines(out, shortened);
+    printf("weight     %llu to %llu\n", (unsigned long long)number(answer, 5), (unsigned long long)number(answer, 6));
     printf("opened     %llu\n", (unsigned long long)number(answer, 4));
     printf("tries      %llu\n", (unsigned long long)number(answer, 9));
     for (uint64_t i = 0; i < number(answer, 3); i++) printf("step %-5llu %s\n", (unsigned long long)i + 1, step_name(steps[i]));

@@ -1,4 +1,5 @@
-/* Simmergate: formulas as tables of records, judged, weighed, evaluated, compared, told apart and simplified, one by one or a whole site in one call.
+/* Simmergate: formulas as tables of records, judged, weighed, evaluated, compared, told apart, simplified, one by one or a whole site in one call,
+   and read and written as text.
 
    A table holds records of 16 bytes, the tree in the order parent, then members from first to last; numbers are little-endian. Byte 0 is the
    kind (0 integer, 1 symbol, 2 sum, 3 product, 4 power), bytes 2-3 the number of members of a sum or a product, bytes 4-5 a line mark, bytes
@@ -43,8 +44,8 @@
    15, where WHAT is 2. Else both are 0.
 
    Where `answer` is too short for the numbers, a call returns 6 before all else and changes nothing. Bytes of `answer` past the numbers never
-   change. Refusals 1 to 6, 8, 9 and 19 change no byte of any other area; of the calls on whole tables only simmergate_simplify, simmergate_batch,
-   simmergate_differ and the two on formulas that share sub-formulas write to others at all.
+   change. Refusals 1 to 6, 8, 9, 14 and 19 change no byte of any other area; of the calls on whole tables only simmergate_simplify, simmergate_batch,
+   simmergate_differ, the two on formulas that share sub-formulas and the two on text write to others at all.
 
    All lengths are in bytes. The areas of one call must not overlap; a pointer may be anything where its length is 0, and needs no alignment.
    Nothing is allocated, nothing is kept between calls, and calls on different areas may run at the same time. */
@@ -63,9 +64,16 @@
      simmergate_equal        555,176    2,898,088
      simmergate_differ       170,456      915,928
      simmergate_simplify     588,728    3,144,632     by either edition
-     simmergate_batch        588,872    3,144,776     by either edition */
+     simmergate_batch        588,872    3,144,776     by either edition
+     simmergate_simplify_shared 589,384 3,145,288     by either edition
+     simmergate_write_text   219,504    1,177,968
+     simmergate_read_text    982,208    5,242,048     for any text */
 #define SIMMERGATE_STACK 606208
 #define SIMMERGATE_STACK_16384 3211264
+
+/* simmergate_read_text alone needs more, for any text. */
+#define SIMMERGATE_READ_TEXT_STACK 1003520
+#define SIMMERGATE_READ_TEXT_STACK_16384 5324800
 
 /* Bytes of the longest table that a limit lets pass, and of the `work` that it asks for. Every area `out` of SIMMERGATE_TABLE_BYTES(L) bytes
    and every area `steps` of L bytes is long enough. */
@@ -80,6 +88,8 @@
 #define SIMMERGATE_DIFFER_BYTES 48
 #define SIMMERGATE_SIMPLIFY_BYTES 80 /* simmergate_simplify_shared, too */
 #define SIMMERGATE_OPEN_BYTES 48
+#define SIMMERGATE_READ_TEXT_BYTES 24
+#define SIMMERGATE_WRITE_TEXT_BYTES 40
 
 /* Judges a table. The answer: refusal number, place, WHAT, BYTE. */
 uint32_t simmergate_check(size_t limit, const uint8_t *table, size_t table_bytes, uint8_t *answer, size_t answer_bytes);
@@ -192,12 +202,40 @@ uint32_t simmergate_open(size_t limit, const uint8_t *table, size_t table_bytes,
                          uint8_t *answer, size_t answer_bytes);
 
 /* Opens a formula and simplifies the opened table by the rules of an edition. After 0 and after 7 the opened table stands at the front of `opened`,
-   whose other bytes stay; the rest is what simmergate_simplify answers and writes for the opened table, with its weight as weight in. It was
-   measured to need 656 bytes of stack more than that call, and so no more than SIMMERGATE_STACK. */
+   whose other bytes stay; the rest is what simmergate_simplify answers and writes for the opened table, with its weight as weight in. */
 uint32_t simmergate_simplify_shared(size_t limit, size_t edition, const uint8_t *table, size_t table_bytes, const uint8_t *symbols, size_t symbols_bytes,
                                     const uint8_t *lengths, size_t lengths_bytes, const uint8_t *definitions, size_t definitions_bytes,
                                     uint8_t *opened, size_t opened_bytes, uint8_t *out, size_t out_bytes, uint8_t *steps, size_t steps_bytes,
                                     uint8_t *work, size_t work_bytes, uint8_t *answer, size_t answer_bytes);
+
+/* ---- Formulas as text ----
+
+   A text is bytes of ASCII, with no spaces, no line end and no end mark: symbols s0 to s255; integers from -9223372036854775808 to
+   9223372036854775807 in decimal digits with no leading zero; members of a sum with + between, of a product with *; a power with ^ and an exponent
+   of at least 1. Parentheses stand round a sum inside anything, round a product inside a product or as a base, round a power or a negative
+   integer as a base, and nowhere else:
+
+     s0+s1*s2   s0+-3   -3*s1   (s0+1)*2   s0*(s1*s2)   (s0^2)^3   (-2)^3   2^3
+
+   A table has exactly one text, and a text that is read exactly one table: writing what was read gives the same bytes, and reading what was written
+   gives the same records without their line marks, which text does not carry. Two more refusals:
+
+     14       the text is none of this form: no tree has it, whatever its weight           place 0
+     3        it has one, which weighs over the limit                                      place 0
+
+   A text of any length and nesting is judged, within SIMMERGATE_READ_TEXT_STACK bytes of stack, or SIMMERGATE_READ_TEXT_STACK_16384. The time grows with its length, and for a text nested deeper than half the limit with its
+   length times its depth over that. 19 comes before 14. */
+
+/* Bytes that the text of any table of this weight fits in; of any accepted table with the limit. */
+#define SIMMERGATE_TEXT_BYTES(weight) (21 * (weight))
+
+/* Reads a text and writes its records to the front of `table`, all or none; the bytes past them never change. Refused by 19, then 14, then 3, then 6 where `table` is
+   shorter than 16 bytes for each record (SIMMERGATE_TABLE_BYTES(limit) are always enough); then no byte of it changes. The answer: refusal number, place (0), records written. */
+uint32_t simmergate_read_text(size_t limit, const uint8_t *text, size_t text_bytes, uint8_t *table, size_t table_bytes, uint8_t *answer, size_t answer_bytes);
+
+/* Writes the text of a table to the front of `text`, whole or not at all; the bytes past it never change. Refused by 19, then by 1 to 5 for the table, then by 6 where
+   `text` is too short. The answer: refusal number, place, bytes written, WHAT, BYTE. */
+uint32_t simmergate_write_text(size_t limit, const uint8_t *table, size_t table_bytes, uint8_t *text, size_t text_bytes, uint8_t *answer, size_t answer_bytes);
 
 /* ---- Settings that survive an upgrade ----
 

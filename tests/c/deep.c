@@ -1,6 +1,6 @@
 /* The deepest tables that are accepted, 1,535 nodes one inside the other at the limit 3,072 and 8,191 at 16,384, checked, weighed, evaluated,
-   compared, walked in step and simplified by both editions, alone and as a site of one item, on a stack of 1 MiB, and of 4 MiB, that lies behind a page that nothing may touch. The stack is painted before each call, and what is painted over is what the call needed. The
-   widest tables are simplified there, too. */
+   compared, walked in step and simplified by both editions, alone and as a site of one item, written as text and read again, on a stack of 1 MiB, and of 8 MiB, that lies behind a page that nothing may touch. The stack is painted before each call, and what is painted over is what the call needed. The
+   widest tables are simplified there, too, and texts nested far deeper than any table are judged. */
 #include "../../include/simmergate.h"
 #include "own.h"
 #include <pthread.h>
@@ -10,20 +10,22 @@
 
 int mprotect(void *, size_t, int);
 
-enum { PAGE = 4096, STACK = 4 << 20, PAINT = 0xe5 };
+enum { PAGE = 4096, STACK = 8 << 20, PAINT = 0xe5 };
 
 static uint8_t area[PAGE + STACK] __attribute__((aligned(PAGE)));
 static uint8_t *const stack = area + PAGE;
 
 /* A limit, how deep its deepest tables are, the stack that they are tried on, and what the header says that they need. */
-struct level { size_t limit, stack, said; int depth; };
-static const struct level levels[] = {{LOWER, 1 << 20, SIMMERGATE_STACK, 1535}, {HIGHER, STACK, SIMMERGATE_STACK_16384, 8191}};
+struct level { size_t limit, stack, said, reading; int depth; };
+static const struct level levels[] = {{LOWER, 1 << 20, SIMMERGATE_STACK, SIMMERGATE_READ_TEXT_STACK, 1535}, {HIGHER, STACK, SIMMERGATE_STACK_16384, SIMMERGATE_READ_TEXT_STACK_16384, 8191}};
 static struct level at;
 
 static uint8_t table[RECORD * HIGHER], second[RECORD * HIGHER], registers[8 * REGISTERS], answer[SIMMERGATE_SIMPLIFY_BYTES];
 static uint8_t out[RECORD * HIGHER], steps[HIGHER], work[524288], lengths[8];
 static size_t bytes, second_bytes, edition = 1;
 static uint32_t returned;
+static uint8_t text[1 << 20];
+static size_t text_bytes;
 
 static void *nothing(void *unused) { return unused; }
 static void *check(void *unused) { returned = simmergate_check(at.limit, table, bytes, answer, sizeof answer); return unused; }
@@ -31,6 +33,9 @@ static void *weigh(void *unused) { returned = simmergate_weight(at.limit, table,
 static void *evaluate(void *unused) { returned = simmergate_value(at.limit, table, bytes, registers, sizeof registers, answer, sizeof answer); return unused; }
 static void *compare(void *unused) { returned = simmergate_equal(at.limit, table, bytes, second, second_bytes, answer, sizeof answer); return unused; }
 static void *walk(void *unused) { returned = simmergate_differ(at.limit, table, bytes, second, second_bytes, out, sizeof out, answer, sizeof answer); return unused; }
+
+static void *spell(void *unused) { returned = simmergate_write_text(at.limit, table, bytes, text, sizeof text, answer, sizeof answer); return unused; }
+static void *take_in(void *unused) { returned = simmergate_read_text(at.limit, text, text_bytes, second, sizeof second, answer, sizeof answer); return unused; }
 
 static void *simplify(void *unused) {
     returned = simmergate_simplify(at.limit, edition, table, bytes, out, sizeof out, steps, sizeof steps, work, sizeof work, answer, sizeof answer);
@@ -123,9 +128,46 @@ static void widest(unsigned n, int which, size_t records, size_t taken, size_t t
     if (own_number(answer + 24) != taken) differ("the steps of a wide sum", 2, 2, taken, own_number(answer + 24));
 }
 
+/* The table that stands there, written and read again; the stack that each needs, where it is more. */
+static void as_text(unsigned a, unsigned b, size_t thread, size_t *most) {
+    size_t n = used(spell) - thread;
+    if (n > most[0]) most[0] = n;
+    if (returned != 0) differ("the return of writing", a, b, 0, returned);
+    text_bytes = own_number(answer + 16);
+    n = used(take_in) - thread;
+    if (n > most[1]) most[1] = n;
+    if (returned != 0) differ("the return of reading", a, b, 0, returned);
+    if (own_number(answer + 16) != bytes / RECORD || memcmp(table, second, bytes) != 0) differ("the table read again", a, b, bytes / RECORD, own_number(answer + 16));
+}
+
+static void add(const char *s, size_t times) {
+    for (size_t n = strlen(s); times > 0; times--, text_bytes += n) memcpy(text + text_bytes, s, n);
+}
+
+/* A text of `depth` groups before, `inner`, and as many ends; what the reader must return. */
+static void judged(const char *open, size_t depth, const char *inner, const char *close, uint32_t expected, size_t thread, size_t *most) {
+    text_bytes = 0;
+    add(open, depth), add(inner, 1), add(close, depth);
+    size_t n = used(take_in) - thread;
+    if (n > *most) *most = n;
+    if (returned != expected) { printf("deep: %zu times %s, then %s: %u, not %u\n", depth, open, inner, (unsigned)returned, (unsigned)expected); exit(1); }
+}
+
+static void judge_texts(size_t thread, size_t *most) {
+    judged("(", sizeof text, "", "", 14, thread, most);
+    judged("(", 10000, "1+1", ")+1", 3, thread, most);
+    judged("(", 10000, "1*1", ")*1", 3, thread, most);
+    judged("(", 10000, "s0^2", ")^2", 3, thread, most);
+    judged("1+(", 10000, "1+1", ")", 3, thread, most);
+    judged("(", 10000, "1", ")+1", 14, thread, most);
+    judged("(", 10000, "1*1", ")+1", 14, thread, most);
+    judged("1+(", 10000, "1+", ")", 14, thread, most);
+    judged("(", 10000, "1+1", ")+1)", 14, thread, most);
+}
+
 /* The calls that are measured. */
-enum { CHECK, WEIGHT, VALUE, EQUAL, SIMPLIFY, DIFFER, BATCH, SHARED, CALLS };
-static const char *const names[CALLS] = {"check", "weight", "value", "equal", "simplify", "differ", "batch", "simplify_shared"};
+enum { CHECK, WEIGHT, VALUE, EQUAL, SIMPLIFY, DIFFER, BATCH, SHARED, WRITE_TEXT, READ_TEXT, CALLS };
+static const char *const names[CALLS] = {"check", "weight", "value", "equal", "simplify", "differ", "batch", "simplify_shared", "write_text", "read_text"};
 
 /* All calls on the deepest tables of the level; says what each needed at the most. */
 static void deepest(void) {
@@ -175,17 +217,23 @@ static void deepest(void) {
             n = simplified(simplify_shared, a, b, thread);
             if (n > most[SHARED]) most[SHARED] = n;
         }
+        as_text(a, b, thread, most + WRITE_TEXT);
     }
     edition = 1;
-    for (int k = 0; k < CALLS; k++)
+    judge_texts(thread, most + READ_TEXT);
+    for (int k = 0; k < READ_TEXT; k++)
         if (most[k] > need) need = most[k];
+    if (most[READ_TEXT] > at.reading) {
+        printf("deep: reading a text needs %zu bytes of stack at the limit %zu, and the header says %zu\n", most[READ_TEXT], at.limit, at.reading);
+        exit(1);
+    }
     if (need > at.said) {
         printf("deep: a call needs %zu bytes of stack at the limit %zu, and the header says %zu\n", need, at.limit, at.said);
         exit(1);
     }
     printf("deep: at the limit %zu, %zu shapes of %d nested nodes on a stack of %zu MiB: bytes of it that a call needs:", at.limit, shapes, at.depth, at.stack >> 20);
     for (int k = 0; k < CALLS; k++) printf(" %s %zu", names[k], most[k]);
-    printf("; the header says %zu\n", at.said);
+    printf("; the header says %zu, and %zu for reading a text\n", at.said, at.reading);
 }
 
 int main(void) {

@@ -62,7 +62,7 @@ fn say_flaw(f: Flaw) {
 }
 
 // Writes a refusal, or what an accepted table was shortened by.
-fn list(a: simplify::Answer, steps: &[u8]) {
+pub fn list(a: simplify::Answer, steps: &[u8]) {
     let flaw = a.flaw;
     if 0 < a.number {
         say(b"refused ", a.number as usize);

@@ -3,8 +3,9 @@
 mod differ_calls;
 mod receiver_calls;
 mod settings_calls;
-mod site_calls;
 mod shared_calls;
+mod site_calls;
+mod text_calls;
 
 use eights::write_numbers;
 ghost use mathlib.Core.Path.{_≡_};

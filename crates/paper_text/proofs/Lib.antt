@@ -1,0 +1,11 @@
+pub mod DigitLaws
+pub mod RoundTrip
+pub mod Erasing
+pub mod ReadTold
+pub mod Follows
+pub mod Passed
+pub mod LevelLaws
+pub mod LengthLaws
+pub mod PlaceLaws
+pub mod TextCallLaws
+pub mod Computed

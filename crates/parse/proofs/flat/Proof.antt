@@ -1,0 +1,79 @@
+-- `parse::flat` meets its contract: a group is passed over, any other power begins with a leaf. Assumes nothing.
+use Prim.Native.Nat.{_+_}
+use mathlib.Core.Path.{sym, _∙_, subst}
+use lib.ListN.{drop}
+use Rattle.paper_text.specs.Text.{then, closed, readLeaf}
+use Rattle.paper_text.specs.Levels.{skim, readCut}
+use Rattle.paper_text.proofs.PlaceLaws.{sign-inside}
+use Rattle.parse.specs.Parsed.{Laid, ItemIs, bared}
+use Rattle.parse.proofs.ItemLaws.{sized}
+use Rattle.parse.proofs.LevelReads.{power-leaf, group-passed}
+use borrow.Author.Needs.{needs}
+use Rattle.parse.proofs.flat.Statement.{statement}
+use Rattle.parse.proofs.flat.Tie as tie
+use Rattle.parse.proofs.flat.Reads as reads
+use Rattle.parse.proofs.flat.Lts as lts
+use Rattle.parse.proofs.leaf.Reads as leaf-reads
+use Rattle.parse.proofs.passed.Reads as passed-reads
+use Rattle.parse.proofs.raised.Reads as raised-reads
+use Rattle.parse.proofs.sign_at.Reads as sign-at-reads
+
+sign-at-requires : tie.Need-sign-at-requires
+sign-at-requires c κs = search needs
+
+passed-requires : tie.Need-passed-requires
+passed-requires c κs =
+    let a = c .before .before .before .before .before .args in
+    let s = a .text .now in
+    (sign-inside s (a .at) 40 (sym (c .before .before .sign-at .ensures) ∙ c .before .if1 .taken), c .before .before .before .before .before .pre)
+
+raised-requires : tie.Need-raised-requires
+raised-requires c κs =
+    let a = c .before .before .before .before .before .before .before .before .before .args in
+    let s = a .text .now in
+    sized s (a .at) (then (skim (drop (a .at + 1) s)) closed) (a .out .now) _ (a .d) (c .before .before .before .before .before .before .before .before .before .pre) (c .before .before .before .passed .result) (c .before .before .before .passed .ensures)
+
+same-length : tie.Need-same-length
+same-length c = search needs
+
+returns : tie.Need-returns
+returns c =
+    let a = c .before .before .before .before .before .before .before .before .before .before .before .before .args in
+    let s = a .text .now in
+    subst (λ o. ItemIs s (a .at) o (Laid (a .out .now) (a .d) (c .before .before .raised .last .1 .1 .0)) (c .before .before .raised .result))
+    (sym (group-passed s (a .at) (sym (c .before .before .before .before .before .before .before .before .before .sign-at .ensures) ∙ c .before .before .before .before .before .before .before .before .if1 .taken)))
+    (c .before .before .raised .ensures (a .at) (then (skim (drop (a .at + 1) s)) closed) (a .out .now) (c .before .before .before .before .before .before .passed .ensures))
+
+leaf-requires : tie.Need-leaf-requires
+leaf-requires c κs = search needs
+
+raised-requires-2 : tie.Need-raised-requires-2
+raised-requires-2 c κs =
+    let a = c .before .before .before .before .before .before .before .before .before .args in
+    let s = a .text .now in
+    sized s (a .at) (bared (readLeaf (drop (a .at) s))) (a .out .now) _ (a .d) (c .before .before .before .before .before .before .before .before .before .pre) (c .before .before .before .leaf .result) (c .before .before .before .leaf .ensures)
+
+same-length-2 : tie.Need-same-length-2
+same-length-2 c = search needs
+
+returns-2 : tie.Need-returns-2
+returns-2 c =
+    let a = c .before .before .before .before .before .before .before .before .before .before .before .before .args in
+    let s = a .text .now in
+    subst (λ o. ItemIs s (a .at) o (Laid (a .out .now) (a .d) (c .before .before .raised2 .last .1 .1 .0)) (c .before .before .raised2 .result))
+    (sym (power-leaf (readCut 0) s (a .at) (sym (c .before .before .before .before .before .before .before .before .before .sign-at .ensures) ∙ c .before .before .before .before .before .before .before .before .if1 .left)))
+    (c .before .before .raised2 .ensures (a .at) (bared (readLeaf (drop (a .at) s))) (a .out .now) (c .before .before .before .before .before .before .leaf .ensures))
+
+pub flat-spec : {M : Type 1} → statement M
+flat-spec =
+    tie.close
+    (tie.spec
+    sign-at-requires
+    passed-requires
+    raised-requires
+    same-length
+    returns
+    leaf-requires
+    raised-requires-2
+    same-length-2
+    returns-2)
