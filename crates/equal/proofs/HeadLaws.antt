@@ -87,7 +87,7 @@ module _ {a : List ℕ} {i : ℕ} {b : List ℕ} {j : ℕ} {t u : Tree} (h : Tre
       let n = eqb-true _ _ (and-both (eqb (bits a i) (bits b j)) (eqb (kind a i) (kind b j)) head .0) in
       (leaves-equal h g k l n, leaf-records h g k l)
 
-  -- a tree with no mark that is no candidate is not equal
+  -- a tree with no tick that is no candidate is not equal
   pub passed-by : (us : List ℕ) (k : ℕ) → isCandidate a i b j us k ≡ false → getD us k 0 ≡ 0 → equal t u ≡ false
   unfolding isCandidate
   passed-by us k e z = begins-differ (sym (rw (eq-eqb (getD us k 0) 0 z)) ∙ e)

@@ -1,10 +1,10 @@
 pub mod SameLaws
 pub mod TwoLaws
 pub mod HeadLaws
-pub mod MarkLaws
+pub mod TickLaws
 pub mod MatchLaws
 pub mod AnswerLaws
-pub mod MarkOutLaws
+pub mod TickOutLaws
 pub mod ViewLaws
 pub mod RestLaws
 pub mod ComparedLaws

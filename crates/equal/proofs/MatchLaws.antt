@@ -1,4 +1,4 @@
--- Members matched one after the other: each takes an equal one away from those that are unmarked, so what is left to match says what
+-- Members matched one after the other: each takes an equal one away from those that are unticked, so what is left to match says what
 -- the whole does; equally many on both sides, none is left in the end. Assumes nothing.
 use Prim.Native.Nat.{ℕ, _+_, _-_, _≤_, _<_}
 use mathlib.Core.Path.{_≡_, refl, sym, ap, _∙_, subst}
@@ -20,9 +20,9 @@ use Rattle.paper.proofs.WFLaws.{count-list}
 use Rattle.split.specs.Standing.{TreeIn, TreesIn, SomeTree}
 use Rattle.split.proofs.SplitLaws.{no-integer}
 use Rattle.paper.proofs.StandingLaws.{seen, FirstOf, first-of, none-of}
-use Rattle.equal.specs.Matching.{matchOf, isPassed, without, unmarked, Takeable, Matchable}
+use Rattle.equal.specs.Matching.{matchOf, isPassed, without, unticked, Takeable, Matchable}
 use Rattle.equal.proofs.SameLaws.{taken-length, Nodes}
-use Rattle.equal.proofs.MarkLaws.{unmarked-all}
+use Rattle.equal.proofs.TickLaws.{unticked-all}
 use Rattle.equal.specs.declared.Match.{Match}
 
 -- ---- the trees of a row, one by one: an integer that is passed over, and any other
@@ -65,28 +65,28 @@ bag-end (t ∷ k) e = absurd (omega arith)
 removed-length : (p : Tree → Bool) (l m : List Tree) → removeFirst p l ≡ some m → length l ≡ 1 + length m
 removed-length p l m e = taken-length (subst (First p l) e (removeFirst-first p l) .2)
 
--- the trees of f matched so far: those from record `at` on are left, equally many as are unmarked, and say what the whole does
+-- the trees of f matched so far: those from record `at` on are left, equally many as are unticked, and say what the whole does
 pub record Matched (a : List ℕ) (i : ℕ) (skip : Bool) (us₀ us : List ℕ) (f g : Forest) (at left : ℕ) : Type 0 where
   pub rest : Forest
   pub stand : TreesIn a at left rest
   pub ends : at + recordses rest ≡ i + recordses f
-  pub as-many : length (without skip rest) ≡ length (unmarked us 0 g)
-  pub same : sameBag equal (without skip rest) (unmarked us 0 g) ≡ sameBag equal (without skip f) (unmarked us₀ 0 g)
+  pub as-many : length (without skip rest) ≡ length (unticked us 0 g)
+  pub same : sameBag equal (without skip rest) (unticked us 0 g) ≡ sameBag equal (without skip f) (unticked us₀ 0 g)
 
 module _ {a : List ℕ} {i : ℕ} {skip : Bool} {f g : Forest} where
-  pub matched-start : {n : ℕ} (us : List ℕ) → TreesIn a i n f → length (without skip f) ≡ length (unmarked us 0 g) → Matched a i skip us us f g i n
+  pub matched-start : {n : ℕ} (us : List ℕ) → TreesIn a i n f → length (without skip f) ≡ length (unticked us 0 g) → Matched a i skip us us f g i n
   matched-start us h l = record { rest = f; stand = h; ends = refl; as-many = l; same = refl }
 
   module _ {us₀ us : List ℕ} {at left : ℕ} (h : Matched a i skip us₀ us f g at left) where
-    pub matched-done : left ≡ 0 → (sameBag equal (without skip f) (unmarked us₀ 0 g) ≡ true) × (at ≡ i + recordses f)
+    pub matched-done : left ≡ 0 → (sameBag equal (without skip f) (unticked us₀ 0 g) ≡ true) × (at ≡ i + recordses f)
     unfolding records
     matched-done e =
         let z : h .rest ≡ nil = none-of (h .rest) (h .stand) e in
         let w : without skip (h .rest) ≡ [] = ap (without skip) z ∙ without-none skip in
         let r : recordses (h .rest) ≡ 0 = ap recordses z in
         let l : length (without skip (h .rest)) ≡ 0 = ap length w in
-        let all = bag-end (unmarked us 0 g) (omega (arith, h .as-many)) in
-        (sym (h .same) ∙ ap (λ k. sameBag equal k (unmarked us 0 g)) w ∙ all, omega (arith, h .ends))
+        let all = bag-end (unticked us 0 g) (omega (arith, h .as-many)) in
+        (sym (h .same) ∙ ap (λ k. sameBag equal k (unticked us 0 g)) w ∙ all, omega (arith, h .ends))
 
     module _ (l : 0 < left) where
       next : FirstOf a at left (h .rest)
@@ -115,24 +115,24 @@ module _ {a : List ℕ} {i : ℕ} {skip : Bool} {f g : Forest} where
             stand = next .after;
             ends = after;
             as-many = ap length (sym w) ∙ h .as-many;
-            same = ap (λ k. sameBag equal k (unmarked us 0 g)) (sym w) ∙ h .same;
+            same = ap (λ k. sameBag equal k (unticked us 0 g)) (sym w) ∙ h .same;
           })
 
       module _ (n : isPassed skip a at ≡ false) where
         first : without skip (h .rest) ≡ next .tree ∷ without skip (next .others)
         first = ap (without skip) (next .whole) ∙ without-other skip (next .there) (next .others) n
 
-        -- one that equals no unmarked one
-        pub matched-none : ((t : Tree) → TreeIn a at t → removeFirst (equal t) (unmarked us 0 g) ≡ none)
-            → sameBag equal (without skip f) (unmarked us₀ 0 g) ≡ false
+        -- one that equals no unticked one
+        pub matched-none : ((t : Tree) → TreeIn a at t → removeFirst (equal t) (unticked us 0 g) ≡ none)
+            → sameBag equal (without skip f) (unticked us₀ 0 g) ≡ false
         matched-none r =
             sym (h .same)
-            ∙ ap (λ k. sameBag equal k (unmarked us 0 g)) first
-            ∙ bag-none (next .tree) (without skip (next .others)) (unmarked us 0 g) (r (next .tree) (next .there))
+            ∙ ap (λ k. sameBag equal k (unticked us 0 g)) first
+            ∙ bag-none (next .tree) (without skip (next .others)) (unticked us 0 g) (r (next .tree) (next .there))
 
         -- one that took an equal one
         pub matched-more : (vs : List ℕ) (y : ℕ)
-            → ((t : Tree) → TreeIn a at t → (y ≡ at + records t) × (removeFirst (equal t) (unmarked us 0 g) ≡ some (unmarked vs 0 g)))
+            → ((t : Tree) → TreeIn a at t → (y ≡ at + records t) × (removeFirst (equal t) (unticked us 0 g) ≡ some (unticked vs 0 g)))
             → Matched a i skip us₀ vs f g y (left - 1)
         matched-more vs y r =
             let t = next .tree in
@@ -143,14 +143,14 @@ module _ {a : List ℕ} {i : ℕ} {skip : Bool} {f g : Forest} where
               rest = next .others;
               stand = next .after;
               ends = after;
-              as-many = omega (arith, ap length first, h .as-many, removed-length (equal t) (unmarked us 0 g) (unmarked vs 0 g) (q .1));
+              as-many = omega (arith, ap length first, h .as-many, removed-length (equal t) (unticked us 0 g) (unticked vs 0 g) (q .1));
               same =
-                  sym (bag-more t k (unmarked us 0 g) (unmarked vs 0 g) (q .1))
-                  ∙ ap (λ z. sameBag equal z (unmarked us 0 g)) (sym first)
+                  sym (bag-more t k (unticked us 0 g) (unticked vs 0 g) (q .1))
+                  ∙ ap (λ z. sameBag equal z (unticked us 0 g)) (sym first)
                   ∙ h .same;
             })
 
--- ---- two sums, or two products, none of their members left out and none marked
+-- ---- two sums, or two products, none of their members left out and none ticked
 module _ {a : List ℕ} {i : ℕ} {b : List ℕ} {j : ℕ} {t u : Tree} (q : Nodes a i b j t u)
     (n : ℕ) (one : n ≡ countIn a i) (other : n ≡ countIn b j) where
   ones-there : TreesIn a (i + 1) n (q .ones)
@@ -159,19 +159,19 @@ module _ {a : List ℕ} {i : ℕ} {b : List ℕ} {j : ℕ} {t u : Tree} (q : Nod
   others-there : TreesIn b (j + 1) n (q .others)
   others-there = subst (λ k. TreesIn b (j + 1) k (q .others)) (sym other) (q .others-there)
 
-  -- there is room for the marks
+  -- there is room for the ticks
   pub nodes-room : (room : ℕ) → records u ≤ room → n ≤ room
   nodes-room room l = omega (arith, q .other-size, others-there .counted, count-records (q .others))
 
-  module _ (us : List ℕ) (zero-marks : (k : ℕ) → k < n → getD us k 0 ≡ 0) where
+  module _ (us : List ℕ) (zero-ticks : (k : ℕ) → k < n → getD us k 0 ≡ 0) where
     all-ones : without false (q .ones) ≡ toList (q .ones)
     unfolding without
     all-ones = refl
 
-    all-others : unmarked us 0 (q .others) ≡ toList (q .others)
-    all-others = unmarked-all us 0 n (q .others) (λ k p l. zero-marks k l) (omega (arith, others-there .counted))
+    all-others : unticked us 0 (q .others) ≡ toList (q .others)
+    all-others = unticked-all us 0 n (q .others) (λ k p l. zero-ticks k l) (omega (arith, others-there .counted))
 
-    as-many : length (without false (q .ones)) ≡ length (unmarked us 0 (q .others))
+    as-many : length (without false (q .ones)) ≡ length (unticked us 0 (q .others))
     as-many =
         omega
         (arith, ap length all-ones, ap length all-others, count-list (q .ones), count-list (q .others), ones-there .counted, others-there .counted)
@@ -189,8 +189,8 @@ module _ {a : List ℕ} {i : ℕ} {b : List ℕ} {j : ℕ} {t u : Tree} (q : Nod
 
     -- what the comparison of the members answers is what that of the trees does
     pub nodes-same : (r : Match)
-        → ((f g : Forest) → TreesIn a (i + 1) n f → TreesIn b (j + 1) n g → length (without false f) ≡ length (unmarked us 0 g)
-        → r ≡ matchOf (sameBag equal (without false f) (unmarked us 0 g)) (i + 1 + recordses f))
+        → ((f g : Forest) → TreesIn a (i + 1) n f → TreesIn b (j + 1) n g → length (without false f) ≡ length (unticked us 0 g)
+        → r ≡ matchOf (sameBag equal (without false f) (unticked us 0 g)) (i + 1 + recordses f))
         → r ≡ matchOf (equal t u) (i + records t)
     nodes-same r told =
         let e : i + 1 + recordses (q .ones) ≡ i + records t = omega (arith, q .size) in

@@ -12,7 +12,7 @@ sameHead a i b j = eqb (bits a i) (bits b j) && eqb (kind a i) (kind b j)
 unfoldable pub beginAlike : List ℕ → ℕ → List ℕ → ℕ → Bool
 beginAlike a i b j = sameHead a i b j && cond (eqb (kind a i) 4) (sameHead a (i + 1) b (j + 1)) true
 
--- the tree at record j of b has no mark, and begins as the tree at record i of a does
+-- the tree at record j of b has no tick, and begins as the tree at record i of a does
 unfoldable pub isCandidate : List ℕ → ℕ → List ℕ → ℕ → List ℕ → ℕ → Bool
 isCandidate a i b j us k = eqb (getD us k 0) 0 && beginAlike a i b j
 

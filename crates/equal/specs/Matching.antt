@@ -1,4 +1,4 @@
--- What matching compares and answers: the trees of a row with or without its integers, those that are not marked, and what the code asks
+-- What matching compares and answers: the trees of a row with or without its integers, those that are not ticked, and what the code asks
 -- for.
 use Prim.Native.Nat.{ℕ, _+_, _≤_, _<_}
 use mathlib.Core.Path.{_≡_}
@@ -29,12 +29,12 @@ without true f = othersOf (toList f)
 unfoldable pub isPassed : Bool → List ℕ → ℕ → Bool
 isPassed skip s i = skip && ltb (kind s i) 1
 
--- the trees of f that are not used yet: those whose mark, from mark k on, is 0
-unfoldable pub unmarked : List ℕ → ℕ → Forest → List Tree
-unmarked us k nil = []
-unmarked us k (cons t f) = cond (eqb (getD us k 0) 0) (t ∷ unmarked us (k + 1) f) (unmarked us (k + 1) f)
+-- the trees of f that are not used yet: those whose tick, from tick k on, is 0
+unfoldable pub unticked : List ℕ → ℕ → Forest → List Tree
+unticked us k nil = []
+unticked us k (cons t f) = cond (eqb (getD us k 0) 0) (t ∷ unticked us (k + 1) f) (unticked us (k + 1) f)
 
--- two trees stand in the tables, and there is room for the marks: a byte for each record of the second
+-- two trees stand in the tables, and there is room for the ticks: a byte for each record of the second
 pub record Comparable (a : List ℕ) (i : ℕ) (b : List ℕ) (j room : ℕ) : Type 0 where
   pub one : Tree
   pub other : Tree
@@ -50,16 +50,16 @@ pub record Takeable (a : List ℕ) (i : ℕ) (b : List ℕ) (j m room : ℕ) : T
   pub others-there : TreesIn b j m others
   pub enough : recordses others < room
 
--- what taking the first unmarked tree of g that equals t answers: that there is none, or that it is marked now
+-- what taking the first unticked tree of g that equals t answers: that there is none, or that it is ticked now
 abbrev pub Took : Tree → Forest → List ℕ → List ℕ → ℕ → Match → Type 0
-Took t g us us′ e Different = removeFirst (equal t) (unmarked us 0 g) ≡ none
-Took t g us us′ e (Ends x) = (x ≡ e) × (removeFirst (equal t) (unmarked us 0 g) ≡ some (unmarked us′ 0 g))
+Took t g us us′ e Different = removeFirst (equal t) (unticked us 0 g) ≡ none
+Took t g us us′ e (Ends x) = (x ≡ e) × (removeFirst (equal t) (unticked us 0 g) ≡ some (unticked us′ 0 g))
 
--- n trees stand in the one table, m in the other; without those passed over, and without the marked ones, there are as many
+-- n trees stand in the one table, m in the other; without those passed over, and without the ticked ones, there are as many
 pub record Matchable (a : List ℕ) (i n : ℕ) (skip : Bool) (b : List ℕ) (j m : ℕ) (us : List ℕ) : Type 0 where
   pub ones : Forest
   pub others : Forest
   pub ones-there : TreesIn a i n ones
   pub others-there : TreesIn b j m others
   pub enough : recordses others < length us
-  pub as-many : length (without skip ones) ≡ length (unmarked us 0 others)
+  pub as-many : length (without skip ones) ≡ length (unticked us 0 others)

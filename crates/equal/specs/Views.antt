@@ -28,7 +28,7 @@ pub data Viewed (s : List ℕ) (p x : ℕ) (t : Tree) : Type 0 where
   whole : x ≡ 0 → TreeIn s p t → Viewed s p x t
   lessened : Lessened s p x t → Viewed s p x t
 
--- two such trees, one of them without its integers, and room for the marks of the second
+-- two such trees, one of them without its integers, and room for the ticks of the second
 pub record Viewable (s : List ℕ) (p x q y room : ℕ) : Type 0 where
   pub one : Tree
   pub other : Tree
@@ -39,8 +39,8 @@ pub record Viewable (s : List ℕ) (p x q y room : ℕ) : Type 0 where
   pub full-there : TreeIn s q full
   pub enough : records full ≤ room
 
--- m trees stand in the table, and there is room for their marks
-pub record Markable (s : List ℕ) (i m room : ℕ) : Type 0 where
+-- m trees stand in the table, and there is room for their ticks
+pub record Tickable (s : List ℕ) (i m room : ℕ) : Type 0 where
   pub trees : Forest
   pub there : TreesIn s i m trees
   pub enough : m ≤ room

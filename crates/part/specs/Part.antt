@@ -88,7 +88,7 @@ MergedIs b s c x Apart = merge b c x ≡ none
 MergedIs b s c x (Into p) = (d : Like b) × (merge b c x ≡ some d) × Shows b s p d × (inRange b d ≡ true)
 MergedIs b s c x Over = (d : Like b) × (merge b c x ≡ some d) × (inRange b d ≡ false)
 
--- a part and a later member, and room for the marks of a comparison
+-- a part and a later member, and room for the ticks of a comparison
 pub record Mergeable (s : List ℕ) (p : Part) (at room : ℕ) : Type 0 where
   pub flag : Bool
   pub current : Like flag

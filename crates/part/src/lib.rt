@@ -73,8 +73,8 @@ pub fn part_of(s: &[u8], at: usize, size: usize, terms: bool) -> Part
 
 // The term with the coefficient n and the rest of the member at record i, where it meets the member at record `at`, with a look first
 // whether their rests are seen to differ, as most are.
-fn merge_term(s: &[u8], n: u64, i: usize, at: usize, marks: &mut [u8]) -> Merged
-    requires { ⌜ Comparable (now s) i (now s) at (length (now marks)) ⌝ }
+fn merge_term(s: &[u8], n: u64, i: usize, at: usize, ticks: &mut [u8]) -> Merged
+    requires { ⌜ Comparable (now s) i (now s) at (length (now ticks)) ⌝ }
     ensures { λ r. ⌜ ((c : Term) (t : Tree) → ShowsTerm (now (s .entry)) n i c → TreeIn (now (s .entry)) at t
         → MergedIs true (now (s .entry)) c (termOf t) r) ⌝ }
     ensures place { λ r. ⌜ ((p : ℕ) → p ≤ i → IntoFrom p r) ⌝ }
@@ -82,7 +82,7 @@ fn merge_term(s: &[u8], n: u64, i: usize, at: usize, marks: &mut [u8]) -> Merged
     if equal::rests_differ(s, i, at) {
         return Merged::Apart;
     }
-    if equal::same_rest(s, i, at, marks) {
+    if equal::same_rest(s, i, at, ticks) {
         return add_term(s, n, i, at);
     }
     Merged::Apart
@@ -109,13 +109,13 @@ fn add_term(s: &[u8], n: u64, i: usize, at: usize) -> Merged
 }
 
 // The term of the member at record `wide`, whose coefficient is out of range, where it meets the member at record `at`.
-fn merge_wide(s: &[u8], wide: usize, at: usize, marks: &mut [u8]) -> Merged
-    requires { ⌜ Comparable (now s) wide (now s) at (length (now marks)) ⌝ }
+fn merge_wide(s: &[u8], wide: usize, at: usize, ticks: &mut [u8]) -> Merged
+    requires { ⌜ Comparable (now s) wide (now s) at (length (now ticks)) ⌝ }
     ensures { λ r. ⌜ ((c : Term) (t : Tree) → ShowsWide (now (s .entry)) wide c → TreeIn (now (s .entry)) at t
         → MergedIs true (now (s .entry)) c (termOf t) r) ⌝ }
     ensures place { λ r. ⌜ ((p : ℕ) → IntoFrom p r) ⌝ }
 {
-    if equal::same_rest(s, wide, at, marks) {
+    if equal::same_rest(s, wide, at, ticks) {
         return Merged::Over;
     }
     Merged::Apart
@@ -129,15 +129,15 @@ fn merge_power(
     k: usize,
     m: usize,
     at: usize,
-    marks: &mut [u8],
+    ticks: &mut [u8],
 ) -> Merged
-    requires { ⌜ Comparable (now s) i (now s) at (length (now marks)) ⌝ }
+    requires { ⌜ Comparable (now s) i (now s) at (length (now ticks)) ⌝ }
     ensures { λ r. ⌜ ((c : Factor) (t : Tree) → ShowsPower (now (s .entry)) e i k m c → TreeIn (now (s .entry)) at t
         → MergedIs false (now (s .entry)) c (factorOf t) r) ⌝ }
     ensures place { λ r. ⌜ ((p : ℕ) → p ≤ i → IntoFrom p r) ⌝ }
 {
     let j = split::base(s, at);
-    let found = equal::same(s, i, s, j, marks);
+    let found = equal::same(s, i, s, j, ticks);
     match found {
         equal::Match::Different => Merged::Apart,
         equal::Match::Ends(_) => {
@@ -182,16 +182,16 @@ fn merge_number(s: &[u8], e: u64, v: u64, b: usize, m: usize, at: usize) -> Merg
 }
 
 // The current part, where it meets the member at record `at`.
-pub fn merge(s: &[u8], c: Part, at: usize, marks: &mut [u8]) -> Merged
-    requires { ⌜ Mergeable (now s) c at (length (now marks)) ⌝ }
+pub fn merge(s: &[u8], c: Part, at: usize, ticks: &mut [u8]) -> Merged
+    requires { ⌜ Mergeable (now s) c at (length (now ticks)) ⌝ }
     ensures { λ r. ⌜ ((b : Bool) (x : Like b) (t : Tree) → Shows b (now (s .entry)) c x → TreeIn (now (s .entry)) at t
         → MergedIs b (now (s .entry)) x (split b t) r) ⌝ }
     ensures place { λ r. ⌜ ((p : ℕ) → From p c → IntoFrom p r) ⌝ }
 {
     match c {
-        Part::Term(n, i) => merge_term(s, n, i, at, marks),
-        Part::Wide(i) => merge_wide(s, i, at, marks),
-        Part::Power(e, i, k, m) => merge_power(s, e, i, k, m, at, marks),
+        Part::Term(n, i) => merge_term(s, n, i, at, ticks),
+        Part::Wide(i) => merge_wide(s, i, at, ticks),
+        Part::Power(e, i, k, m) => merge_power(s, e, i, k, m, at, ticks),
         Part::Number(e, v, b, m) => merge_number(s, e, v, b, m, at),
     }
 }

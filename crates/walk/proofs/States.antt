@@ -109,10 +109,10 @@ pub record Common (b : Bool) (o₀ w₀ : List ℕ) (d p : ℕ) (o w : List ℕ)
 
 module _ {b : Bool} {o₀ w₀ : List ℕ} {d p : ℕ} {o w : List ℕ} {i e : ℕ} {late : Bool} {done : List (Like b)}
     (v : Common b o₀ w₀ d p o w i e late done) where
-  -- marks past what has come out, and entries before what is pending
-  pub common-marks : (o' w' : List ℕ) → take (e * 16) o' ≡ take (e * 16) o → drop (p * 16) w' ≡ drop (p * 16) w
+  -- ticks past what has come out, and entries before what is pending
+  pub common-ticks : (o' w' : List ℕ) → take (e * 16) o' ≡ take (e * 16) o → drop (p * 16) w' ≡ drop (p * 16) w
       → Common b o₀ w₀ d p o' w' i e late done
-  common-marks o' w' s t =
+  common-ticks o' w' s t =
       record {
         many = v .many;
         pending = t ∙ v .pending;

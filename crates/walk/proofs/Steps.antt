@@ -29,7 +29,7 @@ use Rattle.part.proofs.PartLaws.{joins-bad}
 use Rattle.walk.proofs.RoomLaws.{stays-bad, join-first, join-grows}
 use Rattle.walk.proofs.EntryLaws.{entries-snoc, swap-pending, swap-before, swap-after}
 use Rattle.walk.proofs.States.{walked, outs, idle-outcome, over-outcome, done-outcome, all-snoc, outs-many, Came, Common}
-use Rattle.walk.proofs.States.{common-marks, common-written, common-late, common-done, shows-still}
+use Rattle.walk.proofs.States.{common-ticks, common-written, common-late, common-done, shows-still}
 
 abbrev pub parts : (b : Bool) → List Tree → List (Like b)
 parts b l = map (split b) l
@@ -211,7 +211,7 @@ module _ {b : Bool} {l : List Tree} {o₀ w₀ : List ℕ} {d p count : ℕ} whe
             passed-entries = entries-snoc w p (i + 1) j (v .passed) x (sym (v .behind)) (v .passed-entries) (next .entry);
             entries = next .rest;
             room = omega (arith, v .room, total-append weight (v .passed) (x ∷ []));
-            common = common-marks (v .common) o' w s refl;
+            common = common-ticks (v .common) o' w s refl;
           }
 
       -- it is taken up, and the last member moves into its place
@@ -251,7 +251,7 @@ module _ {b : Bool} {l : List Tree} {o₀ w₀ : List ℕ} {d p count : ℕ} whe
                 swap-before w w' p j (n - 1) t m rest (omega arith) within k (i + 1) (v .passed) (omega (arith, v .behind)) (v .passed-entries);
             entries = swap-after w w' p j (n - 1) t m rest (omega arith) within k (subst (Entries w p j) (next .is) (v .entries));
             room = omega (arith, v .room);
-            common = common-marks (v .common) o' w' s still;
+            common = common-ticks (v .common) o' w' s still;
           }
 
       -- it is taken up, and the range is left
@@ -317,5 +317,5 @@ module _ {b : Bool} {l : List Tree} {o₀ w₀ : List ℕ} {d p count : ℕ} whe
     pub left-alone : (o' : List ℕ) → take (e * 16) o' ≡ take (e * 16) o
         → (drop (p * 16) w ≡ drop (p * 16) w₀) × (take (d * 16) o' ≡ take (d * 16) o₀)
     left-alone o' s =
-        let u = common-marks (v .common) o' w s refl in
+        let u = common-ticks (v .common) o' w s refl in
         (u .pending, common-done u)

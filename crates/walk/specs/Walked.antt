@@ -48,7 +48,7 @@ pub record WalkedIs (b : Bool) (l : List Tree) (out out' work work' : List ℕ) 
   pub pending : drop (p * 16) work' ≡ drop (p * 16) work
   pub done : take (d * 16) out' ≡ take (d * 16) out
 
--- the current part meets the member of entry j, with room for the marks of a comparison
+-- the current part meets the member of entry j, with room for the ticks of a comparison
 pub record Meeting (w : List ℕ) (c : Part) (p j room : ℕ) : Type 0 where
   pub flag : Bool
   pub current : Like flag

@@ -61,14 +61,14 @@ fn current(s: &[u8], p: usize, i: usize, terms: bool) -> part::Part
 }
 
 // The current part, where it meets the member of entry j.
-fn meet(s: &[u8], c: part::Part, p: usize, j: usize, marks: &mut [u8]) -> part::Merged
-    requires { ⌜ Meeting (now s) c p j (length (now marks)) ⌝ }
+fn meet(s: &[u8], c: part::Part, p: usize, j: usize, ticks: &mut [u8]) -> part::Merged
+    requires { ⌜ Meeting (now s) c p j (length (now ticks)) ⌝ }
     ensures { λ r. ⌜ ((b : Bool) (x : Like b) (t : Tree) → Shows b (now (s .entry)) c x → Entry (now (s .entry)) p j t
         → MergedIs b (now (s .entry)) x (split b t) r) ⌝ }
     ensures place { λ r. ⌜ (From p c → IntoFrom p r) ⌝ }
 {
     let start = p + number::read2(s, j * 4);
-    part::merge(s, c, start, marks)
+    part::merge(s, c, start, ticks)
 }
 
 // The last entry, n, moves into the place of entry j, which is the one to look at next.

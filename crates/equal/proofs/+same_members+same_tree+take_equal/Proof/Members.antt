@@ -10,7 +10,7 @@ use lib.ListN.{length}
 use Rattle.paper.specs.Tree.{Tree, Forest, records}
 use Rattle.split.specs.Standing.{TreeIn, TreesIn, SomeTree}
 use Rattle.paper.proofs.StandingLaws.{record-within}
-use Rattle.equal.specs.Matching.{without, unmarked, Took}
+use Rattle.equal.specs.Matching.{without, unticked, Took}
 use Rattle.equal.specs.declared.Match.{Match}
 use Rattle.equal.specs.declared.Match.the-variants.{Different, Ends}
 use Rattle.equal.proofs.SameLaws.{is-equal, is-different}
@@ -26,13 +26,13 @@ abbrev pub claims : ℕ → lts.Claims
 claims t = (passed-reads.Asked, passed-reads.Learnt, take-below t, take.Post)
 
 abbrev pub Inv : lts.InvT-loop
-Inv a i n skip b j m marks₀ at₀ left₀ marks at left =
-    (i ≤ at) × (length marks ≡ length marks₀)
-    × ((f g : Forest) → TreesIn a i n f → TreesIn b j m g → length (without skip f) ≡ length (unmarked marks₀ 0 g)
-    → Matched a i skip marks₀ marks f g at left)
+Inv a i n skip b j m ticks₀ at₀ left₀ ticks at left =
+    (i ≤ at) × (length ticks ≡ length ticks₀)
+    × ((f g : Forest) → TreesIn a i n f → TreesIn b j m g → length (without skip f) ≡ length (unticked ticks₀ 0 g)
+    → Matched a i skip ticks₀ ticks f g at left)
 
 abbrev pub μ : lts.MeasureT-loop
-μ a i n skip b j m marks₀ at₀ left₀ marks at left = left
+μ a i n skip b j m ticks₀ at₀ left₀ ticks at left = left
 
 module _ (t : ℕ) where
   -- places on the way through the code, and from each the one before it: the entry, the head of the loop, a turn of it, and after the
@@ -63,7 +63,7 @@ module _ (t : ℕ) where
       → let entry = entry-of c in
       let g = entry .args in
       let some = entry .pre .1 in
-      Matched (g .a .now) (g .i) (g .skip) (g .marks .now) (c .loop .marks) (some .ones) (some .others) (c .loop .at) (c .loop .left)
+      Matched (g .a .now) (g .i) (g .skip) (g .ticks .now) (c .loop .ticks) (some .ones) (some .others) (c .loop .at) (c .loop .left)
   matched c =
       let some = entry-of c .pre .1 in
       c .loop .inv .2 (some .ones) (some .others) (some .ones-there) (some .others-there) (some .as-many)
@@ -77,7 +77,7 @@ module _ (t : ℕ) where
       → let head = head-of (turn-of c) in
       let a = entry-of head .args in
       c .take-equal .result ≡ r → (x : Tree) (g : Forest) → TreeIn (a .a .now) (head .loop .at) x → TreesIn (a .b .now) (a .j) (a .m) g
-      → Took x g (head .loop .marks) (c .take-equal .last .1 .1 .1 .1 .1 .0) (head .loop .at + records x) r
+      → Took x g (head .loop .ticks) (c .take-equal .last .1 .1 .1 .1 .1 .0) (head .loop .at + records x) r
   took c r e x g h q = subst (Took x g _ _ _) e (c .take-equal .ensures x g h q)
 
   pub loop-holds : lts.Need-loop-holds (claims t) (members-at t) reads.Post Inv μ
@@ -125,8 +125,8 @@ module _ (t : ℕ) where
   pub loop-less : lts.Need-loop-less (claims t) (members-at t) reads.Post Inv μ
   loop-less c = omega arith
 
-  -- by the way that the turn went. An integer was passed over: its test w .0, the marks w .1 and the record w .2 after it; or an equal one
-  -- was taken: the test w .0, the search w .2 and its answer w .6, the marks w .8 and the record w .9 after it
+  -- by the way that the turn went. An integer was passed over: its test w .0, the ticks w .1 and the record w .2 after it; or an equal one
+  -- was taken: the test w .0, the search w .2 and its answer w .6, the ticks w .8 and the record w .9 after it
   pub loop-again : lts.Need-loop-again (claims t) (members-at t) reads.Post Inv μ
   loop-again c =
       let tested = c .before in

@@ -1,6 +1,6 @@
 -- `equal::take_equal` meets its contract. The loop's invariant, for all trees that stand there: of the trees passed over none could be
--- taken, and the marks of all are as they were (`Looked`). The next tree, where it is unmarked, is compared with its mark set: equal, it
--- is the one that is taken; else its mark is cleared again, and it is passed over like one that was marked before. The loop's measure is
+-- taken, and the ticks of all are as they were (`Looked`). The next tree, where it is unticked, is compared with its tick set: equal, it
+-- is the one that is taken; else its tick is cleared again, and it is passed over like one that was ticked before. The loop's measure is
 -- the number of trees left. Assumes nothing.
 use Prim.Native.Nat.{ℕ, _+_, _-_, _<_, _≤_}
 use mathlib.Core.Path.{_≡_, refl, sym, ap, _∙_}
@@ -19,8 +19,8 @@ use Rattle.equal.specs.declared.Match.{Match}
 use Rattle.equal.specs.declared.Match.the-variants.{Different, Ends}
 use Rattle.equal.proofs.SameLaws.{match-ends, match-differs}
 use Rattle.equal.proofs.HeadLaws.{candidate-free, passed-by}
-use Rattle.equal.proofs.MarkLaws.{MarkedAt, lent-marked, marked-back}
-use Rattle.equal.proofs.MarkLaws.{Looked, looked-start, looked-none, looked-tree, looked-pair, looked-next, looked-found}
+use Rattle.equal.proofs.TickLaws.{TickedAt, lent-ticked, ticked-back}
+use Rattle.equal.proofs.TickLaws.{Looked, looked-start, looked-none, looked-tree, looked-pair, looked-next, looked-found}
 use Rattle.equal.proofs.take_equal.Reads as reads
 use Rattle.equal.proofs.same_tree.Reads as tree
 use Rattle.equal.proofs.is_candidate.Reads as candidate-reads
@@ -32,16 +32,16 @@ abbrev pub claims : ℕ → lts.Claims
 claims t = (candidate-reads.Asked, candidate-reads.Learnt, tree-below t, tree.Post, skip-tree-reads.Asked, skip-tree-reads.Learnt)
 
 abbrev pub Inv : lts.InvT-loop
-Inv a i b j m marks₀ at₀ k₀ marks at k =
-    (k ≤ m) × (length marks ≡ length marks₀)
-    × ((t : Tree) (g : Forest) → TreeIn a i t → TreesIn b j m g → Looked t b m marks₀ marks g at k)
+Inv a i b j m ticks₀ at₀ k₀ ticks at k =
+    (k ≤ m) × (length ticks ≡ length ticks₀)
+    × ((t : Tree) (g : Forest) → TreeIn a i t → TreesIn b j m g → Looked t b m ticks₀ ticks g at k)
 
 abbrev pub μ : lts.MeasureT-loop
-μ a i b j m marks₀ at₀ k₀ marks at k = m - k
+μ a i b j m ticks₀ at₀ k₀ ticks at k = m - k
 
 module _ (t : ℕ) where
   -- places on the way through the code, and from each the one before it: the entry, the head of the loop, a turn of it, where the next
-  -- tree is unmarked, and after it was compared
+  -- tree is unticked, and after it was compared
   abbrev Entry : Type 0
   Entry = lts.Start (claims t) (take-at t) reads.Post Inv μ
 
@@ -69,8 +69,8 @@ module _ (t : ℕ) where
   abbrev free-of : Compared → Free
   free-of c = c .before .before
 
-  -- each of the m trees has a mark, and there is room past the marks
-  room : (c : Head) → entry-of c .args .m < length (c .loop .marks)
+  -- each of the m trees has a tick, and there is room past the ticks
+  room : (c : Head) → entry-of c .args .m < length (c .loop .ticks)
   room c =
       let some = entry-of c .pre .1 in
       omega (arith, some .enough, c .loop .inv .1, some .others-there .counted, count-records (some .others))
@@ -79,19 +79,19 @@ module _ (t : ℕ) where
   look : (c : Head)
       → let entry = entry-of c in
       let some = entry .pre .1 in
-      Looked (some .one) (entry .args .b .now) (entry .args .m) (entry .args .marks .now) (c .loop .marks) (some .others) (c .loop .at) (c .loop .k)
+      Looked (some .one) (entry .args .b .now) (entry .args .m) (entry .args .ticks .now) (c .loop .ticks) (some .others) (c .loop .at) (c .loop .k)
   look c =
       let some = entry-of c .pre .1 in
       c .loop .inv .2 (some .one) (some .others) (some .one-there) (some .others-there)
 
-  -- a candidate has no mark
-  no-mark : (c : Free) → let l = head-of (turn-of c) .loop in getD (l .marks) (l .k) 0 ≡ 0
-  no-mark c =
+  -- a candidate has no tick
+  no-tick : (c : Free) → let l = head-of (turn-of c) .loop in getD (l .ticks) (l .k) 0 ≡ 0
+  no-tick c =
       let l = head-of (turn-of c) .loop in
       let a = entry-of (head-of (turn-of c)) .args in
-      candidate-free (a .a .now) (a .i) (a .b .now) (l .at) (l .marks) (l .k) (sym (c .before .is-candidate .ensures) ∙ c .if1 .taken)
+      candidate-free (a .a .now) (a .i) (a .b .now) (l .at) (l .ticks) (l .k) (sym (c .before .is-candidate .ensures) ∙ c .if1 .taken)
 
-  -- ---- the next tree, compared: its mark is set before that, and the marks past those of the m trees are lent
+  -- ---- the next tree, compared: its tick is set before that, and the ticks past those of the m trees are lent
   abbrev head-at : Compared → Head
   head-at c = head-of (turn-of (free-of c))
 
@@ -99,7 +99,7 @@ module _ (t : ℕ) where
   trees-of c = entry-of c .args .m
 
   abbrev before-it : Head → List ℕ
-  before-it c = set (c .loop .marks) (c .loop .k) 1
+  before-it c = set (c .loop .ticks) (c .loop .k) 1
 
   wide : (c : Free) → let head = head-of (turn-of c) in trees-of head ≤ length (before-it head)
   wide c = simp length-set (omega (arith, room (head-of (turn-of c))))
@@ -110,19 +110,19 @@ module _ (t : ℕ) where
   abbrev after-it : Compared → List ℕ
   after-it c = let head = head-at c in putMid (trees-of head) (length (before-it head) - trees-of head) (before-it head) (lent-part c)
 
-  length-kept : (c : Compared) → length (after-it c) ≡ length (entry-of (head-at c) .args .marks .now)
+  length-kept : (c : Compared) → length (after-it c) ≡ length (entry-of (head-at c) .args .ticks .now)
   length-kept c =
       let head = head-at c in
       let l = head .loop in
       same-len-mid (trees-of head) (length (before-it head) - trees-of head) (before-it head) (lent-part c) (c .same-tree .kept .1 .1 .1 .1 .0)
-      ∙ length-set (l .marks) (l .k) 1
+      ∙ length-set (l .ticks) (l .k) 1
       ∙ l .inv .1
 
-  marked : (c : Compared) → let head = head-at c in MarkedAt (head .loop .marks) (after-it c) (trees-of head) (head .loop .k)
-  marked c =
+  ticked : (c : Compared) → let head = head-at c in TickedAt (head .loop .ticks) (after-it c) (trees-of head) (head .loop .k)
+  ticked c =
       let head = head-at c in
       let l = head .loop in
-      lent-marked (l .marks) (lent-part c) (trees-of head) (length (before-it head) - trees-of head) (l .k)
+      lent-ticked (l .ticks) (lent-part c) (trees-of head) (length (before-it head) - trees-of head) (l .k)
       (omega (arith, room head)) (turn-of (free-of c) .loop-test .taken) (omega (arith, room head, length-kept c, l .inv .1))
 
   -- what the comparison's answer r says of it
@@ -142,8 +142,8 @@ module _ (t : ℕ) where
       let more = turn .loop-test .taken in
       (record { tree = some .one; there = some .one-there }, looked-tree (look (head-of turn)) more, omega (arith, room (head-of turn)))
 
-  pub slice-write-marks : lts.Need-slice-write-marks (claims t) (take-at t) reads.Post Inv μ
-  slice-write-marks c = omega (arith, room (head-of (turn-of c)))
+  pub slice-write-ticks : lts.Need-slice-write-ticks (claims t) (take-at t) reads.Post Inv μ
+  slice-write-ticks c = omega (arith, room (head-of (turn-of c)))
 
   pub sub-same-tree : lts.Need-sub-same-tree (claims t) (take-at t) reads.Post Inv μ
   sub-same-tree c = wide c
@@ -182,15 +182,15 @@ module _ (t : ℕ) where
       let look = head-of turn .loop .inv .2 x g h q in
       let o = looked-tree look more in (
         match-ends (equal x (o .tree)) _ e (says x (o .tree) h (o .there)) .1,
-        looked-found look more (after-it compared) (marked compared) (no-mark free)
+        looked-found look more (after-it compared) (ticked compared) (no-tick free)
             (λ u v. match-ends (equal x u) _ e (says x u h v) .0),
       )
 
   pub enum-told : lts.Need-enum-told (claims t) (take-at t) reads.Post Inv μ
   enum-told c = search needs
 
-  pub slice-write-marks-2 : lts.Need-slice-write-marks-2 (claims t) (take-at t) reads.Post Inv μ
-  slice-write-marks-2 c = marked (c .before .before .before .before) .there
+  pub slice-write-ticks-2 : lts.Need-slice-write-ticks-2 (claims t) (take-at t) reads.Post Inv μ
+  slice-write-ticks-2 c = ticked (c .before .before .before .before) .there
 
   pub skip-tree-requires : lts.Need-skip-tree-requires (claims t) (take-at t) reads.Post Inv μ
   skip-tree-requires c κs =
@@ -203,8 +203,8 @@ module _ (t : ℕ) where
   pub loop-less : lts.Need-loop-less (claims t) (take-at t) reads.Post Inv μ
   loop-less c = omega arith
 
-  -- by the way that the turn went. The next tree was compared: its test w .0, the comparison w .2 and its answer w .6, the marks after it
-  -- w .7; or it was marked: its test w .0, the marks w .1
+  -- by the way that the turn went. The next tree was compared: its test w .0, the comparison w .2 and its answer w .6, the ticks after it
+  -- w .7; or it was ticked: its test w .0, the ticks w .1
   pub loop-again : lts.Need-loop-again (claims t) (take-at t) reads.Post Inv μ
   loop-again c =
       let joined = c .before in
@@ -218,19 +218,19 @@ module _ (t : ℕ) where
       let free : Free = record { before = tested; if1 = w .0 } in
       let compared : Compared = record { before = record { before = free; same-tree-arg = w .1 }; same-tree = w .2 } in
       let says = told compared Different (w .6 .given .1) in
-      let back = marked-back (marked compared) in (
+      let back = ticked-back (ticked compared) in (
         omega arith,
         ap length (w .7) ∙ length-set (after-it compared) (l .k) _ ∙ length-kept compared,
         λ x g h q. rw (w .7)
-            (looked-next (l .inv .2 x g h q) more _ (past .result) (back _ (sym (no-mark free))) (past .ensures)
+            (looked-next (l .inv .2 x g h q) more _ (past .result) (back _ (sym (no-tick free))) (past .ensures)
             (λ z u v. match-differs (equal x u) _ (says x u h v))),
       ))
       (λ w. (
         omega arith,
         ap length (w .1) ∙ l .inv .1,
         λ x g h q. rw (w .1)
-            (looked-next (l .inv .2 x g h q) more (l .marks) (past .result) (λ n v. refl) (past .ensures)
-            (λ z u v. passed-by h v (l .marks) (l .k) (sym (tested .is-candidate .ensures) ∙ w .0 .left) z)),
+            (looked-next (l .inv .2 x g h q) more (l .ticks) (past .result) (λ n v. refl) (past .ensures)
+            (λ z u v. passed-by h v (l .ticks) (l .k) (sym (tested .is-candidate .ensures) ∙ w .0 .left) z)),
       ))
       (joined .if1 .came)
 

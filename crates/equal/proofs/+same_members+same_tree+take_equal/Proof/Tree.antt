@@ -1,5 +1,5 @@
 -- `equal::same_tree` meets its contract, by the first records of the two trees: of different kinds they are not equal; leaves are
--- compared by their numbers, powers by their bases and then by their exponents, sums and products by their members, whose marks are
+-- compared by their numbers, powers by their bases and then by their exponents, sums and products by their members, whose ticks are
 -- cleared first. Each answer is a law of SameLaws or MatchLaws. Assumes nothing.
 use Prim.Native.Nat.{ℕ, _+_, _*_, _<_, _≤_}
 use mathlib.Core.Path.{_≡_, sym, ap, _∙_}
@@ -13,7 +13,7 @@ use Rattle.split.specs.Standing.{TreeIn}
 use Rattle.paper.proofs.StandingLaws.{record-within}
 use Rattle.equal.proofs.SameLaws.{is-equal, is-different, kinds-differ, leaf-records, leaves-equal, leaves-differ}
 use Rattle.equal.proofs.SameLaws.{PowersEnd, powers-pair, powers-differ, powers-end, Nodes, nodes, counts-differ}
-use Rattle.equal.proofs.MarkLaws.{cleared}
+use Rattle.equal.proofs.TickLaws.{cleared}
 use Rattle.equal.proofs.MatchLaws.{nodes-room, nodes-matchable, nodes-same}
 use Rattle.equal.proofs.same_tree.Reads as reads
 use Rattle.equal.proofs.same_members.Reads as members
@@ -43,7 +43,7 @@ claims t = (
 module _ (t : ℕ) where
   -- places on the way through the code, and from each the one before it: the entry; where the kinds are the same; where the trees are
   -- leaves, and after their bits were read; where they are powers, after the bases were compared, where these are equal, and after the
-  -- exponents were read; where they are nodes, where they have equally many members, and after the marks were cleared
+  -- exponents were read; where they are nodes, where they have equally many members, and after the ticks were cleared
   abbrev Entry : Type 0
   Entry = lts.Start (claims t) (tree-at t) reads.Post
 
@@ -173,11 +173,11 @@ module _ (t : ℕ) where
   other-count : (c : AsMany) → let a = entry-of (nodes-alike (nodes-of c)) .args in members-of c ≡ countIn (a .b .now) (a .j)
   other-count c = c .if6 .left ∙ c .before .count2 .ensures .0
 
-  clear-marks : (c : Cleared) → (x : ℕ) → x < members-of (as-many-of c) → getD (c .clear .last .0) x 0 ≡ 0
-  clear-marks c x l =
+  clear-ticks : (c : Cleared) → (x : ℕ) → x < members-of (as-many-of c) → getD (c .clear .last .0) x 0 ≡ 0
+  clear-ticks c x l =
       let as-many = as-many-of c in
       let a = entry-of (nodes-alike (nodes-of as-many)) .args in
-      ap (λ (us : List ℕ). getD us x 0) (c .clear .ensures) ∙ cleared (a .marks .now) (members-of as-many) x l
+      ap (λ (us : List ℕ). getD us x 0) (c .clear .ensures) ∙ cleared (a .ticks .now) (members-of as-many) x l
 
   -- ---- the kinds
   pub kind-requires : lts.Need-kind-requires (claims t) (tree-at t) reads.Post
@@ -323,7 +323,7 @@ module _ (t : ℕ) where
       let entry = entry-of (nodes-alike two) in
       let clear = cleared .clear in (
         omega (arith, one-within entry),
-        nodes-matchable (node two) (members-of as-many) (one-count as-many) (other-count as-many) (clear .last .0) (clear-marks cleared)
+        nodes-matchable (node two) (members-of as-many) (one-count as-many) (other-count as-many) (clear .last .0) (clear-ticks cleared)
             (omega (arith, entry .pre .1 .enough, clear .kept .0)),
       )
 
@@ -338,4 +338,4 @@ module _ (t : ℕ) where
       let r = compared .same-members in
       λ x y h g.
       nodes-same (noded (nodes-of as-many) x y h g) (members-of as-many) (one-count as-many) (other-count as-many)
-      (cleared .clear .last .0) (clear-marks cleared) (r .result) (r .ensures)
+      (cleared .clear .last .0) (clear-ticks cleared) (r .result) (r .ensures)

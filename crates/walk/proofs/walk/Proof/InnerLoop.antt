@@ -1,5 +1,5 @@
--- The inner loop of the walk: the current part meets the later members one by one. The later member's entry is read, the comparison's marks
--- lie behind what has come out (`marks-fit`), so that what has come out stays (`marks-behind`), and the answer of `meet` is the paper's for
+-- The inner loop of the walk: the current part meets the later members one by one. The later member's entry is read, the comparison's ticks
+-- lie behind what has come out (`ticks-fit`), so that what has come out stays (`ticks-behind`), and the answer of `meet` is the paper's for
 -- the two parts (`told`). Where it says "apart" the member is passed by; where it says "into" the part takes the member up, and the last
 -- member moves into its place: both are steps of the walk (Steps). Each turn of the loop leaves one member fewer to meet. Assumes nothing.
 use Prim.Native.Nat.{ℕ, _+_, _-_, _*_, _≤_}
@@ -33,29 +33,29 @@ abbrev later : (c : Facing)
     Head (s .work) (entry-of (around (c .before)) .args .p) (s .j) (state c .left)
 later c = next (state c) (c .loop-test .taken)
 
-pub marks-fit : (c : Facing) → around (c .before) .walk .e * 16 + records (later c .tree) ≤ length (c .before .loop .out)
-marks-fit c = omega (arith, bounds (c .before) .room, enough (state c) (c .loop-test .taken))
+pub ticks-fit : (c : Facing) → around (c .before) .walk .e * 16 + records (later c .tree) ≤ length (c .before .loop .out)
+ticks-fit c = omega (arith, bounds (c .before) .room, enough (state c) (c .loop-test .taken))
 
 -- ---- after it was met
 module _ (c : Met) where
   abbrev pub here : Within
   here = facing-of c .before
 
-  -- the byte of `out` from which on the marks were lent, the marks as `meet` left them in its fifth parameter, and `out` with them
+  -- the byte of `out` from which on the ticks were lent, the ticks as `meet` left them in its fifth parameter, and `out` with them
   abbrev pub front : ℕ
   front = around here .walk .e * 16
 
-  abbrev pub marks : List ℕ
-  marks = c .meet .last .1 .1 .1 .1 .0
+  abbrev pub ticks : List ℕ
+  ticks = c .meet .last .1 .1 .1 .1 .0
 
   abbrev pub marked : List ℕ
-  marked = putMid front (length (here .loop .out) - front) (here .loop .out) marks
+  marked = putMid front (length (here .loop .out) - front) (here .loop .out) ticks
 
-  pub marks-behind : take front marked ≡ take front (here .loop .out)
-  marks-behind = take-put front (length (here .loop .out) - front) (here .loop .out) marks (omega (arith, marks-fit (facing-of c)))
+  pub ticks-behind : take front marked ≡ take front (here .loop .out)
+  ticks-behind = take-put front (length (here .loop .out) - front) (here .loop .out) ticks (omega (arith, ticks-fit (facing-of c)))
 
-  pub marks-length : length marked ≡ length (here .loop .out)
-  marks-length = same-len-mid front (length (here .loop .out) - front) (here .loop .out) marks (c .meet .kept .1 .1 .1 .1 .0)
+  pub ticks-length : length marked ≡ length (here .loop .out)
+  ticks-length = same-len-mid front (length (here .loop .out) - front) (here .loop .out) ticks (c .meet .kept .1 .1 .1 .1 .0)
 
   -- what the answer r says of the current part and the member that it met, in any state that the turn may be in; and where the part stands
   module _ {l : List Tree} {o w : List ℕ} (z : State here l o w) where
@@ -79,16 +79,16 @@ last-moves-in c = c .remove .ensures .0
 
 -- ---- the needs
 pub mul-a : tie.Need-mul-a Inv-loop μ-loop Inv-walk μ-walk
-mul-a c = record { fits = omega (arith, marks-fit c) }
+mul-a c = record { fits = omega (arith, ticks-fit c) }
 
 pub sub-meet : tie.Need-sub-meet Inv-loop μ-loop Inv-walk μ-walk
-sub-meet c = omega (arith, marks-fit (c .before))
+sub-meet c = omega (arith, ticks-fit (c .before))
 
 pub part-meet-start : tie.Need-part-meet-start Inv-loop μ-loop Inv-walk μ-walk
-part-meet-start c = omega (arith, marks-fit (c .before))
+part-meet-start c = omega (arith, ticks-fit (c .before))
 
 pub part-meet-end : tie.Need-part-meet-end Inv-loop μ-loop Inv-walk μ-walk
-part-meet-end c = omega (arith, marks-fit (c .before))
+part-meet-end c = omega (arith, ticks-fit (c .before))
 
 pub meet-requires : tie.Need-meet-requires Inv-loop μ-loop Inv-walk μ-walk
 meet-requires c κs =
@@ -96,7 +96,7 @@ meet-requires c κs =
     let b = bounds (facing .before) in
     let v = state facing in
     let x = later facing in
-    let big = marks-fit facing in
+    let big = ticks-fit facing in
     record {
       flag = entry-of (around (facing .before)) .args .terms;
       current = v .current;
@@ -126,13 +126,13 @@ loop-again c =
     let facing = facing-of met in
     let v = facing .before .loop .inv in
     record {
-      long = marks-length met ∙ v .long;
+      long = ticks-length met ∙ v .long;
       wide = v .wide;
       few = v .few;
       calm = v .calm;
       state = λ l o w h.
           let z = v .state l o w h in
-          inner-apart z (facing .loop-test .taken) _ (marks-behind met) (told met z Apart (c .enum-told .given .1));
+          inner-apart z (facing .loop-test .taken) _ (ticks-behind met) (told met z Apart (c .enum-told .given .1));
     }
 
 pub enum-known-met : tie.Need-enum-known-met Inv-loop μ-loop Inv-walk μ-walk
@@ -164,7 +164,7 @@ loop-again-2 c =
     let v = facing .before .loop .inv in
     let answer = removed .before .before .before .met .given in
     record {
-      long = marks-length met ∙ v .long;
+      long = ticks-length met ∙ v .long;
       wide = removed .remove .kept .0 ∙ v .wide;
       few = omega (arith, v .few);
       calm = v .calm;
@@ -173,7 +173,7 @@ loop-again-2 c =
           let into = told met z (Into (answer .0 .0)) (answer .1) in
           let place = told-from met z (Into (answer .0 .0)) (answer .1) in
           rw (removed .remove .ensures .1)
-          (inner-into z less _ _ _ (into .0) (marks-behind met) (into .1) (into .2) place (omega (arith, b .low, b .few)) (b .high)
+          (inner-into z less _ _ _ (into .0) (ticks-behind met) (into .1) (into .2) place (omega (arith, b .low, b .few)) (b .high)
           (last-moves-in removed));
     }
 

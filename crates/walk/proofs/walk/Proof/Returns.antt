@@ -19,7 +19,7 @@ use Rattle.walk.proofs.States.{common-done}
 use Rattle.walk.proofs.Steps.{Outer, says-over, left-alone, says-idle, says-late, says-done}
 use Rattle.walk.proofs.walk.Tie as tie
 use Rattle.walk.proofs.walk.Proof.Places.{Inv-loop, μ-loop, Inv-walk, μ-walk, Met, Left, entry-of, facing-of, within}
-use Rattle.walk.proofs.walk.Proof.InnerLoop.{marks-behind, marks-length, told}
+use Rattle.walk.proofs.walk.Proof.InnerLoop.{ticks-behind, ticks-length, told}
 
 -- ---- what holds where the ways out meet
 record Leaves (terms : Bool) (out₀ work₀ : List ℕ) (d p count : ℕ) (out work : List ℕ) (n i e : ℕ) (late over : Bool) : Type 0 where
@@ -77,12 +77,12 @@ left c =
     let work-is = a .13 in
     let over-is = a .15 in
     record {
-      long = ap length out-is ∙ marks-length met ∙ w .long ∙ v .long;
+      long = ap length out-is ∙ ticks-length met ∙ w .long ∙ v .long;
       wide = ap length work-is ∙ w .wide ∙ v .wide;
       burst = λ y l h.
           let z = within (facing .before) l h in
           let bad = told met z merged.Over answer-is in
-          let stays = left-alone z _ (marks-behind met) in
+          let stays = left-alone z _ (ticks-behind met) in
           record {
             says = says-over z (facing .loop-test .taken) (bad .0) (bad .1) (bad .2);
             pending = ap (drop (g .p * 16)) work-is ∙ stays .0;
