@@ -11,7 +11,7 @@
    single member that is left, and the base in step 7, keep theirs; step 9 keeps the outer power's mark and its exponent's; an opened node's is lost.
    A release before marks refuses a marked record with 2.
 
-   Every call takes the limit L first, the greatest weight that it accepts: 3,072 or 16,384. At 16,384 a table has up to 262,144 bytes; a table up to
+   Every call on formulas takes the limit L first, the greatest weight that it accepts: 3,072 or 16,384. At 16,384 a table has up to 262,144 bytes; a table up to
    the lower limit has the same answers and the same bytes at both. Both machines of a takeover take the same limit, or a heavy result is
    refused with 1 or 3 by the one that has the lower, never misread.
 
@@ -34,17 +34,20 @@
               `work` under 65,536 at L = 3,072 and under 524,288 at L = 16,384; `list` has
               under 16 bytes a pair
      7        simplifying meets an integer outside the signed 64-bit range                     steps completed before it
-     8        simmergate_batch alone: over 200 items, lengths that do not add up to the        none
-              bytes given or are no multiple of 8 bytes, or fewer places than items
+     8        of simmergate_batch: over 200 items, lengths that do not add up to the bytes     0, where there is an
+              given or are no multiple of 8 bytes, or fewer places than items; of the two      answer
+              on formulas that share sub-formulas: their lists do not fit, as said there
      9        there is no such edition of the rules: it is neither 1 nor 2                     0
      19       there is no such limit: it is neither 3,072 nor 16,384                           0
+
+   14, of a text, and 15 to 18, of definitions, are told where the calls are that give them; their place is 0.
 
    WHAT and BYTE, last in every answer but for the tries, say after 2 what is wrong with the record at that place: WHAT is 1 for its kind, 2
    for a byte other than zero that must be zero, 3 for its count, the lowest of these that is so; BYTE is the lowest such byte, from 1 to
    15, where WHAT is 2. Else both are 0.
 
    Where `answer` is too short for the numbers, a call returns 6 before all else and changes nothing. Bytes of `answer` past the numbers never
-   change. Refusals 1 to 6, 8, 9, 14 and 19 change no byte of any other area; of the calls on whole tables only simmergate_simplify, simmergate_batch,
+   change. Refusals other than 7 change no byte of any other area; of the calls on whole tables only simmergate_simplify, simmergate_batch,
    simmergate_differ, the two on formulas that share sub-formulas and the two on text write to others at all.
 
    All lengths are in bytes. The areas of one call must not overlap; a pointer may be anything where its length is 0, and needs no alignment.
@@ -106,11 +109,11 @@ uint32_t simmergate_value(size_t limit, const uint8_t *table, size_t table_bytes
    which table is refused (1, 2, or 0 for neither), yes 1 or no 0 (no after a refusal), WHAT, BYTE. */
 uint32_t simmergate_equal(size_t limit, const uint8_t *a, size_t a_bytes, const uint8_t *b, size_t b_bytes, uint8_t *answer, size_t answer_bytes);
 
-/* Lists what differs between two tables, their trees walked in step: where kind, count and number of two records agree the walk goes on to their
+/* Lists what differs between two tables, their trees walked in step: where kind, count, number and line mark of two records agree the walk goes on to their
    members, where they do not it reports the pair of record numbers and goes no deeper. A power's exponent is its second member. The pairs
    go to the front of `list`, each once, in walking order, 16 bytes each: the record number in the first table, then that in the second, 8
    bytes each; the bytes of `list` past them never change. There is no pair exactly when the tables are the same bytes; trees that are equal in
-   another order of members have pairs, and simmergate_equal says that they are equal. The first table is judged before the second, and both
+   another order of members or under other marks have pairs, and simmergate_equal says that they are equal. The first table is judged before the second, and both
    before the list: one with under 16 bytes a pair is refused by 6 and does not change. A list as long as the shorter of the two tables always
    suffices, and so does one of SIMMERGATE_TABLE_BYTES(L). The answer: refusal number, place, which table is refused (1, 2, or 0 for neither), pairs (0 after a refusal), WHAT, BYTE. */
 uint32_t simmergate_differ(size_t limit, const uint8_t *a, size_t a_bytes, const uint8_t *b, size_t b_bytes, uint8_t *list, size_t list_bytes,
