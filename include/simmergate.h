@@ -59,13 +59,14 @@
 #include <stdint.h>
 
 /* Bytes of stack that a call needs at the most, at the limit 3,072 and at 16,384. The deepest tables that are accepted, 1,535 nodes one inside the
-   other at the one and 8,191 at the other, were measured to need
+   other at the one and 8,191 at the other, were measured to need what stands here. Of check, weight, value and differ it is counted from the call on;
+   of the others 1,896 bytes are taken off, which the end of the thread that they were measured in uses as well.
 
-     simmergate_check        170,360      915,832
-     simmergate_weight       170,376      915,848
-     simmergate_value        196,840    1,048,808
+     simmergate_check          2,248        2,248     whatever the depth
+     simmergate_weight         2,264        2,264     whatever the depth
+     simmergate_value        125,040      657,520
      simmergate_equal        555,176    2,898,088
-     simmergate_differ       170,456      915,928
+     simmergate_differ         2,344        2,344     whatever the depth
      simmergate_simplify     588,728    3,144,632     by either edition
      simmergate_batch        588,872    3,144,776     by either edition
      simmergate_simplify_shared 589,384 3,145,288     by either edition

@@ -9,10 +9,7 @@ use borrow.Author.Tests.{eq-eqb, ne-eqb, lt-ltb, le-ltb}
 use lib.ListN.{length}
 use Rattle.paper.specs.Limits.{isLimit, maxBytes}
 use Rattle.paper.specs.Record.{Flaw, flaw, weightFrom}
-use Rattle.paper.specs.Verdict.{accepted, refused, flawed, recordsIn, badLength, firstFlawed, treeEnd, judgeRecords, judgedTable, verdict}
-use Rattle.table.specs.Walked.{walked}
-use Rattle.table.specs.declared.Walked.the-variants.{Bad, Ends}
-use Rattle.table.proofs.WalkLaws.{table-bad, table-ends}
+use Rattle.paper.specs.Verdict.{accepted, refused, flawed, recordsIn, badLength, firstFlawed, treeEnd, firstBadExponent, judgeRecords, judgedTable, verdict}
 
 -- refusal 19
 pub limit-unknown : (lim : ℕ) (s : List ℕ) → isLimit lim ≡ false → verdict lim s ≡ refused 19 0
@@ -63,14 +60,12 @@ module _ (lim : ℕ) (s : List ℕ) (n f : ℕ) (first : f ≡ firstFlawed s 0 n
       shapeless e end h = rw (← first, le-ltb f n sound, ← weight, le-ltb lim w light, ← end, ne-eqb e n h)
 
       module _ (end : treeEnd s n 0 ≡ n) where
-        pub exponent : (x : ℕ) → walked s n 1 0 ≡ Bad x → judgeRecords lim s n ≡ refused 5 x
+        pub exponent : (x : ℕ) → x ≡ firstBadExponent s n 0 n → x < n → judgeRecords lim s n ≡ refused 5 x
         unfolding judgeRecords
-        exponent x a =
-            let t = table-bad s n end x a in
-            rw (← first, le-ltb f n sound, ← weight, le-ltb lim w light, end, eq-eqb n n refl, t .0, lt-ltb x n (t .1))
+        exponent x bad h =
+            rw (← first, le-ltb f n sound, ← weight, le-ltb lim w light, end, eq-eqb n n refl, ← bad, lt-ltb x n h)
 
-        pub fine : (x : ℕ) → walked s n 1 0 ≡ Ends x → judgeRecords lim s n ≡ accepted
+        pub fine : (x : ℕ) → x ≡ firstBadExponent s n 0 n → n ≤ x → judgeRecords lim s n ≡ accepted
         unfolding judgeRecords
-        fine x a =
-            let t = table-ends s n end x a in
-            rw (← first, le-ltb f n sound, ← weight, le-ltb lim w light, end, eq-eqb n n refl, t, le-ltb n n (omega arith))
+        fine x bad h =
+            rw (← first, le-ltb f n sound, ← weight, le-ltb lim w light, end, eq-eqb n n refl, ← bad, le-ltb x n h)

@@ -1,5 +1,6 @@
 pub mod StepLaws
 pub mod BadLaws
-pub mod WalkLaws
+pub mod DueLaws
+pub mod OwedLaws
 pub mod JudgeLaws
 pub mod Unique

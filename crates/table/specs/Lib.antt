@@ -1,3 +1,3 @@
 pub mod Judged
 pub mod Measured
-pub mod Walked
+pub mod Due

@@ -1,15 +1,16 @@
 // The checker of tables, which judges refusals 19 and 1 to 5, and the weight of a table.
 use record::Flaw;
 ghost use mathlib.Core.Path.{_≡_};
-ghost use Prim.Native.Nat.{_+_, _*_, _≤_};
+ghost use Prim.Native.Nat.{_+_, _*_, _<_, _≤_};
 ghost use lib.ListN.{length};
+ghost use lib.Dec.{eqb};
 ghost use Rattle.paper.specs.Limits.{isLimit};
-ghost use Rattle.paper.specs.Record.{weightFrom};
-ghost use Rattle.paper.specs.Verdict.{recordsIn, firstFlawed, treeEnd, judgeRecords, verdict};
+ghost use Rattle.paper.specs.Record.{arity, weightFrom};
+ghost use Rattle.paper.specs.Verdict.{recordsIn, firstFlawed, treeEnd, firstBadExponent, judgeRecords, verdict};
 ghost use Rattle.paper.specs.Answers.{weighed};
 ghost use Rattle.table.specs.Judged.{standsFor, verdictOf};
 ghost use Rattle.table.specs.Measured.{says};
-ghost use Rattle.table.specs.Walked.{walked};
+ghost use Rattle.table.specs.Due.{hasPower, dueAt, turned, owing};
 
 // The checker's answer: nothing is refused, or which refusal it is, with the record where it has one, and what is wrong with it.
 pub enum Judged {
@@ -35,12 +36,6 @@ pub struct Measured {
     pub place: usize,
     pub flaw: Flaw,
     pub result: u64,
-}
-
-// The answer of a walk over a tree: its first bad exponent, or the record after it.
-enum Walked {
-    Bad(usize),
-    Ends(usize),
 }
 
 // The first flawed record of the n; n where there is none.
@@ -97,43 +92,83 @@ fn tree_end(s: &[u8], n: usize) -> usize
     n + 1
 }
 
-// Walks the tree at record i, which ends within the records: a power's base, and then the exponent after it; a node's members, a leaf
-// among them being passed at once.
-fn walk(s: &[u8], i: usize) -> Walked
-    requires { ⌜ treeEnd (now s) (recordsIn (now s)) i ≤ recordsIn (now s) ⌝ }
-    ensures { λ r. ⌜ r ≡ walked (now (s .entry)) (recordsIn (now (s .entry))) 1 i ⌝ }
+// One of the n records is a power.
+fn has_power(s: &[u8], n: usize) -> bool
+    requires { ⌜ n * 16 ≤ length (now s) ⌝ }
+    ensures { λ r. ⌜ r ≡ hasPower (now (s .entry)) 0 n ⌝ }
 {
-    let k = record::kind(s, i);
-    if k < 2 {
-        return Walked::Ends(i + 1);
-    }
-    if k == 4 {
-        match walk(s, i + 1) {
-            Walked::Bad(b) => {
-                return Walked::Bad(b);
-            }
-            Walked::Ends(e) => {
-                if record::is_positive(s, e) {
-                    return Walked::Ends(e + 1);
-                }
-                return Walked::Bad(e);
-            }
+    let mut i = 0;
+    while i < n {
+        if record::kind(s, i) == 4 {
+            return true;
         }
+        i += 1;
     }
-    let mut left = record::count(s, i);
-    let mut at = i + 1;
-    while 0 < left {
-        if record::kind(s, at) < 2 {
-            at += 1;
+    false
+}
+
+// Tree k of those that are owed is an exponent: its bit is 1.
+fn is_due(due: &[u64; 256], k: usize) -> bool
+    requires { ⌜ k < 16384 ⌝ }
+    ensures { λ r. ⌜ r ≡ eqb (dueAt (now (due .entry)) k) 1 ⌝ }
+{
+    (due[k / 64] >> (k % 64)) % 2 == 1
+}
+
+// Turns the bit of tree k of those that are owed: 1 to 0, 0 to 1.
+fn turn(due: &mut [u64; 256], k: usize)
+    requires { ⌜ k < 16384 ⌝ }
+    ensures { λ _. ⌜ now (due .exit) ≡ turned (now (due .entry)) k ⌝ }
+{
+    due[k / 64] = due[k / 64] ^ (1u64 << (k % 64));
+}
+
+// Record i, which is no exponent, is taken, k trees being owed besides: its members are owed, the first one on top, and of a power the
+// second one is the exponent. Answers how many are owed then.
+fn owe_members(s: &[u8], i: usize, due: &mut [u64; 256], k: usize) -> usize
+    requires { ⌜ (i * 16 + 16 ≤ length (now s)) × (k < 16384) ⌝ }
+    ensures { λ r. ⌜ (r ≡ k + arity (now (s .entry)) i) × (now (due .exit) ≡ owing (now (s .entry)) i (now (due .entry)) k) ⌝ }
+{
+    let owed = k + record::arity(s, i);
+    if record::kind(s, i) == 4 {
+        turn(due, owed - 2);
+    }
+    owed
+}
+
+// The first exponent of a tree of n records that is no integer of at least 1; n where there is none. Takes the records one after the
+// other, the top one of the trees that are owed, and the bits beyond those stay 0.
+fn first_bad(s: &[u8], n: usize) -> usize
+    requires { ⌜ (n * 16 ≤ length (now s)) × (n ≤ 16384) × (treeEnd (now s) n 0 ≡ n) ⌝ }
+    ensures { λ r. ⌜ r ≡ firstBadExponent (now (s .entry)) n 0 n ⌝ }
+{
+    let mut due = [0u64; 256];
+    let mut owed = 1;
+    let mut i = 0;
+    while i < n {
+        owed -= 1;
+        if is_due(&due, owed) {
+            if !record::is_positive(s, i) {
+                return i;
+            }
+            turn(&mut due, owed);
         } else {
-            match walk(s, at) {
-                Walked::Bad(b) => return Walked::Bad(b),
-                Walked::Ends(e) => at = e,
-            }
+            owed = owe_members(s, i, &mut due, owed);
         }
-        left -= 1;
+        i += 1;
     }
-    Walked::Ends(at)
+    n
+}
+
+// The same, with a look first: most tables have no power, or an early one.
+fn bad_exponent(s: &[u8], n: usize) -> usize
+    requires { ⌜ (n * 16 ≤ length (now s)) × (n ≤ 16384) × (treeEnd (now s) n 0 ≡ n) ⌝ }
+    ensures { λ r. ⌜ r ≡ firstBadExponent (now (s .entry)) n 0 n ⌝ }
+{
+    if has_power(s, n) {
+        return first_bad(s, n);
+    }
+    n
 }
 
 // Refusals 2 to 5 of the n records of a table, the lowest number first; 3 is over the limit.
@@ -155,10 +190,11 @@ fn judge_records(limit: usize, s: &[u8], n: usize) -> Judged
     if n < e {
         return Judged::Shape(n);
     }
-    match walk(s, 0) {
-        Walked::Bad(x) => Judged::Exponent(x),
-        Walked::Ends(_) => Judged::Fine,
+    let x = bad_exponent(s, n);
+    if x < n {
+        return Judged::Exponent(x);
     }
+    Judged::Fine
 }
 
 // There is such a limit.

@@ -2,19 +2,14 @@
 use record::Flaw;
 use table::Measured;
 ghost use mathlib.Core.Path.{_≡_};
-ghost use Prim.Native.Nat.{ℕ, _<_};
+ghost use Prim.Native.Nat.{ℕ, _+_, _*_, _%_, _<_, _≤_};
 ghost use lib.ListN.{length, getD};
-ghost use Rattle.paper.specs.Tree.{Tree, Forest, records, recordses, value, sumValue, productValue};
+ghost use Rattle.paper.specs.Limits.{modulus};
+ghost use Rattle.paper.specs.Tree.{Tree, records, value};
 ghost use Rattle.paper.specs.Answers.{register, valued};
 ghost use Rattle.table.specs.Measured.{says};
-ghost use Rattle.paper.specs.Standing.{TreeIn, TreesIn, SomeTree, SomeTrees};
-ghost use Rattle.value.specs.Evaluated.{Evaluated, held};
-
-// The value of what stands from a record on, and the record after it.
-struct Valued {
-    value: u64,
-    end: usize,
-}
+ghost use Rattle.paper.specs.Standing.{TreeIn, SomeTree};
+ghost use Rattle.value.specs.Evaluated.{Evaluated, held, place, parts, neutral, joined};
 
 // The registers as numbers, symbol 0 first.
 fn fill(registers: &[u8]) -> [u64; 256]
@@ -37,79 +32,66 @@ fn register_of(regs: &[u64; 256], symbol: u8) -> u64
     regs[symbol as usize]
 }
 
-// The sum of the values of the n trees from record i on.
-fn sum_at(s: &[u8], i: usize, n: usize, regs: &[u64; 256]) -> Valued
-    requires { ⌜ SomeTrees (now s) i n ⌝ }
-    ensures { λ r. ⌜ ((f : Forest) → TreesIn (now (s .entry)) i n f
-        → Evaluated i (recordses f) (sumValue f (held (now (regs .entry)))) r) ⌝ }
+// The number of trees that the value of the node at record i is made from: a power's base, else its members.
+fn parts(s: &[u8], i: usize) -> usize
+    requires { ⌜ i * 16 + 16 ≤ length (now s) ⌝ }
+    ensures { λ r. ⌜ r ≡ parts (now (s .entry)) i ⌝ }
 {
-    let mut total: u64 = 0;
-    let mut at = i;
-    let mut left = n;
-    while 0 < left {
-        let m = value_at(s, at, regs);
-        total = std::num::wrapping_add_u64(total, m.value);
-        at = m.end;
-        left -= 1;
+    if record::kind(s, i) == 4 {
+        return 1;
     }
-    Valued {
-        value: total,
-        end: at,
-    }
+    record::count(s, i)
 }
 
-// The product of the values of the n trees from record i on.
-fn product_at(s: &[u8], i: usize, n: usize, regs: &[u64; 256]) -> Valued
-    requires { ⌜ SomeTrees (now s) i n ⌝ }
-    ensures { λ r. ⌜ ((f : Forest) → TreesIn (now (s .entry)) i n f
-        → Evaluated i (recordses f) (productValue f (held (now (regs .entry)))) r) ⌝ }
+// What the value of a node of kind k begins with: a sum's with 0, another one's with 1.
+fn neutral(k: u8) -> u64
+    ensures { λ r. ⌜ r ≡ neutral k ⌝ }
 {
-    let mut total: u64 = 1;
-    let mut at = i;
-    let mut left = n;
-    while 0 < left {
-        let m = value_at(s, at, regs);
-        total = number::wrapping_mul(total, m.value);
-        at = m.end;
-        left -= 1;
+    if k < 3 {
+        return 0;
     }
-    Valued {
-        value: total,
-        end: at,
-    }
+    1
 }
 
-// The value of the tree at record i: an integer's is its bits, a symbol's its register, and the others' come from their members.
-fn value_at(s: &[u8], i: usize, regs: &[u64; 256]) -> Valued
-    requires { ⌜ SomeTree (now s) i ⌝ }
-    ensures { λ r. ⌜ ((t : Tree) → TreeIn (now (s .entry)) i t
-        → Evaluated i (records t) (value t (held (now (regs .entry)))) r) ⌝ }
+// A value and one more of a node of kind k: added in a sum, else multiplied.
+fn joined(k: u8, total: u64, v: u64) -> u64
+    ensures { λ r. ⌜ r ≡ joined k total v % modulus ⌝ }
 {
+    if k < 3 {
+        return std::num::wrapping_add_u64(total, v);
+    }
+    number::wrapping_mul(total, v)
+}
+
+// The value of the tree at record at[0], which moves past the tree: an integer's is its bits, a symbol's its register, and the others'
+// come from their members.
+fn value_at(s: &[u8], regs: &[u64; 256], at: &mut [usize; 1]) -> u64
+    requires { ⌜ (length (now at) ≡ 1) × SomeTree (now s) (place (now at)) ⌝ }
+    ensures { λ r. ⌜ ((t : Tree) → TreeIn (now (s .entry)) (place (now (at .entry))) t
+        → Evaluated (place (now (at .entry))) (records t) (value t (held (now (regs .entry)))) r (now (at .exit))) ⌝ }
+{
+    let i = at[0];
     let k = record::kind(s, i);
+    at[0] = i + 1;
     if k < 1 {
-        return Valued {
-            value: record::bits(s, i),
-            end: i + 1,
-        };
+        return record::bits(s, i);
     }
     if k < 2 {
-        return Valued {
-            value: register_of(regs, record::symbol(s, i)),
-            end: i + 1,
-        };
+        return register_of(regs, record::symbol(s, i));
     }
-    if k < 3 {
-        return sum_at(s, i + 1, record::count(s, i), regs);
+    let mut left = parts(s, i);
+    let mut total = neutral(k);
+    while 0 < left {
+        let v = value_at(s, regs, at);
+        total = joined(k, total, v);
+        left -= 1;
     }
     if k < 4 {
-        return product_at(s, i + 1, record::count(s, i), regs);
+        return total;
     }
-    let b = value_at(s, i + 1, regs);
-    let e = b.end;
-    Valued {
-        value: number::wrapping_pow(b.value, record::bits(s, e)),
-        end: e + 1,
-    }
+    let e = at[0];
+    at[0] = e + 1;
+    number::wrapping_pow(total, record::bits(s, e))
 }
 
 // The value of a table; 0 where the table or the registers are refused.
@@ -135,11 +117,12 @@ pub fn value(limit: usize, s: &[u8], registers: &[u8]) -> Measured
         };
     }
     let regs = fill(registers);
-    let v = value_at(s, 0, &regs);
+    let mut at = [0usize; 1];
+    let v = value_at(s, &regs, &mut at);
     Measured {
         number: 0,
         place: 0,
         flaw: Flaw::Sound,
-        result: v.value,
+        result: v,
     }
 }

@@ -1,11 +1,9 @@
 -- `table::judge_records` meets its contract: each return is one case of the definition, by what was found before it.
 -- Assumes nothing.
-use Prim.Native.Nat.{_≤_, min}
+use Prim.Native.Nat.{min}
 use mathlib.Core.Path.{_≡_, sym, ap, _∙_}
 use native.Mathlib.Omega.{arith}
-use borrow.Author.Needs.{needs}
 use Rattle.paper.specs.Verdict.{refused, treeEnd}
-use Rattle.table.specs.declared.Walked.the-variants.{Bad, Ends}
 use Rattle.table.proofs.JudgeLaws.{records-within, flawed-there, heavy, shapeless, exponent, fine}
 use Rattle.table.proofs.judge_records.Statement.{statement}
 use Rattle.table.proofs.judge_records.Tie as tie
@@ -68,52 +66,39 @@ returns-4 c =
     ∙ sym (shapeless (a .limit) (a .s .now) (a .n) (first .result) (first .ensures) sound (weight .result) (weight .ensures) light
     (end .result) (end .ensures) (λ e. omega arith))
 
-walk-requires : tie.Need-walk-requires
-walk-requires c κs =
+bad-exponent-requires : tie.Need-bad-exponent-requires
+bad-exponent-requires c κs =
     let end = c .before .before .tree-end .ensures in
     let a = c .before .before .before .before .before .before .before .before in
-    let within : treeEnd (a .args .s .now) (a .args .n) 0 ≤ a .args .n = omega arith in
-    rw (a .pre .0) at within
-
-enum-known-x : tie.Need-enum-known-x
-enum-known-x c = search needs
-
-enum-told : tie.Need-enum-told
-enum-told c = search needs
+    (records-within (a .args .s .now) (a .args .n) (a .pre .0), a .pre .1, omega arith)
 
 returns-5 : tie.Need-returns-5
 returns-5 c =
-    let at = c .before .before .before .before .before .before in
+    let at = c .before .before .before .before in
     let end = at .tree-end in
     let light = at .before .if2 .left in
     let weight = at .before .before .weight-of in
     let sound = at .before .before .before .if1 .left in
     let first = at .before .before .before .before .first-flawed in
     let a = at .before .before .before .before .before .before .args in
-    let records = at .before .before .before .before .before .before .pre .0 in
     let whole : treeEnd (a .s .now) (a .n) 0 ≡ a .n = omega arith in
-    let walk = c .before .before .before .walk in
-    let x = c .before .x .given .0 .0 in
-    let r : walk .result ≡ Bad x = cc in
-    let told = rw (← records) at (sym (walk .ensures) ∙ r) in
-    sym (exponent (a .limit) (a .s .now) (a .n) (first .result) (first .ensures) sound (weight .result) (weight .ensures) light whole x told)
+    let bad = c .before .bad-exponent in
+    sym (exponent (a .limit) (a .s .now) (a .n) (first .result) (first .ensures) sound (weight .result) (weight .ensures) light whole
+    (bad .result) (bad .ensures) (c .if5 .taken))
 
 returns-6 : tie.Need-returns-6
 returns-6 c =
-    let at = c .before .before .before .before .before in
+    let at = c .before .before .before .before in
     let end = at .tree-end in
     let light = at .before .if2 .left in
     let weight = at .before .before .weight-of in
     let sound = at .before .before .before .if1 .left in
     let first = at .before .before .before .before .first-flawed in
     let a = at .before .before .before .before .before .before .args in
-    let records = at .before .before .before .before .before .before .pre .0 in
     let whole : treeEnd (a .s .now) (a .n) 0 ≡ a .n = omega arith in
-    let walk = c .before .before .walk in
-    let x = c .enum-told .given .0 .0 in
-    let r : walk .result ≡ Ends x = cc in
-    let told = rw (← records) at (sym (walk .ensures) ∙ r) in
-    sym (fine (a .limit) (a .s .now) (a .n) (first .result) (first .ensures) sound (weight .result) (weight .ensures) light whole x told)
+    let bad = c .before .bad-exponent in
+    sym (fine (a .limit) (a .s .now) (a .n) (first .result) (first .ensures) sound (weight .result) (weight .ensures) light whole
+    (bad .result) (bad .ensures) (c .if5 .left))
 
 pub judge-records-spec : {M : Type 1} → statement M
 judge-records-spec =
@@ -127,8 +112,6 @@ judge-records-spec =
     tree-end-requires
     returns-3
     returns-4
-    walk-requires
-    enum-known-x
-    enum-told
+    bad-exponent-requires
     returns-5
     returns-6)
