@@ -68,10 +68,59 @@ static void split_sum(unsigned from, unsigned n) {
 }
 static void tree_opens(unsigned n) { split_sum(0, n); }
 
+static void one_pair(unsigned n) { /* 3*a^2 + 3*b^2 + .. + 3*a^2: the last like the first, all others unlike */
+    unlike(n - 1);
+    making.at[2] = (uint8_t)n, making.at[3] = (uint8_t)(n >> 8);
+    put_record(3, 2, 0); integer(3); put_record(4, 0, 0); symbol(0); integer(2);
+}
+
+static void ones_nested(unsigned n) { /* 1*(1*(.. a)) */
+    for (unsigned i = 0; i < n; i++) { put_record(3, 2, 0); integer(1); }
+    symbol(0);
+}
+
+static void chain_like(unsigned n) { /* a + (b + (.. with 32 terms over and over: each is like one further in */
+    for (unsigned i = 0; i + 1 < n; i++) { put_record(2, 2, 0); symbol(i % 32); }
+    symbol((n - 1) % 32);
+}
+
+static void chain_like_all(unsigned n) { /* a + b + (b + c + (c + d + .. : as many terms as levels, one of each level like one further in */
+    for (unsigned i = 0; i < n; i++) { put_record(2, 3, 0); leaf(i); leaf(i + 1); }
+    leaf(n);
+}
+
+/* Products of three symbols, by twos whose numbers have one sum and one sum of squares: a*h*i + c*d*k + ..; such a two moved on and stretched is another */
+static void products_of_three(unsigned n) {
+    put_record(2, n, 0);
+    for (unsigned i = 0; i < n; i++) {
+        unsigned from = i / 2, by = 1;
+        while (from >= 256 - 10 * by) from -= 256 - 10 * by++;
+        put_record(3, 3, 0);
+        for (unsigned k = 0; k < 3; k++) symbol(from + by * (i % 2 == 0 ? (unsigned[]){0, 7, 8} : (unsigned[]){2, 3, 10})[k]);
+    }
+}
+
+static void fives_nested(unsigned n) { /* 5*(a + 5*(a + .. )*5)*5 */
+    for (unsigned i = 0; i < n; i++) { put_record(3, 3, 0); integer(5); put_record(2, 2, 0); symbol(0); }
+    symbol(1);
+    for (unsigned i = 0; i < n; i++) integer(5);
+}
+
+static void opens_and_steps(unsigned n) { /* a*(a*(b + a*(a*(b + .. */
+    for (unsigned i = 0; i < n; i++) {
+        put_record(3, 2, 0); symbol(0);
+        put_record(3, 2, 0); symbol(0);
+        put_record(2, 2, 0); symbol(1);
+    }
+    symbol(2);
+}
+
 static const struct { const char *name; void (*make)(unsigned); } families[] = {
     {"like-terms-1", like_one}, {"like-terms-16", like_sixteen}, {"unlike-terms", unlike}, {"unlike-products", unlike_long},
     {"powers-16", powers_sixteen}, {"powers-unlike", powers_unlike}, {"nest-still", nest_still}, {"nest-changes", nest_changes},
     {"powers-nested", powers_nested}, {"chain-opens", chain_opens}, {"tree-opens", tree_opens},
+    {"one-pair", one_pair}, {"ones-nested", ones_nested}, {"chain-like", chain_like}, {"chain-like-all", chain_like_all},
+    {"products-of-three", products_of_three}, {"fives-nested", fives_nested}, {"opens-and-steps", opens_and_steps},
 };
 #define FAMILIES (sizeof families / sizeof families[0])
 

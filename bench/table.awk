@@ -32,6 +32,23 @@ NR == 1 { next }
         }
         if (least == "" || times + 0 < least) { least = times + 0; least_at = $1 "/" $2 }
     } else apart++
+    if ($6 != "-") { # beside GiNaC; a row on which the port is cut off is behind
+        beside++
+        lead = $3 == "-" ? 0 : $6 / $3
+        if (least_lead == "" || lead < least_lead) { least_lead = lead; least_lead_at = $1 "/" $2 }
+        if (lead <= 1) { behind++; behind_at = behind_at ", " $1 "/" $2 }
+    }
+    if ($2 == 1536) from[$1] = $3
+    if ($2 == 16384 && from[$1] != "" && from[$1] != "-") { # a row that is cut off grows too fast
+        grown++
+        power = $3 == "-" ? "-" : sprintf("%.2f", log($3 / from[$1]) / log(16384 / 1536))
+        if (power == "-" || power + 0 > ($1 == "chain-opens" ? 2.2 : 1.3)) fast = fast ", " $1 " " power
+    }
+    if ($2 == 3072) {
+        allowed = $1 == "chain-opens" ? 25000000 : 1500000
+        if ($3 == "-" || $3 > allowed) costly = costly ", " $1 " " short($3)
+        full++
+    }
     if ($1 == "site") { site = $3; site_rust = $5; site_ginac = $6; next }
     if ($2 > 3072) next # the aims below are those of the lower limit
     if ($3 == "-" || $3 > 1000000000) heavy = heavy ", " $1 "/" $2 " " short($3)
@@ -60,6 +77,12 @@ END {
         print ", the least is " least " times, at " least_at (apart > 0 ? "; " apart " not compared" : "")
         for (i = 1; i <= slow_names; i++) print "  - " slow_name[i] ": missed on " slow_of[slow_name[i]] ", the least is " slow_least[slow_name[i]] " times"
     }
+    printf "- ahead of GiNaC on every row: "
+    if (beside == 0) print "no GiNaC to compare with"
+    else print (behind == 0 ? "met on all " beside : "MISSED on " behind " of " beside " (" substr(behind_at, 3) ")") ", the least lead is " sprintf("%.2f", least_lead) " times, at " least_lead_at
+    print "- a site of 200 formulas at no more than 5 million: " (site <= 5000000 ? "met" : "MISSED")
+    print "- at 3,072 chain-opens at no more than 25 million, every other row at 1.5 million: " (full == 0 ? "not measured" : costly == "" ? "met" : "MISSED on" substr(costly, 2))
+    print "- from 1,536 to 16,384 growth of at most the 1.3th power of the weight, chain-opens the 2.2th: " (grown == 0 ? "not measured" : fast == "" ? "met" : "MISSED on" substr(fast, 2))
     for (i = 1; i <= wides; i++) if (wide[i] in growth) {
         said = said sprintf(" %s %.2f", wide[i], growth[wide[i]])
         if (growth[wide[i]] > 2.05) missed = 1

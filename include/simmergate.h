@@ -58,22 +58,21 @@
 #include <stddef.h>
 #include <stdint.h>
 
-/* Bytes of stack that a call needs at the most, at the limit 3,072 and at 16,384. The deepest tables that are accepted, 1,535 nodes one inside the
-   other at the one and 8,191 at the other, were measured to need what stands here. Of check, weight, value and differ it is counted from the call on;
-   of the others 1,896 bytes are taken off, which the end of the thread that they were measured in uses as well.
+/* Bytes of stack that a call needs at the most, counted from the call on, at the limit 3,072 and at 16,384. The deepest tables that are accepted, 1,535
+   nodes one inside the other at the one and 8,191 at the other, were measured to need what stands here.
 
      simmergate_check          2,248        2,248     whatever the depth
      simmergate_weight         2,264        2,264     whatever the depth
      simmergate_value        125,040      657,520
-     simmergate_equal        555,176    2,898,088
+     simmergate_equal        543,856    2,900,128
      simmergate_differ         2,344        2,344     whatever the depth
-     simmergate_simplify     588,728    3,144,632     by either edition
-     simmergate_batch        588,872    3,144,776     by either edition
-     simmergate_simplify_shared 589,384 3,145,288     by either edition
-     simmergate_write_text   219,504    1,177,968
-     simmergate_read_text    982,208    5,242,048     for any text */
-#define SIMMERGATE_STACK 606208
-#define SIMMERGATE_STACK_16384 3211264
+     simmergate_simplify     541,720    2,884,632     by either edition
+     simmergate_batch        541,864    2,884,776     by either edition
+     simmergate_simplify_shared 542,376 2,885,288     by either edition
+     simmergate_write_text   221,400    1,179,864
+     simmergate_read_text    984,104    5,243,944     for any text */
+#define SIMMERGATE_STACK 557056
+#define SIMMERGATE_STACK_16384 2949120
 
 /* simmergate_read_text alone needs more, for any text. */
 #define SIMMERGATE_READ_TEXT_STACK 1003520

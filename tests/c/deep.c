@@ -27,7 +27,9 @@ static uint32_t returned;
 static uint8_t text[1 << 20];
 static size_t text_bytes;
 
-static void *nothing(void *unused) { return unused; }
+/* What a thread has taken of its stack where a call begins. */
+static size_t begun;
+static void *nothing(void *unused) { begun = (size_t)(stack + at.stack - (uint8_t *)__builtin_frame_address(0)); return unused; }
 static void *check(void *unused) { returned = simmergate_check(at.limit, table, bytes, answer, sizeof answer); return unused; }
 static void *weigh(void *unused) { returned = simmergate_weight(at.limit, table, bytes, answer, sizeof answer); return unused; }
 static void *evaluate(void *unused) { returned = simmergate_value(at.limit, table, bytes, registers, sizeof registers, answer, sizeof answer); return unused; }
@@ -58,7 +60,7 @@ static void *simplify_shared(void *unused) {
     return unused;
 }
 
-/* Bytes of the stack that a thread uses. */
+/* Bytes of the stack that a thread uses, its end being some 2,000 of them. */
 static size_t used(void *(*call)(void *)) {
     pthread_attr_t attributes;
     pthread_t thread;
@@ -175,7 +177,7 @@ static void deepest(void) {
     size_t shapes = sizeof kinds / sizeof *kinds, most[CALLS] = {0}, need = 0;
     uint64_t own_registers[REGISTERS] = {0};
     used(nothing);
-    size_t thread = used(nothing);
+    size_t thread = begun;
     for (size_t i = 0; i < shapes; i++) {
         unsigned a = kinds[i][0], b = kinds[i][1];
         int first = kinds[i][2] != 0;
@@ -245,7 +247,8 @@ int main(void) {
         at = levels[i];
         deepest();
         unsigned all = (unsigned)at.limit - 1, threes = (unsigned)(at.limit - 1) / 3;
-        size_t thread = used(nothing);
+        used(nothing);
+        size_t thread = begun;
         widest(all, 0, 1, 1, thread);
         widest(threes, 1, 3, 1, thread);
         widest(1000, 2, 3001, 0, thread);

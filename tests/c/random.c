@@ -1,5 +1,5 @@
 /* random SEED COUNT [FROM]: the calls on COUNT random tables, at a limit of its own each, beside a checker and an evaluator (own.c), a simplifier (rules.c) and an equality
-   test in plain C that share nothing with the port. Of five tables one is damaged. Compared: every number of every answer and every byte that
+   test in plain C that share nothing with the port. Of eight tables one is long or deep and has little to do, of five one is damaged. Compared: every number of every answer and every byte that
    is written. Two tables of three have line marks: simplified without them, they take the same steps, openings and tries to the same records without
    marks; and the other table of the equality test has other marks. Besides, the result by what must hold of it: a good table of the same value under random registers, of the weight that was
    answered, lighter by at least a unit for each step and opening, after at most the cube of the weight in tries, and simplified again by the same edition it is itself,
@@ -31,18 +31,7 @@ struct tree { uint8_t kind; uint64_t content; size_t count; struct tree **member
 static struct tree trees[2 * HIGHER], *links[2 * HIGHER];
 static size_t trees_used, links_used;
 
-static int order(const struct tree *a, const struct tree *b) {
-    if (a->kind != b->kind) return a->kind < b->kind ? -1 : 1;
-    if (a->content != b->content) return a->content < b->content ? -1 : 1;
-    if (a->count != b->count) return a->count < b->count ? -1 : 1;
-    for (size_t i = 0; i < a->count; i++) {
-        int o = order(a->members[i], b->members[i]);
-        if (o != 0) return o;
-    }
-    return 0;
-}
-
-static int order_links(const void *a, const void *b) { return order(*(struct tree *const *)a, *(struct tree *const *)b); }
+#include "order.h"
 
 static struct tree *sorted(const uint8_t **t) {
     const uint8_t *r = *t;
@@ -140,7 +129,7 @@ static void damage(uint8_t *t, size_t *n) {
 
 static struct lent lent_table = {.name = "table"}, lent_other = {.name = "other table"}, lent_registers = {.name = "registers"},
                    lent_out = {.name = "out"}, lent_steps = {.name = "steps"}, lent_work = {.name = "work"}, lent_answer = {.name = "answer"};
-static uint64_t counts[20], at_higher, erased, flaws[4], each_step[10], steps_seen, openings_seen, tries_seen, equal_seen, unequal_seen, calls;
+static uint64_t counts[20], rare_ones, at_higher, erased, flaws[4], each_step[10], steps_seen, openings_seen, tries_seen, equal_seen, unequal_seen, calls;
 
 /* A size for an area that must have `need` bytes: mostly that, at times more, at times too few. */
 static size_t some_size(size_t need) { return chance(100) && need > 0 ? (size_t)below(need) : chance(3) ? need + (size_t)below(300) : need; }
@@ -297,9 +286,9 @@ int main(int argc, char **argv) {
     uint64_t count = decimal(argv[2]), from = argc > 3 ? decimal(argv[3]) : 0;
     lent_begin();
     for (at_table = from; at_table < from + count; at_table++) {
-        int large = at_table % 5000 == 0, larger = at_table % 5000 == 2500;
-        limit = larger ? HIGHER : LOWER;
-        length = 16 * random_table(table, seed, at_table, large ? LOWER : larger ? HIGHER : 200, limit);
+        int large = at_table % 5000 == 0, larger = at_table % 5000 == 2500, rare = at_table % 8 == 5;
+        limit = larger || at_table % 4000 == 13 ? HIGHER : LOWER;
+        length = 16 * (rare ? rare_table(table, seed, at_table, limit) : random_table(table, seed, at_table, large ? LOWER : larger ? HIGHER : 200, limit));
         put_marks(table, length);
         const uint8_t *source = table;
         uint8_t *end = other;
@@ -316,6 +305,7 @@ int main(int argc, char **argv) {
         try_value(v, table, length);
         try_equal(v);
         try_simplify(v);
+        rare_ones += rare && v.number == 0;
     }
     if (count >= 10000) {
         for (int i = 0; i < 10; i++) {
@@ -327,12 +317,13 @@ int main(int argc, char **argv) {
         for (int i = 1; i < 10; i++) {
             if (each_step[i] == 0 && i != 5) { printf("random: no table of seed %llu has step %d: nothing is shown of it\n", (unsigned long long)seed, i); return 1; }
         }
+        if (rare_ones == 0) { printf("random: no good table was long or deep with little to do\n"); return 1; }
         if (erased == 0) { printf("random: no table had marks\n"); return 1; }
         if (at_higher == 0) { printf("random: no table was simplified at the limit 16,384\n"); return 1; }
         if (equal_seen == 0 || unequal_seen == 0) { printf("random: no equal or no unequal tables\n"); return 1; }
     }
-    printf("random tables beside plain C: %llu (seed %llu), %llu calls; simplified %llu (%llu of them or of those out of range at the limit 16,384, %llu simplified without their marks as well; %llu steps, %llu of them on powers, %llu openings, %llu tries, all bytes equal, values equal), refused 1 to 7:",
-           (unsigned long long)count, (unsigned long long)seed, (unsigned long long)calls, (unsigned long long)counts[0],
+    printf("random tables beside plain C: %llu (seed %llu; %llu good ones long or deep with little to do), %llu calls; simplified %llu (%llu of them or of those out of range at the limit 16,384, %llu simplified without their marks as well; %llu steps, %llu of them on powers, %llu openings, %llu tries, all bytes equal, values equal), refused 1 to 7:",
+           (unsigned long long)count, (unsigned long long)seed, (unsigned long long)rare_ones, (unsigned long long)calls, (unsigned long long)counts[0],
            (unsigned long long)at_higher, (unsigned long long)erased, (unsigned long long)steps_seen, (unsigned long long)(each_step[7] + each_step[8] + each_step[9]), (unsigned long long)openings_seen, (unsigned long long)tries_seen);
     for (int i = 1; i < 8; i++) printf(" %llu", (unsigned long long)counts[i]);
     printf("; 9: %llu, 19: %llu", (unsigned long long)counts[9], (unsigned long long)counts[19]);

@@ -128,6 +128,90 @@ static inline size_t random_table(uint8_t *table, uint64_t seed, uint64_t index,
     }
 }
 
+/* ---- Tables in which rules are at work seldom: long sums and products of parts that are hardly ever alike, chains of sums in sums or products in
+   products, and deep nests with something to do now and then. ---- */
+
+/* A member of a node of kind `outer`, 2 or 3, that is not of that kind. */
+static inline void rare_part(unsigned outer) {
+    unsigned count = 2 + (unsigned)below(3);
+    switch (below(4)) {
+    case 0: /* with a coefficient, or an integer among its terms, every other time */
+        put_record(5 - outer, count, 0);
+        if (chance(2)) put_record(0, 0, random_integer()), count--;
+        for (; count > 0; count--) put_record(1, 0, below(making.symbols));
+        return;
+    case 1:
+        put_record(4, 0, 0);
+        put_record(2, 2, 0), put_record(1, 0, below(making.symbols)), put_record(0, 0, random_integer());
+        put_record(0, 0, random_exponent());
+        return;
+    case 2: put_record(4, 0, 0), put_record(1, 0, below(making.symbols)), put_record(0, 0, 2 + below(8)); return;
+    default: put_record(1, 0, below(making.symbols));
+    }
+}
+
+/* A nest of so many levels, outermost a node of kind `kind`; what is dropped or multiplied is at one level in ten, a node in its like as well. */
+static inline void rare_nest(unsigned kind, size_t levels) {
+    if (levels == 0) {
+        put_record(kind, 2, 0);
+        rare_part(kind), rare_part(kind);
+        return;
+    }
+    unsigned behind = chance(8);
+    put_record(kind, 2 + behind, 0);
+    if (chance(10)) put_record(0, 0, kind - 2 + below(3));
+    else rare_part(kind);
+    rare_nest(chance(10) ? kind : 5 - kind, levels - 1);
+    if (behind && chance(2)) put_record(0, 0, 5);
+    else if (behind) rare_part(kind);
+}
+
+/* So many members one after the other; at the most some of them like the first, to be dropped, or nests. */
+static inline void rare_long(unsigned kind, size_t count) {
+    put_record(kind, (unsigned)count, 0);
+    size_t first = making.records, length = 0;
+    for (size_t i = 0; i < count; i++) {
+        if (i > 0 && chance(2 * count)) {
+            memcpy(making.at + 16 * making.records, making.at + 16 * first, 16 * length);
+            making.records += length;
+        } else if (chance(4 * count)) put_record(0, 0, kind - 2);
+        else if (i > 0 && chance(2 * count)) rare_nest(5 - kind, below(10));
+        else rare_part(kind);
+        if (i == 0) length = making.records - first;
+    }
+}
+
+/* A chain of nodes of one kind, two or three members each, which all open. */
+static inline void rare_chain(unsigned kind, size_t levels) {
+    for (; levels > 0; levels--) {
+        int two = !chance(4);
+        put_record(kind, two ? 2 : 3, 0);
+        rare_part(kind);
+        if (!two) rare_part(kind);
+    }
+    rare_part(kind);
+}
+
+/* Such a table, number `index` of `seed`, of at most that weight, into `table`, which holds TABLE_RECORDS records; over the weight 3,072 always a long node. */
+static inline size_t rare_table(uint8_t *table, uint64_t seed, uint64_t index, uint64_t heaviest) {
+    random_state = seed * 0xD1342543DE82EF95u + index;
+    random_state = any() ^ index << 20;
+    making.at = table;
+    do {
+        size_t size = 2 + below(heaviest > 3072 || chance(60) ? heaviest / 12 : chance(5) ? 80 : 25);
+        unsigned kind = 2 + (unsigned)below(2);
+        making.records = 0;
+        making.symbols = chance(4) ? 8 : 256;
+        making.wild = chance(8) ? 1 : -1;
+        switch (heaviest > 3072 ? 0 : below(3)) {
+        case 0: rare_long(kind, size); break;
+        case 1: rare_chain(kind, size); break;
+        default: rare_nest(kind, size);
+        }
+    } while (weight_of_records(table, making.records) > heaviest);
+    return making.records;
+}
+
 /* Marks for the records of a table: none, a few lines, or any. */
 static inline void put_marks(uint8_t *table, size_t bytes) {
     uint64_t lines = chance(3) ? 1 : chance(2) ? 10 : 65536;

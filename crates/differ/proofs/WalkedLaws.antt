@@ -8,6 +8,8 @@ use native.Mathlib.Omega.{arith}
 use lib.ListN.{length, length-append}
 use Rattle.paper.specs.Tree.{Tree, records}
 use Rattle.paper.specs.Standing.{TreeIn, SomeTree}
+use Rattle.note.specs.Told.{Told}
+use Rattle.note.proofs.ToldLaws.{plain-told}
 use Rattle.paper_differ.specs.Differ.{alike, differencesOf}
 use Rattle.paper.proofs.EncodeLaws.{records-pos}
 use Rattle.differ.specs.Together.{Together}
@@ -29,7 +31,7 @@ abbrev pub Agree : List ℕ → List ℕ → ℕ → ℕ → Bool → Type 0
 Agree a b i j r = (t u : Tree) → TreeIn a i t → TreeIn b j u → r ≡ alike t u
 
 abbrev pub Past : List ℕ → ℕ → ℕ → Type 0
-Past s i q = (t : Tree) → TreeIn s i t → q ≡ i + records t
+Past s i q = (how : Tree → ℕ) (t : Tree) → Told how s i t → q ≡ i + records t
 
 module _ {a b : List ℕ} {i j p : ℕ} {done : List (ℕ × ℕ)} (h : Walked a b i j p done) where
   -- where no record is left, all pairs are done
@@ -63,12 +65,12 @@ module _ {a b : List ℕ} {i j p : ℕ} {done : List (ℕ × ℕ)} (h : Walked a
         ∙ ap (λ (ds : List (ℕ × ℕ)). done ++ ds) (turn-unlike next (sym (e (next .t) (next .u) (next .one) (next .other))))
 
     pub walked-further : (q : ℕ) → Past a i q → i < q
-    walked-further q x = omega (arith, x (next .t) (next .one), records-pos (next .t))
+    walked-further q x = omega (arith, x (λ t. 0) (next .t) (plain-told (next .one)), records-pos (next .t))
 
     pub walked-unlike : Agree a b i j false → (q r : ℕ) → Past a i q → Past b j r → Walked a b q r (p + 1) (done ++ ((i, j) ∷ []))
     walked-unlike e q r x y =
-        let s = x (next .t) (next .one) in
-        let v = y (next .u) (next .other) in
+        let s = x (λ t. 0) (next .t) (plain-told (next .one)) in
+        let v = y (λ t. 0) (next .u) (plain-told (next .other)) in
         record {
           todo = next .past;
           whole = unlike-whole e ∙ sym (append-assoc done ((i, j) ∷ []) (next .past));

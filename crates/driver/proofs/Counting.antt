@@ -28,8 +28,8 @@ pub cost-both : (a b : ℕ) → cost a + cost b ≤ cost (a + b)
 unfolding cost
 cost-both a b = omega arith
 
-pub cost-step : (u w : ℕ) → u + 1 ≤ w → 1 + cost u ≤ cost w
-cost-step u w h =
+pub cost-steps : (k u w : ℕ) → k + u ≤ w → k + cost u ≤ cost w
+cost-steps k u w h =
     let all : u + (w - u) ≡ w = omega arith in
     omega (arith, ap cost all, cost-both u (w - u), cost-least (w - u))
 
@@ -43,6 +43,14 @@ cost-small w h =
 drives-tries : (ed : ℕ) (t : Tree) → WF t → RunTries t (drives ed t)
 unfolding simplify
 drives-tries ed t w = run-tries (edition-good ed) (weight t) t w
+
+tries-few : (t : Tree) (r : Ran) → RunTries t r → (u : Tree) (ks : List ℕ) (o τ : ℕ) → r ≡ done u ks o τ → τ ≤ cost (weight t)
+unfolding cost
+tries-few t (over j) h u ks o τ e = absurd (let z : _≡_ {A = ℕ} 0 1 = cc in omega arith)
+tries-few t (done v s n υ) h u ks o τ e = let a : υ ≡ τ = cc in omega (arith, h)
+
+pub drives-few : (ed : ℕ) (t : Tree) → WF t → (u : Tree) (ks : List ℕ) (o τ : ℕ) → drives ed t ≡ done u ks o τ → τ ≤ cost (weight t)
+drives-few ed t w u ks o τ e = tries-few t (drives ed t) (drives-tries ed t w) u ks o τ e
 
 one-tries : (k : ℕ) (t : Tree) (r : Ran) → RunTries t r → (l : List Tree) (ks : List ℕ) (o τ : ℕ)
     → openedRuns (inside k) (andThen r (dones [] [] 0 0)) ≡ dones l ks o τ → τ ≤ cost (weight t)
@@ -77,7 +85,7 @@ module _ (t : Tree) (w : WF t) where
     few (dones l s′ o′ τ′) e h =
         let same : τ′ ≡ τ = cc in
         let b = members-tries l s′ o′ τ′ h in
-        omega (arith, cost-step x (weight t) (omega (arith, is)))
+        omega (arith, cost-steps 1 x (weight t) (omega (arith, is)))
 
     pays : (r : Rans) → passed t r ≡ done u s o τ → RunsKept (members t) r → RunsTries x (members t) r → 1 ≤ length s + o
         → τ + 1 + cost (weight u) ≤ cost (weight t)

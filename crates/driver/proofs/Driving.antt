@@ -1,61 +1,55 @@
 -- The driver's loop. Its invariant says in continuation style what is still to do: the run of the tree that stood there is the run of
--- the tree that stands there now, after the steps, openings and tries so far; that tree weighs less by the steps and openings, and what
--- it may still cost, with the tries so far, is within what the first may cost. Each way that a turn goes is one law: a step, a refusal,
--- nothing changed, begun again, settled. Assumes nothing.
+-- the tree that stands there now, after the steps, openings and tries so far; no rule applies to that tree; it weighs less by the steps and openings, and
+-- what it may still cost, with the tries so far, is within what the first may cost. Each way that a turn goes is one law: a refusal,
+-- nothing changed, finished, begun again after steps. Assumes nothing.
 use Prim.Native.Nat.{ℕ, _+_, _-_, _*_, _^_, _<_, _≤_}
-use mathlib.Core.Path.{_≡_, refl, sym, ap, _∙_}
+use mathlib.Core.Path.{_≡_, refl, sym, ap, _∙_, subst}
 use mathlib.Core.List.{List, [], _∷_, _++_, append-nil, append-assoc}
 use native.Mathlib.Omega.{arith}
-use native.Mathlib.Nat.{add-zero}
-use lib.ListN.{length, take, drop, set, length-append, length-set}
+use native.Mathlib.Nat.{add-zero, zero-add}
+use lib.ListN.{length, take, drop, length-append}
 use Rattle.paper.specs.Tree.{Tree, records, weight}
 use Rattle.paper.specs.WellFormed.{WF}
-use Rattle.paper.specs.Table.{encode}
 use Rattle.paper.specs.Verdict.{tableWeight}
 use Rattle.paper.specs.Rules.{rulesOf}
-use Rattle.paper.specs.Driver.{done, over, no-rule, out-of-range, ask, after, each, members}
-use Rattle.paper.specs.Admits.{AdmitsNone}
-use Rattle.paper.proofs.EncodeLaws.{encode-length, records-weight}
+use Rattle.paper.specs.Driver.{done, over, no-rule, ask, after, each, members}
+use Rattle.paper.proofs.EncodeLaws.{records-weight}
 use Rattle.paper.proofs.Value.{weight-pos}
 use Rattle.paper.proofs.Simplified.{simplify-again}
 use Rattle.paper.proofs.Squares.{cost}
-use Rattle.stretch.specs.Put.{part, put}
-use Rattle.stretch.proofs.Laws.{take-put-end}
-use Rattle.rules.specs.declared.Asked.the-variants.{Nothing, Step}
-use Rattle.rules.specs.Asked.{AskedIs}
-use Rattle.driver.specs.Driven.{passed, Set, Drove}
+use Rattle.driver.specs.declared.Taken.the-variants as taken
+use Rattle.driver.specs.Driven.{withNotes, passed, Set, Back, Came, Burst, TakenIs, Drove}
 use Rattle.driver.proofs.Forests.{front-long}
 use Rattle.driver.proofs.Weighs.{weighs-tree}
-use Rattle.driver.proofs.Places.{none-of, advance, part-there, part-end, ends-after, put-before, noted-one, front-of}
-use Rattle.driver.proofs.Runs.{drives, visit-step, visit-over, pass-over, pass-done, pass-again, pass-kept}
-use Rattle.driver.proofs.Runs.{step-kept, run-lighter, after-none, after-after}
-use Rattle.driver.proofs.Settled.{settled}
-use Rattle.driver.proofs.Counting.{cost-least, cost-step, cost-small, pass-few, pass-pays}
+use Rattle.driver.proofs.Places.{none-of, front-of}
+use Rattle.driver.proofs.Runs.{drives, pass-over, pass-done, pass-again, pass-kept, run-lighter, after-none, after-after}
+use Rattle.driver.proofs.Stepping.{Kept, steps-keep, steps-burst}
+use Rattle.driver.proofs.Finishing.{settled}
+use Rattle.driver.proofs.Counting.{cost-least, cost-steps, cost-small, drives-few, pass-few, pass-pays}
 
--- out₀, work₀, steps₀ at the entry, the tree at record p; out, work, steps now, the tree at record at, n steps noted, o openings;
--- τ tries; size is the number of the tree's records where it comes from a pass, else 0
-pub record DInv (ed : ℕ) (out₀ work₀ steps₀ : List ℕ) (d p s : ℕ) (out work steps : List ℕ) (at n o τ size : ℕ) : Type 0 where
+-- out₀, work₀, steps₀ at the entry, the tree at record p; out, work, steps now, the tree at record at, n steps noted, o openings; τ tries
+pub record DInv (ed : ℕ) (out₀ work₀ steps₀ : List ℕ) (d p s : ℕ) (out work steps : List ℕ) (at n o τ : ℕ) : Type 0 where
   pub t : Tree
   pub rest : List ℕ
   pub set-up : Set out₀ work₀ steps₀ d p s t rest
   pub u : Tree
   pub ks : List ℕ
   pub wf : WF u
-  pub stands : drop (at * 16) work ≡ encode u ++ rest
+  pub none : ask (rulesOf ed) u ≡ no-rule
+  pub stands : drop (at * 16) work ≡ withNotes u ++ rest
   pub kept : take (d * 16) out ≡ take (d * 16) out₀
   pub noted-end : n ≡ s + length ks
   pub noted : take n steps ≡ take s steps₀ ++ ks
   pub goes-on : drives ed t ≡ after ks o τ (drives ed u)
   pub lighter : length ks + o + weight u ≤ weight t
   pub tried-bound : τ + cost (weight u) ≤ cost (weight t)
-  pub settles : 0 < size → (size ≡ records u) × (ask (rulesOf ed) u ≡ no-rule → AdmitsNone (rulesOf ed) u)
   pub out-long : length out ≡ length out₀
   pub work-long : length work ≡ length work₀
   pub steps-long : length steps ≡ length steps₀
 
-pub start : {ed : ℕ} {out work steps : List ℕ} {d p s : ℕ} {t : Tree} {rest : List ℕ} → Set out work steps d p s t rest
-    → DInv ed out work steps d p s out work steps p s 0 0 0
-start {ed = ed} {steps = steps} {s = s} {t = t} {rest = rest} h =
+pub start : {ed : ℕ} {out work steps : List ℕ} {d p s : ℕ} {t : Tree} {rest : List ℕ} → Set out work steps d p s t rest → ask (rulesOf ed) t ≡ no-rule
+    → DInv ed out work steps d p s out work steps p s 0 0
+start {ed = ed} {steps = steps} {s = s} {t = t} {rest = rest} h none =
     record {
       t = t;
       rest = rest;
@@ -63,6 +57,7 @@ start {ed = ed} {steps = steps} {s = s} {t = t} {rest = rest} h =
       u = t;
       ks = [];
       wf = h .ready .wf;
+      none = none;
       stands = h .ready .stands;
       kept = refl;
       noted-end = omega arith;
@@ -70,16 +65,10 @@ start {ed = ed} {steps = steps} {s = s} {t = t} {rest = rest} h =
       goes-on = sym (after-none (drives ed t));
       lighter = omega arith;
       tried-bound = omega arith;
-      settles = λ z. absurd (omega arith);
       out-long = refl;
       work-long = refl;
       steps-long = refl;
     }
-
--- at a turn where no rule applies
-pub record Idle (ed : ℕ) (out₀ work₀ steps₀ : List ℕ) (d p s : ℕ) (out work steps : List ℕ) (at n o τ size : ℕ) : Type 0 where
-  pub inv : DInv ed out₀ work₀ steps₀ d p s out work steps at n o τ size
-  pub none : ask (rulesOf ed) (inv .u) ≡ no-rule
 
 -- where a pass is done, with records up to e in out, what is pending from record q on in work, j steps noted, b openings and υ tries: its
 -- places are in order, and within the areas
@@ -90,7 +79,7 @@ pub record PassFits (out work : List ℕ) (d n o τ e q j b υ : ℕ) : Type 0 w
   pub in-work : q * 16 ≤ length work
   pub in-out : e * 16 ≤ length out
   pub few : o + b + j < n + 65536
-  pub few-tries : τ + (υ + 1) < 2 ^ 63
+  pub few-tries : τ + (υ + 1) + (e - d) < 2 ^ 63
 
 after-done : (ks : List ℕ) (o τ : ℕ) (u : Tree) (υ : ℕ) → after ks o τ (done u [] 0 υ) ≡ done u ks o (τ + υ)
 unfolding after
@@ -100,8 +89,8 @@ after-over : (ks : List ℕ) (o τ k : ℕ) → after ks o τ (over k) ≡ over 
 unfolding after
 after-over ks o τ k = refl
 
-module _ {ed : ℕ} {out₀ work₀ steps₀ : List ℕ} {d p s : ℕ} {out work steps : List ℕ} {at n o τ size : ℕ}
-    (v : DInv ed out₀ work₀ steps₀ d p s out work steps at n o τ size) where
+module _ {ed : ℕ} {out₀ work₀ steps₀ : List ℕ} {d p s : ℕ} {out work steps : List ℕ} {at n o τ : ℕ}
+    (v : DInv ed out₀ work₀ steps₀ d p s out work steps at n o τ) where
   pub set-now : Set out work steps d at n (v .u) (v .rest)
   set-now =
       let r = v .set-up .ready in
@@ -126,143 +115,12 @@ module _ {ed : ℕ} {out₀ work₀ steps₀ : List ℕ} {d p s : ℕ} {out work
   pub no-heavier : tableWeight (drop (at * 16) work) ≤ tableWeight (drop (p * 16) work₀)
   no-heavier = omega (arith, weighs-now, weighs-then, v .lighter)
 
-  pub step-fits : n < length steps
-  step-fits = omega (arith, set-now .steps-room, weight-pos (v .u))
-
-  -- one more try, or one for each record of the tree, is within the range
-  pub tries-fit : τ + weight (v .u) < 2 ^ 63
-  tries-fit = omega (arith, v .tried-bound, cost-least (weight (v .u)), cost-small (weight (v .t)) (v .set-up .ready .light))
-
-  pub try-fits : τ + 1 < 2 ^ 63
-  try-fits = omega (arith, tries-fit, weight-pos (v .u))
-
-  -- a rule left the range: the steps so far are completed
-  pub burst : ask (rulesOf ed) (v .u) ≡ out-of-range → (k : ℕ) × (drives ed (v .t) ≡ over k) × (n ≡ s + k)
-  burst e = (
-    length (v .ks) + 0,
-    v .goes-on ∙ ap (after (v .ks) o τ) (visit-over ed (v .u) (v .wf) e) ∙ after-over (v .ks) o τ 0,
-    omega (arith, v .noted-end),
-  )
-
-  module _ (out' work' : List ℕ) (lo : length out' ≡ length out) (lw : length work' ≡ length work) where
-    -- a rule applied: its step is noted, and the driver goes on at its result
-    module _ (k q : ℕ) (a : AskedIs (rulesOf ed) (v .u) (v .rest) out out' work' d at (Step k q)) where
-      pub stepped : DInv ed out₀ work₀ steps₀ d p s out' work' (set steps n k) q (n + 1) o (τ + 1) 0
-      stepped =
-          let h = step-kept ed (v .u) (v .wf) k (a .0) (a .1) in
-          let h1 = h .1 in
-          record {
-            t = v .t;
-            rest = v .rest;
-            set-up = v .set-up;
-            u = a .0;
-            ks = v .ks ++ (k ∷ []);
-            wf = h .0;
-            stands = a .2;
-            kept = a .3 ∙ v .kept;
-            noted-end = omega (arith, v .noted-end, length-append (v .ks) (k ∷ []));
-            noted = noted-one steps n k step-fits ∙ ap (λ (x : List ℕ). x ++ (k ∷ [])) (v .noted) ∙ append-assoc (take s steps₀) (v .ks) (k ∷ []);
-            goes-on =
-                v .goes-on ∙ ap (after (v .ks) o τ) (visit-step ed (v .u) (v .wf) k (a .0) (a .1))
-                ∙ after-after (v .ks) o τ (k ∷ []) 0 1 (drives ed (a .0)) ∙ ap (λ x. after (v .ks ++ (k ∷ [])) x (τ + 1) (drives ed (a .0))) (add-zero o);
-            lighter = omega (arith, v .lighter, length-append (v .ks) (k ∷ []));
-            tried-bound = omega (arith, v .tried-bound, cost-step (weight (a .0)) (weight (v .u)) h1);
-            settles = λ z. absurd (omega arith);
-            out-long = lo ∙ v .out-long;
-            work-long = lw ∙ v .work-long;
-            steps-long = length-set steps n k ∙ v .steps-long;
-          }
-
-      pub stepped-less : tableWeight (drop (q * 16) work') < tableWeight (drop (at * 16) work)
-      stepped-less =
-          let h1 = step-kept ed (v .u) (v .wf) k (a .0) (a .1) .1 in
-          let w : tableWeight (drop (q * 16) work') ≡ weight (a .0) + tableWeight (v .rest) = ap tableWeight (a .2) ∙ weighs-tree (a .0) (v .rest) in
-          omega (arith, weighs-now)
-
-    -- no rule applies: the tree stands as it stood
-    pub idle-weighs : AskedIs (rulesOf ed) (v .u) (v .rest) out out' work' d at Nothing → tableWeight (drop (at * 16) work') ≡ tableWeight (drop (at * 16) work)
-    idle-weighs a = ap tableWeight (a .1 ∙ sym (v .stands))
-
-    pub idle : AskedIs (rulesOf ed) (v .u) (v .rest) out out' work' d at Nothing → Idle ed out₀ work₀ steps₀ d p s out' work' steps at n o τ size
-    idle a =
-        record {
-          inv =
-              record {
-                t = v .t;
-                rest = v .rest;
-                set-up = v .set-up;
-                u = v .u;
-                ks = v .ks;
-                wf = v .wf;
-                stands = a .1;
-                kept = a .2 ∙ v .kept;
-                noted-end = v .noted-end;
-                noted = v .noted;
-                goes-on = v .goes-on;
-                lighter = v .lighter;
-                tried-bound = v .tried-bound;
-                settles = v .settles;
-                out-long = lo ∙ v .out-long;
-                work-long = lw ∙ v .work-long;
-                steps-long = v .steps-long;
-              };
-          none = a .0;
-        }
-
-module _ {ed : ℕ} {out₀ work₀ steps₀ : List ℕ} {d p s : ℕ} {out work steps : List ℕ} {at n o τ size : ℕ}
-    (w : Idle ed out₀ work₀ steps₀ d p s out work steps at n o τ size) where
-  abbrev pub v : DInv ed out₀ work₀ steps₀ d p s out work steps at n o τ size
-  v = w .inv
-
-  -- the tree comes from a pass: it is finished, and moves to what is done
-  module _ (h : 0 < size) where
-    -- the driver would ask each of its records once more
-    finished : drives ed (v .u) ≡ done (v .u) [] 0 size
-    finished = simplify-again (v .u) (v .wf) (v .settles h .1 (w .none)) ∙ ap (done (v .u) [] 0) (sym (v .settles h .0))
-
-    tree-long : length (encode (v .u)) ≡ size * 16
-    tree-long = let e = v .settles h .0 in omega (arith, encode-length (v .u))
-
-    pub move-fits : (d * 16 + size * 16 ≤ length out) × (at * 16 + size * 16 ≤ length work) × (τ + size < 2 ^ 63)
-    move-fits =
-        let e = v .settles h .0 in
-        let r = set-now v .ready in
-        let l : length (encode (v .u) ++ v .rest) ≡ length (encode (v .u)) + length (v .rest) = length-append (encode (v .u)) (v .rest) in (
-          omega (arith, records-weight (v .u), r .out-room),
-          omega (arith, tree-long, ends-after work (encode (v .u) ++ v .rest) (at * 16) (v .stands) (omega (arith, tree-long))),
-          omega (arith, records-weight (v .u), tries-fit v),
-        )
-
-    pub moved : (out' : List ℕ) → out' ≡ put out (d * 16) (part work (at * 16) (size * 16))
-        → Drove (drives ed (v .t)) (v .rest) out₀ out' work steps₀ steps d s (d + size) (at + size) n o (τ + size)
-    moved out' e =
-        let z = v .settles h .0 in
-        let m0 = move-fits .0 in
-        let m1 = move-fits .1 in
-        let l : length (encode (v .u)) ≡ size * 16 = tree-long in
-        let ends : (d + size) * 16 ≡ d * 16 + length (encode (v .u)) = omega arith in
-        let b : length (encode (v .u) ++ v .rest) ≡ length (encode (v .u)) + length (v .rest) = length-append (encode (v .u)) (v .rest) in
-        record {
-          to = v .u;
-          ks = v .ks;
-          ran = v .goes-on ∙ ap (after (v .ks) o τ) finished ∙ after-done (v .ks) o τ (v .u) size;
-          end = ap (λ x. d + x) z;
-          wrote =
-              ap (take ((d + size) * 16)) (e ∙ ap (put out (d * 16)) (part-there work (encode (v .u)) (v .rest) (at * 16) (size * 16) (v .stands) l))
-              ∙ take-put-end out (d * 16) (encode (v .u)) ((d + size) * 16) ends (omega arith)
-              ∙ ap (λ (x : List ℕ). x ++ encode (v .u)) (v .kept);
-          left = advance work (encode (v .u)) (v .rest) at size (v .stands) (omega arith);
-          place = omega (arith, ends-after work (encode (v .u) ++ v .rest) (at * 16) (v .stands) (omega arith));
-          noted-end = v .noted-end;
-          noted = v .noted;
-        }
-
   -- the pass was refused
   pub pass-burst : (m : ℕ) → (k : ℕ) × (passed (v .u) (each (drives ed) (members (v .u))) ≡ over k) × (m ≡ n + k)
       → (k : ℕ) × (drives ed (v .t) ≡ over k) × (m ≡ s + k)
   pass-burst m b = (
     length (v .ks) + b .0,
-    v .goes-on ∙ ap (after (v .ks) o τ) (pass-over ed (v .u) (v .wf) (w .none) (b .0) (b .1)) ∙ after-over (v .ks) o τ (b .0),
+    v .goes-on ∙ ap (after (v .ks) o τ) (pass-over ed (v .u) (v .wf) (v .none) (b .0) (b .1)) ∙ after-over (v .ks) o τ (b .0),
     let b2 = b .2 in omega (arith, v .noted-end),
   )
 
@@ -276,7 +134,7 @@ module _ {ed : ℕ} {out₀ work₀ steps₀ : List ℕ} {d p s : ℕ} {out work
     pub pass-fits : PassFits out' work' d n o τ e q j b υ
     pass-fits =
         let l = less .1 in
-        let r = set-now v .ready in
+        let r = set-now .ready in
         let c = records-weight (a .to) in
         record {
           more-noted = omega (arith, a .noted-end);
@@ -287,7 +145,7 @@ module _ {ed : ℕ} {out₀ work₀ steps₀ : List ℕ} {d p s : ℕ} {out work
           few = omega (arith, a .noted-end, v .lighter, v .set-up .ready .light);
           few-tries =
               let most = cost-small (weight (v .t)) (v .set-up .ready .light) in
-              omega (arith, v .tried-bound, pass-few (v .u) (v .wf) (a .to) (a .ks) b υ ed (a .ran));
+              omega (arith, v .tried-bound, a .end, r .light, pass-few (v .u) (v .wf) (a .to) (a .ks) b υ ed (a .ran));
         }
 
     -- nothing changed: the node is finished
@@ -298,10 +156,10 @@ module _ {ed : ℕ} {out₀ work₀ steps₀ : List ℕ} {d p s : ℕ} {out work
         record {
           to = a .to;
           ks = v .ks;
-          ran = v .goes-on ∙ ap (after (v .ks) o τ) (pass-done ed (v .u) (v .wf) (w .none) (a .to) (a .ks) b υ (a .ran) z)
+          ran = v .goes-on ∙ ap (after (v .ks) o τ) (pass-done ed (v .u) (v .wf) (v .none) (a .to) (a .ks) b υ (a .ran) z)
               ∙ after-done (v .ks) o τ (a .to) (υ + 1);
           end = a .end;
-          wrote = a .wrote ∙ ap (λ (x : List ℕ). x ++ encode (a .to)) (v .kept);
+          wrote = a .wrote ∙ ap (λ (x : List ℕ). x ++ withNotes (a .to)) (v .kept);
           left = a .left;
           place = a .place;
           noted-end = v .noted-end;
@@ -310,53 +168,193 @@ module _ {ed : ℕ} {out₀ work₀ steps₀ : List ℕ} {d p s : ℕ} {out work
               ∙ append-nil (take n steps) ∙ v .noted;
         }
 
-    -- something changed: the gathered node goes back in front of what is pending, and the driver begins again
-    module _ (h : 1 ≤ j - n + b) (work'' : List ℕ) (c : work'' ≡ put work' ((q - (e - d)) * 16) (part out' (d * 16) ((e - d) * 16))) where
-      back-length : length (encode (a .to)) ≡ (e - d) * 16
-      back-length = omega (arith, a .end, encode-length (a .to))
+    front-same : take (d * 16) out' ≡ take (d * 16) out
+    front-same =
+        front-of out' (take (d * 16) out) (withNotes (a .to)) (d * 16) (e * 16) (a .wrote) (front-long set-now) (omega (arith, a .end))
 
-      back-stands : drop ((q - (e - d)) * 16) work'' ≡ encode (a .to) ++ v .rest
-      back-stands =
-          let f = pass-fits in
-          let l = back-length in
-          let ends : e * 16 ≡ d * 16 + (e - d) * 16 = omega arith in
-          let room : (q - (e - d)) * 16 + length (encode (a .to)) ≡ q * 16 = omega arith in
-          ap (drop ((q - (e - d)) * 16))
-          (c ∙ ap (put work' ((q - (e - d)) * 16)) (part-end out' (take (d * 16) out) (encode (a .to)) (d * 16) ((e - d) * 16)
-          (e * 16) (a .wrote) ends (front-long (set-now v)) l (omega arith)))
-          ∙ put-before work' (encode (a .to)) (v .rest) ((q - (e - d)) * 16) (q * 16) room (a .left) (omega arith)
+    -- something changed: the gathered node is taken up
+    module _ (h : 1 ≤ j - n + b) where
+      changed : 1 ≤ length (a .ks) + b
+      changed = omega (arith, a .noted-end)
 
-      pub again : length work'' ≡ length work' → DInv ed out₀ work₀ steps₀ d p s out' work'' steps' (q - (e - d)) j (o + b) (τ + (υ + 1)) (e - d)
-      again l2 =
+      pub gathered : Back out' work' steps' d e q j (a .to) (v .rest)
+      gathered =
           let l = less .1 in
-          let f = pass-fits in
+          let r = set-now .ready in
           record {
-            t = v .t;
-            rest = v .rest;
-            set-up = v .set-up;
-            u = a .to;
-            ks = v .ks ++ a .ks;
             wf = less .0;
-            stands = back-stands;
-            kept = front-of out' (take (d * 16) out) (encode (a .to)) (d * 16) (e * 16) (a .wrote) (front-long (set-now v)) (omega arith) ∙ v .kept;
-            noted-end = omega (arith, v .noted-end, a .noted-end, length-append (v .ks) (a .ks));
-            noted = a .noted ∙ ap (λ (x : List ℕ). x ++ a .ks) (v .noted) ∙ append-assoc (take s steps₀) (v .ks) (a .ks);
-            goes-on =
-                v .goes-on ∙ ap (after (v .ks) o τ) (pass-again ed (v .u) (v .wf) (w .none) (a .to) (a .ks) b υ (a .ran) (omega (arith, a .noted-end)))
-                ∙ after-after (v .ks) o τ (a .ks) b (υ + 1) (drives ed (a .to));
-            lighter = omega (arith, v .lighter, length-append (v .ks) (a .ks));
-            tried-bound =
-                let changed : 1 ≤ length (a .ks) + b = omega (arith, a .noted-end) in
-                omega (arith, v .tried-bound, pass-pays (v .u) (v .wf) (a .to) (a .ks) b υ ed (a .ran) changed);
-            settles = λ z. (omega (arith, a .end), settled ed (v .u) (a .to) (a .ks) b υ (v .wf) (a .ran));
-            out-long = lo ∙ v .out-long;
-            work-long = l2 ∙ lw ∙ v .work-long;
-            steps-long = lz ∙ v .steps-long;
+            light = omega (arith, r .light);
+            end = a .end;
+            there = a .wrote ∙ ap (λ (x : List ℕ). x ++ withNotes (a .to)) (sym front-same);
+            left = a .left;
+            place = a .place;
+            out-room = omega (arith, r .out-room);
+            work-room = omega (arith, r .work-room);
+            steps-room = omega (arith, set-now .steps-room, a .noted-end);
           }
 
-      pub again-less : tableWeight (drop ((q - (e - d)) * 16) work'') < tableWeight (drop (at * 16) work)
-      again-less =
-          let l = less .1 in
-          let g : tableWeight (drop ((q - (e - d)) * 16) work'') ≡ weight (a .to) + tableWeight (v .rest)
-          = ap tableWeight back-stands ∙ weighs-tree (a .to) (v .rest) in
-          omega (arith, weighs-now v, a .noted-end)
+      -- the run so far, and then that of the gathered node
+      runs-on : drives ed (v .t) ≡ after (v .ks ++ a .ks) (o + b) (τ + (υ + 1)) (drives ed (a .to))
+      runs-on =
+          v .goes-on ∙ ap (after (v .ks) o τ) (pass-again ed (v .u) (v .wf) (v .none) (a .to) (a .ks) b υ (a .ran) changed)
+          ∙ after-after (v .ks) o τ (a .ks) b (υ + 1) (drives ed (a .to))
+
+      so-far : take j steps' ≡ take s steps₀ ++ (v .ks ++ a .ks)
+      so-far = a .noted ∙ ap (λ (x : List ℕ). x ++ a .ks) (v .noted) ∙ append-assoc (take s steps₀) (v .ks) (a .ks)
+
+      -- a rule left the range
+      pub burst : (m : ℕ) → Burst (rulesOf ed) (a .to) j m → (k : ℕ) × (drives ed (v .t) ≡ over k) × (m ≡ s + k)
+      burst m x =
+          let b′ = steps-burst ed j m (less .0) x in
+          let b2 = b′ .2 in (
+            length (v .ks ++ a .ks) + b′ .0,
+            runs-on ∙ ap (after (v .ks ++ a .ks) (o + b) (τ + (υ + 1))) (b′ .1) ∙ after-over (v .ks ++ a .ks) (o + b) (τ + (υ + 1)) (b′ .0),
+            omega (arith, v .noted-end, a .noted-end, length-append (v .ks) (a .ks)),
+          )
+
+      -- it is finished: the driver would ask each of its records once more
+      pub finished : {out'' work'' steps'' : List ℕ} {r : ℕ} → TakenIs (rulesOf ed) (a .to) (v .rest) out' out'' work'' steps' steps'' d e j (taken.Finished r)
+          → Drove (drives ed (v .t)) (v .rest) out₀ out'' work'' steps₀ steps'' d s e r j (o + b) (τ + (υ + 1) + (e - d))
+      finished x =
+          let size : records (a .to) ≡ e - d = omega (arith, a .end) in
+          let again : drives ed (a .to) ≡ done (a .to) [] 0 (e - d)
+          = simplify-again (a .to) (less .0) (settled ed (v .u) (a .to) (a .ks) b υ (v .wf) (a .ran) (x .0)) ∙ ap (done (a .to) [] 0) size in
+          record {
+            to = a .to;
+            ks = v .ks ++ a .ks;
+            ran =
+                runs-on ∙ ap (after (v .ks ++ a .ks) (o + b) (τ + (υ + 1))) again
+                ∙ after-done (v .ks ++ a .ks) (o + b) (τ + (υ + 1)) (a .to) (e - d);
+            end = a .end;
+            wrote = x .1 ∙ a .wrote ∙ ap (λ (y : List ℕ). y ++ withNotes (a .to)) (v .kept);
+            left = x .2;
+            place = x .3;
+            noted-end = omega (arith, v .noted-end, a .noted-end, length-append (v .ks) (a .ks));
+            noted = x .4 ∙ so-far;
+          }
+
+      -- steps were taken, and the driver begins again
+      module _ {out'' work'' steps'' : List ℕ} {r m : ℕ}
+          (x : TakenIs (rulesOf ed) (a .to) (v .rest) out' out'' work'' steps' steps'' d e j (taken.Stepped r m)) where
+        stepped-kept : Kept ed (a .to) (x .1 .ks) (x .0)
+        stepped-kept = steps-keep ed (less .0) (x .1 .taken)
+
+        pub stepped-fits : (j ≤ m) × (τ + (υ + 1) + (m - j) < 2 ^ 63)
+        stepped-fits =
+            let most = cost-small (weight (v .t)) (v .set-up .ready .light) in
+            let l = less .1 in
+            let r = set-now .ready in (
+              omega (arith, x .1 .noted-end),
+              omega (arith, x .1 .noted-end, stepped-kept .lighter, r .light, v .tried-bound, pass-few (v .u) (v .wf) (a .to) (a .ks) b υ ed (a .ran)),
+            )
+
+        pub again : length out'' ≡ length out' → length work'' ≡ length work' → length steps'' ≡ length steps'
+            → DInv ed out₀ work₀ steps₀ d p s out'' work'' steps'' r m (o + b) (τ + (υ + 1) + (m - j))
+        again lo' lw' lz' =
+            let c = x .1 in
+            let k = stepped-kept in
+            let l = less .1 in
+            let before = v .ks ++ a .ks in
+            let tries : length (c .ks) ≡ m - j = omega (arith, c .noted-end) in
+            record {
+              t = v .t;
+              rest = v .rest;
+              set-up = v .set-up;
+              u = x .0;
+              ks = before ++ c .ks;
+              wf = k .wf;
+              none = x .3;
+              stands = c .stands;
+              kept = c .kept ∙ front-same ∙ v .kept;
+              noted-end = omega (arith, c .noted-end, v .noted-end, a .noted-end, length-append (v .ks) (a .ks), length-append before (c .ks));
+              noted = c .noted ∙ ap (λ (y : List ℕ). y ++ c .ks) so-far ∙ append-assoc (take s steps₀) before (c .ks);
+              goes-on =
+                  runs-on ∙ ap (after before (o + b) (τ + (υ + 1))) (k .runs-on)
+                  ∙ after-after before (o + b) (τ + (υ + 1)) (c .ks) 0 (length (c .ks)) (drives ed (x .0))
+                  ∙ ap (λ i. after (before ++ c .ks) i (τ + (υ + 1) + length (c .ks)) (drives ed (x .0))) (add-zero (o + b))
+                  ∙ ap (λ i. after (before ++ c .ks) (o + b) (τ + (υ + 1) + i) (drives ed (x .0))) tries;
+              lighter = omega (arith, v .lighter, k .lighter, length-append (v .ks) (a .ks), length-append before (c .ks));
+              tried-bound =
+                  omega (
+                    arith,
+                    v .tried-bound,
+                    pass-pays (v .u) (v .wf) (a .to) (a .ks) b υ ed (a .ran) changed,
+                    cost-steps (length (c .ks)) (weight (x .0)) (weight (a .to)) (k .lighter),
+                  );
+              out-long = lo' ∙ lo ∙ v .out-long;
+              work-long = lw' ∙ lw ∙ v .work-long;
+              steps-long = lz' ∙ lz ∙ v .steps-long;
+            }
+
+        pub again-less : tableWeight (drop (r * 16) work'') < tableWeight (drop (at * 16) work)
+        again-less =
+            let l = less .1 in
+            let k = stepped-kept .lighter in
+            let g : tableWeight (drop (r * 16) work'') ≡ weight (x .0) + tableWeight (v .rest)
+            = ap tableWeight (x .1 .stands) ∙ weighs-tree (x .0) (v .rest) in
+            omega (arith, weighs-now, a .noted-end)
+
+-- ---- a tree that is settled first, and then driven on
+module _ (ed : ℕ) {out work steps : List ℕ} {d p s : ℕ} {t : Tree} {rest : List ℕ} (h : Set out work steps d p s t rest) {out' work' steps' : List ℕ} {q n : ℕ}
+    (a : (u : Tree) × Came (rulesOf ed) t u rest out out' work' steps steps' d s q n × (ask (rulesOf ed) u ≡ no-rule)) where
+  first-kept : Kept ed t (a .1 .ks) (a .0)
+  first-kept = steps-keep ed (h .ready .wf) (a .1 .taken)
+
+  pub settled-set : length out' ≡ length out → length work' ≡ length work → length steps' ≡ length steps → Set out' work' steps' d q n (a .0) rest
+  settled-set lo lw lz =
+      let r = h .ready in
+      let l = first-kept .lighter in
+      record {
+        ready =
+            record {
+              wf = first-kept .wf;
+              light = omega (arith, r .light);
+              stands = a .1 .stands;
+              out-room = omega (arith, r .out-room);
+              work-room = omega (arith, r .work-room);
+            };
+        steps-room = omega (arith, h .steps-room, a .1 .noted-end);
+      }
+
+  pub settled-less : tableWeight (drop (q * 16) work') ≤ tableWeight (drop (p * 16) work)
+  settled-less =
+      let now : tableWeight (drop (q * 16) work') ≡ weight (a .0) + tableWeight rest = ap tableWeight (a .1 .stands) ∙ weighs-tree (a .0) rest in
+      let then : tableWeight (drop (p * 16) work) ≡ weight t + tableWeight rest = ap tableWeight (h .ready .stands) ∙ weighs-tree t rest in
+      omega (arith, first-kept .lighter)
+
+  pub first-steps : s ≤ n
+  first-steps = omega (arith, a .1 .noted-end)
+
+  pub later-burst : (m : ℕ) → (k : ℕ) × (drives ed (a .0) ≡ over k) × (m ≡ n + k) → (k : ℕ) × (drives ed t ≡ over k) × (m ≡ s + k)
+  later-burst m b =
+      let ks = a .1 .ks in
+      let b2 = b .2 in (
+        length ks + b .0,
+        first-kept .runs-on ∙ ap (after ks 0 (length ks)) (b .1) ∙ after-over ks 0 (length ks) (b .0),
+        omega (arith, a .1 .noted-end),
+      )
+
+  module _ {out'' work'' steps'' : List ℕ} {e r m o τ : ℕ} (g : Drove (drives ed (a .0)) rest out' out'' work'' steps' steps'' d n e r m o τ) where
+    pub tries-fit : τ + (n - s) < 2 ^ 63
+    tries-fit =
+        let l = first-kept .lighter in
+        let most = cost-small (weight (a .0)) (omega (arith, h .ready .light)) in
+        omega (arith, a .1 .noted-end, h .ready .light, drives-few ed (a .0) (first-kept .wf) (g .to) (g .ks) o τ (g .ran))
+
+    pub driven-on : Drove (drives ed t) rest out out'' work'' steps steps'' d s e r m o (τ + (n - s))
+    unfolding after
+    driven-on =
+        let ks = a .1 .ks in
+        let tries : length ks + τ ≡ τ + (n - s) = omega (arith, a .1 .noted-end) in
+        record {
+          to = g .to;
+          ks = ks ++ g .ks;
+          ran = first-kept .runs-on ∙ ap (after ks 0 (length ks)) (g .ran) ∙ ap (λ i. done (g .to) (ks ++ g .ks) i (length ks + τ)) (zero-add o)
+              ∙ ap (done (g .to) (ks ++ g .ks) o) tries;
+          end = g .end;
+          wrote = g .wrote ∙ ap (λ (x : List ℕ). x ++ withNotes (g .to)) (a .1 .kept);
+          left = g .left;
+          place = g .place;
+          noted-end = omega (arith, a .1 .noted-end, g .noted-end, length-append ks (g .ks));
+          noted = g .noted ∙ ap (λ (x : List ℕ). x ++ g .ks) (a .1 .noted) ∙ append-assoc (take s steps) ks (g .ks);
+        }

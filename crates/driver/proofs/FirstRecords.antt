@@ -13,45 +13,47 @@ use Rattle.paper.specs.Bytes.{word}
 use Rattle.paper.specs.Tree.{Tree, Forest, integer, symbol, sum, product, power, toList, count, markOf, records}
 use Rattle.paper.specs.WellFormed.{Mark}
 use Rattle.paper.specs.Record.{kind, countIn, markIn, arity, isNode}
-use Rattle.paper.specs.Table.{recordOf, encode, encodes}
+use Rattle.paper.specs.Table.{recordOf}
 use Rattle.paper.specs.Driver.{members, asSum, asProduct}
 use Rattle.paper.proofs.Tests.{and-left, and-right}
 use Rattle.paper.proofs.EncodeLaws.{kind-there, count-there, mark-there, count-records}
 use Rattle.paper.proofs.WFLaws.{count-list}
 use Rattle.paper.proofs.GatherLaws.{Opens, sums-open, products-open}
-use Rattle.driver.specs.Driven.{kindNumber, firstRecord, inside}
+use Rattle.note.specs.Note.{note}
+use Rattle.note.specs.Noted.{encodeBy, encodesBy}
+use Rattle.driver.specs.Driven.{withNotes, kindNumber, firstRecord, inside}
 
 module _ (s : List ℕ) (i : ℕ) where
-  pub kind-first : (t : Tree) (r : List ℕ) → drop (i * 16) s ≡ encode t ++ r → kind s i ≡ kindNumber t
-  unfolding encode kindNumber
+  pub kind-first : (t : Tree) (r : List ℕ) → drop (i * 16) s ≡ withNotes t ++ r → kind s i ≡ kindNumber t
+  unfolding encodeBy kindNumber
   kind-first (integer μ z) r e = kind-there s i 0 0 μ (word z) r e
   kind-first (symbol μ v) r e = kind-there s i 1 0 μ v r e
-  kind-first (sum μ f) r e = kind-there s i 2 (count f) μ 0 (encodes f ++ r) (e ∙ append-assoc (recordOf 2 (count f) μ 0) (encodes f) r)
-  kind-first (product μ f) r e = kind-there s i 3 (count f) μ 0 (encodes f ++ r) (e ∙ append-assoc (recordOf 3 (count f) μ 0) (encodes f) r)
+  kind-first (sum μ f) r e = kind-there s i 2 (count f) μ (note (sum μ f)) (encodesBy note f ++ r) (e ∙ append-assoc (recordOf 2 (count f) μ (note (sum μ f))) (encodesBy note f) r)
+  kind-first (product μ f) r e = kind-there s i 3 (count f) μ (note (product μ f)) (encodesBy note f ++ r) (e ∙ append-assoc (recordOf 3 (count f) μ (note (product μ f))) (encodesBy note f) r)
   kind-first (power μ b ξ x) r e =
-      kind-there s i 4 0 μ 0 ((encode b ++ recordOf 0 0 ξ x) ++ r) (e ∙ append-assoc (recordOf 4 0 μ 0) (encode b ++ recordOf 0 0 ξ x) r)
+      kind-there s i 4 0 μ (note (power μ b ξ x)) ((withNotes b ++ recordOf 0 0 ξ x) ++ r) (e ∙ append-assoc (recordOf 4 0 μ (note (power μ b ξ x))) (withNotes b ++ recordOf 0 0 ξ x) r)
 
   -- the mark in the first record
   pub mark-first : (t : Tree) (r : List ℕ) → drop (i * 16) s ≡ firstRecord t ++ r → Mark (markOf t) → markIn s i ≡ markOf t
   unfolding firstRecord markOf
   mark-first (integer μ z) r e m = mark-there s i 0 0 μ (word z) r e m
   mark-first (symbol μ v) r e m = mark-there s i 1 0 μ v r e m
-  mark-first (sum μ f) r e m = mark-there s i 2 (count f) μ 0 r e m
-  mark-first (product μ f) r e m = mark-there s i 3 (count f) μ 0 r e m
-  mark-first (power μ b ξ x) r e m = mark-there s i 4 0 μ 0 r e m
+  mark-first (sum μ f) r e m = mark-there s i 2 (count f) μ (note (sum μ f)) r e m
+  mark-first (product μ f) r e m = mark-there s i 3 (count f) μ (note (product μ f)) r e m
+  mark-first (power μ b ξ x) r e m = mark-there s i 4 0 μ (note (power μ b ξ x)) r e m
 
-  sum-count : (μ : ℕ) (f : Forest) (r : List ℕ) → drop (i * 16) s ≡ encode (sum μ f) ++ r → records (sum μ f) < 65536 → countIn s i ≡ count f
-  unfolding encode records
+  sum-count : (μ : ℕ) (f : Forest) (r : List ℕ) → drop (i * 16) s ≡ withNotes (sum μ f) ++ r → records (sum μ f) < 65536 → countIn s i ≡ count f
+  unfolding encodeBy records
   sum-count μ f r e h =
-      count-there s i 2 (count f) μ 0 (encodes f ++ r) (e ∙ append-assoc (recordOf 2 (count f) μ 0) (encodes f) r) (omega (arith, count-records f))
+      count-there s i 2 (count f) μ (note (sum μ f)) (encodesBy note f ++ r) (e ∙ append-assoc (recordOf 2 (count f) μ (note (sum μ f))) (encodesBy note f) r) (omega (arith, count-records f))
 
-  product-count : (μ : ℕ) (f : Forest) (r : List ℕ) → drop (i * 16) s ≡ encode (product μ f) ++ r → records (product μ f) < 65536 → countIn s i ≡ count f
-  unfolding encode records
+  product-count : (μ : ℕ) (f : Forest) (r : List ℕ) → drop (i * 16) s ≡ withNotes (product μ f) ++ r → records (product μ f) < 65536 → countIn s i ≡ count f
+  unfolding encodeBy records
   product-count μ f r e h =
-      count-there s i 3 (count f) μ 0 (encodes f ++ r) (e ∙ append-assoc (recordOf 3 (count f) μ 0) (encodes f) r) (omega (arith, count-records f))
+      count-there s i 3 (count f) μ (note (product μ f)) (encodesBy note f ++ r) (e ∙ append-assoc (recordOf 3 (count f) μ (note (product μ f))) (encodesBy note f) r) (omega (arith, count-records f))
 
   -- the number of members that the first record gives
-  pub arity-first : (t : Tree) (r : List ℕ) → drop (i * 16) s ≡ encode t ++ r → records t < 65536 → arity s i ≡ length (members t)
+  pub arity-first : (t : Tree) (r : List ℕ) → drop (i * 16) s ≡ withNotes t ++ r → records t < 65536 → arity s i ≡ length (members t)
   unfolding arity kindNumber members
   arity-first (integer μ z) r e h = rw (kind-first (integer μ z) r e)
   arity-first (symbol μ v) r e h = rw (kind-first (symbol μ v) r e)
@@ -63,7 +65,7 @@ module _ (s : List ℕ) (i : ℕ) where
 -- a tree that is opened: its members take its place
 pub record Open (k : ℕ) (u : Tree) : Type 0 where
   pub opens-to : inside k u ≡ some (members u)
-  pub counted : (s : List ℕ) (i : ℕ) (r : List ℕ) → drop (i * 16) s ≡ encode u ++ r → records u < 65536 → countIn s i ≡ length (members u)
+  pub counted : (s : List ℕ) (i : ℕ) (r : List ℕ) → drop (i * 16) s ≡ withNotes u ++ r → records u < 65536 → countIn s i ≡ length (members u)
 
 wrong : {A : Type 0} (k j : ℕ) → (eqb j k && isNode k) ≡ true → isNode j ≡ false → A
 wrong k j e n =

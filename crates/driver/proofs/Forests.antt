@@ -14,20 +14,22 @@ use Rattle.paper.specs.Limits.{modulus}
 use Rattle.paper.specs.Bytes.{word}
 use Rattle.paper.specs.Tree.{Tree, integer, symbol, sum, product, power, ofList, count, markOf, records, recordses, weight}
 use Rattle.paper.specs.WellFormed.{Mark, WF, WFl}
-use Rattle.paper.specs.Table.{recordOf, encode, encodes, readTree}
+use Rattle.paper.specs.Table.{recordOf, readTree}
 use Rattle.paper.specs.Driver.{members}
 use Rattle.paper.proofs.EncodeLaws.{record-length, records-weight, recordses-weights, count-records}
 use Rattle.paper.proofs.WFLaws.{list-count, of-to-list}
-use Rattle.paper.proofs.ReadLaws.{read-written}
 use Rattle.paper.proofs.Value.{list-weights}
 use Rattle.paper.proofs.Fuel.{members-lighter}
-use Rattle.driver.specs.Driven.{encodeAll, recordsAll, weightAll, firstRecord, Set, SetAll}
+use Rattle.note.specs.Note.{note}
+use Rattle.note.specs.Noted.{encodeBy, encodesBy}
+use Rattle.note.proofs.ReadByLaws.{read-by}
+use Rattle.driver.specs.Driven.{withNotes, encodeAll, recordsAll, weightAll, firstRecord, Set, SetAll}
 
 -- ---- lists of trees
 pub encode-both : (l m : List Tree) → encodeAll (l ++ m) ≡ encodeAll l ++ encodeAll m
-unfolding encode ofList
+unfolding encodeBy ofList
 encode-both [] m = refl
-encode-both (t ∷ l) m = ap (λ (x : List ℕ). encode t ++ x) (encode-both l m) ∙ sym (append-assoc (encode t) (encodeAll l) (encodeAll m))
+encode-both (t ∷ l) m = ap (λ (x : List ℕ). withNotes t ++ x) (encode-both l m) ∙ sym (append-assoc (withNotes t) (encodeAll l) (encodeAll m))
 
 pub records-both : (l m : List Tree) → recordsAll (l ++ m) ≡ recordsAll l + recordsAll m
 unfolding records ofList
@@ -55,22 +57,22 @@ pub first-length : (t : Tree) → length (firstRecord t) ≡ 16
 unfolding firstRecord
 first-length (integer μ z) = record-length 0 0 μ (word z)
 first-length (symbol μ s) = record-length 1 0 μ s
-first-length (sum μ f) = record-length 2 (count f) μ 0
-first-length (product μ f) = record-length 3 (count f) μ 0
-first-length (power μ b ξ e) = record-length 4 0 μ 0
+first-length (sum μ f) = record-length 2 (count f) μ (note (sum μ f))
+first-length (product μ f) = record-length 3 (count f) μ (note (product μ f))
+first-length (power μ b ξ e) = record-length 4 0 μ (note (power μ b ξ e))
 
-pub exponent-record : (ξ e : ℕ) → e < 2 ^ 63 → encode (integer ξ (pos e)) ≡ recordOf 0 0 ξ e
-unfolding encode word
+pub exponent-record : (ξ e : ℕ) → e < 2 ^ 63 → withNotes (integer ξ (pos e)) ≡ recordOf 0 0 ξ e
+unfolding encodeBy word
 exponent-record ξ e h = ap (recordOf 0 0 ξ) (mod-eq-of-lt {n = e} {m = modulus} (omega arith))
 
-pub encode-first : (t : Tree) → WF t → encode t ≡ firstRecord t ++ encodeAll (members t)
-unfolding encode firstRecord members ofList
+pub encode-first : (t : Tree) → WF t → withNotes t ≡ firstRecord t ++ encodeAll (members t)
+unfolding encodeBy firstRecord members ofList
 encode-first (integer μ z) w = sym (append-nil (recordOf 0 0 μ (word z)))
 encode-first (symbol μ s) w = sym (append-nil (recordOf 1 0 μ s))
-encode-first (sum μ f) w = ap (λ g. recordOf 2 (count f) μ 0 ++ encodes g) (sym (of-to-list f))
-encode-first (product μ f) w = ap (λ g. recordOf 3 (count f) μ 0 ++ encodes g) (sym (of-to-list f))
+encode-first (sum μ f) w = ap (λ g. recordOf 2 (count f) μ (note (sum μ f)) ++ encodesBy note g) (sym (of-to-list f))
+encode-first (product μ f) w = ap (λ g. recordOf 3 (count f) μ (note (product μ f)) ++ encodesBy note g) (sym (of-to-list f))
 encode-first (power μ b ξ e) w =
-    ap (λ (l : List ℕ). recordOf 4 0 μ 0 ++ (encode b ++ l)) (sym (exponent-record ξ e (w .2)) ∙ sym (append-nil (encode (integer ξ (pos e)))))
+    ap (λ (l : List ℕ). recordOf 4 0 μ (note (power μ b ξ e)) ++ (withNotes b ++ l)) (sym (exponent-record ξ e (w .2)) ∙ sym (append-nil (withNotes (integer ξ (pos e)))))
 
 pub records-first : (t : Tree) → records t ≡ 1 + recordsAll (members t)
 unfolding records members ofList
@@ -93,12 +95,12 @@ pub few-records : (t : Tree) → weight t < 65536 → records t < 65536
 few-records t l = omega (arith, records-weight t)
 
 -- ---- what stands there is determined
-pub tree-once : (t u : Tree) (r q : List ℕ) → WF t → WF u → records t < 65536 → records u < 65536 → encode t ++ r ≡ encode u ++ q
+pub tree-once : (t u : Tree) (r q : List ℕ) → WF t → WF u → records t < 65536 → records u < 65536 → withNotes t ++ r ≡ withNotes u ++ q
     → (t ≡ u) × (r ≡ q)
 tree-once t u r q v w h k e =
     let n : ℕ = records t + records u in
-    let a : readTree n (encode t ++ r) ≡ some (t, r) = read-written t n r v h (omega arith) in
-    let b : readTree n (encode u ++ q) ≡ some (u, q) = read-written u n q w k (omega arith) in
+    let a : readTree n (withNotes t ++ r) ≡ some (t, r) = read-by note t n r v h (omega arith) in
+    let b : readTree n (withNotes u ++ q) ≡ some (u, q) = read-by note u n q w k (omega arith) in
     let c : _≡_ {A = Option (Tree × List ℕ)} (some (t, r)) (some (u, q)) = sym a ∙ ap (readTree n) e ∙ b in
     let d : _≡_ {A = Tree × List ℕ} (t, r) (u, q) = cc in
     (ap (λ (x : Tree × List ℕ). x .0) d, ap (λ (x : Tree × List ℕ). x .1) d)
@@ -118,13 +120,13 @@ for-every {rest = rest} h Q q u r g =
 
 pub trees-once : (l m : List Tree) (r q : List ℕ) → WFl l → WFl m → recordsAll l < 65536 → recordsAll m < 65536 → length l ≡ length m
     → encodeAll l ++ r ≡ encodeAll m ++ q → (l ≡ m) × (r ≡ q)
-unfolding encode records ofList
+unfolding encodeBy records ofList
 trees-once [] [] r q v w h k n e = (refl, e)
 trees-once [] (u ∷ m) r q v w h k n e = absurd (omega arith)
 trees-once (t ∷ l) [] r q v w h k n e = absurd (omega arith)
 trees-once (t ∷ l) (u ∷ m) r q v w h k n e =
     let a = tree-once t u (encodeAll l ++ r) (encodeAll m ++ q) (v .0) (w .0) (omega arith) (omega arith)
-    (sym (append-assoc (encode t) (encodeAll l) r) ∙ e ∙ append-assoc (encode u) (encodeAll m) q) in
+    (sym (append-assoc (withNotes t) (encodeAll l) r) ∙ e ∙ append-assoc (withNotes u) (encodeAll m) q) in
     let b = trees-once l m r q (v .1) (w .1) (omega arith) (omega arith) (omega arith) (a .1) in
     (ap (λ (x : Tree). x ∷ l) (a .0) ∙ ap (λ (x : List Tree). u ∷ x) (b .0), b .1)
 

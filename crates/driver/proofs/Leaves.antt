@@ -12,15 +12,17 @@ use Rattle.paper.specs.Bytes.{word}
 use Rattle.paper.specs.Record.{kind, isNode}
 use Rattle.paper.specs.Tree.{Tree, integer, symbol, sum, product, power, records}
 use Rattle.paper.specs.WellFormed.{WF}
-use Rattle.paper.specs.Table.{encode}
 use Rattle.paper.specs.Driver.{done, each, members, gather}
 use Rattle.paper.specs.Admits.{admits-none, no-more, openingsAt}
-use Rattle.paper.proofs.EncodeLaws.{encode-length, records-weight, kind-there}
+use Rattle.paper.proofs.EncodeLaws.{records-weight, kind-there}
+use Rattle.note.proofs.NotedLaws.{encodeBy-length}
 use Rattle.paper.proofs.Simplified.{simplify-again}
+use Rattle.note.specs.Note.{note}
+use Rattle.note.specs.Noted.{encodeBy}
 use Rattle.record.proofs.KindLaws.{leaf-no-node}
 use Rattle.stretch.specs.Put.{part, put}
 use Rattle.stretch.proofs.Laws.{take-put-end}
-use Rattle.driver.specs.Driven.{kindNumber, inside, openedRuns, Set, Drove, Gave}
+use Rattle.driver.specs.Driven.{withNotes, kindNumber, inside, openedRuns, Set, Drove, Gave}
 use Rattle.driver.proofs.Places.{advance, part-there, ends-after}
 use Rattle.driver.proofs.Runs.{drives, no-rule-on}
 use Rattle.driver.proofs.FirstRecords.{kind-first}
@@ -31,8 +33,8 @@ record Leaf (ed : ℕ) (work : List ℕ) (p : ℕ) (t : Tree) : Type 0 where
   finished : drives ed t ≡ done t [] 0 1
   one : records t ≡ 1
 
-leaf : (ed : ℕ) (work rest : List ℕ) (p : ℕ) (t : Tree) → WF t → drop (p * 16) work ≡ encode t ++ rest → kind work p < 2 → Leaf ed work p t
-unfolding encode records kindNumber members gather openingsAt
+leaf : (ed : ℕ) (work rest : List ℕ) (p : ℕ) (t : Tree) → WF t → drop (p * 16) work ≡ withNotes t ++ rest → kind work p < 2 → Leaf ed work p t
+unfolding encodeBy records kindNumber members gather openingsAt
 leaf ed work rest p (integer μ z) w e l =
     let k = kind-there work p 0 0 μ (word z) rest e in
     record { finished = simplify-again (integer μ z) w (admits-none {t = integer μ z} (no-rule-on ed (integer μ z) (omega arith)) refl no-more); one = refl }
@@ -47,25 +49,25 @@ module _ (ed : ℕ) {t : Tree} {rest out work steps : List ℕ} {d p s : ℕ} (h
   this : Leaf ed work p t
   this = leaf ed work rest p t (h .ready .wf) (h .ready .stands) l
 
-  tree-long : length (encode t) ≡ 16
-  tree-long = let o = this .one in omega (arith, encode-length t)
+  tree-long : length (withNotes t) ≡ 16
+  tree-long = let o = this .one in omega (arith, encodeBy-length note t)
 
   leaf-driven : (out' : List ℕ) → out' ≡ put out (d * 16) (part work (p * 16) 16)
       → Drove (drives ed t) rest out out' work steps steps d s (d + 1) (p + 1) s 0 1
   leaf-driven out' e =
       let o = this .one in
       let f : d * 16 + 16 ≤ length out = omega (arith, records-weight t, h .ready .out-room) in
-      let m : length (encode t ++ rest) ≡ length (encode t) + length rest = length-append (encode t) rest in
+      let m : length (withNotes t ++ rest) ≡ length (withNotes t) + length rest = length-append (withNotes t) rest in
       record {
         to = t;
         ks = [];
         ran = this .finished;
         end = omega arith;
         wrote =
-            ap (take ((d + 1) * 16)) (e ∙ ap (put out (d * 16)) (part-there work (encode t) rest (p * 16) 16 (h .ready .stands) tree-long))
-            ∙ take-put-end out (d * 16) (encode t) ((d + 1) * 16) (omega (arith, tree-long)) (omega arith);
-        left = advance work (encode t) rest p 1 (h .ready .stands) (omega (arith, tree-long));
-        place = omega (arith, tree-long, ends-after work (encode t ++ rest) (p * 16) (h .ready .stands) (omega (arith, tree-long)));
+            ap (take ((d + 1) * 16)) (e ∙ ap (put out (d * 16)) (part-there work (withNotes t) rest (p * 16) 16 (h .ready .stands) tree-long))
+            ∙ take-put-end out (d * 16) (withNotes t) ((d + 1) * 16) (omega (arith, tree-long)) (omega arith);
+        left = advance work (withNotes t) rest p 1 (h .ready .stands) (omega (arith, tree-long));
+        place = omega (arith, tree-long, ends-after work (withNotes t ++ rest) (p * 16) (h .ready .stands) (omega (arith, tree-long)));
         noted-end = omega arith;
         noted = sym (append-nil (take s steps));
       }

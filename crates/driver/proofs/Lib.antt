@@ -1,9 +1,11 @@
 pub mod Forests
 pub mod Runs
 pub mod Weighs
-pub mod Settled
+pub mod Finishing
 pub mod Counting
 pub mod Places
+pub mod Stepping
+pub mod Taking
 pub mod Driving
 pub mod FirstRecords
 pub mod Opening

@@ -8,12 +8,14 @@ use native.Mathlib.Omega.{arith}
 use lib.ListN.{length, take, drop, length-append}
 use Rattle.paper.specs.Tree.{Tree, ofList, records, weight}
 use Rattle.paper.specs.WellFormed.{WF, WFl}
-use Rattle.paper.specs.Table.{encode}
 use Rattle.paper.specs.Verdict.{tableWeight}
 use Rattle.paper.specs.Driver.{overs, each}
-use Rattle.paper.proofs.EncodeLaws.{encodes-length, recordses-weights}
+use Rattle.paper.proofs.EncodeLaws.{recordses-weights}
+use Rattle.note.proofs.NotedLaws.{encodesBy-length}
 use Rattle.paper.proofs.Squares.{cost}
-use Rattle.driver.specs.Driven.{encodeAll, recordsAll, weightAll, inside, openedRuns, Set, SetAll, Gave}
+use Rattle.note.specs.Note.{note}
+use Rattle.note.specs.Noted.{encodeBy}
+use Rattle.driver.specs.Driven.{withNotes, encodeAll, recordsAll, weightAll, inside, openedRuns, Set, SetAll, Gave}
 use Rattle.driver.proofs.Forests.{encode-both, records-both, weight-both, all-many, set-all-once}
 use Rattle.driver.proofs.Weighs.{weighs-all}
 use Rattle.driver.proofs.Runs.{drives, drives-kept, run-lighter, before, joined, before-none, before-joined, gather-first, gather-none, same-dones}
@@ -48,7 +50,7 @@ pub record MInv (ed : ℕ) (out₀ work₀ steps₀ : List ℕ) (k c d p s : ℕ
 
 pub start : {ed : ℕ} {out work steps : List ℕ} {d p s : ℕ} {l : List Tree} {rest : List ℕ} (k c : ℕ) → length l ≡ c → SetAll out work steps d p s l rest
     → MInv ed out work steps k c d p s out work steps 0 d p s 0 0 0
-unfolding encode records weight ofList
+unfolding encodeBy records weight ofList
 start {ed = ed} {out = out} {steps = steps} {d = d} {s = s} {l = l} {rest = rest} k c e h =
     record {
       l = l;
@@ -129,9 +131,9 @@ module _ {ed : ℕ} {out₀ work₀ steps₀ : List ℕ} {k c d p s : ℕ} {out 
     unfolding weight ofList
     weight-next = ap weightAll (f .is)
 
-    stands-next : drop (q * 16) work ≡ encode x ++ rest-after
-    unfolding encode ofList
-    stands-next = v .stands ∙ ap (λ r. encodeAll r ++ v .rest) (f .is) ∙ append-assoc (encode x) (encodeAll (f .xs)) (v .rest)
+    stands-next : drop (q * 16) work ≡ withNotes x ++ rest-after
+    unfolding encodeBy ofList
+    stands-next = v .stands ∙ ap (λ r. encodeAll r ++ v .rest) (f .is) ∙ append-assoc (withNotes x) (encodeAll (f .xs)) (v .rest)
 
     wf-next : WF x × WFl (f .xs)
     wf-next = subst WFl (f .is) (v .wf)
@@ -141,7 +143,7 @@ module _ {ed : ℕ} {out₀ work₀ steps₀ : List ℕ} {k c d p s : ℕ} {out 
         let a = recordses-weights (ofList (v .g)) in
         let b = weight-next in
         let w = recordses-weights (ofList (f .xs)) in
-        let y = encodes-length (ofList (f .xs)) in
+        let y = encodesBy-length note (ofList (f .xs)) in
         let z : length rest-after ≡ length (encodeAll (f .xs)) + length (v .rest) = length-append (encodeAll (f .xs)) (v .rest) in
         let u = v .set-up in
         record {
@@ -232,7 +234,7 @@ module _ {ed : ℕ} {out₀ work₀ steps₀ : List ℕ} {k c d p s : ℕ} {out 
 
   -- all members are gathered
   pub finish : c ≤ i → Gave (openedRuns (inside k) (each (drives ed) (v .l))) (v .rest) out₀ out work steps₀ steps d s e q n o m τ
-  unfolding before encode ofList
+  unfolding before encodeBy ofList
   finish h =
       let z : v .r ≡ [] = none-of (v .r) (omega (arith, v .to-go)) in
       record {

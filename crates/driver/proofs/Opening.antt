@@ -12,14 +12,16 @@ use lib.Seq.{drop-at}
 use Rattle.paper.specs.Tree.{Tree, ofList, records, weight}
 use Rattle.paper.specs.Record.{kind, countIn, isNode}
 use Rattle.paper.specs.WellFormed.{WF}
-use Rattle.paper.specs.Table.{encode}
 use Rattle.paper.specs.Driver.{Ran, done, over, dones, overs, andThen, each, members, openOne, opened}
-use Rattle.paper.proofs.EncodeLaws.{encodes-length, records-pos, records-weight}
+use Rattle.paper.proofs.EncodeLaws.{records-pos, records-weight}
+use Rattle.note.proofs.NotedLaws.{encodesBy-length}
 use Rattle.paper.proofs.Value.{total, list-weights}
 use Rattle.paper.proofs.GatherLaws.{opened-weight}
+use Rattle.note.specs.Note.{note}
+use Rattle.note.specs.Noted.{encodeBy}
 use Rattle.stretch.specs.Put.{part, put}
 use Rattle.stretch.proofs.Laws.{take-put-end}
-use Rattle.driver.specs.Driven.{encodeAll, recordsAll, weightAll, kindNumber, firstRecord, inside, openedRuns, Set, Drove, Gave}
+use Rattle.driver.specs.Driven.{withNotes, encodeAll, recordsAll, weightAll, kindNumber, firstRecord, inside, openedRuns, Set, Drove, Gave}
 use Rattle.driver.proofs.Forests.{encode-first, records-first, first-length, front-long}
 use Rattle.driver.proofs.Places.{part-end, front-of}
 use Rattle.driver.proofs.Runs.{drives, drives-kept, run-lighter, same-dones}
@@ -89,12 +91,12 @@ module _ (ed : ℕ) {t : Tree} {rest out out' work steps work' steps' : List ℕ
       let c = records-pos (a .to) in
       (omega (arith, a .end), omega (arith, a .end, h .ready .out-room), omega (arith, h .ready .light))
 
-  stands : drop (d * 16) out' ≡ encode (a .to) ++ drop (e * 16) out'
+  stands : drop (d * 16) out' ≡ withNotes (a .to) ++ drop (e * 16) out'
   stands =
       let past = drop (e * 16) out' in
       ap (drop (d * 16))
-      (sym (take-append-drop (e * 16) out') ∙ ap (λ (x : List ℕ). x ++ past) (a .wrote) ∙ append-assoc (take (d * 16) out) (encode (a .to)) past)
-      ∙ drop-at (take (d * 16) out) (encode (a .to) ++ past) (d * 16) (front-long h)
+      (sym (take-append-drop (e * 16) out') ∙ ap (λ (x : List ℕ). x ++ past) (a .wrote) ∙ append-assoc (take (d * 16) out) (withNotes (a .to)) past)
+      ∙ drop-at (take (d * 16) out) (withNotes (a .to) ++ past) (d * 16) (front-long h)
 
   pub member-kind : kind out' d ≡ kindNumber (a .to)
   member-kind = kind-first out' d (a .to) (drop (e * 16) out') stands
@@ -103,7 +105,7 @@ module _ (ed : ℕ) {t : Tree} {rest out out' work steps work' steps' : List ℕ
     -- it is not of the node's kind
     pub as-it-is : (eqb (kind out' d) k && isNode k) ≡ false
         → Gave (openedRuns (inside k) (each (drives ed) (t ∷ []))) rest out out' work' steps steps' d s e q n o 1 τ
-    unfolding encode records ofList
+    unfolding encodeBy records ofList
     as-it-is b =
         record {
           to = a .to ∷ [];
@@ -111,7 +113,7 @@ module _ (ed : ℕ) {t : Tree} {rest out out' work steps work' steps' : List ℕ
           ran = one-kept ed k t (a .to) (a .ks) o τ (a .ran) (is-kept k (a .to) (subst (λ j. (eqb j k && isNode k) ≡ false) member-kind b));
           many = refl;
           end = a .end ∙ omega arith;
-          wrote = a .wrote ∙ ap (λ (x : List ℕ). take (d * 16) out ++ x) (sym (append-nil (encode (a .to))));
+          wrote = a .wrote ∙ ap (λ (x : List ℕ). take (d * 16) out ++ x) (sym (append-nil (withNotes (a .to))));
           left = a .left;
           place = a .place;
           noted-end = a .noted-end;
@@ -135,7 +137,7 @@ module _ (ed : ℕ) {t : Tree} {rest out out' work steps work' steps' : List ℕ
           ∙ sym (append-assoc (take (d * 16) out) (firstRecord (a .to)) (encodeAll l)) in
           let x : length (take (d * 16) out ++ firstRecord (a .to)) ≡ d * 16 + 16
           = length-append (take (d * 16) out) (firstRecord (a .to)) ∙ omega (arith, front-long h, first-length (a .to)) in
-          let y : length (encodeAll l) ≡ (e - d - 1) * 16 = omega (arith, encodes-length (ofList l), a .end) in
+          let y : length (encodeAll l) ≡ (e - d - 1) * 16 = omega (arith, encodesBy-length note (ofList l), a .end) in
           let m : e * 16 ≡ d * 16 + 16 + (e - d - 1) * 16 = omega arith in
           let i : (e - 1) * 16 ≡ d * 16 + length (encodeAll l) = omega arith in
           record {
@@ -150,7 +152,7 @@ module _ (ed : ℕ) {t : Tree} {rest out out' work steps work' steps' : List ℕ
                 ((e - d - 1) * 16) (e * 16) g m x y (omega arith)))
                 ∙ take-put-end out' (d * 16) (encodeAll l) ((e - 1) * 16) i (omega arith)
                 ∙ ap (λ (z : List ℕ). z ++ encodeAll l)
-                (front-of out' (take (d * 16) out) (encode (a .to)) (d * 16) (e * 16) (a .wrote) (front-long h) (omega arith));
+                (front-of out' (take (d * 16) out) (withNotes (a .to)) (d * 16) (e * 16) (a .wrote) (front-long h) (omega arith));
             left = a .left;
             place = a .place;
             noted-end = a .noted-end;

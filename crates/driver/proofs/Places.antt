@@ -51,3 +51,9 @@ front-of o x y a m e l h = sym (take-take a m o h) ∙ ap (take a) e ∙ take-at
 -- a front that is as long as it should be lies within the area
 pub front-fits : (o x : List ℕ) (n : ℕ) → take n o ≡ x → length x ≡ n → n ≤ length o
 front-fits o x n e l = let m : length (take n o) ≡ n = ap length e ∙ l in omega (arith, length-take n o)
+
+-- what stands from a record on, after a tree was put there in place of another that ended at the same place
+pub put-there : (w x y rest : List ℕ) (b : ℕ) → drop b w ≡ x ++ rest → length y ≡ length x → b ≤ length w → drop b (put w b y) ≡ y ++ rest
+put-there w x y rest b e l h =
+    drop-put-at w b y h
+    ∙ ap (λ (i : List ℕ). y ++ i) (sym (drop-drop (length y) b w) ∙ ap (drop (length y)) e ∙ drop-at x rest (length y) (sym l))

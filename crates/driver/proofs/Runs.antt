@@ -18,7 +18,8 @@ use Rattle.paper.specs.Rules.{powerOne, powerConstant, powerPower, onSumMembers
 use Rattle.paper.specs.Driver.{no-rule, step, out-of-range, ask, Ran, done, over, Rans, dones, overs, after, tried, andThen, each, members}
 use Rattle.paper.specs.Driver.{openOne, opened, gather, settle, gathered, visit, simplify}
 use Rattle.paper.proofs.EditionTwo.{edition-good}
-use Rattle.paper.proofs.GatherLaws.{members-wf}
+use Rattle.paper.proofs.GatherLaws.{members-wf, opened-none}
+use Rattle.paper.proofs.FinishedLaws.{Still, Stills, each-still, run-still}
 use Rattle.paper.proofs.DriverLaws.{RunKept, RunsKept, AskedKept, ask-kept, each-kept, gathered-tree, run-kept}
 use Rattle.paper.proofs.Simplified.{edition-visits}
 use Rattle.driver.specs.Driven.{kindNumber, inside, openedRuns, passed, closedOver}
@@ -120,6 +121,26 @@ pass-closed (power μ b ξ e) (dones l s o τ) =
 pub drives-kept : (ed : ℕ) (t : Tree) → WF t → RunKept t (drives ed t)
 unfolding simplify
 drives-kept ed t w = run-kept (edition-good ed) (weight t) t w
+
+-- members that are run with no step, and none of them opened, come back as they were
+drives-still : (ed : ℕ) (t : Tree) → WF t → Still t (drives ed t)
+unfolding simplify
+drives-still ed t w = run-still (rulesOf ed) (weight t) t w
+
+opened-still : (ins : Tree → Option (List Tree)) (l : List Tree) (r : Rans) → Stills l r → (g : List Tree) (ks : List ℕ) (o τ : ℕ)
+    → openedRuns ins r ≡ dones g ks o τ → length ks + o ≡ 0 → g ≡ l
+unfolding openedRuns
+opened-still ins l (overs k) h g ks o τ e z = absurd (let x : _≡_ {A = ℕ} 0 1 = cc in omega arith)
+opened-still ins l (dones m s n υ) h g ks o τ e z =
+    let trees : opened ins m .0 ≡ g = cc in
+    let steps : s ≡ ks = cc in
+    let openings : n + opened ins m .1 ≡ o = cc in
+    let long : length s ≡ length ks = ap length steps in
+    sym trees ∙ opened-none ins m (omega arith) ∙ h (omega arith)
+
+pub members-still : (ed : ℕ) (ins : Tree → Option (List Tree)) (t : Tree) → WF t → (g : List Tree) (ks : List ℕ) (o τ : ℕ)
+    → openedRuns ins (each (drives ed) (members t)) ≡ dones g ks o τ → length ks + o ≡ 0 → g ≡ members t
+members-still ed ins t w = opened-still ins (members t) (each (drives ed) (members t)) (each-still (drives ed) (drives-still ed) (members t) (members-wf t w))
 
 passed-kept : (t : Tree) → WF t → (r : Rans) → RunsKept (members t) r → RunKept t (passed t r)
 unfolding passed

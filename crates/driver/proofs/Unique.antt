@@ -10,9 +10,8 @@ use contract.Lifetimes.{Lfts}
 use denote.Triple.Clauses.{AtExit}
 use lib.ListN.{length, take, drop}
 use Rattle.paper.specs.Tree.{Tree, records}
-use Rattle.paper.specs.Table.{encode}
 use Rattle.paper.specs.Driver.{Ran, done, over}
-use Rattle.driver.specs.Driven.{Set, Drove, DrivenIs}
+use Rattle.driver.specs.Driven.{withNotes, Set, Drove, DrivenIs}
 use Rattle.driver.specs.declared.Driven.{Driven}
 use Rattle.driver.specs.declared.Driven.the-variants.{Done, Over}
 use Rattle.driver.proofs.Runs.{drives}
@@ -39,7 +38,7 @@ module _ (r : Ran) (rest s o o' w w' zs z z' : List ℕ) (d k : ℕ) (long : len
       let first : q ≡ q' = omega (arith, h .place, h' .place) in (
         cc,
         (
-          h .wrote ∙ ap (λ t. take (d * 16) s ++ encode t) tree ∙ sym (h' .wrote) ∙ ap (λ i. take (i * 16) o') (sym end),
+          h .wrote ∙ ap (λ t. take (d * 16) s ++ withNotes t) tree ∙ sym (h' .wrote) ∙ ap (λ i. take (i * 16) o') (sym end),
           h .left ∙ sym (h' .left) ∙ ap (λ i. drop (i * 16) w') (sym first),
           h .noted ∙ ap (λ (l : List ℕ). take k zs ++ l) steps ∙ sym (h' .noted) ∙ ap (λ i. take i z') (sym noted),
         ),

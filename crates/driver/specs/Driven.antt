@@ -1,5 +1,6 @@
 -- The driver on records: what it needs around it, and what each of its answers says of the paper's runs. `out` holds the done
--- records, `take (d * 16) out`; `work` the pending ones, `drop (p * 16) work`; `steps` the steps so far, `take s steps`.
+-- records, `take (d * 16) out`; `work` the pending ones, `drop (p * 16) work`; `steps` the steps so far, `take s steps`. Done and pending nodes
+-- have their notes in them.
 use Prim.Native.Nat.{ℕ, _+_, _*_, _≤_, _<_, _^_}
 use mathlib.Core.Path.{_≡_}
 use mathlib.Core.Bool.{cond}
@@ -11,18 +12,29 @@ use lib.IntN.{pos}
 unfoldable pub use Rattle.paper.specs.Standing.{kindNumber}
 use Rattle.paper.specs.Bytes.{word}
 use Rattle.paper.specs.Tree.{Tree, integer, symbol, sum, product, power, ofList, count, markOf, records, recordses, weight, weights}
-use Rattle.paper.specs.WellFormed.{Mark, WFl}
-use Rattle.paper.specs.Table.{recordOf, encode, encodes}
-use Rattle.paper.specs.Driver.{Ran, done, over, Rans, dones, overs, asSum, asProduct, opened, baseFrom, gather}
+use Rattle.paper.specs.WellFormed.{Mark, WF, WFl}
+use Rattle.paper.specs.Table.{recordOf}
+use Rattle.paper.specs.Rules.{Rule}
+use Rattle.paper.specs.Driver.{ask, no-rule, step, out-of-range, Ran, done, over, Rans, dones, overs, asSum, asProduct, opened, baseFrom, gather}
+use Rattle.note.specs.Note.{note}
+use Rattle.note.specs.Noted.{encodeBy, encodesBy}
 use Rattle.driver.specs.declared.Driven.{Driven}
 use Rattle.driver.specs.declared.Driven.the-variants as driven
 use Rattle.driver.specs.declared.Given.{Given}
 use Rattle.driver.specs.declared.Given.the-variants as given
+use Rattle.driver.specs.declared.Settled.{Settled}
+use Rattle.driver.specs.declared.Settled.the-variants as settled
+use Rattle.driver.specs.declared.Taken.{Taken}
+use Rattle.driver.specs.declared.Taken.the-variants as taken
 use Rattle.rules.specs.Asked.{Ready}
 
--- ---- trees that stand one after the other: their records, how many, and their weight, as of a node's members
+-- ---- the records of a tree with their notes; and of trees that stand one after the other, as a node's members do, how many they are, and
+-- their weight
+abbrev pub withNotes : Tree → List ℕ
+withNotes t = encodeBy note t
+
 abbrev pub encodeAll : List Tree → List ℕ
-encodeAll l = encodes (ofList l)
+encodeAll l = encodesBy note (ofList l)
 
 abbrev pub recordsAll : List Tree → ℕ
 recordsAll l = recordses (ofList l)
@@ -34,9 +46,9 @@ weightAll l = weights (ofList l)
 unfoldable pub firstRecord : Tree → List ℕ
 firstRecord (integer μ z) = recordOf 0 0 μ (word z)
 firstRecord (symbol μ s) = recordOf 1 0 μ s
-firstRecord (sum μ f) = recordOf 2 (count f) μ 0
-firstRecord (product μ f) = recordOf 3 (count f) μ 0
-firstRecord (power μ b ξ e) = recordOf 4 0 μ 0
+firstRecord (sum μ f) = recordOf 2 (count f) μ (note (sum μ f))
+firstRecord (product μ f) = recordOf 3 (count f) μ (note (product μ f))
+firstRecord (power μ b ξ e) = recordOf 4 0 μ (note (power μ b ξ e))
 
 -- the members of a tree that is opened among the members of a node of kind k: of a sum in a sum, of a product in a product
 unfoldable pub inside : ℕ → Tree → Option (List Tree)
@@ -59,11 +71,29 @@ closedOver (sum μ f) l = sum μ (ofList l)
 closedOver (product μ f) l = product μ (ofList l)
 closedOver (power μ b ξ e) l = power μ (baseFrom b l) ξ e
 
+-- ---- steps at one node
+-- the rules rs, asked at t and again at what they make of it, take the steps ks and come to u
+pub data Steps (rs : List Rule) : Tree → List ℕ → Tree → Type 0 where
+  no-step : {t : Tree} → Steps rs t [] t
+  then-step : {t u v : Tree} {ks : List ℕ} {k : ℕ} → Steps rs t ks u → ask rs u ≡ step k v → Steps rs t (ks ++ (k ∷ [])) v
+
 -- ---- what is needed
--- the tree t is the first of what is pending, with room for the rules, for its result and for its steps
+-- the tree t with its notes is the first of what is pending, with room for the rules, for its result and for its steps
 pub record Set (out work steps : List ℕ) (d p s : ℕ) (t : Tree) (rest : List ℕ) : Type 0 where
   pub ready : Ready out work d p t rest
   pub steps-room : s + weight t ≤ length steps
+
+-- the node g, gathered with its notes, is the last of what is done, up to record e, and rest is pending from record q on
+pub record Back (out work steps : List ℕ) (d e q s : ℕ) (g : Tree) (rest : List ℕ) : Type 0 where
+  pub wf : WF g
+  pub light : weight g < 65536
+  pub end : e ≡ d + records g
+  pub there : take (e * 16) out ≡ take (d * 16) out ++ withNotes g
+  pub left : drop (q * 16) work ≡ rest
+  pub place : q * 16 + length rest ≡ length work
+  pub out-room : 16 * (d + weight g) ≤ length out
+  pub work-room : 20 * weight g + length rest ≤ length work
+  pub steps-room : s + weight g ≤ length steps
 
 -- the same of trees that stand one after the other
 pub record SetAll (out work steps : List ℕ) (d p s : ℕ) (l : List Tree) (rest : List ℕ) : Type 0 where
@@ -76,6 +106,35 @@ pub record SetAll (out work steps : List ℕ) (d p s : ℕ) (l : List Tree) (res
   pub steps-room : s + weightAll l ≤ length steps
 
 -- ---- what the answers say
+-- steps from t came to u, which is pending from record q on; they are noted, and what is done stays
+pub record Came (rs : List Rule) (t u : Tree) (rest out out' work' steps steps' : List ℕ) (d s q n : ℕ) : Type 0 where
+  pub ks : List ℕ
+  pub taken : Steps rs t ks u
+  pub stands : drop (q * 16) work' ≡ withNotes u ++ rest
+  pub kept : take (d * 16) out' ≡ take (d * 16) out
+  pub noted-end : n ≡ s + length ks
+  pub noted : take n steps' ≡ take s steps ++ ks
+
+-- steps from t came to a tree at which a rule leaves the range: n of them are completed, with the s before
+abbrev pub Burst : (rs : List Rule) (t : Tree) (s n : ℕ) → Type 0
+Burst rs t s n = (u : Tree) × (ks : List ℕ) × Steps rs t ks u × (ask rs u ≡ out-of-range) × (n ≡ s + length ks)
+
+-- `At q n`, no rule applies any more; `Over n`, a rule left the range
+abbrev pub SettledIs : (rs : List Rule) (t : Tree) (rest out out' work' steps steps' : List ℕ) (d s : ℕ) → Settled → Type 0
+SettledIs rs t rest out out' work' steps steps' d s (settled.At q n) =
+    (u : Tree) × Came rs t u rest out out' work' steps steps' d s q n × (ask rs u ≡ no-rule)
+SettledIs rs t rest out out' work' steps steps' d s (settled.Over n) = Burst rs t s n
+
+-- `Finished r`, no rule applies to the gathered node g: it stays among what is done, up to record e, and rest is pending from record r on;
+-- `Stepped q n`, steps came from g to a node to which no rule applies, and which is pending; `Over n`, a rule left the range
+abbrev pub TakenIs : (rs : List Rule) (g : Tree) (rest out out' work' steps steps' : List ℕ) (d e s : ℕ) → Taken → Type 0
+TakenIs rs g rest out out' work' steps steps' d e s (taken.Finished r) =
+    (ask rs g ≡ no-rule) × (take (e * 16) out' ≡ take (e * 16) out) × (drop (r * 16) work' ≡ rest) × (r * 16 + length rest ≡ length work')
+    × (take s steps' ≡ take s steps)
+TakenIs rs g rest out out' work' steps steps' d e s (taken.Stepped q n) =
+    (u : Tree) × Came rs g u rest out out' work' steps steps' d s q n × (s < n) × (ask rs u ≡ no-rule)
+TakenIs rs g rest out out' work' steps steps' d e s (taken.Over n) = Burst rs g s n
+
 -- the run r is done, after o openings and τ tries: its tree stands at the end of what is done, rest is what is pending, and its
 -- steps are noted
 pub record Drove (r : Ran) (rest out out' work' steps steps' : List ℕ) (d s e q n o τ : ℕ) : Type 0 where
@@ -83,7 +142,7 @@ pub record Drove (r : Ran) (rest out out' work' steps steps' : List ℕ) (d s e 
   pub ks : List ℕ
   pub ran : r ≡ done to ks o τ
   pub end : e ≡ d + records to
-  pub wrote : take (e * 16) out' ≡ take (d * 16) out ++ encode to
+  pub wrote : take (e * 16) out' ≡ take (d * 16) out ++ withNotes to
   pub left : drop (q * 16) work' ≡ rest
   pub place : q * 16 + length rest ≡ length work'
   pub noted-end : n ≡ s + length ks
@@ -119,16 +178,19 @@ Shape (sum μ f) l = Unit {0}
 Shape (product μ f) l = Unit {0}
 Shape (power μ b ξ e) l = (e < 2 ^ 63) × ((u : Tree) × (l ≡ u ∷ integer ξ (pos e) ∷ []))
 
--- t's first record stands at d, and the m gathered members after it, up to e
+-- t's first record stands at d, and the m gathered members after it, up to e; with them t is well-formed, and light
 pub record Gathers (t : Tree) (l : List Tree) (out : List ℕ) (d e k m : ℕ) : Type 0 where
   pub kind-is : k ≡ kindNumber t
   pub mark-wf : Mark (markOf t)
+  pub wf : WF (closedOver t l)
+  pub light : weight (closedOver t l) < 65536
   pub shape : Shape t l
   pub many : m ≡ length l
   pub end : e ≡ d + 1 + recordsAll l
   pub there : drop (d * 16) (take (e * 16) out) ≡ firstRecord t ++ encodeAll l
+  pub within : e * 16 ≤ length out
 
 -- the tree u stands at d, up to r, and the records before it are as they were
 pub record Closed (u : Tree) (out out' : List ℕ) (d r : ℕ) : Type 0 where
   pub end : r ≡ d + records u
-  pub wrote : take (r * 16) out' ≡ take (d * 16) out ++ encode u
+  pub wrote : take (r * 16) out' ≡ take (d * 16) out ++ withNotes u

@@ -8,8 +8,8 @@ ghost use lib.Dec.{eqb};
 ghost use Rattle.paper.specs.Record.{isNode};
 ghost use Rattle.paper.specs.Tree.{Tree};
 ghost use Rattle.paper.specs.Rules.{rulesOf};
-ghost use Rattle.paper.specs.Driver.{each, members, simplify};
-ghost use Rattle.driver.specs.Driven.{inside, openedRuns, passed, closedOver, Set, SetAll, DrivenIs, GivenIs, Gathers, Closed};
+ghost use Rattle.paper.specs.Driver.{ask, no-rule, each, members, simplify};
+ghost use Rattle.driver.specs.Driven.{inside, openedRuns, passed, closedOver, Set, Back, SetAll, SettledIs, TakenIs, DrivenIs, GivenIs, Gathers, Closed};
 
 // What became of a tree: the records done, the first record pending, the steps noted, the openings and the tries; or the steps
 // completed when a rule left the range.
@@ -22,6 +22,90 @@ pub enum Driven {
 enum Given {
     Members(usize, usize, usize, usize, usize, usize),
     Over(usize),
+}
+
+// Where a tree stands once no rule applies to it, and the steps noted; or the steps completed when a rule left the range.
+enum Settled {
+    At(usize, usize),
+    Over(usize),
+}
+
+// Takes steps at the tree at record p of work until no rule applies. Where the notes tell that none does, none is asked.
+fn settle(
+    out: &mut [u8],
+    work: &mut [u8],
+    steps: &mut [u8],
+    d: usize,
+    p: usize,
+    s: usize,
+    edition: usize,
+) -> Settled
+    requires { ⌜ ((t : Tree) × (rest : List ℕ) × Set (now out) (now work) (now steps) d p s t rest) ⌝ }
+    ensures { λ r. ⌜ ((t : Tree) (rest : List ℕ) → Set (now (out .entry)) (now (work .entry)) (now (steps .entry)) d p s t rest
+        → SettledIs (rulesOf edition) t rest (now (out .entry)) (now (out .exit)) (now (work .exit))
+        (now (steps .entry)) (now (steps .exit)) d s r) ⌝ }
+{
+    let mut at = p;
+    let mut n = s;
+    loop {
+        if note::still(work, at, out, d * 16, edition) {
+            return Settled::At(at, n);
+        }
+        let asked = rules::ask(out, work, d, at, edition);
+        match asked {
+            rules::Asked::Over => return Settled::Over(n),
+            rules::Asked::Nothing => return Settled::At(at, n),
+            rules::Asked::Step(k, q) => {
+                steps[n] = k;
+                n += 1;
+                at = q;
+            }
+        }
+    }
+}
+
+// A gathered node: finished, and what is pending after it; or, after steps, where it stands in work and the steps noted; or the steps completed
+// when a rule left the range.
+enum Taken {
+    Finished(usize),
+    Stepped(usize, usize),
+    Over(usize),
+}
+
+// Takes up the gathered node that stands from record d up to e of out, q being the first record pending: where no rule applies it is finished, for its
+// members are; else it goes back in front of what is pending, and steps are taken.
+fn take_up(
+    out: &mut [u8],
+    work: &mut [u8],
+    steps: &mut [u8],
+    d: usize,
+    e: usize,
+    q: usize,
+    s: usize,
+    edition: usize,
+) -> Taken
+    requires { ⌜ ((g : Tree) × (rest : List ℕ) × Back (now out) (now work) (now steps) d e q s g rest) ⌝ }
+    ensures { λ r. ⌜ ((g : Tree) (rest : List ℕ) → Back (now (out .entry)) (now (work .entry)) (now (steps .entry)) d e q s g rest
+        → TakenIs (rulesOf edition) g rest (now (out .entry)) (now (out .exit)) (now (work .exit))
+        (now (steps .entry)) (now (steps .exit)) d e s r) ⌝ }
+{
+    if note::still(out, d, work, 0, edition) {
+        return Taken::Finished(q);
+    }
+    let size = e - d;
+    let at = q - size;
+    stretch::copy_bytes(work, at * 16, out, d * 16, size * 16);
+    let g = settle(out, work, steps, d, at, s, edition);
+    match g {
+        Settled::Over(k) => Taken::Over(k),
+        Settled::At(r, m) => {
+            if s < m {
+                return Taken::Stepped(r, m);
+            }
+            stretch::copy_bytes(out, d * 16, work, r * 16, size * 16);
+            Taken::Finished(r + size)
+        }
+    }
 }
 
 // Drives the tree at record p of work until nothing changes, and appends its result to the d records done and its steps to the s.
@@ -39,43 +123,60 @@ pub fn drive(
         → DrivenIs (simplify (rulesOf edition) t) rest (now (out .entry)) (now (out .exit)) (now (work .exit))
         (now (steps .entry)) (now (steps .exit)) d s r) ⌝ }
 {
-    // The tree's record, the steps noted, the openings and the tries so far; and its number of records where it comes from a pass, so
-    // that its members are finished, else 0.
+    let first = settle(out, work, steps, d, p, s, edition);
+    match first {
+        Settled::Over(n) => Driven::Over(n),
+        Settled::At(q, n) => {
+            let g = go_on(out, work, steps, d, q, n, edition);
+            match g {
+                Driven::Over(m) => Driven::Over(m),
+                Driven::Done(e, r, m, o, tries) => Driven::Done(e, r, m, o, tries + (n - s)),
+            }
+        }
+    }
+}
+
+// Drives the tree at record p of work, to which no rule applies: passes over its members, and begins again while anything changes.
+fn go_on(
+    out: &mut [u8],
+    work: &mut [u8],
+    steps: &mut [u8],
+    d: usize,
+    p: usize,
+    s: usize,
+    edition: usize,
+) -> Driven
+    requires { ⌜ ((t : Tree) × (rest : List ℕ) × Set (now out) (now work) (now steps) d p s t rest × (ask (rulesOf edition) t ≡ no-rule)) ⌝ }
+    ensures { λ r. ⌜ ((t : Tree) (rest : List ℕ) → Set (now (out .entry)) (now (work .entry)) (now (steps .entry)) d p s t rest
+        → DrivenIs (simplify (rulesOf edition) t) rest (now (out .entry)) (now (out .exit)) (now (work .exit))
+        (now (steps .entry)) (now (steps .exit)) d s r) ⌝ }
+{
+    // The tree's record, the steps noted, the openings and the tries so far.
     let mut at = p;
     let mut n = s;
     let mut o = 0;
     let mut tries = 0;
-    let mut size = 0;
     loop {
-        let asked = rules::ask(out, work, d, at, edition);
-        match asked {
-            rules::Asked::Over => return Driven::Over(n),
-            rules::Asked::Step(k, q) => {
-                steps[n] = k;
-                n += 1;
-                tries += 1;
-                at = q;
-                size = 0;
-            }
-            rules::Asked::Nothing => {
-                if 0 < size {
-                    // Each of its records would be asked once more, in vain.
-                    stretch::copy_bytes(out, d * 16, work, at * 16, size * 16);
-                    return Driven::Done(d + size, at + size, n, o, tries + size);
+        let g = pass(out, work, steps, d, at, n, edition);
+        match g {
+            Driven::Over(k) => return Driven::Over(k),
+            Driven::Done(e, q, j, b, asked_below) => {
+                tries += asked_below + 1;
+                if j - n + b < 1 {
+                    return Driven::Done(e, q, n, o, tries);
                 }
-                let g = pass(out, work, steps, d, at, n, edition);
-                match g {
-                    Driven::Over(k) => return Driven::Over(k),
-                    Driven::Done(e, q, j, b, asked_below) => {
-                        tries += asked_below + 1;
-                        if j - n + b < 1 {
-                            return Driven::Done(e, q, n, o, tries);
-                        }
-                        n = j;
-                        o += b;
-                        size = e - d;
-                        at = q - size;
-                        stretch::copy_bytes(work, at * 16, out, d * 16, size * 16);
+                o += b;
+                let t = take_up(out, work, steps, d, e, q, j, edition);
+                match t {
+                    Taken::Over(k) => return Driven::Over(k),
+                    Taken::Finished(r) => {
+                        // Each of its records would be asked once more, in vain.
+                        return Driven::Done(e, r, j, o, tries + (e - d));
+                    }
+                    Taken::Stepped(r, m) => {
+                        tries += m - j;
+                        n = m;
+                        at = r;
                     }
                 }
             }
@@ -105,7 +206,9 @@ fn pass(
     match g {
         Given::Over(n) => Driven::Over(n),
         Given::Members(e, q, n, o, m, tries) => {
-            close_up(out, k, m, d);
+            if 0 < n - s + o {
+                close_up(out, k, m, d);
+            }
             Driven::Done(e, q, n, o, tries)
         }
     }
@@ -202,18 +305,21 @@ fn opens(k: u8, j: u8) -> bool
     false
 }
 
-// The first record of a gathered node at d, of kind k: a sum's or a product's gets the number m of its gathered members, and keeps its mark.
+// The first record of a gathered node at d, of kind k: a sum's or a product's gets the number m of its gathered members, and keeps its mark; and
+// its note is made.
 fn close_up(out: &mut [u8], k: u8, m: usize, d: usize)
-    requires { ⌜ d * 16 + 16 ≤ length (now out) ⌝ }
-    ensures { λ _. ⌜ ((t : Tree) (l : List Tree) (e : ℕ) → Gathers t l (now (out .entry)) d e k m → e * 16 ≤ length (now (out .entry))
+    requires { ⌜ ((t : Tree) × (l : List Tree) × (e : ℕ) × Gathers t l (now out) d e k m) ⌝ }
+    ensures { λ _. ⌜ ((t : Tree) (l : List Tree) (e : ℕ) → Gathers t l (now (out .entry)) d e k m
         → Closed (closedOver t l) (now (out .entry)) (now (out .exit)) d e) ⌝ }
 {
     if k < 2 {
         return;
     }
     if 3 < k {
+        note::close(out, d);
         return;
     }
     let mark = record::mark(out, d);
     record::write_record(out, d, k, m, mark, 0);
+    note::close(out, d);
 }

@@ -1,5 +1,5 @@
--- Trees that begin otherwise are not equal. First records that differ in kind or in number are those of different trees, a sum's, a
--- product's and a power's number being 0; and powers whose bases differ are different. So a tree that begins otherwise is passed by where
+-- Trees that begin otherwise are not equal. First records that differ in kind or in number are those of different trees, since what is
+-- said of equal nodes is the same; and powers whose bases differ are different. So a tree that begins otherwise is passed by where
 -- one is looked for, and rests that are whole trees and begin otherwise are not equal. Assumes nothing.
 use Prim.Native.Nat.{ℕ, zero, suc, _+_, _*_, _≤_, _<_}
 use mathlib.Core.Path.{_≡_, refl, sym, ap, _∙_, subst}
@@ -13,17 +13,15 @@ use lib.IntN.{pos}
 use lib.Dec.{eqb}
 use Rattle.paper.specs.Bytes.{word}
 use Rattle.paper.specs.Record.{kind, bits}
-use Rattle.paper.specs.Tree.{Tree, integer, symbol, sum, product, power, count, markOf, records}
+use Rattle.paper.specs.Tree.{Tree, integer, product, markOf, records}
 use Rattle.paper.specs.Equal.{equal}
 use Rattle.paper.specs.Rules.{Term, term, termOf}
-use Rattle.paper.proofs.Tests.{and-both, true-not-false}
-use Rattle.paper.proofs.EncodeLaws.{bits-there}
-use Rattle.paper.proofs.Seen.{Seen, an-integer, a-symbol, seen-power}
-use Rattle.paper.proofs.Stands.{sum-record, product-record, power-record}
-use Rattle.split.specs.Standing.{TreeIn}
+use Rattle.paper.proofs.Tests.{and-both, true-not-false, not-so}
+use Rattle.note.proofs.ToldLaws.{seen-power, node-bits}
+use Rattle.split.specs.Standing.{Told}
 use Rattle.split.specs.Rest.{coefficientOf}
 use Rattle.number.specs.declared.Num.the-variants.{Is}
-use Rattle.paper.proofs.StandingLaws.{seen, record-within, power-tree}
+use Rattle.note.proofs.ToldLaws.{seen, record-within, power-tree}
 use Rattle.split.proofs.SplitLaws.{no-integer, term-integer, term-other}
 use Rattle.equal.specs.Head.{sameHead, beginAlike, isCandidate, isWhole, hasTwo, restsDiffer}
 use Rattle.equal.proofs.AnswerLaws.{equal-turned}
@@ -32,28 +30,18 @@ use Rattle.equal.proofs.TwoLaws.{not-false, positive, two-rest, product
 use Rattle.equal.proofs.SameLaws.{kinds-differ, leaf-records, leaves-equal, leaves-differ, powers-differ, is-different}
 use Rattle.equal.specs.declared.Match.the-variants.{Different}
 
--- the number of a record that is no leaf's is 0
-node-bits : {s : List ℕ} {i : ℕ} {t : Tree} → TreeIn s i t → 2 ≤ kind s i → bits s i ≡ 0
-node-bits {s} {i} {t} h l = by t h (seen h)
-  where
-    by : (t : Tree) → TreeIn s i t → Seen s i t → bits s i ≡ 0
-    by (integer μ z) h (an-integer c d v) = absurd (omega arith)
-    by (symbol μ z) h (a-symbol c d v) = absurd (omega arith)
-    by (sum μ f) h q = let r = sum-record μ f (h .stands) in bits-there s i 2 (count f) μ 0 (r .after) (r .there) (omega arith)
-    by (product μ f) h q = let r = product-record μ f (h .stands) in bits-there s i 3 (count f) μ 0 (r .after) (r .there) (omega arith)
-    by (power μ b ξ e) h q = let r = power-record μ b ξ e (h .stands) in bits-there s i 4 0 μ 0 (r .after) (r .there) (omega arith)
-
 -- the base of a power stands in the table
-pub base-within : {s : List ℕ} {i : ℕ} {t : Tree} → TreeIn s i t → kind s i ≡ 4 → (i + 1) * 16 + 16 ≤ length s
-base-within {s} {i} h e = record-within (power-tree (subst (TreeIn s i) (seen-power (seen h) e .4) h))
+pub base-within : {how : Tree → ℕ} {s : List ℕ} {i : ℕ} {t : Tree} → Told how s i t → kind s i ≡ 4 → (i + 1) * 16 + 16 ≤ length s
+base-within {how} {s} {i} h e = record-within (power-tree (subst (Told how s i) (seen-power (seen h) e .4) h))
 
-module _ {a : List ℕ} {i : ℕ} {b : List ℕ} {j : ℕ} {t u : Tree} (h : TreeIn a i t) (g : TreeIn b j u) where
+module _ {how : Tree → ℕ} {a : List ℕ} {i : ℕ} {b : List ℕ} {j : ℕ} {t u : Tree} (h : Told how a i t) (g : Told how b j u) where
   pub heads-differ : sameHead a i b j ≡ false → equal t u ≡ false
   unfolding sameHead
   heads-differ = by (eqb (kind a i) (kind b j)) refl (eqb (bits a i) (bits b j)) refl
     where
       numbers : kind a i ≡ kind b j → (bits a i ≡ bits b j → ⊥) → Dec (2 ≤ kind a i) → equal t u ≡ false
-      numbers k n (yes l) = absurd (n (node-bits h l ∙ sym (node-bits g (omega arith))))
+      numbers k n (yes l) =
+          not-so (equal t u) (λ e. n (node-bits h l ∙ h .tells .alike t u e ∙ sym (node-bits g (omega arith))))
       numbers k n (no l) = leaves-differ h g k (omega arith) n
 
       by : (k : Bool) → eqb (kind a i) (kind b j) ≡ k → (n : Bool) → eqb (bits a i) (bits b j) ≡ n → (n && k) ≡ false → equal t u ≡ false
@@ -65,7 +53,7 @@ pub heads-kinds : (a : List ℕ) (i : ℕ) (b : List ℕ) (j : ℕ) → sameHead
 unfolding sameHead
 heads-kinds a i b j e = eqb-true _ _ (and-both (eqb (bits a i) (bits b j)) (eqb (kind a i) (kind b j)) e .1)
 
-module _ {a : List ℕ} {i : ℕ} {b : List ℕ} {j : ℕ} {t u : Tree} (h : TreeIn a i t) (g : TreeIn b j u) where
+module _ {how : Tree → ℕ} {a : List ℕ} {i : ℕ} {b : List ℕ} {j : ℕ} {t u : Tree} (h : Told how a i t) (g : Told how b j u) where
   pub begins-differ : beginAlike a i b j ≡ false → equal t u ≡ false
   unfolding beginAlike
   begins-differ = by (sameHead a i b j) refl (eqb (kind a i) 4) refl
@@ -117,9 +105,9 @@ product-if s i w z = eqb-true _ _ (by (eqb (kind s i) 3) (sym (rw z refl) ∙ w)
     by true e = refl
     by false e = absurd (true-not-false refl e)
 
-module _ {s : List ℕ} where
+module _ {how : Tree → ℕ} {s : List ℕ} where
   -- a whole tree is its own rest, and its coefficient is 1
-  whole-term : {i : ℕ} {t : Tree} → TreeIn s i t → isWhole s i ≡ true → termOf t ≡ term (markOf t) (pos 1) t
+  whole-term : {i : ℕ} {t : Tree} → Told how s i t → isWhole s i ≡ true → termOf t ≡ term (markOf t) (pos 1) t
   unfolding isWhole
   whole-term {i} {t} h e =
       let b = and-both (not (eqb (kind s i) 0)) (not (eqb (kind s i) 3)) e in
@@ -127,16 +115,16 @@ module _ {s : List ℕ} where
       let product = eqb-false (kind s i) 3 (not-false (eqb (kind s i) 3) (b .1)) in
       term-other t h (positive (kind s i) integer) product
 
-  whole-rest : {i : ℕ} {t : Tree} → TreeIn s i t → isWhole s i ≡ true → termOf t .rest ≡ t
+  whole-rest : {i : ℕ} {t : Tree} → Told how s i t → isWhole s i ≡ true → termOf t .rest ≡ t
   unfolding term
   whole-rest h e = ap (λ (x : Term). x .rest) (whole-term h e)
 
-  pub whole-coefficient : {i : ℕ} {t : Tree} → TreeIn s i t → isWhole s i ≡ true → Is 1 ≡ coefficientOf (termOf t)
+  pub whole-coefficient : {i : ℕ} {t : Tree} → Told how s i t → isWhole s i ≡ true → Is 1 ≡ coefficientOf (termOf t)
   unfolding term coefficientOf word
   whole-coefficient h e = sym (ap coefficientOf (whole-term h e))
 
   -- an integer's rest is 1, which no whole tree is
-  one-unlike : {i j : ℕ} {t u : Tree} → TreeIn s i t → TreeIn s j u → kind s i ≡ 0 → isWhole s j ≡ true
+  one-unlike : {i j : ℕ} {t u : Tree} → Told how s i t → Told how s j u → kind s i ≡ 0 → isWhole s j ≡ true
       → equal (termOf t .rest) (termOf u .rest) ≡ false
   unfolding isWhole
   one-unlike {i} {j} {t} {u} h g k e =
@@ -146,13 +134,13 @@ module _ {s : List ℕ} where
       rw (unit .1, whole-rest g e) (integer-apart (unit .0) (pos 1) u (no-integer g other))
 
   -- the rest of a product with two members besides its integers is a product, which no whole tree is
-  two-unlike : {i j : ℕ} {t u : Tree} → TreeIn s i t → TreeIn s j u → kind s i ≡ 3 → hasTwo s i ≡ true → isWhole s j ≡ true
+  two-unlike : {i j : ℕ} {t u : Tree} → Told how s i t → Told how s j u → kind s i ≡ 3 → hasTwo s i ≡ true → isWhole s j ≡ true
       → equal (termOf t .rest) (termOf u .rest) ≡ false
   two-unlike {i} {j} {t} {u} h g k two e =
       let r = two-rest h k two in
       rw (r .2, whole-rest g e) (product-apart (r .0) (r .1) u (seen g) (whole-no-product s j e))
 
-  pub rests-unlike : {i j : ℕ} {t u : Tree} → TreeIn s i t → TreeIn s j u → restsDiffer s i j ≡ true
+  pub rests-unlike : {i j : ℕ} {t u : Tree} → Told how s i t → Told how s j u → restsDiffer s i j ≡ true
       → equal (termOf t .rest) (termOf u .rest) ≡ false
   unfolding restsDiffer
   rests-unlike {i} {j} {t} {u} h g = by (isWhole s i) refl (eqb (kind s j) 3) refl (eqb (kind s j) 0) refl (eqb (kind s i) 0) refl

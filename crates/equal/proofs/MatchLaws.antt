@@ -14,19 +14,19 @@ use Rattle.paper.specs.Equal.{removeFirst, goOn, isEmpty, sameBag, equal}
 use Rattle.paper.proofs.Bags.{First, removeFirst-first}
 use Rattle.paper.specs.Rules.{asInteger, withOther, othersOf}
 use Rattle.paper.proofs.Tests.{true-not-false}
-use Rattle.paper.proofs.Seen.{seen-integer}
+use Rattle.note.proofs.ToldLaws.{seen-integer}
 use Rattle.paper.proofs.EncodeLaws.{count-records}
 use Rattle.paper.proofs.WFLaws.{count-list}
-use Rattle.split.specs.Standing.{TreeIn, TreesIn, SomeTree}
+use Rattle.split.specs.Standing.{Told, ToldTrees}
 use Rattle.split.proofs.SplitLaws.{no-integer}
-use Rattle.paper.proofs.StandingLaws.{seen, FirstOf, first-of, none-of}
+use Rattle.note.proofs.ToldLaws.{seen, FirstOf, first-of, none-of}
 use Rattle.equal.specs.Matching.{matchOf, isPassed, without, unticked, Takeable, Matchable}
 use Rattle.equal.proofs.SameLaws.{taken-length, Nodes}
 use Rattle.equal.proofs.TickLaws.{unticked-all}
 use Rattle.equal.specs.declared.Match.{Match}
 
 -- ---- the trees of a row, one by one: an integer that is passed over, and any other
-module _ (skip : Bool) {s : List ℕ} {i : ℕ} {t : Tree} (h : TreeIn s i t) (f : Forest) where
+module _ (skip : Bool) {how : Tree → ℕ} {s : List ℕ} {i : ℕ} {t : Tree} (h : Told how s i t) (f : Forest) where
   pub without-integer : isPassed skip s i ≡ true → (without skip (cons t f) ≡ without skip f) × (records t ≡ 1)
   unfolding isPassed without othersOf withOther asInteger toList records
   without-integer e = by skip e
@@ -66,18 +66,18 @@ removed-length : (p : Tree → Bool) (l m : List Tree) → removeFirst p l ≡ s
 removed-length p l m e = taken-length (subst (First p l) e (removeFirst-first p l) .2)
 
 -- the trees of f matched so far: those from record `at` on are left, equally many as are unticked, and say what the whole does
-pub record Matched (a : List ℕ) (i : ℕ) (skip : Bool) (us₀ us : List ℕ) (f g : Forest) (at left : ℕ) : Type 0 where
+pub record Matched (how : Tree → ℕ) (a : List ℕ) (i : ℕ) (skip : Bool) (us₀ us : List ℕ) (f g : Forest) (at left : ℕ) : Type 0 where
   pub rest : Forest
-  pub stand : TreesIn a at left rest
+  pub stand : ToldTrees how a at left rest
   pub ends : at + recordses rest ≡ i + recordses f
   pub as-many : length (without skip rest) ≡ length (unticked us 0 g)
   pub same : sameBag equal (without skip rest) (unticked us 0 g) ≡ sameBag equal (without skip f) (unticked us₀ 0 g)
 
-module _ {a : List ℕ} {i : ℕ} {skip : Bool} {f g : Forest} where
-  pub matched-start : {n : ℕ} (us : List ℕ) → TreesIn a i n f → length (without skip f) ≡ length (unticked us 0 g) → Matched a i skip us us f g i n
+module _ {how : Tree → ℕ} {a : List ℕ} {i : ℕ} {skip : Bool} {f g : Forest} where
+  pub matched-start : {n : ℕ} (us : List ℕ) → ToldTrees how a i n f → length (without skip f) ≡ length (unticked us 0 g) → Matched how a i skip us us f g i n
   matched-start us h l = record { rest = f; stand = h; ends = refl; as-many = l; same = refl }
 
-  module _ {us₀ us : List ℕ} {at left : ℕ} (h : Matched a i skip us₀ us f g at left) where
+  module _ {us₀ us : List ℕ} {at left : ℕ} (h : Matched how a i skip us₀ us f g at left) where
     pub matched-done : left ≡ 0 → (sameBag equal (without skip f) (unticked us₀ 0 g) ≡ true) × (at ≡ i + recordses f)
     unfolding records
     matched-done e =
@@ -89,22 +89,22 @@ module _ {a : List ℕ} {i : ℕ} {skip : Bool} {f g : Forest} where
         (sym (h .same) ∙ ap (λ k. sameBag equal k (unticked us 0 g)) w ∙ all, omega (arith, h .ends))
 
     module _ (l : 0 < left) where
-      next : FirstOf a at left (h .rest)
+      next : FirstOf how a at left (h .rest)
       next = first-of (h .rest) (h .stand) l
 
-      pub matched-tree : SomeTree a at
-      matched-tree = record { tree = next .tree; there = next .there }
+      pub matched-tree : (t : Tree) × Told how a at t
+      matched-tree = (next .tree, next .there)
 
-      pub matched-takeable : {b : List ℕ} {j m : ℕ} (room : ℕ) → TreesIn b j m g → recordses g < room → Takeable a at b j m room
+      pub matched-takeable : {b : List ℕ} {j m : ℕ} (room : ℕ) → ToldTrees how b j m g → recordses g < room → Takeable a at b j m room
       matched-takeable room o r =
-          record { one = next .tree; others = g; one-there = next .there; others-there = o; enough = r }
+          record { how = how; one = next .tree; others = g; one-there = next .there; others-there = o; enough = r }
 
       after : at + records (next .tree) + recordses (next .others) ≡ i + recordses f
       unfolding records
       after = omega (arith, h .ends, ap recordses (next .whole))
 
       -- one that is passed over
-      pub matched-out : isPassed skip a at ≡ true → Matched a i skip us₀ us f g (at + 1) (left - 1)
+      pub matched-out : isPassed skip a at ≡ true → Matched how a i skip us₀ us f g (at + 1) (left - 1)
       matched-out e =
           let q = without-integer skip (next .there) (next .others) e in
           let w : without skip (h .rest) ≡ without skip (next .others) = ap (without skip) (next .whole) ∙ q .0 in
@@ -123,7 +123,7 @@ module _ {a : List ℕ} {i : ℕ} {skip : Bool} {f g : Forest} where
         first = ap (without skip) (next .whole) ∙ without-other skip (next .there) (next .others) n
 
         -- one that equals no unticked one
-        pub matched-none : ((t : Tree) → TreeIn a at t → removeFirst (equal t) (unticked us 0 g) ≡ none)
+        pub matched-none : ((t : Tree) → Told how a at t → removeFirst (equal t) (unticked us 0 g) ≡ none)
             → sameBag equal (without skip f) (unticked us₀ 0 g) ≡ false
         matched-none r =
             sym (h .same)
@@ -132,8 +132,8 @@ module _ {a : List ℕ} {i : ℕ} {skip : Bool} {f g : Forest} where
 
         -- one that took an equal one
         pub matched-more : (vs : List ℕ) (y : ℕ)
-            → ((t : Tree) → TreeIn a at t → (y ≡ at + records t) × (removeFirst (equal t) (unticked us 0 g) ≡ some (unticked vs 0 g)))
-            → Matched a i skip us₀ vs f g y (left - 1)
+            → ((t : Tree) → Told how a at t → (y ≡ at + records t) × (removeFirst (equal t) (unticked us 0 g) ≡ some (unticked vs 0 g)))
+            → Matched how a i skip us₀ vs f g y (left - 1)
         matched-more vs y r =
             let t = next .tree in
             let k : List Tree = without skip (next .others) in
@@ -151,13 +151,13 @@ module _ {a : List ℕ} {i : ℕ} {skip : Bool} {f g : Forest} where
             })
 
 -- ---- two sums, or two products, none of their members left out and none ticked
-module _ {a : List ℕ} {i : ℕ} {b : List ℕ} {j : ℕ} {t u : Tree} (q : Nodes a i b j t u)
+module _ {how : Tree → ℕ} {a : List ℕ} {i : ℕ} {b : List ℕ} {j : ℕ} {t u : Tree} (q : Nodes how a i b j t u)
     (n : ℕ) (one : n ≡ countIn a i) (other : n ≡ countIn b j) where
-  ones-there : TreesIn a (i + 1) n (q .ones)
-  ones-there = subst (λ k. TreesIn a (i + 1) k (q .ones)) (sym one) (q .ones-there)
+  ones-there : ToldTrees how a (i + 1) n (q .ones)
+  ones-there = subst (λ k. ToldTrees how a (i + 1) k (q .ones)) (sym one) (q .ones-there)
 
-  others-there : TreesIn b (j + 1) n (q .others)
-  others-there = subst (λ k. TreesIn b (j + 1) k (q .others)) (sym other) (q .others-there)
+  others-there : ToldTrees how b (j + 1) n (q .others)
+  others-there = subst (λ k. ToldTrees how b (j + 1) k (q .others)) (sym other) (q .others-there)
 
   -- there is room for the ticks
   pub nodes-room : (room : ℕ) → records u ≤ room → n ≤ room
@@ -179,6 +179,7 @@ module _ {a : List ℕ} {i : ℕ} {b : List ℕ} {j : ℕ} {t u : Tree} (q : Nod
     pub nodes-matchable : records u ≤ length us → Matchable a (i + 1) n false b (j + 1) n us
     nodes-matchable l =
         record {
+          how = how;
           ones = q .ones;
           others = q .others;
           ones-there = ones-there;
@@ -189,7 +190,7 @@ module _ {a : List ℕ} {i : ℕ} {b : List ℕ} {j : ℕ} {t u : Tree} (q : Nod
 
     -- what the comparison of the members answers is what that of the trees does
     pub nodes-same : (r : Match)
-        → ((f g : Forest) → TreesIn a (i + 1) n f → TreesIn b (j + 1) n g → length (without false f) ≡ length (unticked us 0 g)
+        → ((f g : Forest) → ToldTrees how a (i + 1) n f → ToldTrees how b (j + 1) n g → length (without false f) ≡ length (unticked us 0 g)
         → r ≡ matchOf (sameBag equal (without false f) (unticked us 0 g)) (i + 1 + recordses f))
         → r ≡ matchOf (equal t u) (i + records t)
     nodes-same r told =

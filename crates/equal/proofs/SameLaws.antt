@@ -12,20 +12,20 @@ use lib.Dec.{eqb}
 use lib.IntN.{ℤ}
 use Rattle.paper.specs.Bytes.{word, signed}
 use Rattle.paper.specs.Record.{kind, countIn, bits}
-use Rattle.paper.specs.Table.{encode}
+use Rattle.note.specs.Noted.{bitsBy}
 use Rattle.paper.specs.Tree.{Tree, Forest, integer, symbol, sum, product, power, count, records, recordses, toList}
 use Rattle.paper.specs.WellFormed.{InRange}
 use Rattle.paper.specs.Equal.{eqZ, equal, sameBag, onInteger, onSymbol, onSum, onProduct, onPower}
 use Rattle.paper.proofs.Tests.{not-so, eqZ-self}
-use Rattle.paper.proofs.EncodeLaws.{signed-word, bits-there}
+use Rattle.paper.proofs.EncodeLaws.{signed-word}
 use Rattle.paper.proofs.EqualView.{Same, Sames, Taken, here, there, s-integer, s-symbol, s-sum, s-product, s-power, s-nil, s-cons}
 use Rattle.paper.proofs.EqualView.{same-view, matched-view, same-records}
 use Rattle.paper.proofs.Equality.{matched-bag}
 use Rattle.paper.proofs.WFLaws.{count-list}
-use Rattle.paper.proofs.Seen.{Seen, an-integer, a-symbol, a-sum, a-product, a-power, seen-sum, seen-product, seen-power}
+use Rattle.note.proofs.ToldLaws.{Seen, an-integer, a-symbol, a-sum, a-product, a-power, seen-sum, seen-product, seen-power}
 use Rattle.paper.specs.Standing.{kindNumber}
-use Rattle.split.specs.Standing.{TreeIn, TreesIn}
-use Rattle.paper.proofs.StandingLaws.{seen, kind-number, tree-within, sum-trees, product-trees, power-tree}
+use Rattle.split.specs.Standing.{Told, ToldTrees}
+use Rattle.note.proofs.ToldLaws.{seen, kind-number, bits-number, tree-within, sum-trees, product-trees, power-tree}
 use Rattle.equal.specs.Matching.{matchOf, Comparable}
 use Rattle.equal.specs.declared.Match.{Match}
 use Rattle.equal.specs.declared.Match.the-variants.{Different, Ends}
@@ -49,12 +49,12 @@ sames-count s-nil = refl
 sames-count (s-cons r k s) = omega (arith, sames-count s, taken-length k)
 
 -- the number of a symbol, read as that of an integer
-symbol-bits : {s : List ℕ} {i μ v : ℕ} → TreeIn s i (symbol μ v) → v < 256 → bits s i ≡ v
-unfolding encode
-symbol-bits {s} {i} {μ = μ} {v = v} h l = bits-there s i 1 0 μ v (h .stands .after) (h .stands .there) (omega arith)
+symbol-bits : {how : Tree → ℕ} {s : List ℕ} {i μ v : ℕ} → Told how s i (symbol μ v) → v < 256 → bits s i ≡ v
+unfolding bitsBy
+symbol-bits h l = bits-number h
 
 -- two powers, and what stands for their bases and exponents
-record Powers (a : List ℕ) (i : ℕ) (b : List ℕ) (j : ℕ) (t u : Tree) : Type 0 where
+record Powers (how : Tree → ℕ) (a : List ℕ) (i : ℕ) (b : List ℕ) (j : ℕ) (t u : Tree) : Type 0 where
   pub mark : ℕ
   pub base : Tree
   pub exponent-mark : ℕ
@@ -65,8 +65,8 @@ record Powers (a : List ℕ) (i : ℕ) (b : List ℕ) (j : ℕ) (t u : Tree) : T
   pub other-exponent : ℕ
   pub whole : t ≡ power mark base exponent-mark exponent
   pub other-whole : u ≡ power other-mark other-base other-exponent-mark other-exponent
-  pub there : TreeIn a (i + 1) base
-  pub other-there : TreeIn b (j + 1) other-base
+  pub there : Told how a (i + 1) base
+  pub other-there : Told how b (j + 1) other-base
   pub exponent-bits : bits a (i + 1 + records base) ≡ exponent
   pub other-exponent-bits : bits b (j + 1 + records other-base) ≡ other-exponent
   pub size : records t ≡ 2 + records base
@@ -82,11 +82,11 @@ pub record PowersEnd (a : List ℕ) (i : ℕ) (b : List ℕ) (j : ℕ) (t u : Tr
   pub no-if : (bits a e ≡ bits b (j + (e - i)) → ⊥) → equal t u ≡ false
 
 -- two sums, or two products, and their members
-pub record Nodes (a : List ℕ) (i : ℕ) (b : List ℕ) (j : ℕ) (t u : Tree) : Type 0 where
+pub record Nodes (how : Tree → ℕ) (a : List ℕ) (i : ℕ) (b : List ℕ) (j : ℕ) (t u : Tree) : Type 0 where
   pub ones : Forest
   pub others : Forest
-  pub ones-there : TreesIn a (i + 1) (countIn a i) ones
-  pub others-there : TreesIn b (j + 1) (countIn b j) others
+  pub ones-there : ToldTrees how a (i + 1) (countIn a i) ones
+  pub others-there : ToldTrees how b (j + 1) (countIn b j) others
   pub same : equal t u ≡ sameBag equal (toList ones) (toList others)
   pub size : records t ≡ 1 + recordses ones
   pub other-size : records u ≡ 1 + recordses others
@@ -110,11 +110,11 @@ is-different {q} e h = rw h
 pub bag-lengths : (f : Forest) (l : List Tree) → sameBag equal (toList f) l ≡ true → count f ≡ length l
 bag-lengths f l e = sames-count (matched-view f l (matched-bag f l ∙ e))
 
-module _ {a : List ℕ} {i : ℕ} {b : List ℕ} {j : ℕ} {t u : Tree} (h : TreeIn a i t) (g : TreeIn b j u) where
+module _ {how : Tree → ℕ} {a : List ℕ} {i : ℕ} {b : List ℕ} {j : ℕ} {t u : Tree} (h : Told how a i t) (g : Told how b j u) where
   -- ---- kinds
   pub kinds-differ : (kind a i ≡ kind b j → ⊥) → equal t u ≡ false
   kinds-differ n =
-      not-so (equal t u) (λ e. n (kind-number (seen h) ∙ same-kind (same-view t u e) ∙ sym (kind-number (seen g))))
+      not-so (equal t u) (λ e. n (kind-number h ∙ same-kind (same-view t u e) ∙ sym (kind-number g)))
 
   -- ---- leaves
   module _ (k : kind a i ≡ kind b j) (l : kind a i < 2) where
@@ -122,7 +122,7 @@ module _ {a : List ℕ} {i : ℕ} {b : List ℕ} {j : ℕ} {t u : Tree} (h : Tre
     unfolding records
     leaf-records = by t (seen h)
       where
-        by : (t : Tree) → Seen a i t → records t ≡ 1
+        by : (t : Tree) → Seen how a i t → records t ≡ 1
         by (integer μ z) q = refl
         by (symbol μ v) q = refl
         by (sum μ f) (a-sum e n c w m) = absurd (omega arith)
@@ -136,7 +136,7 @@ module _ {a : List ℕ} {i : ℕ} {b : List ℕ} {j : ℕ} {t u : Tree} (h : Tre
         integers : (z y : ℤ) → InRange z → InRange y → word z ≡ word y → eqZ z y ≡ true
         integers z y v w q = subst (λ x. eqZ z x ≡ true) (sym (signed-word z v) ∙ ap signed q ∙ signed-word y w) (eqZ-self z)
 
-        by : (t u : Tree) → TreeIn a i t → TreeIn b j u → Seen a i t → Seen b j u → equal t u ≡ true
+        by : (t u : Tree) → Told how a i t → Told how b j u → Seen how a i t → Seen how b j u → equal t u ≡ true
         by (integer μ z) (integer ν y) h g (an-integer c d v) (an-integer p q w) = integers z y v w (sym d ∙ e ∙ q)
         by (integer μ z) (symbol ν y) h g (an-integer c d v) (a-symbol p q w) = absurd (omega arith)
         by (integer μ z) (sum ν y) h g (an-integer c d v) (a-sum p n o w m) = absurd (omega arith)
@@ -155,7 +155,7 @@ module _ {a : List ℕ} {i : ℕ} {b : List ℕ} {j : ℕ} {t u : Tree} (h : Tre
     pub leaves-differ : (bits a i ≡ bits b j → ⊥) → equal t u ≡ false
     leaves-differ n = not-so (equal t u) (λ e. by (same-view t u e) h g (seen h) (seen g))
       where
-        by : {t u : Tree} → Same t u → TreeIn a i t → TreeIn b j u → Seen a i t → Seen b j u → ⊥
+        by : {t u : Tree} → Same t u → Told how a i t → Told how b j u → Seen how a i t → Seen how b j u → ⊥
         by s-integer h g (an-integer c d v) (an-integer p q w) = n (d ∙ sym q)
         by s-symbol h g (a-symbol c d v) (a-symbol p q w) = n (symbol-bits h v ∙ sym (symbol-bits g w))
         by (s-sum r) h g (a-sum c d o w m) q = absurd (omega arith)
@@ -163,7 +163,7 @@ module _ {a : List ℕ} {i : ℕ} {b : List ℕ} {j : ℕ} {t u : Tree} (h : Tre
         by (s-power r) h g (a-power c w m o q d x y) s = absurd (omega arith)
 
   -- ---- powers
-  powers : kind a i ≡ kind b j → kind a i ≡ 4 → Powers a i b j t u
+  powers : kind a i ≡ kind b j → kind a i ≡ 4 → Powers how a i b j t u
   unfolding records
   powers k l =
       let p = seen-power (seen h) l in
@@ -179,15 +179,15 @@ module _ {a : List ℕ} {i : ℕ} {b : List ℕ} {j : ℕ} {t u : Tree} (h : Tre
         other-exponent = q .3;
         whole = p .4;
         other-whole = q .4;
-        there = power-tree (subst (TreeIn a i) (p .4) h);
-        other-there = power-tree (subst (TreeIn b j) (q .4) g);
+        there = power-tree (subst (Told how a i) (p .4) h);
+        other-there = power-tree (subst (Told how b j) (q .4) g);
         exponent-bits = p .5 .exponent-bits;
         other-exponent-bits = q .5 .exponent-bits;
         size = ap records (p .4);
         other-size = ap records (q .4);
       }
 
-  module _ (p : Powers a i b j t u) where
+  module _ (p : Powers how a i b j t u) where
     powers-are : equal t u ≡ equal (p .base) (p .other-base) && eqb (p .exponent) (p .other-exponent)
     unfolding equal onPower
     powers-are = rw (p .whole, p .other-whole)
@@ -216,6 +216,7 @@ module _ {a : List ℕ} {i : ℕ} {b : List ℕ} {j : ℕ} {t u : Tree} (h : Tre
     powers-pair room r =
         let p = powers k l in
         record {
+          how = how;
           one = p .base;
           other = p .other-base;
           one-there = p .there;
@@ -223,7 +224,7 @@ module _ {a : List ℕ} {i : ℕ} {b : List ℕ} {j : ℕ} {t u : Tree} (h : Tre
           enough = omega (arith, p .other-size);
         }
 
-    module _ (r : Match) (told : (v w : Tree) → TreeIn a (i + 1) v → TreeIn b (j + 1) w → r ≡ matchOf (equal v w) (i + 1 + records v)) where
+    module _ (r : Match) (told : (v w : Tree) → Told how a (i + 1) v → Told how b (j + 1) w → r ≡ matchOf (equal v w) (i + 1 + records v)) where
       answered : r ≡ matchOf (equal (powers k l .base) (powers k l .other-base)) (i + 1 + records (powers k l .base))
       answered = let p = powers k l in told (p .base) (p .other-base) (p .there) (p .other-there)
 
@@ -239,11 +240,11 @@ module _ {a : List ℕ} {i : ℕ} {b : List ℕ} {j : ℕ} {t u : Tree} (h : Tre
           bases-equal p e (m .0) (m .1)
 
   -- ---- sums and products
-  pub nodes : kind a i ≡ kind b j → 2 ≤ kind a i → (kind a i ≡ 4 → ⊥) → Nodes a i b j t u
+  pub nodes : kind a i ≡ kind b j → 2 ≤ kind a i → (kind a i ≡ 4 → ⊥) → Nodes how a i b j t u
   unfolding equal onSum onProduct records
   nodes k l n = by t h (seen h)
     where
-      by : (t : Tree) → TreeIn a i t → Seen a i t → Nodes a i b j t u
+      by : (t : Tree) → Told how a i t → Seen how a i t → Nodes how a i b j t u
       by (integer μ z) h (an-integer c d v) = absurd (omega arith)
       by (symbol μ z) h (a-symbol c d v) = absurd (omega arith)
       by (sum μ f) h (a-sum c d o w m) =
@@ -252,7 +253,7 @@ module _ {a : List ℕ} {i : ℕ} {b : List ℕ} {j : ℕ} {t u : Tree} (h : Tre
             ones = f;
             others = q .1;
             ones-there = sum-trees h;
-            others-there = sum-trees (subst (TreeIn b j) (q .2) g);
+            others-there = sum-trees (subst (Told how b j) (q .2) g);
             same = ap (equal (sum μ f)) (q .2) ∙ matched-bag f (toList (q .1));
             size = refl;
             other-size = ap records (q .2);
@@ -263,14 +264,14 @@ module _ {a : List ℕ} {i : ℕ} {b : List ℕ} {j : ℕ} {t u : Tree} (h : Tre
             ones = f;
             others = q .1;
             ones-there = product-trees h;
-            others-there = product-trees (subst (TreeIn b j) (q .2) g);
+            others-there = product-trees (subst (Told how b j) (q .2) g);
             same = ap (equal (product μ f)) (q .2) ∙ matched-bag f (toList (q .1));
             size = refl;
             other-size = ap records (q .2);
           }
       by (power μ z ξ x) h (a-power c w m o q d y v) = absurd (n c)
 
-  pub counts-differ : Nodes a i b j t u → (countIn a i ≡ countIn b j → ⊥) → equal t u ≡ false
+  pub counts-differ : Nodes how a i b j t u → (countIn a i ≡ countIn b j → ⊥) → equal t u ≡ false
   counts-differ q n =
       not-so (equal t u)
       (λ e. n

@@ -16,9 +16,9 @@ use Rattle.paper.specs.Equal.{equal, onProduct}
 use Rattle.paper.specs.Rules.{asInteger, withOther, othersOf, productOf, collapse, productTerm, termOf}
 use Rattle.paper.proofs.Tests.{and-both, true-not-false}
 use Rattle.paper.proofs.EncodeLaws.{count-records}
-use Rattle.paper.proofs.Seen.{Seen, seen-integer, seen-symbol, seen-product, a-product}
-use Rattle.paper.proofs.StandingLaws.{seen, tree-within, product-trees, first-tree, other-trees}
-use Rattle.split.specs.Standing.{TreeIn, TreesIn}
+use Rattle.note.proofs.ToldLaws.{Seen, seen-integer, seen-symbol, seen-product, a-product}
+use Rattle.note.proofs.ToldLaws.{seen, tree-within, product-trees, first-tree, other-trees}
+use Rattle.split.specs.Standing.{Told, ToldTrees}
 use Rattle.split.proofs.SplitLaws.{no-integer}
 use Rattle.equal.specs.Head.{twoAt, hasTwo}
 
@@ -34,19 +34,19 @@ pub positive : (k : ℕ) → (k ≡ 0 → ⊥) → 1 ≤ k
 positive zero h = absurd (h refl)
 positive (suc k) h = omega arith
 
-module _ {s : List ℕ} where
+module _ {how : Tree → ℕ} {s : List ℕ} where
   -- the members of a product, and the room that they take
-  two-members : {i μ : ℕ} {f : Forest} → Seen s i (product μ f) → (countIn s i ≡ count f) × (2 ≤ countIn s i)
+  two-members : {i μ : ℕ} {f : Forest} → Seen how s i (product μ f) → (countIn s i ≡ count f) × (2 ≤ countIn s i)
   two-members (a-product k n c w m) = (n, omega (arith, n, c))
 
-  pub product-room : {i μ : ℕ} {f : Forest} → TreeIn s i (product μ f) → ((i + 1 + countIn s i) * 16 ≤ length s) × (2 ≤ countIn s i)
+  pub product-room : {i μ : ℕ} {f : Forest} → Told how s i (product μ f) → ((i + 1 + countIn s i) * 16 ≤ length s) × (2 ≤ countIn s i)
   unfolding records
   product-room {i} {μ} {f} h =
       let n = two-members (seen h) in
       (omega (arith, tree-within h, count-records f, n .0), n .1)
 
   -- a symbol and then no integer
-  two-others : {i n : ℕ} (f : Forest) → TreesIn s i n f → 2 ≤ n → twoAt s i ≡ true → Two (othersOf (toList f))
+  two-others : {i n : ℕ} (f : Forest) → ToldTrees how s i n f → 2 ≤ n → twoAt s i ≡ true → Two (othersOf (toList f))
   unfolding twoAt othersOf withOther toList records count
   two-others nil h l e = absurd (omega (arith, h .counted))
   two-others (cons t nil) h l e = absurd (omega (arith, h .counted))
@@ -55,25 +55,25 @@ module _ {s : List ℕ} where
       let k : kind s i ≡ 1 = eqb-true _ _ (b .0) in
       let v = seen-symbol (seen (first-tree h)) k in
       let one : records t ≡ 1 = ap records (v .2) in
-      let at : TreesIn s (i + 1) (n - 1) (cons u g) = subst (λ m. TreesIn s (i + m) (n - 1) (cons u g)) one (other-trees h) in
+      let at : ToldTrees how s (i + 1) (n - 1) (cons u g) = subst (λ m. ToldTrees how s (i + m) (n - 1) (cons u g)) one (other-trees h) in
       let later : kind s (i + 1) ≡ 0 → ⊥ = eqb-false _ _ (not-false (eqb (kind s (i + 1)) 0) (b .1)) in
       let first : asInteger t ≡ none = no-integer (first-tree h) (omega arith) in
       let second : asInteger u ≡ none = no-integer (first-tree at) (positive (kind s (i + 1)) later) in
       (t, u, othersOf (toList g), rw (first, second) refl)
 
   -- an integer, and then two others
-  after-integer : {i n : ℕ} (f : Forest) → TreesIn s i n f → kind s i ≡ 0 → 3 ≤ n → twoAt s (i + 1) ≡ true → Two (othersOf (toList f))
+  after-integer : {i n : ℕ} (f : Forest) → ToldTrees how s i n f → kind s i ≡ 0 → 3 ≤ n → twoAt s (i + 1) ≡ true → Two (othersOf (toList f))
   unfolding othersOf withOther asInteger toList records count
   after-integer nil h k l e = absurd (omega (arith, h .counted))
   after-integer {i} {n} (cons t g) h k l e =
       let z = seen-integer (seen (first-tree h)) k in
       let one : records t ≡ 1 = ap records (z .2) in
-      let at : TreesIn s (i + 1) (n - 1) g = subst (λ m. TreesIn s (i + m) (n - 1) g) one (other-trees h) in
+      let at : ToldTrees how s (i + 1) (n - 1) g = subst (λ m. ToldTrees how s (i + m) (n - 1) g) one (other-trees h) in
       let q = two-others g at (omega arith) e in
       let number : asInteger t ≡ some (z .1) = ap asInteger (z .2) in
       (q .0, q .1, q .2, rw number (q .3))
 
-  product-two : {i μ : ℕ} {f : Forest} → TreeIn s i (product μ f) → hasTwo s i ≡ true → Two (othersOf (toList f))
+  product-two : {i μ : ℕ} {f : Forest} → Told how s i (product μ f) → hasTwo s i ≡ true → Two (othersOf (toList f))
   unfolding hasTwo
   product-two {i} {μ} {f} h = by (eqb (kind s (i + 1)) 0) refl
     where
@@ -87,14 +87,14 @@ module _ {s : List ℕ} where
       by false z e = two-others f (product-trees h) (product-room h .1) e
 
   -- its rest is a product
-  pub two-rest : {i : ℕ} {t : Tree} → TreeIn s i t → kind s i ≡ 3 → hasTwo s i ≡ true → (μ : ℕ) × (g : Forest) × (termOf t .rest ≡ product μ g)
+  pub two-rest : {i : ℕ} {t : Tree} → Told how s i t → kind s i ≡ 3 → hasTwo s i ≡ true → (μ : ℕ) × (g : Forest) × (termOf t .rest ≡ product μ g)
   unfolding termOf productTerm productOf collapse
   two-rest {i} {t} h k two =
       let p = seen-product (seen h) k in
-      let q = product-two (subst (TreeIn s i) (p .2) h) two in
+      let q = product-two (subst (Told how s i) (p .2) h) two in
       (p .0, ofList (q .0 ∷ q .1 ∷ q .2), ap (λ u. termOf u .rest) (p .2) ∙ ap (productOf (p .0)) (q .3))
 
-  pub product-apart : (ν : ℕ) (g : Forest) {j : ℕ} (t : Tree) → Seen s j t → (kind s j ≡ 3 → ⊥) → equal (product ν g) t ≡ false
+  pub product-apart : (ν : ℕ) (g : Forest) {j : ℕ} (t : Tree) → Seen how s j t → (kind s j ≡ 3 → ⊥) → equal (product ν g) t ≡ false
   unfolding equal onProduct
   product-apart ν g (integer μ z) q n = refl
   product-apart ν g (symbol μ v) q n = refl

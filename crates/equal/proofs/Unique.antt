@@ -38,11 +38,11 @@ equal-once κs a v v' x x' q p p' = says-once v v' (p ∙ sym p')
 
 pub same-tree-once : Once 3 same-tree-kinds.ps same-tree-kinds.r same-tree.Pre same-tree.Post
 same-tree-once κs a v v' x x' q p p' =
-    p (q .one) (q .other) (q .one-there) (q .other-there) ∙ sym (p' (q .one) (q .other) (q .one-there) (q .other-there))
+    p (q .how) (q .one) (q .other) (q .one-there) (q .other-there) ∙ sym (p' (q .how) (q .one) (q .other) (q .one-there) (q .other-there))
 
 pub same-once : Once 3 same-kinds.ps same-kinds.r same.Pre same.Post
 same-once κs a v v' x x' q p p' =
-    p (q .one) (q .other) (q .one-there) (q .other-there) ∙ sym (p' (q .one) (q .other) (q .one-there) (q .other-there))
+    p (q .how) (q .one) (q .other) (q .one-there) (q .other-there) ∙ sym (p' (q .how) (q .one) (q .other) (q .one-there) (q .other-there))
 
 pub is-whole-once : Once 1 is-whole-kinds.ps is-whole-kinds.r is-whole.Pre is-whole.Post
 is-whole-once κs a v v' x x' q p p' = p ∙ sym p'
@@ -52,4 +52,4 @@ rests-differ-once κs a v v' x x' q p p' = p ∙ sym p'
 
 pub same-rest-once : Once 2 same-rest-kinds.ps same-rest-kinds.r same-rest.Pre same-rest.Post
 same-rest-once κs a v v' x x' q p p' =
-    p (q .one) (q .other) (q .one-there) (q .other-there) ∙ sym (p' (q .one) (q .other) (q .one-there) (q .other-there))
+    p (q .how) (q .one) (q .other) (q .one-there) (q .other-there) ∙ sym (p' (q .how) (q .one) (q .other) (q .one-there) (q .other-there))

@@ -7,11 +7,12 @@ use mathlib.Core.List.{List, [], _∷_}
 use mathlib.Core.Option.{none, some}
 use lib.ListN.{length, getD}
 use lib.Dec.{eqb, ltb}
-use Rattle.paper.specs.Tree.{Tree, Forest, nil, cons, records, recordses, toList}
+use Rattle.paper.specs.Tree.{Tree, Forest, nil, cons, records, recordses, toList, weight}
 use Rattle.paper.specs.Record.{kind}
 use Rattle.paper.specs.Rules.{othersOf}
+use Rattle.paper.specs.Standing.{TreeIn}
 use Rattle.paper.specs.Equal.{removeFirst, equal}
-use Rattle.split.specs.Standing.{TreeIn, TreesIn}
+use Rattle.split.specs.Standing.{Told, ToldTrees}
 use Rattle.equal.specs.declared.Match.{Match}
 use Rattle.equal.specs.declared.Match.the-variants.{Different, Ends}
 
@@ -34,20 +35,31 @@ unfoldable pub unticked : List ℕ → ℕ → Forest → List Tree
 unticked us k nil = []
 unticked us k (cons t f) = cond (eqb (getD us k 0) 0) (t ∷ unticked us (k + 1) f) (unticked us (k + 1) f)
 
--- two trees stand in the tables, and there is room for the ticks: a byte for each record of the second
+-- two trees stand in the tables, told of by one h, and there is room for the ticks: a byte for each record of the second
 pub record Comparable (a : List ℕ) (i : ℕ) (b : List ℕ) (j room : ℕ) : Type 0 where
+  pub how : Tree → ℕ
   pub one : Tree
   pub other : Tree
-  pub one-there : TreeIn a i one
-  pub other-there : TreeIn b j other
+  pub one-there : Told how a i one
+  pub other-there : Told how b j other
   pub enough : records other ≤ room
+
+-- two tables hold trees that weigh no more than the limit
+pub record Weighed (a b : List ℕ) (limit : ℕ) : Type 0 where
+  pub one : Tree
+  pub other : Tree
+  pub one-there : TreeIn a 0 one
+  pub other-there : TreeIn b 0 other
+  pub one-light : weight one ≤ limit
+  pub other-light : weight other ≤ limit
 
 -- a tree stands in the one table, m trees in the other
 pub record Takeable (a : List ℕ) (i : ℕ) (b : List ℕ) (j m room : ℕ) : Type 0 where
+  pub how : Tree → ℕ
   pub one : Tree
   pub others : Forest
-  pub one-there : TreeIn a i one
-  pub others-there : TreesIn b j m others
+  pub one-there : Told how a i one
+  pub others-there : ToldTrees how b j m others
   pub enough : recordses others < room
 
 -- what taking the first unticked tree of g that equals t answers: that there is none, or that it is ticked now
@@ -57,9 +69,10 @@ Took t g us us′ e (Ends x) = (x ≡ e) × (removeFirst (equal t) (unticked us 
 
 -- n trees stand in the one table, m in the other; without those passed over, and without the ticked ones, there are as many
 pub record Matchable (a : List ℕ) (i n : ℕ) (skip : Bool) (b : List ℕ) (j m : ℕ) (us : List ℕ) : Type 0 where
+  pub how : Tree → ℕ
   pub ones : Forest
   pub others : Forest
-  pub ones-there : TreesIn a i n ones
-  pub others-there : TreesIn b j m others
+  pub ones-there : ToldTrees how a i n ones
+  pub others-there : ToldTrees how b j m others
   pub enough : recordses others < length us
   pub as-many : length (without skip ones) ≡ length (unticked us 0 others)

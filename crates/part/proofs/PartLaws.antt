@@ -8,7 +8,7 @@ use mathlib.Core.List.{List}
 use mathlib.Core.Option.{Option, none, some}
 use native.Mathlib.Omega.{arith}
 use borrow.Author.Tests.{eq-eqb, ne-eqb, ltb-true}
-use lib.Dec.{eqb, ltb}
+use lib.Dec.{eqb, ltb, lit<, lit≤}
 use lib.IntN.{ℤ, pos, _+ℤ_, _*ℤ_}
 use Rattle.paper.specs.Bytes.{word, signed}
 use Rattle.paper.specs.Tree.{Tree, Forest, integer, symbol, sum, product, power, markOf, records, toList}
@@ -20,14 +20,15 @@ use Rattle.paper.specs.Rules.{Factor, factor, factorOf, raiseIf, bothIntegers, 
 use Rattle.paper.proofs.Congruence.{word-lt}
 use Rattle.paper.proofs.EncodeLaws.{signed-word, word-signed}
 use Rattle.paper.proofs.Tests.{eqZ-true, eqZ-self, not-so}
-use Rattle.paper.proofs.LikeTermsWF.{termOf-wf}
+use Rattle.paper.proofs.LikeTermsWF.{termOf-wf, fits-true}
 use Rattle.paper.proofs.MergeFactors.{timesBases, addExponents}
-use Rattle.paper.proofs.Seen.{Seen, an-integer, a-symbol, a-sum, a-product, a-power}
+use Rattle.note.proofs.ToldLaws.{Seen, an-integer, a-symbol, a-sum, a-product, a-power}
+use Rattle.note.specs.Note.{note}
 use Rattle.number.specs.declared.Num.the-variants.{Is, Out}
 use Rattle.number.specs.Num.{numOf}
 use Rattle.number.proofs.NumLaws.{numOf-is, numOf-is-out, add-exponents}
-use Rattle.split.specs.Standing.{TreeIn, SomeTree}
-use Rattle.paper.proofs.StandingLaws.{seen, mark-number}
+use Rattle.split.specs.Standing.{Told}
+use Rattle.note.proofs.ToldLaws.{seen, mark-number}
 use Rattle.split.specs.Rest.{coefficientOf}
 use Rattle.split.proofs.SplitLaws.{base-power, base-itself}
 use Rattle.equal.proofs.RestLaws.{integer-apart}
@@ -36,7 +37,7 @@ use Rattle.part.specs.Part.{Sized, ShowsTerm, ShowsWide, ShowsPower, Sho
 use Rattle.part.specs.declared.Part.the-variants as part
 use Rattle.part.specs.declared.Merged.{Merged}
 
-pub sized : (s : List ℕ) (i k : ℕ) (t : Tree) → TreeIn s i t → k ≡ records t → Sized s i k t
+pub sized : (s : List ℕ) (i k : ℕ) (t : Tree) → Told note s i t → k ≡ records t → Sized s i k t
 sized s i k t h e = record { there = h; size = e }
 
 -- ---- the first part of a member
@@ -69,7 +70,7 @@ module _ (t : Tree) where
           absurd (let o : _≡_ {A = ℕ} 0 1 = cc in omega arith)
       by false p = p
 
-module _ (s : List ℕ) (i : ℕ) (t : Tree) (h : TreeIn s i t) where
+module _ (s : List ℕ) (i : ℕ) (t : Tree) (h : Told note s i t) where
   pub term-part : {n : ℕ} → Is n ≡ coefficientOf (termOf t) → ShowsTerm s n i (termOf t)
   term-part e =
       let c = coefficient-is t (h .wf) e in
@@ -104,12 +105,12 @@ factor-mark (product μ f) = refl
 factor-mark (power μ b ξ e) = refl
 
 -- an integer that stands at a record, by its mark and its bits
-pub integer-there : (s : List ℕ) (i : ℕ) (t : Tree) → TreeIn s i t → kind s i ≤ 0
+pub integer-there : (s : List ℕ) (i : ℕ) (t : Tree) → Told note s i t → kind s i ≤ 0
     → (t ≡ integer (markIn s i) (signed (bits s i))) × (bits s i < 2 ^ 64)
 unfolding markOf
-integer-there s i t h k = go t (mark-number t h) (seen h)
+integer-there s i t h k = go t (mark-number h) (seen h)
   where
-    go : (t : Tree) → markIn s i ≡ markOf t → Seen s i t → (t ≡ integer (markIn s i) (signed (bits s i))) × (bits s i < 2 ^ 64)
+    go : (t : Tree) → markIn s i ≡ markOf t → Seen note s i t → (t ≡ integer (markIn s i) (signed (bits s i))) × (bits s i < 2 ^ 64)
     go (integer μ z) m (an-integer e b w) =
         (ap (λ n. integer n z) (sym m) ∙ ap (integer (markIn s i)) (sym (ap signed b ∙ signed-word z w)), omega (arith, word-lt z))
     go (symbol μ v) m (a-symbol e b w) = absurd (omega arith)
@@ -117,36 +118,46 @@ integer-there s i t h k = go t (mark-number t h) (seen h)
     go (product μ f) m (a-product e n c w o) = absurd (omega arith)
     go (power μ b ξ x) m (a-power e w o p q r y z) = absurd (omega arith)
 
-pub number-part : (s : List ℕ) (e i j v b n : ℕ) (t : Tree) → TreeIn s i t → TreeIn s j (factorOf t .base) → kind s j ≤ 0 → v ≡ bits s j
+-- base and exponent of a member make a well-formed power
+factor-wf : (t : Tree) → WF t → WF (power (factorOf t .mark) (factorOf t .base) (factorOf t .mark) (factorOf t .exponent))
+unfolding factorOf factor
+factor-wf (integer μ z) w = (w, lit≤ tt, lit< tt, w .1, w .1)
+factor-wf (symbol μ s) w = (w, lit≤ tt, lit< tt, w .1, w .1)
+factor-wf (sum μ f) w = (w, lit≤ tt, lit< tt, w .2, w .2)
+factor-wf (product μ f) w = (w, lit≤ tt, lit< tt, w .2, w .2)
+factor-wf (power μ b ξ e) w = (w .0, w .1, w .2, w .3, w .3)
+
+pub number-part : (s : List ℕ) (e i j v b n : ℕ) (t : Tree) → Told note s i t → Told note s j (factorOf t .base) → kind s j ≤ 0 → v ≡ bits s j
     → b ≡ markIn s j → n ≡ markIn s i → e ≡ factorOf t .exponent → e < 2 ^ 63 → ShowsNumber e v b n (factorOf t)
 number-part s e i j v b n t g h k q c d x m =
     let z = integer-there s j (factorOf t .base) h k in
     record {
-      mark = factor-mark t ∙ sym (mark-number t g) ∙ sym d;
+      mark = factor-mark t ∙ sym (mark-number g) ∙ sym d;
       base = z .0 ∙ ap (λ y. integer (markIn s j) (signed y)) (sym q) ∙ ap (λ y. integer y (signed v)) (sym c);
       bits = omega (arith, z .1);
       exponent = sym x;
       most = m;
       good = factorOf-good t;
+      wf = factor-wf t (g .wf);
     }
 
 -- the base of a power has two records fewer, any other base is the member itself
-power-size : (s : List ℕ) (i : ℕ) (t : Tree) → TreeIn s i t → kind s i ≡ 4 → records t ≡ 2 + records (factorOf t .base)
+power-size : (s : List ℕ) (i : ℕ) (t : Tree) → Told note s i t → kind s i ≡ 4 → records t ≡ 2 + records (factorOf t .base)
 unfolding records factorOf factor
 power-size s i t h k = go (seen h)
   where
-    go : {t : Tree} → Seen s i t → records t ≡ 2 + records (factorOf t .base)
+    go : {t : Tree} → Seen note s i t → records t ≡ 2 + records (factorOf t .base)
     go (an-integer e b w) = absurd (omega arith)
     go (a-symbol e v w) = absurd (omega arith)
     go (a-sum e n c w m) = absurd (omega arith)
     go (a-product e n c w m) = absurd (omega arith)
     go (a-power e w b p q x y v) = refl
 
-other-size : (s : List ℕ) (i : ℕ) (t : Tree) → TreeIn s i t → (kind s i ≡ 4 → ⊥) → records t ≡ records (factorOf t .base)
+other-size : (s : List ℕ) (i : ℕ) (t : Tree) → Told note s i t → (kind s i ≡ 4 → ⊥) → records t ≡ records (factorOf t .base)
 unfolding records factorOf factor
 other-size s i t h k = go (seen h)
   where
-    go : {t : Tree} → Seen s i t → records t ≡ records (factorOf t .base)
+    go : {t : Tree} → Seen note s i t → records t ≡ records (factorOf t .base)
     go (an-integer e b w) = refl
     go (a-symbol e v w) = refl
     go (a-sum e n c w m) = refl
@@ -164,7 +175,7 @@ base-size (power μ b ξ e) = omega arith
 module _ (s : List ℕ) (e i k : ℕ) (t : Tree) (h : Sized s i k t) (other : asInteger (factorOf t .base) ≡ none)
     (x : e ≡ factorOf t .exponent) (m : e < 2 ^ 63) {n : ℕ} (d : n ≡ markIn s i) where
   same-mark : factorOf t .mark ≡ n
-  same-mark = factor-mark t ∙ sym (mark-number t (h .there)) ∙ sym d
+  same-mark = factor-mark t ∙ sym (mark-number (h .there)) ∙ sym d
 
   pub power-part : kind s i ≡ 4 → ShowsPower s e (i + 1) (k - 2) n (factorOf t)
   power-part q =
@@ -176,6 +187,7 @@ module _ (s : List ℕ) (e i k : ℕ) (t : Tree) (h : Sized s i k t) (other : as
         exponent = sym x;
         most = m;
         good = factorOf-good t;
+        wf = factor-wf t (h .there .wf);
       }
 
   pub base-part : (kind s i ≡ 4 → ⊥) → ShowsPower s e i k n (factorOf t)
@@ -188,6 +200,7 @@ module _ (s : List ℕ) (e i k : ℕ) (t : Tree) (h : Sized s i k t) (other : as
         exponent = sym x;
         most = m;
         good = factorOf-good t;
+        wf = factor-wf t (h .there .wf);
       }
 
 pub power-two : (s : List ℕ) (i k : ℕ) (t : Tree) → Sized s i k t → kind s i ≡ 4 → 2 ≤ k
@@ -322,7 +335,15 @@ module _ {s : List ℕ} {e i k n : ℕ} {c : Factor} (h : ShowsPower s e i k n c
         let z = exponents-in one-raised other r in (
           addExponents c x,
           raises,
-          record { mark = h .mark; sized = h .sized; other = h .other; exponent = z .exponent; most = z .most; good = z .good },
+          record {
+            mark = h .mark;
+            sized = h .sized;
+            other = h .other;
+            exponent = z .exponent;
+            most = z .most;
+            good = z .good;
+            wf = (h .wf .0, omega (arith, h .wf .1), omega (arith, z .exponent, z .most), h .wf .3, h .wf .4);
+          },
           z .good,
         )
 
@@ -364,6 +385,7 @@ module _ {e v b m f w a l : ℕ} {c x : Factor} (h : ShowsNumber e v b m c) (k :
             exponent = h .exponent;
             most = h .most;
             good = in-range;
+            wf = ((fits-true (signed v *ℤ signed w) (z .0), h .wf .3), h .wf .1, h .wf .2, h .wf .3, h .wf .4);
           },
           in-range,
         )
@@ -404,8 +426,20 @@ module _ {e v b m f w a l : ℕ} {c x : Factor} (h : ShowsNumber e v b m c) (k :
       pub number-raised : {n : ℕ} → numOf (signed e +ℤ signed f) ≡ Is n → (d : Factor) × (mergeFactors c x ≡ some d) × ShowsNumber n v b m d × (d .inRange ≡ true)
       unfolding addExponents
       number-raised r =
-          let z = exponents-in one-of other-of r in
-          (addExponents c x, merges, record { mark = h .mark; base = h .base; bits = h .bits; exponent = z .exponent; most = z .most; good = z .good }, z .good)
+          let z = exponents-in one-of other-of r in (
+            addExponents c x,
+            merges,
+            record {
+              mark = h .mark;
+              base = h .base;
+              bits = h .bits;
+              exponent = z .exponent;
+              most = z .most;
+              good = z .good;
+              wf = (h .wf .0, omega (arith, h .wf .1), omega (arith, z .exponent, z .most), h .wf .3, h .wf .4);
+            },
+            z .good,
+          )
 
       pub number-raised-over : numOf (signed e +ℤ signed f) ≡ Out → (d : Factor) × (mergeFactors c x ≡ some d) × (d .inRange ≡ false)
       number-raised-over r = (addExponents c x, merges, exponents-out one-of other-of r)
@@ -433,17 +467,17 @@ module _ (s : List ℕ) (t : Tree) (r : Merged) where
   of-number e v a m f false x h = f x h
 
 -- a part that stands in a record, and a later member
-pub term-stands : (s : List ℕ) (n i : ℕ) (b : Bool) (x : Like b) → Shows b s (part.Term n i) x → SomeTree s i
-term-stands s n i true x h = record { tree = h .member; there = h .there }
+pub term-stands : (s : List ℕ) (n i : ℕ) (b : Bool) (x : Like b) → Shows b s (part.Term n i) x → (t : Tree) × Told note s i t
+term-stands s n i true x h = (h .member, h .there)
 term-stands s n i false x h = absurd h
 
-pub wide-stands : (s : List ℕ) (i : ℕ) (b : Bool) (x : Like b) → Shows b s (part.Wide i) x → SomeTree s i
-wide-stands s i true x h = record { tree = h .member; there = h .there }
+pub wide-stands : (s : List ℕ) (i : ℕ) (b : Bool) (x : Like b) → Shows b s (part.Wide i) x → (t : Tree) × Told note s i t
+wide-stands s i true x h = (h .member, h .there)
 wide-stands s i false x h = absurd h
 
-pub power-stands : (s : List ℕ) (e i k m : ℕ) (b : Bool) (x : Like b) → Shows b s (part.Power e i k m) x → SomeTree s i
+pub power-stands : (s : List ℕ) (e i k m : ℕ) (b : Bool) (x : Like b) → Shows b s (part.Power e i k m) x → (t : Tree) × Told note s i t
 power-stands s e i k m true x h = absurd h
-power-stands s e i k m false x h = record { tree = x .base; there = h .sized .there }
+power-stands s e i k m false x h = (x .base, h .sized .there)
 
 -- ---- a part that left the range: so has the member that it becomes
 pub and-bad : (a b : Bool) → a ≡ false → a && b ≡ false

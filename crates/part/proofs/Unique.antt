@@ -11,7 +11,8 @@ use contract.Lifetimes.{Lfts}
 use denote.Triple.Clauses.{AtExit}
 use Rattle.paper.specs.Tree.{Tree}
 use Rattle.paper.proofs.Tests.{true-not-false}
-use Rattle.split.specs.Standing.{TreeIn}
+use Rattle.note.specs.Note.{note}
+use Rattle.split.specs.Standing.{Told}
 use Rattle.part.specs.Like.{Like, split, merge}
 use Rattle.part.specs.Part.{Sized, Shows, inRange, MergedIs}
 use Rattle.part.specs.declared.Part.{Part}
@@ -71,5 +72,5 @@ pub merge-once : (κs : Lfts 2) (a : Dens κs kinds.ps) (b : Bool) (x : Like b) 
     → let s = a .0 .now in
     let c = a .1 .0 in
     let at = a .1 .1 .0 in
-    Shows b s c x → TreeIn s at t → reads.Post κs a r y → reads.Post κs a r' y' → SayAlike b s r r'
+    Shows b s c x → Told note s at t → reads.Post κs a r y → reads.Post κs a r' y' → SayAlike b s r r'
 merge-once κs a b c t r r' y y' s h p p' = merged-once b (a .0 .now) c (split b t) r r' (p .0 b c t s h) (p' .0 b c t s h)

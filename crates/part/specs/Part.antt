@@ -8,9 +8,11 @@ use mathlib.Core.Bool.{Bool, true, false}
 use mathlib.Core.List.{List}
 use mathlib.Core.Option.{none, some}
 use Rattle.paper.specs.Bytes.{signed}
-use Rattle.paper.specs.Tree.{Tree, integer, records}
+use Rattle.paper.specs.Tree.{Tree, integer, power, records}
+use Rattle.paper.specs.WellFormed.{WF}
 use Rattle.paper.specs.Rules.{asInteger, Term, termOf, Factor}
-use Rattle.split.specs.Standing.{TreeIn}
+use Rattle.note.specs.Note.{note}
+use Rattle.split.specs.Standing.{Told}
 use Rattle.part.specs.Like.{Like, merge}
 use Rattle.part.specs.declared.Part.{Part}
 use Rattle.part.specs.declared.Part.the-variants as part
@@ -19,12 +21,12 @@ use Rattle.part.specs.declared.Merged.the-variants.{Apart, Into, Over}
 
 -- a tree of k records stands at record i
 pub record Sized (s : List ℕ) (i k : ℕ) (t : Tree) : Type 0 where
-  pub there : TreeIn s i t
+  pub there : Told note s i t
   pub size : k ≡ records t
 
 pub record ShowsTerm (s : List ℕ) (n i : ℕ) (x : Term) : Type 0 where
   pub member : Tree
-  pub there : TreeIn s i member
+  pub there : Told note s i member
   pub mark : x .mark ≡ termOf member .mark
   pub rest : x .rest ≡ termOf member .rest
   pub coefficient : x .coefficient ≡ signed n
@@ -33,7 +35,7 @@ pub record ShowsTerm (s : List ℕ) (n i : ℕ) (x : Term) : Type 0 where
 
 pub record ShowsWide (s : List ℕ) (i : ℕ) (x : Term) : Type 0 where
   pub member : Tree
-  pub there : TreeIn s i member
+  pub there : Told note s i member
   pub rest : x .rest ≡ termOf member .rest
   pub wide : x .inRange ≡ false
 
@@ -44,6 +46,7 @@ pub record ShowsPower (s : List ℕ) (e i k m : ℕ) (x : Factor) : Type 0 where
   pub exponent : x .exponent ≡ e
   pub most : e < 2 ^ 63
   pub good : x .inRange ≡ true
+  pub wf : WF (power (x .mark) (x .base) (x .mark) (x .exponent))
 
 pub record ShowsNumber (e v b m : ℕ) (x : Factor) : Type 0 where
   pub mark : x .mark ≡ m
@@ -52,6 +55,7 @@ pub record ShowsNumber (e v b m : ℕ) (x : Factor) : Type 0 where
   pub exponent : x .exponent ≡ e
   pub most : e < 2 ^ 63
   pub good : x .inRange ≡ true
+  pub wf : WF (power (x .mark) (x .base) (x .mark) (x .exponent))
 
 -- every part that the code holds is in range so far, but for the term of a member whose own coefficient is not
 abbrev pub Shows : (b : Bool) → List ℕ → Part → Like b → Type 0
@@ -94,5 +98,5 @@ pub record Mergeable (s : List ℕ) (p : Part) (at room : ℕ) : Type 0 where
   pub current : Like flag
   pub later : Tree
   pub shown : Shows flag s p current
-  pub there : TreeIn s at later
+  pub there : Told note s at later
   pub enough : records later ≤ room

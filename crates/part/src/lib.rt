@@ -1,5 +1,5 @@
 // The part of a member that the walk of step 2 or of step 6 compares: coefficient and rest, or base and exponent. Where a part takes
-// up a later one it changes; nothing is written.
+// up a later one it changes; nothing is written. The records are those of a run, which hold the nodes' notes.
 ghost use mathlib.Core.Path.{_≡_};
 ghost use mathlib.Core.Bool.{Bool, true, false};
 ghost use Prim.Native.Nat.{ℕ, _≤_};
@@ -7,7 +7,8 @@ ghost use lib.ListN.{length};
 ghost use Rattle.paper.specs.Tree.{Tree};
 ghost use Rattle.paper.specs.Equal.{equal};
 ghost use Rattle.paper.specs.Rules.{Term, termOf, Factor, factorOf};
-ghost use Rattle.split.specs.Standing.{TreeIn, SomeTree};
+ghost use Rattle.note.specs.Note.{note};
+ghost use Rattle.split.specs.Standing.{Told, SomeTold};
 ghost use Rattle.equal.specs.Matching.{Comparable};
 ghost use Rattle.part.specs.Like.{Like, split};
 ghost use Rattle.part.specs.Part.{Sized, Shows, ShowsTerm, ShowsWide, ShowsPower, ShowsNumber};
@@ -33,8 +34,8 @@ pub enum Merged {
 
 // The term of the member at record `at`, with a look first whether it is its own rest, or an integer, as most members are.
 fn term_of(s: &[u8], at: usize) -> Part
-    requires { ⌜ SomeTree (now s) at ⌝ }
-    ensures { λ r. ⌜ ((t : Tree) → TreeIn (now (s .entry)) at t → Shows true (now (s .entry)) r (termOf t)) ⌝ }
+    requires { ⌜ SomeTold (now s) at ⌝ }
+    ensures { λ r. ⌜ ((t : Tree) → Told note (now (s .entry)) at t → Shows true (now (s .entry)) r (termOf t)) ⌝ }
     ensures place { λ r. ⌜ ((p : ℕ) → p ≤ at → From p r) ⌝ }
 {
     if equal::is_whole(s, at) {
@@ -75,7 +76,7 @@ pub fn part_of(s: &[u8], at: usize, size: usize, terms: bool) -> Part
 // whether their rests are seen to differ, as most are.
 fn merge_term(s: &[u8], n: u64, i: usize, at: usize, ticks: &mut [u8]) -> Merged
     requires { ⌜ Comparable (now s) i (now s) at (length (now ticks)) ⌝ }
-    ensures { λ r. ⌜ ((c : Term) (t : Tree) → ShowsTerm (now (s .entry)) n i c → TreeIn (now (s .entry)) at t
+    ensures { λ r. ⌜ ((c : Term) (t : Tree) → ShowsTerm (now (s .entry)) n i c → Told note (now (s .entry)) at t
         → MergedIs true (now (s .entry)) c (termOf t) r) ⌝ }
     ensures place { λ r. ⌜ ((p : ℕ) → p ≤ i → IntoFrom p r) ⌝ }
 {
@@ -90,8 +91,8 @@ fn merge_term(s: &[u8], n: u64, i: usize, at: usize, ticks: &mut [u8]) -> Merged
 
 // The term with the coefficient n and the rest of the member at record i, where the member at record `at` has the same rest.
 fn add_term(s: &[u8], n: u64, i: usize, at: usize) -> Merged
-    requires { ⌜ SomeTree (now s) at ⌝ }
-    ensures { λ r. ⌜ ((c : Term) (t : Tree) → ShowsTerm (now (s .entry)) n i c → TreeIn (now (s .entry)) at t
+    requires { ⌜ SomeTold (now s) at ⌝ }
+    ensures { λ r. ⌜ ((c : Term) (t : Tree) → ShowsTerm (now (s .entry)) n i c → Told note (now (s .entry)) at t
         → equal (c .rest) (termOf t .rest) ≡ true → MergedIs true (now (s .entry)) c (termOf t) r) ⌝ }
     ensures place { λ r. ⌜ ((p : ℕ) → p ≤ i → IntoFrom p r) ⌝ }
 {
@@ -111,7 +112,7 @@ fn add_term(s: &[u8], n: u64, i: usize, at: usize) -> Merged
 // The term of the member at record `wide`, whose coefficient is out of range, where it meets the member at record `at`.
 fn merge_wide(s: &[u8], wide: usize, at: usize, ticks: &mut [u8]) -> Merged
     requires { ⌜ Comparable (now s) wide (now s) at (length (now ticks)) ⌝ }
-    ensures { λ r. ⌜ ((c : Term) (t : Tree) → ShowsWide (now (s .entry)) wide c → TreeIn (now (s .entry)) at t
+    ensures { λ r. ⌜ ((c : Term) (t : Tree) → ShowsWide (now (s .entry)) wide c → Told note (now (s .entry)) at t
         → MergedIs true (now (s .entry)) c (termOf t) r) ⌝ }
     ensures place { λ r. ⌜ ((p : ℕ) → IntoFrom p r) ⌝ }
 {
@@ -132,7 +133,7 @@ fn merge_power(
     ticks: &mut [u8],
 ) -> Merged
     requires { ⌜ Comparable (now s) i (now s) at (length (now ticks)) ⌝ }
-    ensures { λ r. ⌜ ((c : Factor) (t : Tree) → ShowsPower (now (s .entry)) e i k m c → TreeIn (now (s .entry)) at t
+    ensures { λ r. ⌜ ((c : Factor) (t : Tree) → ShowsPower (now (s .entry)) e i k m c → Told note (now (s .entry)) at t
         → MergedIs false (now (s .entry)) c (factorOf t) r) ⌝ }
     ensures place { λ r. ⌜ ((p : ℕ) → p ≤ i → IntoFrom p r) ⌝ }
 {
@@ -153,8 +154,8 @@ fn merge_power(
 // The factor with the exponent e, the integer base v with the mark b, and the mark m, where it meets the member at record `at`: equal
 // exponents multiply the bases, and the product takes the mark m; equal bases add the exponents.
 fn merge_number(s: &[u8], e: u64, v: u64, b: usize, m: usize, at: usize) -> Merged
-    requires { ⌜ SomeTree (now s) at ⌝ }
-    ensures { λ r. ⌜ ((c : Factor) (t : Tree) → ShowsNumber e v b m c → TreeIn (now (s .entry)) at t
+    requires { ⌜ SomeTold (now s) at ⌝ }
+    ensures { λ r. ⌜ ((c : Factor) (t : Tree) → ShowsNumber e v b m c → Told note (now (s .entry)) at t
         → MergedIs false (now (s .entry)) c (factorOf t) r) ⌝ }
     ensures place { λ r. ⌜ ((p : ℕ) → IntoFrom p r) ⌝ }
 {
@@ -184,7 +185,7 @@ fn merge_number(s: &[u8], e: u64, v: u64, b: usize, m: usize, at: usize) -> Merg
 // The current part, where it meets the member at record `at`.
 pub fn merge(s: &[u8], c: Part, at: usize, ticks: &mut [u8]) -> Merged
     requires { ⌜ Mergeable (now s) c at (length (now ticks)) ⌝ }
-    ensures { λ r. ⌜ ((b : Bool) (x : Like b) (t : Tree) → Shows b (now (s .entry)) c x → TreeIn (now (s .entry)) at t
+    ensures { λ r. ⌜ ((b : Bool) (x : Like b) (t : Tree) → Shows b (now (s .entry)) c x → Told note (now (s .entry)) at t
         → MergedIs b (now (s .entry)) x (split b t) r) ⌝ }
     ensures place { λ r. ⌜ ((p : ℕ) → From p c → IntoFrom p r) ⌝ }
 {

@@ -18,7 +18,8 @@ use Rattle.paper.specs.Rules.{editionOne, editionTwo, rulesOf, onSumMembers, on
 use Rattle.paper.specs.Rules.{addZero, combineLikeTerms, multiplyZero, multiplyOne, combineLikeFactors, powerOne, powerConstant, powerPower}
 use Rattle.paper.specs.Driver.{Asked, no-rule, step, out-of-range, ask}
 use Rattle.paper.proofs.Tests.{never}
-use Rattle.paper.proofs.Seen.{Seen, an-integer, a-symbol, a-sum, a-product, a-power}
+use Rattle.note.proofs.ToldLaws.{Seen, an-integer, a-symbol, a-sum, a-product, a-power}
+use Rattle.note.specs.Note.{note}
 use Rattle.rules.specs.Alike.{numbered, ruleOf, firstFor, endFor}
 use Rattle.rules.specs.Asked.{Ready, AskedIs}
 use Rattle.rules.specs.Tried.{Answers}
@@ -88,13 +89,13 @@ no-rule-of k t a b c d e f g h =
 
 -- which rules can apply to a tree, by the kind of its record: none before the first for that kind, and none from their end on. By cases
 -- on the tree, where the rules compute
-only-its-own : (ed : ℕ) {w : List ℕ} {p : ℕ} {t : Tree} → Seen w p t
+only-its-own : (ed : ℕ) {w : List ℕ} {p : ℕ} {t : Tree} → Seen note w p t
     → let k = kind w p in
     (ask (rulesOf ed) t ≡ ask (drop (firstFor k) (rulesOf ed)) t) × (ask (drop (endFor k ed) (rulesOf ed)) t ≡ no-rule)
 unfolding ask rulesOf editionOne editionTwo addZero combineLikeTerms multiplyZero multiplyOne combineLikeFactors powerOne powerConstant powerPower onSumMembers onProductMembers onPowerParts
 only-its-own ed {w} {p} {t} s = go (eqb ed 2) s
   where
-    go : (x : Bool) {t : Tree} → Seen w p t
+    go : (x : Bool) {t : Tree} → Seen note w p t
         → let k = kind w p in
         let rs = chosenBy x in
         (ask rs t ≡ ask (drop (firstFor k) rs) t)

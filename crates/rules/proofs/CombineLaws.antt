@@ -9,9 +9,11 @@ use lib.ListN.{length, take, drop}
 use lib.Seq.{length-take-le, drop-drop, drop-at}
 use Rattle.paper.specs.Tree.{Forest, toList, ofList, weights, recordses}
 use Rattle.paper.specs.Record.{countIn}
-use Rattle.paper.specs.Table.{encodes}
-use Rattle.paper.proofs.EncodeLaws.{encodes-length, recordses-weights, count-records}
+use Rattle.paper.proofs.EncodeLaws.{recordses-weights, count-records}
+use Rattle.note.proofs.NotedLaws.{encodesBy-length}
 use Rattle.paper.proofs.WFLaws.{of-to-list}
+use Rattle.note.specs.Note.{note}
+use Rattle.note.specs.Noted.{encodesBy}
 use Rattle.walk.specs.Listed.{Listed, Listable, ListedIs}
 use Rattle.walk.specs.Walked.{Walkable, cameOut, CameOut}
 use Rattle.walk.proofs.EntryLaws.{later-same}
@@ -29,7 +31,7 @@ module _ {o w : List ℕ} {d p : ℕ} {f : Forest} {rest : List ℕ} (h : Held o
   pub listable : Listable w p f
   listable =
       let long = held-length h in
-      record { stand = members-in w p f (held-members h); low = held-low; within = omega arith }
+      record { stand = members-in w p f (held-members h); light = omega (arith, h .light); low = held-low; within = omega arith }
 
   pub held-after : drop ((p + 1 + recordses f) * 16) w ≡ rest
   held-after =
@@ -38,14 +40,15 @@ module _ {o w : List ℕ} {d p : ℕ} {f : Forest} {rest : List ℕ} (h : Held o
       ap (λ k. drop k w) places
       ∙ sym (drop-drop m ((p + 1) * 16) w)
       ∙ ap (drop m) (h .stand)
-      ∙ drop-at (encodes f) rest m (encodes-length f ∙ omega arith)
+      ∙ drop-at (encodesBy note f) rest m (encodesBy-length note f ∙ omega arith)
 
-  module _ {w₁ : List ℕ} {end : ℕ} (k : ListedIs w w₁ p f end) where
-    pub walkable : (n : ℕ) → n ≡ countIn w p → Walkable o w₁ d p n (toList f)
+  module _ {b : Bool} {w₁ : List ℕ} {end : ℕ} (k : ListedIs b w w₁ p f end) where
+    pub walkable : (n : ℕ) → n ≡ countIn w p → Walkable b o w₁ d p n (toList f)
     walkable n e =
         record {
-          listed = subst (λ n. Listed w₁ p n (toList f)) (sym e) (k .listed);
+          listed = subst (λ n. Listed b w₁ p n (toList f)) (sym e) (k .listed);
           room = omega (arith, h .out-room, ap weights (of-to-list f));
+          light = omega (arith, h .light, ap weights (of-to-list f));
         }
 
     -- what stands after the node stays
@@ -53,7 +56,7 @@ module _ {o w : List ℕ} {d p : ℕ} {f : Forest} {rest : List ℕ} (h : Held o
     after-walk w₂ s =
         later-same w w₂ p (s ∙ k .pending) end (omega (arith, k .end)) ∙ ap (λ n. drop (n * 16) w) (k .end) ∙ held-after
 
-    module _ {b : Bool} {o₂ : List ℕ} {n e : ℕ} (c : CameOut b (toList f) o o₂ d n e) where
+    module _ {o₂ : List ℕ} {n e : ℕ} (c : CameOut b (toList f) o o₂ d n e) where
       same : weights (ofList (toList f)) ≡ weights f
       same = ap weights (of-to-list f)
 

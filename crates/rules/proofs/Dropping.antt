@@ -3,24 +3,52 @@
 -- Assumes nothing.
 use Prim.Native.Nat.{ℕ, zero, _+_, _-_, _*_, _<_, _≤_}
 use mathlib.Core.Path.{_≡_, refl, sym, ap, _∙_, subst}
-use mathlib.Core.Bool.{true, false}
+use mathlib.Core.Bool.{Bool, true, false}
 use mathlib.Core.List.{List, [], _∷_, _++_, append-nil, append-assoc}
 use native.Mathlib.Omega.{arith}
 use lib.ListN.{length, take, drop, length-append, length-drop}
 use lib.Seq.{length-take-le, take-take, take-append-le, drop-at, drop-drop}
 use lib.IntN.{pos}
-use Rattle.paper.specs.Tree.{Tree, Forest, nil, count, records, recordses, toList, ofList}
+use Rattle.paper.specs.Tree.{Tree, Forest, nil, count, records, recordses, weight, weights, toList, ofList}
+use Rattle.paper.specs.WellFormed.{Mark, WFs, WFl}
 use Rattle.paper.specs.Record.{countIn}
-use Rattle.paper.specs.Table.{encode, encodes}
 use Rattle.paper.specs.Rules.{isThe, dropAll, unless}
-use Rattle.paper.proofs.EncodeLaws.{encode-length, encodes-length, recordses-weights, count-records}
-use Rattle.paper.proofs.WFLaws.{list-count}
-use Rattle.split.specs.Standing.{TreesIn, SomeTree}
+use Rattle.paper.proofs.EncodeLaws.{recordses-weights, count-records}
+use Rattle.note.proofs.NotedLaws.{encodeBy-length, encodesBy-length}
+use Rattle.paper.proofs.Value.{total, weights-list}
+use Rattle.paper.proofs.OutcomeLaws.{sumOf-weight, productOf-weight}
+use Rattle.paper.proofs.DropRules.{dropAll-wf}
+use Rattle.paper.proofs.WFLaws.{list-count, wf-list, sumOf-wf, productOf-wf}
+use Rattle.note.specs.Note.{note}
+use Rattle.note.specs.Noted.{encodeBy, encodesBy}
+use Rattle.split.specs.Standing.{ToldTrees, SomeTold}
 use Rattle.stretch.specs.Put.{put, part}
+use Rattle.part.specs.Like.{nodeOf}
+use Rattle.write.specs.Written.{Light}
 use Rattle.write.proofs.Encoded.{recordses-snoc, stands-part, built-more}
 use Rattle.rules.specs.Tried.{Held, MembersIn, Built}
-use Rattle.paper.proofs.StandingLaws.{FirstOf, first-of, none-of}
+use Rattle.note.proofs.ToldLaws.{FirstOf, first-of, none-of, some-told}
 use Rattle.rules.proofs.Nodes.{after-first, members-in}
+
+-- ---- what is left of the members weighs no more than they do, and the node of it can be closed
+dropped-weight : (p : Tree → Bool) (l : List Tree) → total weight (dropAll p l) ≤ total weight l
+unfolding total dropAll unless
+dropped-weight p [] = omega arith
+dropped-weight p (t ∷ l) = go (p t) (dropped-weight p l)
+  where
+    go : (b : Bool) → total weight (dropAll p l) ≤ total weight l → total weight (unless b t (dropAll p l)) ≤ total weight (t ∷ l)
+    go true h = omega arith
+    go false h = omega arith
+
+node-light : (b : Bool) (μ : ℕ) (l : List Tree) → Mark μ → WFl l → 1 + total weight l < 65536 → Light (nodeOf b μ l)
+node-light true μ l m w h = (sumOf-wf μ m l w, omega (arith, sumOf-weight μ l))
+node-light false μ l m w h = (productOf-wf μ m l w, omega (arith, productOf-weight μ l))
+
+pub dropped-light : (b : Bool) (μ z : ℕ) (f : Forest) → Mark μ → WFs f → 1 + weights f < 65536
+    → Light (nodeOf b μ (dropAll (isThe (pos z)) (toList f)))
+dropped-light b μ z f m w h =
+    let p = isThe (pos z) in
+    node-light b μ (dropAll p (toList f)) m (dropAll-wf p (toList f) (wf-list f w)) (omega (arith, dropped-weight p (toList f), weights-list f))
 
 -- what a function that only reads asks for
 pub held-members : {o w : List ℕ} {d p : ℕ} {f : Forest} {rest : List ℕ} → Held o w d p f rest → MembersIn w p f
@@ -34,9 +62,9 @@ held-members {f = f} {rest = rest} h =
 pub held-length : {o w : List ℕ} {d p : ℕ} {f : Forest} {rest : List ℕ} → Held o w d p f rest
     → length w ≡ (p + 1 + recordses f) * 16 + length rest
 held-length {w = w} {p = p} {f = f} {rest = rest} h =
-    let e : length w - (p + 1) * 16 ≡ length (encodes f) + length rest =
-    sym (length-drop ((p + 1) * 16) w) ∙ ap length (h .stand) ∙ length-append (encodes f) rest in
-    omega (arith, encodes-length f, h .work-room, recordses-weights f, records-two f (h .two))
+    let e : length w - (p + 1) * 16 ≡ length (encodesBy note f) + length rest =
+    sym (length-drop ((p + 1) * 16) w) ∙ ap length (h .stand) ∙ length-append (encodesBy note f) rest in
+    omega (arith, encodesBy-length note f, h .work-room, recordses-weights f, records-two f (h .two))
   where
     records-two : (f : Forest) → 2 ≤ count f → 1 ≤ recordses f
     records-two f t = omega (arith, count-records f)
@@ -48,9 +76,9 @@ module _ (z : ℕ) where
   pub record Dropping (o₀ w : List ℕ) (d p : ℕ) (f : Forest) (rest o : List ℕ) (at left e n : ℕ) : Type 0 where
     pub done : List Tree
     pub others : Forest
-    pub stand : TreesIn w at left others
-    pub follow : drop (at * 16) w ≡ encodes others ++ rest
-    pub built : take (e * 16) o ≡ take ((d + 1) * 16) o₀ ++ encodes (ofList done)
+    pub stand : ToldTrees note w at left others
+    pub follow : drop (at * 16) w ≡ encodesBy note others ++ rest
+    pub built : take (e * 16) o ≡ take ((d + 1) * 16) o₀ ++ encodesBy note (ofList done)
     pub end : e ≡ d + 1 + recordses (ofList done)
     pub many : n ≡ length done
     pub same : kept (toList f) ≡ done ++ kept (toList others)
@@ -76,12 +104,12 @@ pub record Room (o₀ w o : List ℕ) (at next e n : ℕ) : Type 0 where
 
 module _ {z : ℕ} {o₀ w : List ℕ} {d p : ℕ} {f : Forest} {rest : List ℕ} (h : Held o₀ w d p f rest) where
   pub begins : {n : ℕ} → n ≡ countIn w p → Dropping z o₀ w d p f rest o₀ (p + 1) n (d + 1) 0
-  unfolding ofList records encode
+  unfolding ofList records encodeBy
   begins c =
       record {
         done = [];
         others = f;
-        stand = subst (λ n. TreesIn w (p + 1) n f) (sym c) (members-in w p f (held-members h));
+        stand = subst (λ n. ToldTrees note w (p + 1) n f) (sym c) (members-in w p f (held-members h));
         follow = h .stand;
         built = sym (append-nil (take ((d + 1) * 16) o₀));
         end = omega arith;
@@ -93,11 +121,11 @@ module _ {z : ℕ} {o₀ w : List ℕ} {d p : ℕ} {f : Forest} {rest : List ℕ
 
   module _ {o : List ℕ} {at left e n : ℕ} (v : Dropping z o₀ w d p f rest o at left e n) (l : 0 < left) where
     -- the first of those that are left
-    abbrev pub head : FirstOf w at left (v .others)
+    abbrev pub head : FirstOf note w at left (v .others)
     head = first-of (v .others) (v .stand) l
 
-    pub some-member : SomeTree w at
-    some-member = record { tree = head .tree; there = head .there }
+    pub some-member : SomeTold w at
+    some-member = some-told (head .there)
 
     sizes : recordses (v .others) ≡ records (head .tree) + recordses (head .others)
     unfolding records
@@ -116,16 +144,16 @@ module _ {z : ℕ} {o₀ w : List ℕ} {d p : ℕ} {f : Forest} {rest : List ℕ
             few = omega (arith, v .many, list-count (v .done), count-records (ofList (v .done)), v .end);
           }
 
-      follows : drop (next * 16) w ≡ encodes (head .others) ++ rest
-      unfolding encode
+      follows : drop (next * 16) w ≡ encodesBy note (head .others) ++ rest
+      unfolding encodeBy
       follows =
-          let x = encode (head .tree) in
-          let y = encodes (head .others) in
+          let x = encodeBy note (head .tree) in
+          let y = encodesBy note (head .others) in
           let sum : next * 16 ≡ at * 16 + records (head .tree) * 16 = omega arith in
           ap (λ k. drop k w) sum
           ∙ sym (drop-drop (records (head .tree) * 16) (at * 16) w)
-          ∙ ap (drop (records (head .tree) * 16)) (v .follow ∙ ap (λ g. encodes g ++ rest) (head .whole) ∙ append-assoc x y rest)
-          ∙ drop-at x (y ++ rest) (records (head .tree) * 16) (encode-length (head .tree) ∙ omega arith)
+          ∙ ap (drop (records (head .tree) * 16)) (v .follow ∙ ap (λ g. encodesBy note g ++ rest) (head .whole) ∙ append-assoc x y rest)
+          ∙ drop-at x (y ++ rest) (records (head .tree) * 16) (encodeBy-length note (head .tree) ∙ omega arith)
 
       -- a member that is dropped
       pub passes : isThe (pos z) (head .tree) ≡ true → Dropping z o₀ w d p f rest o next (left - 1) e n
@@ -178,7 +206,7 @@ module _ {z : ℕ} {o₀ w : List ℕ} {d p : ℕ} {f : Forest} {rest : List ℕ
   -- none is left
   pub ends : {o : List ℕ} {at left e n : ℕ} → length o ≡ length o₀ → Dropping z o₀ w d p f rest o at left e n → left ≤ 0
       → Ended z o₀ w d p f rest o at e n
-  unfolding toList dropAll encode records
+  unfolding toList dropAll encodeBy records
   ends {o} {at} {left} {e} {n} long v l =
       let none : v .others ≡ nil = none-of (v .others) (v .stand) (omega arith) in
       let all : kept z (toList f) ≡ v .done =
@@ -199,9 +227,9 @@ module _ {z : ℕ} {o₀ w : List ℕ} {d p : ℕ} {f : Forest} {rest : List ℕ
         done =
             sym (take-take (d * 16) (e * 16) o (omega (arith, v .end)))
             ∙ ap (take (d * 16)) (v .built)
-            ∙ take-append-le (d * 16) front (encodes (ofList (v .done))) (omega arith)
+            ∙ take-append-le (d * 16) front (encodesBy note (ofList (v .done))) (omega arith)
             ∙ take-take (d * 16) ((d + 1) * 16) o₀ (omega arith);
-        follow = v .follow ∙ ap (λ g. encodes g ++ rest) none;
+        follow = v .follow ∙ ap (λ g. encodesBy note g ++ rest) none;
         within = omega (arith, v .place);
         short = omega (arith, v .place, v .room, h .light, h .work-room, recordses-weights f);
       }

@@ -15,25 +15,29 @@ use mir.Facts.{toZ-pos}
 use Rattle.paper.specs.Bytes.{signed, word}
 use Rattle.paper.specs.Tree.{Tree, power, marked, markOf, records}
 use Rattle.paper.specs.Record.{kind, markIn, bits}
-use Rattle.paper.specs.Table.{recordOf, encode}
-use Rattle.paper.specs.Standing.{TreeIn}
+use Rattle.paper.specs.Table.{recordOf}
 use Rattle.paper.specs.Rules as paper
 use Rattle.paper.specs.Rules.{fits, isThe, appliesIf, onPowerParts, powerOne, powerConstant, raisedIf, powerPower}
-use Rattle.paper.proofs.EncodeLaws.{encode-length, record-length}
-use Rattle.paper.proofs.Seen.{Seen, an-integer, a-symbol, a-sum, a-product, a-power, seen-power}
-use Rattle.paper.proofs.StandingLaws.{seen, power-parts, power-tree, mark-number, exponent-mark}
+use Rattle.paper.proofs.EncodeLaws.{record-length}
+use Rattle.note.proofs.NotedLaws.{encodeBy-length}
+use Rattle.note.proofs.ToldLaws.{Seen, an-integer, a-symbol, a-sum, a-product, a-power, seen-power}
+use Rattle.note.proofs.ToldLaws.{seen, power-parts, power-tree, mark-number, exponent-mark}
+use Rattle.note.proofs.CloseLaws.{unclosed}
+use Rattle.note.specs.Note.{note}
+use Rattle.note.specs.Noted.{encodeBy}
+use Rattle.split.specs.Standing.{Told}
 use Rattle.stretch.specs.Put.{put, part}
 use Rattle.stretch.proofs.Laws.{drop-put-at, length-put}
 use Rattle.number.specs.Num.{numOf}
 use Rattle.number.specs.declared.Num.the-variants.{Is, Out}
 use Rattle.number.proofs.NumLaws.{numOf-is, numOf-is-out}
-use Rattle.write.proofs.Encoded.{marked-records, stands-part, two-puts}
+use Rattle.write.proofs.Encoded.{marked-records, power-unclosed, stands-part, two-puts}
 use Rattle.rules.specs.Asked.{Ready}
 use Rattle.rules.proofs.Nodes.{other-kind, integer-kind}
 use Rattle.rules.proofs.RuleLaws.{ready-tree, ready-length, ready-after}
 
 -- a rule on a power, at a tree of another kind
-pub on-no-power : {w : List ℕ} {i : ℕ} {t : Tree} → Seen w i t → (k : ℕ → Tree → ℕ → ℕ → paper.Tried) → (kind w i ≡ 4 → ⊥)
+pub on-no-power : {w : List ℕ} {i : ℕ} {t : Tree} → Seen note w i t → (k : ℕ → Tree → ℕ → ℕ → paper.Tried) → (kind w i ≡ 4 → ⊥)
     → onPowerParts k t ≡ paper.does-not-apply
 unfolding onPowerParts
 on-no-power (an-integer e b w) k n = refl
@@ -47,7 +51,7 @@ pub record IsPower (w : List ℕ) (p : ℕ) (t : Tree) (rest : List ℕ) : Type 
   pub base : Tree
   pub exponent : ℕ
   pub on : (k : ℕ → Tree → ℕ → ℕ → paper.Tried) → onPowerParts k t ≡ k (markIn w p) base (markIn w (p + 1 + records base)) exponent
-  pub there : TreeIn w (p + 1) base
+  pub there : Told note w (p + 1) base
   pub said : bits w (p + 1 + records base) ≡ exponent
   pub most : exponent < 2 ^ 63
   pub long : length w ≡ (p + 2 + records base) * 16 + length rest
@@ -59,14 +63,14 @@ is-power {w = w} {p = p} {rest = rest} h k =
     let q = seen-power (seen (ready-tree h)) k in
     let b = q .1 in
     let is = q .4 in
-    let tree : TreeIn w p (power (q .0) b (q .2) (q .3)) = subst (TreeIn w p) is (ready-tree h) in
+    let tree : Told note w p (power (q .0) b (q .2) (q .3)) = subst (Told note w p) is (ready-tree h) in
     let size = ap records is in
     let place : (p + 2 + records b) * 16 ≡ (p + (2 + records b)) * 16 = omega arith in
     record {
       base = b;
       exponent = q .3;
       on =
-          λ k. ap (onPowerParts k) is ∙ ap (λ m. k m b (q .2) (q .3)) (sym (mark-number _ tree))
+          λ k. ap (onPowerParts k) is ∙ ap (λ m. k m b (q .2) (q .3)) (sym (mark-number tree))
           ∙ ap (λ m. k (markIn w p) b m (q .3)) (sym (exponent-mark tree));
       there = power-tree tree;
       said = q .5 .exponent-bits;
@@ -86,18 +90,18 @@ module _ {w : List ℕ} {p : ℕ} {t : Tree} {rest : List ℕ} (s : IsPower w p 
   one-idle n = s .on _ ∙ ap (λ c. appliesIf c (s .base)) (ne-eqb _ _ n)
 
   -- the base, or a tree of as many records, in place of the power
-  base-put : (u : Tree) → records u ≡ records (s .base) → (w' : List ℕ) → w' ≡ put w ((p + 2) * 16) (encode u)
-      → drop ((p + 2) * 16) w' ≡ encode u ++ rest
+  base-put : (u : Tree) → records u ≡ records (s .base) → (w' : List ℕ) → w' ≡ put w ((p + 2) * 16) (encodeBy note u)
+      → drop ((p + 2) * 16) w' ≡ encodeBy note u ++ rest
   base-put u m w' e =
-      let x = encode u in
-      let place : (p + 2) * 16 + length x ≡ (p + 2 + records (s .base)) * 16 = omega (arith, encode-length u) in
+      let x = encodeBy note u in
+      let place : (p + 2) * 16 + length x ≡ (p + 2 + records (s .base)) * 16 = omega (arith, encodeBy-length note u) in
       ap (drop ((p + 2) * 16)) e
       ∙ drop-put-at w ((p + 2) * 16) x (omega (arith, s .long))
       ∙ ap (λ m. x ++ drop m w) place
       ∙ ap (λ (y : List ℕ). x ++ y) (s .after)
 
   pub base-moved : (x : ℕ) (w' : List ℕ) → x ≡ p + 1 + records (s .base)
-      → w' ≡ put w ((p + 2) * 16) (part w ((p + 1) * 16) ((x - (p + 1)) * 16)) → drop ((p + 2) * 16) w' ≡ encode (s .base) ++ rest
+      → w' ≡ put w ((p + 2) * 16) (part w ((p + 1) * 16) ((x - (p + 1)) * 16)) → drop ((p + 2) * 16) w' ≡ encodeBy note (s .base) ++ rest
   base-moved x w' a e =
       base-put (s .base) refl w' (e ∙ ap (put w ((p + 2) * 16)) (stands-part w (p + 1) ((x - (p + 1)) * 16) (s .base) (s .there .stands) (omega arith)))
 
@@ -128,12 +132,12 @@ module _ {w : List ℕ} {p : ℕ} {t : Tree} {rest : List ℕ} (s : IsPower w p 
         small (suc (suc v)) l = absurd (omega arith)
 
     pub constant-put : (μ : ℕ) (w' : List ℕ) → w' ≡ put w ((p + 2) * 16) (recordOf 0 0 μ (bits w (p + 1)))
-        → drop ((p + 2) * 16) w' ≡ encode (marked μ (s .base)) ++ rest
-    unfolding encode marked
+        → drop ((p + 2) * 16) w' ≡ encodeBy note (marked μ (s .base)) ++ rest
+    unfolding encodeBy marked
     constant-put μ w' e =
         base-put (marked μ (s .base)) (marked-records μ (s .base)) w' (e ∙ ap (put w ((p + 2) * 16)) (go (seen (s .there))))
       where
-        go : {b : Tree} → Seen w (p + 1) b → recordOf 0 0 μ (bits w (p + 1)) ≡ encode (marked μ b)
+        go : {b : Tree} → Seen note w (p + 1) b → recordOf 0 0 μ (bits w (p + 1)) ≡ encodeBy note (marked μ b)
         go (an-integer e b w) = ap (recordOf 0 0 μ) b
         go (a-symbol e v w) = absurd (omega arith)
         go (a-sum e n c w m) = absurd (omega arith)
@@ -151,7 +155,7 @@ pub record IsTower (w : List ℕ) (p : ℕ) (t : Tree) (rest : List ℕ) : Type 
   pub inner : ℕ
   pub outer : ℕ
   pub is : powerPower t ≡ raisedIf (ltb (inner * outer) (2 ^ 63)) (markIn w p) base (markIn w (p + 3 + records base)) (inner * outer)
-  pub there : TreeIn w (p + 2) base
+  pub there : Told note w (p + 2) base
   pub inner-said : bits w (p + 2 + records base) ≡ inner
   pub outer-said : bits w (p + 3 + records base) ≡ outer
   pub inner-most : inner < 2 ^ 63
@@ -165,7 +169,7 @@ is-tower {w} {p} {t} {rest} s k =
     let q = seen-power (seen (s .there)) k in
     let c = q .1 in
     let is = q .4 in
-    let tree : TreeIn w (p + 1) (power (q .0) c (q .2) (q .3)) = subst (TreeIn w (p + 1)) is (s .there) in
+    let tree : Told note w (p + 1) (power (q .0) c (q .2) (q .3)) = subst (Told note w (p + 1)) is (s .there) in
     let size = ap records is in
     let next : p + 1 + 1 ≡ p + 2 = omega arith in
     let at-inner : p + 1 + 1 + records c ≡ p + 2 + records c = omega arith in
@@ -178,7 +182,7 @@ is-tower {w} {p} {t} {rest} s k =
       is =
           s .on _ ∙ ap (onPowerParts _) is
           ∙ ap (λ i. raisedIf (ltb (q .3 * s .exponent) (2 ^ 63)) (markIn w p) c (markIn w i) (q .3 * s .exponent)) (sym at-outer);
-      there = subst (λ i. TreeIn w i c) next (power-tree tree);
+      there = subst (λ i. Told note w i c) next (power-tree tree);
       inner-said = ap (bits w) (sym at-inner) ∙ q .5 .exponent-bits;
       outer-said = ap (bits w) at-outer ∙ s .said;
       inner-most = q .5 .most;
@@ -211,16 +215,16 @@ module _ {w : List ℕ} {p : ℕ} {t : Tree} {rest : List ℕ} (s : IsTower w p 
       s .is
       ∙ ap (λ c. raisedIf c (markIn w p) (s .base) (markIn w (p + 3 + records (s .base))) product) (numOf-is-out (pos product) (ap numOf (sym multiplied) ∙ e))
 
-  -- the inner base between a power's record and the exponent n, with these marks
+  -- the inner base between a power's record and the exponent n, with these marks, before the power is closed
   pub tower-put : (y n μ ξ : ℕ) (w₁ w₂ w₃ : List ℕ) → y ≡ p + 2 + records (s .base)
       → w₁ ≡ put w ((p + 3) * 16) (part w ((p + 2) * 16) ((y - (p + 2)) * 16)) → w₂ ≡ put w₁ ((y + 1) * 16) (recordOf 0 0 ξ n)
-      → w₃ ≡ put w₂ ((p + 2) * 16) (recordOf 4 0 μ 0) → drop ((p + 2) * 16) w₃ ≡ encode (power μ (s .base) ξ n) ++ rest
-  unfolding encode
-  tower-put y n μ ξ w₁ w₂ w₃ a e₁ e₂ e₃ =
-      let b = encode (s .base) in
+      → w₃ ≡ put w₂ ((p + 2) * 16) (recordOf 4 0 μ 0) → n < 2 ^ 63
+      → (drop ((p + 2) * 16) w₃ ≡ unclosed (power μ (s .base) ξ n) ++ rest) × ((p + 2) * 16 ≤ length w₃)
+  tower-put y n μ ξ w₁ w₂ w₃ a e₁ e₂ e₃ l =
+      let b = encodeBy note (s .base) in
       let r = recordOf 4 0 μ 0 in
       let x = recordOf 0 0 ξ n in
-      let lb = encode-length (s .base) in
+      let lb = encodeBy-length note (s .base) in
       let lr = record-length 4 0 μ 0 in
       let lx = record-length 0 0 ξ n in
       let lbx = length-append b x in
@@ -229,11 +233,15 @@ module _ {w : List ℕ} {p : ℕ} {t : Tree} {rest : List ℕ} (s : IsTower w p 
       let behind : (p + 2) * 16 + length r ≡ (p + 3) * 16 = omega arith in
       let end : (p + 3) * 16 + length (b ++ x) ≡ (p + 4 + records (s .base)) * 16 = omega arith in
       let whole = ap length both ∙ length-put w ((p + 3) * 16) (b ++ x) (omega (arith, s .long)) in
-      ap (drop ((p + 2) * 16)) e₃
-      ∙ drop-put-at w₂ ((p + 2) * 16) r (omega (arith, s .long))
-      ∙ ap (λ m. r ++ drop m w₂) behind
-      ∙ ap (λ (y : List ℕ). r ++ drop ((p + 3) * 16) y) both
-      ∙ ap (λ (y : List ℕ). r ++ y) (drop-put-at w ((p + 3) * 16) (b ++ x) (omega (arith, s .long)))
-      ∙ ap (λ m. r ++ ((b ++ x) ++ drop m w)) end
-      ∙ ap (λ (y : List ℕ). r ++ ((b ++ x) ++ y)) (s .after)
-      ∙ sym (append-assoc r (b ++ x) rest)
+      let last = ap length e₃ ∙ length-put w₂ ((p + 2) * 16) r (omega (arith, s .long)) in (
+        ap (drop ((p + 2) * 16)) e₃
+            ∙ drop-put-at w₂ ((p + 2) * 16) r (omega (arith, s .long))
+            ∙ ap (λ m. r ++ drop m w₂) behind
+            ∙ ap (λ (y : List ℕ). r ++ drop ((p + 3) * 16) y) both
+            ∙ ap (λ (y : List ℕ). r ++ y) (drop-put-at w ((p + 3) * 16) (b ++ x) (omega (arith, s .long)))
+            ∙ ap (λ m. r ++ ((b ++ x) ++ drop m w)) end
+            ∙ ap (λ (y : List ℕ). r ++ ((b ++ x) ++ y)) (s .after)
+            ∙ sym (append-assoc r (b ++ x) rest)
+            ∙ ap (λ (y : List ℕ). y ++ rest) (sym (append-assoc r b x) ∙ sym (power-unclosed μ (s .base) ξ n l)),
+        omega (arith, s .long),
+      )

@@ -9,13 +9,19 @@ use native.Mathlib.Omega.{arith}
 use lib.ListN.{length, take, drop, length-append, take-append-drop}
 use lib.Seq.{take-at, drop-at}
 use Rattle.paper.specs.Tree.{Tree, records, recordses, ofList}
-use Rattle.paper.specs.Table.{recordOf, encode, encodes}
-use Rattle.paper.proofs.EncodeLaws.{encode-length, encodes-length, record-length}
+use Rattle.paper.specs.Bytes.{bytes}
+use Rattle.paper.specs.Table.{recordOf}
+use Rattle.paper.proofs.EncodeLaws.{record-length}
+use Rattle.note.proofs.NotedLaws.{encodeBy-length, encodesBy-length}
+use Rattle.note.specs.Note.{note}
+use Rattle.note.specs.Noted.{encodeBy, encodesBy, Unnoted}
+use Rattle.note.proofs.CloseLaws.{unclosed, unclosed-length, closable, closed-pending}
 use Rattle.stretch.specs.Put.{put, part}
-use Rattle.stretch.proofs.Laws.{take-put, drop-put-at}
+use Rattle.stretch.proofs.Laws.{take-put, drop-put-at, length-put}
 use Rattle.part.specs.Like.{nodeKind, neutral, nodeOf}
+use Rattle.write.specs.Written.{Light}
 use Rattle.rules.specs.Tried.{Built, Collapsed, PutBack}
-use Rattle.rules.proofs.Nodes.{of-none, of-one, of-more}
+use Rattle.rules.proofs.Nodes.{of-none, of-one, of-more, more-node}
 
 no-records : (l : List Tree) → length l < 1 → recordses (ofList l) ≡ 0
 unfolding ofList records
@@ -23,11 +29,11 @@ no-records [] h = refl
 no-records (t ∷ l) h = absurd (omega arith)
 
 module _ (b : Bool) (μ : ℕ) (l : List Tree) (out : List ℕ) (d e : ℕ) (h : Built out d e l) where
-  built-drop : drop ((d + 1) * 16) out ≡ encodes (ofList l) ++ drop (e * 16) out
+  built-drop : drop ((d + 1) * 16) out ≡ encodesBy note (ofList l) ++ drop (e * 16) out
   built-drop =
       ap (drop ((d + 1) * 16)) (sym (take-append-drop (e * 16) out) ∙ ap (λ (x : List ℕ). x ++ drop (e * 16) out) (h .built))
-      ∙ ap (drop ((d + 1) * 16)) (append-assoc (h .front) (encodes (ofList l)) (drop (e * 16) out))
-      ∙ drop-at (h .front) (encodes (ofList l) ++ drop (e * 16) out) ((d + 1) * 16) (h .free)
+      ∙ ap (drop ((d + 1) * 16)) (append-assoc (h .front) (encodesBy note (ofList l)) (drop (e * 16) out))
+      ∙ drop-at (h .front) (encodesBy note (ofList l) ++ drop (e * 16) out) ((d + 1) * 16) (h .free)
 
   room : (d + 1) * 16 ≤ length out
   room = omega (arith, h .end, h .within)
@@ -45,11 +51,11 @@ module _ (b : Bool) (μ : ℕ) (l : List Tree) (out : List ℕ) (d e : ℕ) (h :
   pub collapse-none : (out' : List ℕ) (v : ℕ) → length l < 1 → v ≡ neutral b → out' ≡ put out (d * 16) (recordOf 0 0 μ v)
       → Collapsed b μ l out out' d e d
   collapse-none out' v c q w =
-      let same : encode (nodeOf b μ l) ≡ recordOf 0 0 μ v = of-none b μ l c ∙ ap (recordOf 0 0 μ) (sym q) in
+      let same : encodeBy note (nodeOf b μ l) ≡ recordOf 0 0 μ v = of-none b μ l c ∙ ap (recordOf 0 0 μ) (sym q) in
       record {
         stands = record { after = drop ((d + 1) * 16) out; there = rw same (written out' 0 0 v w) };
         low = omega arith;
-        end = omega (arith, h .end, no-records l c, encode-length (nodeOf b μ l), ap length same, record-length 0 0 μ v);
+        end = omega (arith, h .end, no-records l c, encodeBy-length note (nodeOf b μ l), ap length same, record-length 0 0 μ v);
         done = stays out' 0 0 v w;
       }
 
@@ -59,29 +65,42 @@ module _ (b : Bool) (μ : ℕ) (l : List Tree) (out : List ℕ) (d e : ℕ) (h :
       record {
         stands = record { after = drop (e * 16) out; there = rw same built-drop };
         low = omega arith;
-        end = omega (arith, h .end, encode-length (nodeOf b μ l), ap length same, encodes-length (ofList l));
+        end = omega (arith, h .end, encodeBy-length note (nodeOf b μ l), ap length same, encodesBy-length note (ofList l));
         done = refl;
       }
 
-  pub collapse-more : (out' : List ℕ) (k : ℕ) → 2 ≤ length l → k ≡ nodeKind b → out' ≡ put out (d * 16) (recordOf k (length l) μ 0)
-      → Collapsed b μ l out out' d e d
-  collapse-more out' k c q w =
-      let same : encode (nodeOf b μ l) ≡ recordOf k (length l) μ 0 ++ encodes (ofList l) =
-      of-more b μ l c ∙ ap (λ k. recordOf k (length l) μ 0 ++ encodes (ofList l)) (sym q) in
-      let long = length-append (recordOf k (length l) μ 0) (encodes (ofList l)) in
-      record {
-        stands = record {
-          after = drop (e * 16) out;
-          there =
-              written out' k (length l) 0 w
-              ∙ ap (λ (x : List ℕ). recordOf k (length l) μ 0 ++ x) built-drop
-              ∙ sym (append-assoc (recordOf k (length l) μ 0) (encodes (ofList l)) (drop (e * 16) out))
-              ∙ ap (λ (x : List ℕ). x ++ drop (e * 16) out) (sym same);
-        };
-        low = omega arith;
-        end = omega (arith, h .end, encode-length (nodeOf b μ l), ap length same, long, record-length k (length l) μ 0, encodes-length (ofList l));
-        done = stays out' k (length l) 0 w;
-      }
+  -- two members or more: the node is closed
+  module _ (more : 2 ≤ length l) (light : Light (nodeOf b μ l)) (out' : List ℕ) (k : ℕ) (q : k ≡ nodeKind b)
+      (w : out' ≡ put out (d * 16) (recordOf k (length l) μ 0)) where
+    node : unclosed (nodeOf b μ l) ≡ recordOf k (length l) μ 0 ++ encodesBy note (ofList l)
+    node = of-more b μ l more ∙ ap (λ k. recordOf k (length l) μ 0 ++ encodesBy note (ofList l)) (sym q)
+
+    node-there : drop (d * 16) out' ≡ unclosed (nodeOf b μ l) ++ drop (e * 16) out
+    node-there =
+        written out' k (length l) 0 w
+        ∙ ap (λ (x : List ℕ). recordOf k (length l) μ 0 ++ x) built-drop
+        ∙ sym (append-assoc (recordOf k (length l) μ 0) (encodesBy note (ofList l)) (drop (e * 16) out))
+        ∙ ap (λ (x : List ℕ). x ++ drop (e * 16) out) (sym node)
+
+    pub collapse-closable : Unnoted out' d (nodeOf b μ l)
+    collapse-closable =
+        closable (nodeOf b μ l) (light .0) (more-node b μ l more) (light .1) (record { after = drop (e * 16) out; there = node-there })
+
+    pub collapse-more : (o : List ℕ) → ((t : Tree) → Unnoted out' d t → o ≡ put out' (d * 16 + 8) (bytes 8 (note t))) → Collapsed b μ l out o d e d
+    collapse-more o told =
+        let r = record-length k (length l) μ 0 in
+        let long = length-append (recordOf k (length l) μ 0) (encodesBy note (ofList l)) in
+        let size = unclosed-length (nodeOf b μ l) (light .0) in
+        let wide = ap length w ∙ length-put out (d * 16) (recordOf k (length l) μ 0) (omega (arith, room)) in
+        let c =
+        closed-pending (nodeOf b μ l) (light .0) (more-node b μ l more) out' o (drop (e * 16) out) (d * 16) (omega (arith, room)) node-there
+        (told (nodeOf b μ l) collapse-closable) in
+        record {
+          stands = record { after = drop (e * 16) out; there = c .0 };
+          low = omega arith;
+          end = omega (arith, h .end, ap length node, encodesBy-length note (ofList l));
+          done = c .1 ∙ stays out' k (length l) 0 w;
+        }
 
 -- the copy of the result before what followed the node
 pub put-back : (b : Bool) (μ : ℕ) (l : List Tree) (out out' work work' : List ℕ) (d e end r q : ℕ) → Collapsed b μ l out out' d e r
@@ -89,8 +108,8 @@ pub put-back : (b : Bool) (μ : ℕ) (l : List Tree) (out out' work work' : List
     → PutBack b μ l (drop (end * 16) work) out out' work' d q
 unfolding part
 put-back b μ l out out' work work' d e end r q h at low high w =
-    let x = encode (nodeOf b μ l) in
-    let size : length x ≡ (e - r) * 16 = encode-length (nodeOf b μ l) ∙ omega (arith, h .end) in
+    let x = encodeBy note (nodeOf b μ l) in
+    let size : length x ≡ (e - r) * 16 = encodeBy-length note (nodeOf b μ l) ∙ omega (arith, h .end) in
     let taken : part out' (r * 16) ((e - r) * 16) ≡ x =
     ap (take ((e - r) * 16)) (h .stands .there) ∙ take-at x (h .stands .after) ((e - r) * 16) size in
     let place : q * 16 + length x ≡ end * 16 = omega arith in
@@ -106,4 +125,4 @@ put-back b μ l out out' work work' d e end r q h at low high w =
 pub put-follows : {b : Bool} {μ ν : ℕ} {l : List Tree} {x rest o o₀ o' w' : List ℕ} {d q : ℕ} → PutBack b μ l x o o' w' d q → μ ≡ ν → x ≡ rest
     → take (d * 16) o ≡ take (d * 16) o₀ → PutBack b ν l rest o₀ o' w' d q
 put-follows {b} {μ} {ν} {l} {x} h m e k =
-    record { stands = h .stands ∙ ap (λ n. encode (nodeOf b n l) ++ x) m ∙ ap (λ y. encode (nodeOf b ν l) ++ y) e; done = h .done ∙ k }
+    record { stands = h .stands ∙ ap (λ n. encodeBy note (nodeOf b n l) ++ x) m ∙ ap (λ y. encodeBy note (nodeOf b ν l) ++ y) e; done = h .done ∙ k }

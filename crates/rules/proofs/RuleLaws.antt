@@ -2,7 +2,7 @@
 -- another kind, a rule does not apply; of the rule's kind, the tree is a node whose members stand behind its record, and the rule is what
 -- it does to those. And where a rule does not apply, all is ready for the next. Assumes nothing.
 use Prim.Native.Nat.{ℕ, _+_, _-_, _*_, _≤_}
-use mathlib.Core.Path.{_≡_, refl, sym, ap, _∙_}
+use mathlib.Core.Path.{_≡_, refl, sym, ap, _∙_, subst}
 use mathlib.Core.Bool.{Bool, true, false}
 use mathlib.Core.List.{List, _++_, append-assoc}
 use native.Mathlib.Omega.{arith}
@@ -11,19 +11,27 @@ use lib.Seq.{drop-drop, drop-at}
 use lib.IntN.{pos}
 use Rattle.paper.specs.Tree.{Tree, Forest, integer, sum, product, toList, count, markOf, weight, weights, records}
 use Rattle.paper.specs.Record.{kind, markIn}
-use Rattle.paper.specs.Standing.{SeenMembers}
 use Rattle.paper.specs.Bytes.{word}
-use Rattle.paper.specs.Table.{recordOf, encode, encodes}
+use Rattle.paper.specs.Table.{recordOf}
 use Rattle.paper.specs.Rules as paper
 use Rattle.paper.specs.Rules.{onSumMembers, onProductMembers, appliesIf, anyOf, isThe, dropAll}
 use Rattle.paper.specs.Rules.{addZero, combineLikeTerms, multiplyZero, multiplyOne, combineLikeFactors}
-use Rattle.paper.proofs.EncodeLaws.{encode-length, records-pos, records-weight, record-length}
-use Rattle.paper.proofs.Seen.{Seen, an-integer, a-symbol, a-sum, a-product, a-power, see, seen-sum, seen-product}
-use Rattle.paper.proofs.StandingLaws.{mark-number}
-use Rattle.split.specs.Standing.{TreeIn}
+use Rattle.paper.specs.Rules.{Rule}
+use Rattle.paper.specs.Good.{Good, GoodAnswer}
+use Rattle.paper.proofs.LikeTermsGood.{like-terms-good}
+use Rattle.paper.proofs.LikeFactorsGood.{like-factors-good}
+use Rattle.paper.proofs.EncodeLaws.{records-pos, records-weight, record-length}
+use Rattle.note.proofs.NotedLaws.{encodeBy-length}
+use Rattle.note.proofs.ToldLaws.{Seen, an-integer, a-symbol, a-sum, a-product, a-power, seen, seen-sum, seen-product}
+use Rattle.note.proofs.ToldLaws.{note-tells, mark-number}
+use Rattle.note.specs.Note.{note}
+use Rattle.note.specs.Noted.{encodeBy, encodesBy}
+use Rattle.note.specs.Told.{ToldMembers}
+use Rattle.split.specs.Standing.{Told}
 use Rattle.stretch.specs.Put.{put}
 use Rattle.stretch.proofs.Laws.{drop-put-at}
 use Rattle.part.specs.Like.{nodeKind, neutral, nodeOf}
+use Rattle.write.specs.Written.{Light}
 use Rattle.walk.specs.Walked.{combined}
 use Rattle.rules.specs.Alike.{dropNeutral, combineLike}
 use Rattle.rules.specs.Asked.{Ready}
@@ -70,18 +78,18 @@ combine-is false t = refl
 
 -- ---- the tree that is pending
 module _ {o w : List ℕ} {d p : ℕ} {t : Tree} {rest : List ℕ} (h : Ready o w d p t rest) where
-  pub ready-tree : TreeIn w p t
-  ready-tree = record { wf = h .wf; few = omega (arith, h .light, records-weight t); stands = record { after = rest; there = h .stands } }
+  pub ready-tree : Told note w p t
+  ready-tree = record { tells = note-tells; wf = h .wf; few = omega (arith, h .light, records-weight t); stands = record { after = rest; there = h .stands } }
 
-  pub ready-seen : Seen w p t
-  ready-seen = see w p t (h .wf) (ready-tree .few) (ready-tree .stands)
+  pub ready-seen : Seen note w p t
+  ready-seen = seen ready-tree
 
   -- the records of the tree, and of what follows, are all that is left of the table
   pub ready-length : length w ≡ (p + records t) * 16 + length rest
   ready-length =
-      let e : length w - p * 16 ≡ length (encode t) + length rest =
-      sym (length-drop (p * 16) w) ∙ ap length (h .stands) ∙ length-append (encode t) rest in
-      omega (arith, encode-length t, records-pos t)
+      let e : length w - p * 16 ≡ length (encodeBy note t) + length rest =
+      sym (length-drop (p * 16) w) ∙ ap length (h .stands) ∙ length-append (encodeBy note t) rest in
+      omega (arith, encodeBy-length note t, records-pos t)
 
   pub ready-after : drop ((p + records t) * 16) w ≡ rest
   ready-after =
@@ -90,7 +98,15 @@ module _ {o w : List ℕ} {d p : ℕ} {t : Tree} {rest : List ℕ} (h : Ready o 
       ap (λ k. drop k w) places
       ∙ sym (drop-drop m (p * 16) w)
       ∙ ap (drop m) (h .stands)
-      ∙ drop-at (encode t) rest m (encode-length t ∙ omega arith)
+      ∙ drop-at (encodeBy note t) rest m (encodeBy-length note t ∙ omega arith)
+
+  -- what a rule makes of it is well-formed, and weighs less
+  pub rule-light : (r : Rule) → Good r → (u : Tree) → r .try t ≡ paper.applies u → Light u
+  rule-light r g u e = let a = subst (GoodAnswer t) e (g .good t (h .wf)) in (a .0, omega (arith, a .1 .lighter, h .light))
+
+  pub combine-light : (b : Bool) (u : Tree) → combineLike b t ≡ paper.applies u → Light u
+  combine-light true = rule-light _ like-terms-good
+  combine-light false = rule-light _ like-factors-good
 
   -- ready for the next rule, where what is pending stays
   pub ready-again : (o' w' : List ℕ) → length o' ≡ length o → length w' ≡ length w → drop (p * 16) w' ≡ drop (p * 16) w → Ready o' w' d p t rest
@@ -108,7 +124,7 @@ module _ {o w : List ℕ} {d p : ℕ} {t : Tree} {rest : List ℕ} (h : Ready o 
   unfolding onSumMembers onProductMembers
   on-other b k = go b ready-seen
     where
-      go : (b : Bool) {t : Tree} → Seen w p t → (kind w p ≡ nodeKind b → ⊥) → onMembers b k t ≡ paper.does-not-apply
+      go : (b : Bool) {t : Tree} → Seen note w p t → (kind w p ≡ nodeKind b → ⊥) → onMembers b k t ≡ paper.does-not-apply
       go true (an-integer e b w) n = refl
       go true (a-symbol e v w) n = refl
       go true (a-sum e m c w s) n = absurd (n e)
@@ -133,13 +149,13 @@ pub record IsNode (b : Bool) (o w : List ℕ) (d p : ℕ) (t : Tree) (rest : Lis
   pub held : Held o w d p members rest
   pub on : (k : ℕ → List Tree → paper.Tried) → onMembers b k t ≡ k (markIn w p) (toList members)
 
-behind-record : (w : List ℕ) (p k c μ : ℕ) (x rest : List ℕ) → drop (p * 16) w ≡ (recordOf k c μ 0 ++ x) ++ rest → drop ((p + 1) * 16) w ≡ x ++ rest
-behind-record w p k c μ x rest e =
+behind-record : (w : List ℕ) (p k c μ v : ℕ) (x rest : List ℕ) → drop (p * 16) w ≡ (recordOf k c μ v ++ x) ++ rest → drop ((p + 1) * 16) w ≡ x ++ rest
+behind-record w p k c μ v x rest e =
     let places : (p + 1) * 16 ≡ p * 16 + 16 = omega arith in
     ap (λ n. drop n w) places
     ∙ sym (drop-drop 16 (p * 16) w)
-    ∙ ap (drop 16) (e ∙ append-assoc (recordOf k c μ 0) x rest)
-    ∙ drop-at (recordOf k c μ 0) (x ++ rest) 16 (record-length k c μ 0)
+    ∙ ap (drop 16) (e ∙ append-assoc (recordOf k c μ v) x rest)
+    ∙ drop-at (recordOf k c μ v) (x ++ rest) 16 (record-length k c μ v)
 
 module _ (b : Bool) (μ : ℕ) (f : Forest) where
   node-weight : weight (node b μ f) ≡ 1 + weights f
@@ -150,11 +166,11 @@ module _ (b : Bool) (μ : ℕ) (f : Forest) where
       go true = refl
       go false = refl
 
-  node-encode : encode (node b μ f) ≡ recordOf (nodeKind b) (count f) μ 0 ++ encodes f
-  unfolding encode
+  node-encode : encodeBy note (node b μ f) ≡ recordOf (nodeKind b) (count f) μ (note (node b μ f)) ++ encodesBy note f
+  unfolding encodeBy
   node-encode = go b
     where
-      go : (b : Bool) → encode (node b μ f) ≡ recordOf (nodeKind b) (count f) μ 0 ++ encodes f
+      go : (b : Bool) → encodeBy note (node b μ f) ≡ recordOf (nodeKind b) (count f) μ (note (node b μ f)) ++ encodesBy note f
       go true = refl
       go false = refl
 
@@ -175,7 +191,7 @@ module _ (b : Bool) (μ : ℕ) (f : Forest) where
       go false = refl
 
 module _ {o w : List ℕ} {d p : ℕ} {t : Tree} {rest : List ℕ} (h : Ready o w d p t rest) where
-  seen-node : (b : Bool) → kind w p ≡ nodeKind b → (μ : ℕ) × (f : Forest) × (t ≡ node b μ f) × SeenMembers w p f
+  seen-node : (b : Bool) → kind w p ≡ nodeKind b → (μ : ℕ) × (f : Forest) × (t ≡ node b μ f) × ToldMembers note w p f
   seen-node true k = seen-sum (ready-seen h) k
   seen-node false k = seen-product (ready-seen h) k
 
@@ -186,8 +202,8 @@ module _ {o w : List ℕ} {d p : ℕ} {t : Tree} {rest : List ℕ} (h : Ready o 
       let f = q .1 in
       let s = q .3 in
       let heavy = ap weight (q .2) ∙ node-weight b μ f in
-      let marked : markIn w p ≡ μ = mark-number _ (ready-tree h) ∙ ap markOf (q .2) ∙ node-mark b μ f in
-      let stands = h .stands ∙ ap (λ x. x ++ rest) (ap encode (q .2) ∙ node-encode b μ f) in
+      let marked : markIn w p ≡ μ = mark-number (ready-tree h) ∙ ap markOf (q .2) ∙ node-mark b μ f in
+      let stands = h .stands ∙ ap (λ x. x ++ rest) (ap (encodeBy note) (q .2) ∙ node-encode b μ f) in
       record {
         members = f;
         held = record {
@@ -195,7 +211,7 @@ module _ {o w : List ℕ} {d p : ℕ} {t : Tree} {rest : List ℕ} (h : Ready o 
           two = s .two;
           light = omega (arith, heavy, h .light);
           counted = s .counted;
-          stand = behind-record w p (nodeKind b) (count f) μ (encodes f) rest stands;
+          stand = behind-record w p (nodeKind b) (count f) μ (note (node b μ f)) (encodesBy note f) rest stands;
           out-room = omega (arith, heavy, h .out-room);
           work-room = omega (arith, heavy, h .work-room);
         };
@@ -216,8 +232,8 @@ module _ {b : Bool} {o w : List ℕ} {d p : ℕ} {t : Tree} {rest : List ℕ} (s
 
 -- ---- 0 in place of the whole product
 pub zero-put : (w w' : List ℕ) (q μ : ℕ) (rest : List ℕ) → (q + 1) * 16 ≤ length w → drop ((q + 1) * 16) w ≡ rest
-    → w' ≡ put w (q * 16) (recordOf 0 0 μ 0) → drop (q * 16) w' ≡ encode (integer μ (pos 0)) ++ rest
-unfolding encode word
+    → w' ≡ put w (q * 16) (recordOf 0 0 μ 0) → drop (q * 16) w' ≡ encodeBy note (integer μ (pos 0)) ++ rest
+unfolding encodeBy word
 zero-put w w' q μ rest r e s =
     let long = record-length 0 0 μ 0 in
     let place : q * 16 + length (recordOf 0 0 μ 0) ≡ (q + 1) * 16 = omega arith in

@@ -10,10 +10,12 @@ use contract.Lifetimes.{Lfts}
 use denote.Triple.Clauses.{AtExit}
 use lib.ListN.{length, take, drop, length-append, length-drop}
 use Rattle.paper.specs.Tree.{Tree, records}
-use Rattle.paper.specs.Table.{encode}
 use Rattle.paper.specs.Rules.{Rule, rulesOf}
 use Rattle.paper.specs.Driver.{step}
-use Rattle.paper.proofs.EncodeLaws.{encode-length, records-pos}
+use Rattle.paper.proofs.EncodeLaws.{records-pos}
+use Rattle.note.proofs.NotedLaws.{encodeBy-length}
+use Rattle.note.specs.Note.{note}
+use Rattle.note.specs.Noted.{encodeBy}
 use Rattle.rules.specs.Asked.{Ready, AskedIs}
 use Rattle.rules.specs.declared.Asked.{Asked}
 use Rattle.rules.specs.declared.Asked.the-variants.{Nothing, Step, Over}
@@ -27,11 +29,11 @@ Left d p o o' w w' (Step k q) = (drop (q * 16) w ≡ drop (q * 16) w') × (take 
 Left d p o o' w w' Over = Unit {0}
 
 -- the record that a tree stands at, what follows it being known, is known
-place : (w : List ℕ) (q : ℕ) (u : Tree) (rest : List ℕ) → drop (q * 16) w ≡ encode u ++ rest → length w ≡ (q + records u) * 16 + length rest
+place : (w : List ℕ) (q : ℕ) (u : Tree) (rest : List ℕ) → drop (q * 16) w ≡ encodeBy note u ++ rest → length w ≡ (q + records u) * 16 + length rest
 place w q u rest e =
-    let l : length w - q * 16 ≡ length (encode u) + length rest =
-    sym (length-drop (q * 16) w) ∙ ap length e ∙ length-append (encode u) rest in
-    omega (arith, encode-length u, records-pos u)
+    let l : length w - q * 16 ≡ length (encodeBy note u) + length rest =
+    sym (length-drop (q * 16) w) ∙ ap length e ∙ length-append (encodeBy note u) rest in
+    omega (arith, encodeBy-length note u, records-pos u)
 
 module _ (rs : List Rule) (t : Tree) (rest s o o' w w' : List ℕ) (d p : ℕ) (long : length w ≡ length w') where
   stepped : (k k' q q' : ℕ) → AskedIs rs t rest s o w d p (Step k q) → AskedIs rs t rest s o' w' d p (Step k' q')
@@ -45,7 +47,7 @@ module _ (rs : List Rule) (t : Tree) (rest s o o' w w' : List ℕ) (d p : ℕ) (
       let size = ap records tree in
       let same : q ≡ q' = omega arith in (
         cc,
-        (h .2 ∙ ap (λ u. encode u ++ rest) tree ∙ sym (h' .2) ∙ ap (λ n. drop (n * 16) w') (sym same), h .3 ∙ sym (h' .3)),
+        (h .2 ∙ ap (λ u. encodeBy note u ++ rest) tree ∙ sym (h' .2) ∙ ap (λ n. drop (n * 16) w') (sym same), h .3 ∙ sym (h' .3)),
       )
 
   answered-once : (r r' : Asked) → AskedIs rs t rest s o w d p r → AskedIs rs t rest s o' w' d p r' → (r ≡ r') × Left d p o o' w w' r

@@ -5,19 +5,20 @@ use mathlib.Core.List.{List, _++_}
 use lib.ListN.{length, take, drop}
 use Rattle.paper.specs.Tree.{Tree, weight}
 use Rattle.paper.specs.WellFormed.{WF}
-use Rattle.paper.specs.Table.{encode}
 use Rattle.paper.specs.Rules.{Rule}
 use Rattle.paper.specs.Driver.{ask, no-rule, step, out-of-range}
+use Rattle.note.specs.Note.{note}
+use Rattle.note.specs.Noted.{encodeBy}
 use Rattle.rules.specs.declared.Asked.{Asked}
 use Rattle.rules.specs.declared.Asked.the-variants.{Nothing, Step, Over}
 
--- a well-formed tree t stands at the head of what is pending, from record p of `work` on, and `rest` after it; d records of `out` are
--- done, and there is room for all that a rule may write: for each unit of the weight one record, and one entry of four bytes in the
+-- a well-formed tree t stands, noted, at the head of what is pending, from record p of `work` on, and `rest` after it; d records of `out`
+-- are done, and there is room for all that a rule may write: for each unit of the weight one record, and one entry of four bytes in the
 -- walk's table of members
 pub record Ready (out work : List ℕ) (d p : ℕ) (t : Tree) (rest : List ℕ) : Type 0 where
   pub wf : WF t
   pub light : weight t < 65536
-  pub stands : drop (p * 16) work ≡ encode t ++ rest
+  pub stands : drop (p * 16) work ≡ encodeBy note t ++ rest
   pub out-room : 16 * (d + weight t) ≤ length out
   pub work-room : 20 * weight t + length rest ≤ length work
 
@@ -25,7 +26,7 @@ pub record Ready (out work : List ℕ) (d p : ℕ) (t : Tree) (rest : List ℕ) 
 -- pending from record q on in place of t; `Over`, a rule "meets an integer outside the signed 64-bit range". What is done stays.
 abbrev pub AskedIs : (rs : List Rule) (t : Tree) (rest out out' work' : List ℕ) (d p : ℕ) → Asked → Type 0
 AskedIs rs t rest out out' work' d p Nothing =
-    (ask rs t ≡ no-rule) × (drop (p * 16) work' ≡ encode t ++ rest) × (take (d * 16) out' ≡ take (d * 16) out)
+    (ask rs t ≡ no-rule) × (drop (p * 16) work' ≡ encodeBy note t ++ rest) × (take (d * 16) out' ≡ take (d * 16) out)
 AskedIs rs t rest out out' work' d p (Step k q) =
-    (u : Tree) × (ask rs t ≡ step k u) × (drop (q * 16) work' ≡ encode u ++ rest) × (take (d * 16) out' ≡ take (d * 16) out)
+    (u : Tree) × (ask rs t ≡ step k u) × (drop (q * 16) work' ≡ encodeBy note u ++ rest) × (take (d * 16) out' ≡ take (d * 16) out)
 AskedIs rs t rest out out' work' d p Over = ask rs t ≡ out-of-range

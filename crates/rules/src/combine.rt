@@ -19,7 +19,7 @@ pub fn combine(out: &mut [u8], work: &mut [u8], d: usize, p: usize, terms: bool)
     }
     let n = record::count(work, p);
     let mark = record::mark(work, p);
-    let end = walk::list_members(work, p);
+    let end = walk::list_members(work, p, terms);
     let walked = walk::walk(out, work, d, p, n, terms);
     match walked {
         walk::Walked::Idle => Tried::Idle,

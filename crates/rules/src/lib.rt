@@ -1,4 +1,5 @@
-// The rules, each tried on one node of the pending records, and all of them asked in the paper's order.
+// The rules, each tried on one node of the pending records, and all of them asked in the paper's order. The records are noted, and a rule
+// that writes a node's record closes it.
 ghost use mathlib.Core.Path.{_≡_};
 ghost use mathlib.Core.List.{List};
 ghost use Prim.Native.Nat.{ℕ};

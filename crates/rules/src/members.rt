@@ -7,8 +7,10 @@ ghost use lib.IntN.{pos};
 ghost use Rattle.paper.specs.Record.{markIn};
 ghost use Rattle.paper.specs.Tree.{Tree, Forest, toList};
 ghost use Rattle.paper.specs.Rules.{isThe, anyOf, dropAll};
-ghost use Rattle.split.specs.Standing.{TreeIn, SomeTree};
-ghost use Rattle.part.specs.Like.{nodeKind, neutral};
+ghost use Rattle.note.specs.Note.{note};
+ghost use Rattle.split.specs.Standing.{Told, SomeTold};
+ghost use Rattle.part.specs.Like.{nodeKind, neutral, nodeOf};
+ghost use Rattle.write.specs.Written.{Light};
 ghost use Rattle.rules.specs.Alike.{dropNeutral};
 ghost use Rattle.rules.specs.Asked.{Ready};
 ghost use Rattle.rules.specs.Tried.{Answers, Held, MembersIn, Built, Collapsed, PutBack};
@@ -30,8 +32,8 @@ fn neutral(sum: bool) -> u64
 
 // The tree at record i is the integer z, 0 or 1.
 fn is_the(s: &[u8], i: usize, z: u64) -> bool
-    requires { ⌜ SomeTree (now s) i × (z < 2) ⌝ }
-    ensures { λ r. ⌜ ((t : Tree) → TreeIn (now (s .entry)) i t → r ≡ isThe (pos z) t) ⌝ }
+    requires { ⌜ SomeTold (now s) i × (z < 2) ⌝ }
+    ensures { λ r. ⌜ ((t : Tree) → Told note (now (s .entry)) i t → r ≡ isThe (pos z) t) ⌝ }
 {
     if 0 < record::kind(s, i) {
         return false;
@@ -56,11 +58,11 @@ pub fn any_member(s: &[u8], p: usize, z: u64) -> bool
     false
 }
 
-// Makes a tree of the members behind record d of out: of none the integer that stands for none, one alone is itself; the integer, or
-// the node, has the mark.
+// Makes a tree of the members behind record d of out: of none the integer that stands for none, one alone is itself, and a node is closed;
+// the integer, or the node, has the mark.
 fn collapse(out: &mut [u8], d: usize, count: usize, sum: bool, mark: usize) -> usize
-    requires { ⌜ ((e : ℕ) × (l : List Tree) × Built (now out) d e l × (length l ≡ count)) ⌝ }
-    ensures { λ r. ⌜ ((e : ℕ) (l : List Tree) → Built (now (out .entry)) d e l → length l ≡ count
+    requires { ⌜ ((e : ℕ) × (l : List Tree) × Built (now out) d e l × (length l ≡ count) × Light (nodeOf sum mark l)) ⌝ }
+    ensures { λ r. ⌜ ((e : ℕ) (l : List Tree) → Built (now (out .entry)) d e l → length l ≡ count → Light (nodeOf sum mark l)
         → Collapsed sum mark l (now (out .entry)) (now (out .exit)) d e r) ⌝ }
 {
     if count < 1 {
@@ -71,6 +73,7 @@ fn collapse(out: &mut [u8], d: usize, count: usize, sum: bool, mark: usize) -> u
         return d + 1;
     }
     record::write_record(out, d, node_kind(sum), count, mark, 0);
+    note::close(out, d);
     d
 }
 
@@ -86,8 +89,9 @@ pub fn put_back(
     sum: bool,
     mark: usize,
 ) -> usize
-    requires { ⌜ ((l : List Tree) × Built (now out) d e l × (length l ≡ count)) × (e ≤ d + end) × (end * 16 ≤ length (now work)) ⌝ }
-    ensures { λ r. ⌜ ((l : List Tree) → Built (now (out .entry)) d e l → length l ≡ count
+    requires { ⌜ ((l : List Tree) × Built (now out) d e l × (length l ≡ count) × Light (nodeOf sum mark l))
+        × (e ≤ d + end) × (end * 16 ≤ length (now work)) ⌝ }
+    ensures { λ r. ⌜ ((l : List Tree) → Built (now (out .entry)) d e l → length l ≡ count → Light (nodeOf sum mark l)
         → PutBack sum mark l (drop (end * 16) (now (work .entry))) (now (out .entry)) (now (out .exit)) (now (work .exit)) d r) ⌝ }
 {
     let from = collapse(out, d, count, sum, mark);

@@ -3,6 +3,7 @@ ghost use mathlib.Core.List.{List};
 ghost use Prim.Native.Nat.{ℕ};
 ghost use Rattle.paper.specs.Tree.{Tree};
 ghost use Rattle.paper.specs.Rules.{powerOne, powerConstant, powerPower};
+ghost use Rattle.note.specs.Note.{note};
 ghost use Rattle.rules.specs.Asked.{Ready};
 ghost use Rattle.rules.specs.Tried.{Answers};
 use crate::Tried;
@@ -68,6 +69,7 @@ pub fn power_power(out: &mut [u8], work: &mut [u8], d: usize, p: usize) -> Tried
             stretch::shift_right(work, (p + 3) * 16, (p + 2) * 16, (y - (p + 2)) * 16);
             record::write_record(work, y + 1, 0, 0, exponent_mark, n);
             record::write_record(work, p + 2, 4, 0, mark, 0);
+            note::close(work, p + 2);
             Tried::Applied(p + 2)
         }
         Num::Out => Tried::Over,

@@ -1,24 +1,28 @@
--- A run in areas of its own: the table's tree stands at the end of `work`, the driver takes it from there, and clearing leaves the
--- result, the steps, and zeros after them; after a refusal, zeros alone. Assumes nothing.
-use Prim.Native.Nat.{ℕ, _+_, _-_, _*_, _/_, _<_, _≤_}
+-- A run in areas of its own: the table's tree stands at the end of `work` and gets its notes there, the driver takes it, the notes are taken out of
+-- the result, and clearing leaves the result, the steps, and zeros after them; after a refusal, zeros alone. Assumes nothing.
+use Prim.Native.Nat.{ℕ, _+_, _-_, _*_, _/_, _%_, _<_, _≤_}
 use mathlib.Core.Path.{_≡_, refl, sym, ap, _∙_, subst}
 use mathlib.Core.List.{List, [], _++_, append-nil}
+use mathlib.Core.Option.{Option, some}
 use native.Mathlib.Omega.{arith}
-use lib.ListN.{length, take, drop, replicate, length-replicate, drop-of-length-le}
+use lib.ListN.{length, take, drop, replicate, length-replicate, drop-of-length-le, take-append-drop}
 use Rattle.paper.specs.Tree.{Tree, records, weight}
-use Rattle.paper.specs.Record.{weightFrom}
-use Rattle.paper.specs.Table.{encode}
+use Rattle.paper.specs.Table.{encode, treeOf}
 use Rattle.paper.specs.Driver.{over}
 use Rattle.paper.specs.Answers as paper
 use Rattle.paper.proofs.EncodeLaws.{encode-length, records-weight}
-use Rattle.paper.proofs.TableLaws.{weight-there}
+use Rattle.paper.proofs.ReadLaws.{tree-of-written}
 use Rattle.stretch.specs.Put.{part, put}
-use Rattle.stretch.proofs.Laws.{drop-put-at, part-whole}
+use Rattle.stretch.proofs.Laws.{drop-put-at, part-whole, take-put-end}
+use Rattle.note.specs.Note.{note}
+use Rattle.note.specs.Noted.{encodeBy, Whole}
+use Rattle.note.proofs.KeyLaws.{note-weight}
+use Rattle.note.proofs.NotedLaws.{plain-encode, encodeBy-length}
 use Rattle.record.specs.declared.Flaw.the-variants.{Sound}
 use Rattle.simplify.specs.declared.Answer.{Answer}
 use Rattle.simplify.specs.Answer.{says, filled, Lending, Leaves}
 use Rattle.driver.specs.Driven.{Set, Drove}
-use Rattle.driver.proofs.Forests.{few-records, tree-once}
+use Rattle.driver.proofs.Places.{put-there}
 use Rattle.driver.proofs.Runs.{drives, drives-kept, run-lighter}
 
 -- an area cleared from a place on
@@ -38,9 +42,10 @@ clear-all d = let z : length d - 0 ≡ length d = omega arith in ap (λ i. put d
 
 -- two trees of one table are one
 pub lending-once : {table out steps work : List ℕ} {w : ℕ} {t u : Tree} → Lending table out steps work w t → Lending table out steps work w u → t ≡ u
-lending-once {table = table} {t = t} {u = u} a b =
-    let same = ap (λ (s : List ℕ). s ++ []) (sym (a .written) ∙ b .written) in
-    tree-once t u [] [] (a .wf) (b .wf) (few-records t (a .light)) (few-records u (b .light)) same .0
+lending-once {t = t} {u = u} a b =
+    let same : _≡_ {A = Option Tree} (some t) (some u)
+    = sym (tree-of-written t (a .wf) (a .light)) ∙ ap treeOf (sym (a .written) ∙ b .written) ∙ tree-of-written u (b .wf) (b .light) in
+    cc
 
 module _ {table out steps work : List ℕ} {w : ℕ} {t : Tree} (h : Lending table out steps work w t) where
   pub for-every : (Q : Tree → Type 0) → Q t → (u : Tree) → Lending table out steps work w u → Q u
@@ -56,24 +61,46 @@ module _ {table out steps work : List ℕ} {w : ℕ} {t : Tree} (h : Lending tab
       (omega (arith, h .work-room, h .weighs), omega (arith, h .work-room, h .weighs, h .work-records))
 
   -- the table is copied
-  pub set-up : (work' : List ℕ) → work' ≡ put work ((length work / 16 - length table / 16) * 16) (part table 0 (length table)) → length work' ≡ length work
-      → Set out work' steps 0 (length work / 16 - length table / 16) 0 t []
-  set-up work' c lw =
-      let f = table-fits .1 in
-      let p : ℕ = (length work / 16 - length table / 16) * 16 in
-      let e = c ∙ ap (put work p) (part-whole table (length table) refl ∙ h .written) in
-      let past : length work ≤ p + length (encode t) = omega (arith, long, encode-length t) in
-      record {
-        ready =
-            record {
-              wf = h .wf;
-              light = h .light;
-              stands = ap (drop p) e ∙ drop-put-at work p (encode t) (omega arith) ∙ ap (λ (i : List ℕ). encode t ++ i) (drop-of-length-le work past);
-              out-room = omega (arith, h .out-room, h .weighs);
-              work-room = omega (arith, h .work-room, h .weighs);
-            };
-        steps-room = omega (arith, h .steps-room, h .weighs);
-      }
+  module _ {work' : List ℕ} (c : work' ≡ put work ((length work / 16 - length table / 16) * 16) (part table 0 (length table))) (lw : length work' ≡ length work) where
+    abbrev p : ℕ
+    p = length work / 16 - length table / 16
+
+    copied : drop (p * 16) work' ≡ encode t ++ []
+    copied =
+        let f = table-fits .1 in
+        let e = c ∙ ap (put work (p * 16)) (part-whole table (length table) refl ∙ h .written) in
+        let past : length work ≤ p * 16 + length (encode t) = omega (arith, long, encode-length t) in
+        ap (drop (p * 16)) e ∙ drop-put-at work (p * 16) (encode t) (omega arith) ∙ ap (λ (i : List ℕ). encode t ++ i) (drop-of-length-le work past)
+
+    pub whole-table : Whole (λ u. 0) work' p (length table / 16) t
+    whole-table =
+        record {
+          there =
+              record {
+                wf = h .wf;
+                light = h .light;
+                stands = record { after = []; there = copied ∙ ap (λ (x : List ℕ). x ++ []) (sym (plain-encode t)) };
+              };
+          size = omega (arith, long);
+        }
+
+    -- and noted
+    pub set-up : (work'' : List ℕ) → work'' ≡ put work' (p * 16) (encodeBy note t) → length work'' ≡ length work' → Set out work'' steps 0 p 0 t []
+    set-up work'' e l =
+        let f = table-fits .1 in
+        record {
+          ready =
+              record {
+                wf = h .wf;
+                light = h .light;
+                stands =
+                    ap (drop (p * 16)) e
+                    ∙ put-there work' (encode t) (encodeBy note t) [] (p * 16) copied (encodeBy-length note t ∙ sym (encode-length t)) (omega (arith, lw));
+                out-room = omega (arith, h .out-room, h .weighs);
+                work-room = omega (arith, h .work-room, h .weighs);
+              };
+          steps-room = omega (arith, h .steps-room, h .weighs);
+        }
 
   -- the run was refused, k steps being completed
   pub left-over : (ed : ℕ) (a : Answer) (k : ℕ) (out' steps' work' : List ℕ) {out'' steps'' work'' : List ℕ}
@@ -105,33 +132,48 @@ module _ {table out steps work : List ℕ} {w : ℕ} {t : Tree} (h : Lending tab
         let r = records-weight (a .to) in
         (omega (arith, a .end, h .out-room, h .weighs), omega (arith, a .noted-end, h .steps-room, h .weighs), omega (arith, a .end, h .light))
 
-    out-cleared : put out' (e * 16) (replicate (length out' - e * 16) 0) ≡ filled (length out) (encode (a .to))
-    out-cleared =
-        clear-end out' (encode (a .to)) (e * 16) (a .wrote) (omega (arith, encode-length (a .to), a .end)) (done-fits .0)
-        ∙ ap (λ i. filled i (encode (a .to))) lo
-
-    weighed : (out'' : List ℕ) → out'' ≡ filled (length out) (encode (a .to)) → weightFrom out'' 0 e ≡ weight (a .to)
-    unfolding filled
-    weighed out'' c =
-        let z : e ≡ records (a .to) = omega (arith, a .end) in
-        ap (weightFrom out'' 0) z ∙ weight-there (a .to) out'' 0 (record { after = replicate (length out - length (encode (a .to))) 0; there = c })
-
-    pub left-done : (out'' steps'' work'' : List ℕ) (x : ℕ)
-        → out'' ≡ put out' (e * 16) (replicate (length out' - e * 16) 0) → steps'' ≡ put steps' n (replicate (length steps' - n) 0)
-        → work'' ≡ put work' 0 (replicate (length work') 0) → x ≡ weightFrom out'' 0 e
-        → Leaves (drives ed t) w
-        (record { number = 0; place = 0; flaw = Sound; records = e; steps = n; openings = o; «weight_in» = w; «weight_out» = x; tries = τ })
-        out out'' steps steps'' work work''
-    unfolding paper.ranAnswer paper.written paper.noted
-    left-done out'' steps'' work'' x co cz cw cx =
-        let z : e ≡ records (a .to) = omega (arith, a .end) in
-        let k : n ≡ length (a .ks) = omega (arith, a .noted-end) in
-        let g : x ≡ weight (a .to) = cx ∙ weighed out'' (co ∙ out-cleared) in
+    -- the notes are taken out of the result
+    pub whole-result : Whole note out' 0 e (a .to)
+    whole-result =
+        let l = lighter in
+        let after = drop (e * 16) out' in
         record {
-          answer = rw (z, k, g, a .ran) refl;
-          out-is = co ∙ out-cleared ∙ ap (λ r. filled (length out) (paper.written r)) (sym (a .ran));
-          steps-is =
-              cz ∙ clear-end steps' (a .ks) n (a .noted) (sym k) (done-fits .1) ∙ ap (λ i. filled i (a .ks)) lz
-              ∙ ap (λ r. filled (length steps) (paper.noted r)) (sym (a .ran));
-          work-is = cw ∙ clear-all work' ∙ ap (λ i. filled i []) lw;
+          there =
+              record {
+                wf = run-lighter t (a .to) (a .ks) o τ (drives ed t) (drives-kept ed t (h .wf)) (a .ran) .0;
+                light = omega (arith, h .light);
+                stands = record { after = after; there = sym (take-append-drop (e * 16) out') ∙ ap (λ (x : List ℕ). x ++ after) (a .wrote) };
+              };
+          size = omega (arith, a .end);
         }
+
+    module _ {out₁ : List ℕ} (s : out₁ ≡ put out' (0 * 16) (encode (a .to))) (l₁ : length out₁ ≡ length out') where
+      stripped : take (e * 16) out₁ ≡ encode (a .to)
+      stripped =
+          ap (take (e * 16)) s
+          ∙ take-put-end out' 0 (encode (a .to)) (e * 16) (omega (arith, encode-length (a .to), a .end)) (omega arith)
+
+      out-cleared : put out₁ (e * 16) (replicate (length out₁ - e * 16) 0) ≡ filled (length out) (encode (a .to))
+      out-cleared =
+          clear-end out₁ (encode (a .to)) (e * 16) stripped (omega (arith, encode-length (a .to), a .end)) (omega (arith, done-fits .0))
+          ∙ ap (λ i. filled i (encode (a .to))) (l₁ ∙ lo)
+
+      pub left-done : (out'' steps'' work'' : List ℕ) (x : ℕ)
+          → out'' ≡ put out₁ (e * 16) (replicate (length out₁ - e * 16) 0) → steps'' ≡ put steps' n (replicate (length steps' - n) 0)
+          → work'' ≡ put work' 0 (replicate (length work') 0) → x ≡ note (a .to) / 65536 % 65536
+          → Leaves (drives ed t) w
+          (record { number = 0; place = 0; flaw = Sound; records = e; steps = n; openings = o; «weight_in» = w; «weight_out» = x; tries = τ })
+          out out'' steps steps'' work work''
+      unfolding paper.ranAnswer paper.written paper.noted
+      left-done out'' steps'' work'' x co cz cw cx =
+          let z : e ≡ records (a .to) = omega (arith, a .end) in
+          let k : n ≡ length (a .ks) = omega (arith, a .noted-end) in
+          let g : x ≡ weight (a .to) = cx ∙ note-weight (a .to) (whole-result .there .light) in
+          record {
+            answer = rw (z, k, g, a .ran) refl;
+            out-is = co ∙ out-cleared ∙ ap (λ r. filled (length out) (paper.written r)) (sym (a .ran));
+            steps-is =
+                cz ∙ clear-end steps' (a .ks) n (a .noted) (sym k) (done-fits .1) ∙ ap (λ i. filled i (a .ks)) lz
+                ∙ ap (λ r. filled (length steps) (paper.noted r)) (sym (a .ran));
+            work-is = cw ∙ clear-all work' ∙ ap (λ i. filled i []) lw;
+          }

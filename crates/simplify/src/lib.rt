@@ -64,7 +64,7 @@ pub fn work_bytes(limit: usize) -> usize
 }
 
 // Runs the driver, with the rules of the edition, on the tree of the table, of weight w, in areas that are its own: the table is copied to the end of work, and
-// what is past the result and the steps is cleared, all of it after a refusal.
+// what is past the result and the steps is cleared, all of it after a refusal. Notes are made before the run and taken out after it; the result's tells its weight.
 fn run(
     edition: usize,
     table: &[u8],
@@ -80,6 +80,7 @@ fn run(
 {
     let p = work.len() / 16 - table.len() / 16;
     stretch::copy_bytes(work, p * 16, table, 0, table.len());
+    note::note_all(work, p, table.len() / 16);
     let g = driver::drive(out, work, steps, 0, p, 0, edition);
     stretch::clear(work, 0, work.len());
     match g {
@@ -89,6 +90,8 @@ fn run(
             refusal(7, k, Flaw::Sound)
         }
         driver::Driven::Done(e, q, n, o, tries) => {
+            let weight_out = (note::note_at(out, 0) / 0x1_0000 % 0x1_0000) as usize;
+            note::strip(out, 0, e);
             stretch::clear(out, e * 16, out.len() - e * 16);
             stretch::clear(steps, n, steps.len() - n);
             Answer {
@@ -99,7 +102,7 @@ fn run(
                 steps: n,
                 openings: o,
                 weight_in: w,
-                weight_out: table::weight_of(out, e),
+                weight_out,
                 tries,
             }
         }

@@ -7,13 +7,54 @@ use native.Mathlib.Nat.{eq-or-lt-of-le}
 use native.Mathlib.Omega.{arith}
 use borrow.Author.Tests.{lt-ltb}
 use Rattle.paper.specs.Record.{kind, arity}
-use Rattle.paper.specs.Tree.{Tree, records}
-use Rattle.paper.specs.Verdict.{skip}
-use Rattle.paper.proofs.SkipLaws.{skip-none, skip-one, skip-out, skip-step}
-use Rattle.paper.proofs.TableLaws.{encode-end}
+use Rattle.paper.specs.Standing.{kindNumber}
+use Rattle.paper.specs.Tree.{Tree, Forest, integer, symbol, sum, product, power, nil, cons, count, records, recordses}
+use Rattle.paper.specs.Verdict.{skip, treeEnd}
+use Rattle.paper.proofs.SkipLaws.{skip-none, skip-one, skip-more, skip-out, skip-step, end-step}
+use Rattle.note.specs.Noted.{countOf, inner}
 use lib.ListN.{length}
-use Rattle.split.specs.Standing.{TreeIn}
-use Rattle.paper.proofs.StandingLaws.{tree-within}
+use lib.IntN.{pos}
+use Rattle.split.specs.Standing.{Told, ToldTrees}
+use Rattle.note.proofs.ToldLaws.{tree-within, kind-number, count-number, sum-trees, product-trees, power-tree, exponent-tree}
+use Rattle.note.proofs.ToldLaws.{first-tree, other-trees}
+
+-- a tree's record tells how many trees stand behind it
+arity-number : {how : Tree → ℕ} {s : List ℕ} {i : ℕ} (t : Tree) → Told how s i t → arity s i ≡ count (inner t)
+unfolding arity kindNumber countOf inner count
+arity-number (integer μ z) h = rw (kind-number h) refl
+arity-number (symbol μ v) h = rw (kind-number h) refl
+arity-number (sum μ f) h = rw (kind-number h) (count-number h)
+arity-number (product μ f) h = rw (kind-number h) (count-number h)
+arity-number (power μ b ξ e) h = rw (kind-number h) refl
+
+leaf-end : (s : List ℕ) (n i : ℕ) → i < n → arity s i ≡ 0 → treeEnd s n i ≡ i + 1
+leaf-end s n i l e = end-step s n i l ∙ rw e (skip-none s n (n - (i + 1)) (i + 1))
+
+-- a tree that stands in a table ends as many records later as it has
+mutual
+  unfolding records count inner
+
+  told-end : {how : Tree → ℕ} (t : Tree) (s : List ℕ) (n i : ℕ) → Told how s i t → i + records t ≤ n → treeEnd s n i ≡ i + records t
+  told-end (integer μ z) s n i h l = leaf-end s n i (omega arith) (arity-number (integer μ z) h)
+  told-end (symbol μ v) s n i h l = leaf-end s n i (omega arith) (arity-number (symbol μ v) h)
+  told-end (sum μ f) s n i h l =
+      end-step s n i (omega arith)
+      ∙ rw (arity-number (sum μ f) h) (trees-end f s n (i + 1) (sum-trees h) (omega arith) ∙ omega arith)
+  told-end (product μ f) s n i h l =
+      end-step s n i (omega arith)
+      ∙ rw (arity-number (product μ f) h) (trees-end f s n (i + 1) (product-trees h) (omega arith) ∙ omega arith)
+  told-end (power μ b ξ e) s n i h l =
+      let j : treeEnd s n (i + 1) ≡ i + 1 + records b = told-end b s n (i + 1) (power-tree h) (omega arith) in
+      end-step s n i (omega arith)
+      ∙ rw (arity-number (power μ b ξ e) h, skip-more s n (i + 1) 1, j, skip-one s n (i + 1 + records b))
+      (leaf-end s n (i + 1 + records b) (omega arith) (arity-number (integer ξ (pos e)) (exponent-tree h)) ∙ omega arith)
+
+  trees-end : {how : Tree → ℕ} {m : ℕ} (f : Forest) (s : List ℕ) (n i : ℕ) → ToldTrees how s i m f → i + recordses f ≤ n
+      → skip s n (n - i) (count f) i ≡ i + recordses f
+  trees-end nil s n i h l = skip-none s n (n - i) i ∙ omega arith
+  trees-end (cons t f) s n i h l =
+      rw (skip-more s n i (count f), told-end t s n i (first-tree h) (omega arith))
+      (trees-end f s n (i + records t) (other-trees h) (omega arith) ∙ omega arith)
 
 -- the trees owed from record `at` on end where the tree t at record i does
 pub record Owed (s : List ℕ) (i : ℕ) (t : Tree) (at owed : ℕ) : Type 0 where
@@ -21,11 +62,11 @@ pub record Owed (s : List ℕ) (i : ℕ) (t : Tree) (at owed : ℕ) : Type 0 whe
   pub ends : skip s (i + records t) (i + records t - at) owed at ≡ i + records t
 
 module _ {s : List ℕ} {i : ℕ} {t : Tree} where
-  pub owed-one : TreeIn s i t → Owed s i t i 1
+  pub owed-one : {how : Tree → ℕ} → Told how s i t → Owed s i t i 1
   owed-one h =
       record {
         few = omega arith;
-        ends = skip-one s (i + records t) i ∙ encode-end t s (i + records t) i (h .stands) (h .few) (omega arith);
+        ends = skip-one s (i + records t) i ∙ told-end t s (i + records t) i h (omega arith);
       }
 
   pub owed-inside : {at owed : ℕ} → Owed s i t at owed → 0 < owed → at < i + records t
@@ -36,7 +77,7 @@ module _ {s : List ℕ} {i : ℕ} {t : Tree} where
       go (inr m) = m
 
   -- while a tree is owed, the next record lies in the table
-  pub owed-within : {at owed : ℕ} → TreeIn s i t → Owed s i t at owed → 0 < owed → (at * 16 + 16 ≤ length s) × (at < i + 65535)
+  pub owed-within : {how : Tree → ℕ} {at owed : ℕ} → Told how s i t → Owed s i t at owed → 0 < owed → (at * 16 + 16 ≤ length s) × (at < i + 65535)
   owed-within h o l = let m = owed-inside o l in (omega (arith, tree-within h), omega (arith, h .few))
 
   pub owed-step : {at owed : ℕ} → Owed s i t at owed → 0 < owed → Owed s i t (at + 1) (owed - 1 + arity s at)

@@ -4,7 +4,7 @@ ghost use Prim.Native.Nat.{ℕ, _+_, _^_, _<_};
 ghost use lib.ListN.{length};
 ghost use Rattle.paper.specs.Tree.{Tree, Forest, product, records, toList};
 ghost use Rattle.paper.specs.Rules.{othersOf, productTerm, termOf, factorOf};
-ghost use Rattle.split.specs.Standing.{TreeIn, SomeTree, SomeProduct};
+ghost use Rattle.split.specs.Standing.{Told, SomeTold, SomeProduct};
 ghost use Rattle.split.specs.Place.{baseAt, lastOther, restAt};
 ghost use Rattle.split.specs.Rest.{coefficientOf, StandsFor};
 use number::Num;
@@ -23,13 +23,18 @@ struct Counted {
     last: usize,
 }
 
-// The record after the tree at record i: the next one after a leaf; else the trees that are owed are counted.
+// The record after the tree at record i: the next one after a leaf; so many on as a node's record tells; else the trees that are owed are
+// counted.
 pub fn skip_tree(s: &[u8], i: usize) -> usize
-    requires { ⌜ SomeTree (now s) i ⌝ }
-    ensures { λ r. ⌜ ((t : Tree) → TreeIn (now (s .entry)) i t → r ≡ i + records t) ⌝ }
+    requires { ⌜ SomeTold (now s) i ⌝ }
+    ensures { λ r. ⌜ ((how : Tree → ℕ) (t : Tree) → Told how (now (s .entry)) i t → r ≡ i + records t) ⌝ }
 {
     if record::kind(s, i) < 2 {
         return i + 1;
+    }
+    let told = (record::bits(s, i) % 0x1_0000) as usize;
+    if 0 < told {
+        return i + told;
     }
     let mut at = i;
     let mut owed = 1;
@@ -43,7 +48,7 @@ pub fn skip_tree(s: &[u8], i: usize) -> usize
 // The product of the integers among the members of the product at record i, in order; `Out` as soon as a partial product leaves the range.
 fn product_coefficient(s: &[u8], i: usize) -> Num
     requires { ⌜ SomeProduct (now s) i ⌝ }
-    ensures { λ r. ⌜ ((μ : ℕ) (f : Forest) → TreeIn (now (s .entry)) i (product μ f) → r ≡ coefficientOf (productTerm μ (toList f))) ⌝ }
+    ensures { λ r. ⌜ ((how : Tree → ℕ) (μ : ℕ) (f : Forest) → Told how (now (s .entry)) i (product μ f) → r ≡ coefficientOf (productTerm μ (toList f))) ⌝ }
 {
     let mut n = 1;
     let mut at = i + 1;
@@ -64,8 +69,8 @@ fn product_coefficient(s: &[u8], i: usize) -> Num
 
 // The coefficient of the tree at record i: an integer itself, the product of the integers of a product, or 1.
 pub fn coefficient(s: &[u8], i: usize) -> Num
-    requires { ⌜ SomeTree (now s) i ⌝ }
-    ensures { λ r. ⌜ ((t : Tree) → TreeIn (now (s .entry)) i t → r ≡ coefficientOf (termOf t)) ⌝ }
+    requires { ⌜ SomeTold (now s) i ⌝ }
+    ensures { λ r. ⌜ ((how : Tree → ℕ) (t : Tree) → Told how (now (s .entry)) i t → r ≡ coefficientOf (termOf t)) ⌝ }
 {
     let k = record::kind(s, i);
     if k < 1 {
@@ -80,7 +85,7 @@ pub fn coefficient(s: &[u8], i: usize) -> Num
 // Counts the members of the product at record i that are no integers.
 fn count_others(s: &[u8], i: usize) -> Counted
     requires { ⌜ SomeProduct (now s) i ⌝ }
-    ensures { λ r. ⌜ ((μ : ℕ) (f : Forest) → TreeIn (now (s .entry)) i (product μ f)
+    ensures { λ r. ⌜ ((how : Tree → ℕ) (μ : ℕ) (f : Forest) → Told how (now (s .entry)) i (product μ f)
         → (r .many ≡ length (othersOf (toList f))) × (r .last ≡ lastOther (i + 1) i f)) ⌝ }
 {
     let mut many = 0;
@@ -103,9 +108,9 @@ fn count_others(s: &[u8], i: usize) -> Counted
 
 // The rest of the tree at record i: what its coefficient leaves, a single other member standing for itself.
 pub fn rest_of(s: &[u8], i: usize) -> Rest
-    requires { ⌜ SomeTree (now s) i ⌝ }
-    ensures { λ r. ⌜ ((t : Tree) → TreeIn (now (s .entry)) i t → StandsFor (now (s .entry)) i r (termOf t .rest)) ⌝ }
-    ensures place { λ r. ⌜ ((t : Tree) → TreeIn (now (s .entry)) i t → r ≡ restAt i t) ⌝ }
+    requires { ⌜ SomeTold (now s) i ⌝ }
+    ensures { λ r. ⌜ ((how : Tree → ℕ) (t : Tree) → Told how (now (s .entry)) i t → StandsFor how (now (s .entry)) i r (termOf t .rest)) ⌝ }
+    ensures place { λ r. ⌜ ((how : Tree → ℕ) (t : Tree) → Told how (now (s .entry)) i t → r ≡ restAt i t) ⌝ }
 {
     let k = record::kind(s, i);
     if k < 1 {
@@ -129,9 +134,9 @@ pub fn rest_of(s: &[u8], i: usize) -> Rest
 
 // The record of the base of the tree at record i: a power's own, else the tree itself.
 pub fn base(s: &[u8], i: usize) -> usize
-    requires { ⌜ SomeTree (now s) i ⌝ }
-    ensures { λ r. ⌜ ((t : Tree) → TreeIn (now (s .entry)) i t → TreeIn (now (s .entry)) r (factorOf t .base)) ⌝ }
-    ensures place { λ r. ⌜ ((t : Tree) → TreeIn (now (s .entry)) i t → r ≡ baseAt i t) ⌝ }
+    requires { ⌜ SomeTold (now s) i ⌝ }
+    ensures { λ r. ⌜ ((how : Tree → ℕ) (t : Tree) → Told how (now (s .entry)) i t → Told how (now (s .entry)) r (factorOf t .base)) ⌝ }
+    ensures place { λ r. ⌜ ((how : Tree → ℕ) (t : Tree) → Told how (now (s .entry)) i t → r ≡ baseAt i t) ⌝ }
 {
     if record::kind(s, i) == 4 {
         return i + 1;
@@ -141,8 +146,8 @@ pub fn base(s: &[u8], i: usize) -> usize
 
 // The exponent of the tree at record i: a power's own, else 1.
 pub fn exponent(s: &[u8], i: usize) -> u64
-    requires { ⌜ SomeTree (now s) i ⌝ }
-    ensures { λ r. ⌜ ((t : Tree) → TreeIn (now (s .entry)) i t → (r ≡ factorOf t .exponent) × (r < 2 ^ 63)) ⌝ }
+    requires { ⌜ SomeTold (now s) i ⌝ }
+    ensures { λ r. ⌜ ((how : Tree → ℕ) (t : Tree) → Told how (now (s .entry)) i t → (r ≡ factorOf t .exponent) × (r < 2 ^ 63)) ⌝ }
 {
     if record::kind(s, i) == 4 {
         return record::bits(s, skip_tree(s, i + 1));

@@ -55,7 +55,7 @@ fn first_flawed(s: &[u8], n: usize) -> usize
 }
 
 // The weight of the n records.
-pub fn weight_of(s: &[u8], n: usize) -> usize
+fn weight_of(s: &[u8], n: usize) -> usize
     requires { ⌜ n * 16 ≤ length (now s) ⌝ }
     ensures { λ r. ⌜ r ≡ weightFrom (now (s .entry)) 0 n ⌝ }
 {

@@ -3,6 +3,7 @@
 -- member and of the others in order. By induction on the members. Assumes nothing.
 use Prim.Native.Nat.{ℕ, zero, suc, _+_, _-_, _*_, _<_, _≤_}
 use mathlib.Core.Path.{_≡_, refl, sym, ap, _∙_, subst}
+use mathlib.Core.Bool.{Bool}
 use mathlib.Core.List.{List, [], _∷_, _++_, append-nil, append-assoc}
 use native.Mathlib.Nat.{add-zero}
 use native.Mathlib.Decide.{decLt}
@@ -10,19 +11,22 @@ use native.Mathlib.Omega.{arith}
 use lib.ListN.{length, drop, getD, length-append}
 use lib.Seq.{drop-drop, getD-take, getD-drop}
 use Rattle.paper.specs.Bytes.{bytes, le, le2}
-use Rattle.paper.specs.Tree.{Tree, Forest, nil, toList, ofList, records, recordses}
-use Rattle.paper.specs.Table.{encode, encodes}
+use Rattle.paper.specs.Tree.{Tree, Forest, nil, toList, ofList, records, recordses, weight, weights}
 use Rattle.paper.specs.Record.{countIn}
 use Rattle.paper.specs.Walk.{lastOf, initOf, lastFirst}
 use Rattle.paper.proofs.BytesLaws.{le-bytes, le2-drop, le2-append}
 use Rattle.paper.proofs.EncodeLaws.{records-pos}
 use Rattle.paper.proofs.Stands.{Stands}
+use Rattle.paper.proofs.Value.{total, total-append, weights-list}
+use Rattle.note.specs.Note.{note}
+use Rattle.note.specs.Part.{partKey}
+use Rattle.note.specs.Noted.{encodeBy, encodesBy}
 use Rattle.stretch.specs.Put.{put, part}
 use Rattle.stretch.proofs.Laws.{length-part, drop-put, drop-put-at, put-put, put-none, getD-put-before, getD-put-after}
-use Rattle.split.specs.Standing.{TreeIn, TreesIn}
-use Rattle.paper.proofs.StandingLaws.{FirstOf, first-of, none-of}
+use Rattle.split.specs.Standing.{Told, ToldTrees}
+use Rattle.note.proofs.ToldLaws.{FirstOf, first-of, none-of}
 use Rattle.write.proofs.Encoded.{recordses-snoc}
-use Rattle.walk.specs.Listed.{entryOf, entriesOf, Entry, Entries, Listable, ListedIs}
+use Rattle.walk.specs.Listed.{shortKey, entryOf, entriesOf, Entry, Entries, Listable, ListedIs}
 
 -- ---- what stands from record p on
 module _ (w w' : List ℕ) (p : ℕ) (same : drop (p * 16) w' ≡ drop (p * 16) w) where
@@ -38,33 +42,36 @@ module _ (w w' : List ℕ) (p : ℕ) (same : drop (p * 16) w' ≡ drop (p * 16) 
   stands-still : (i : ℕ) (x : List ℕ) → p ≤ i → Stands w i x → Stands w' i x
   stands-still i x h s = record { after = s .after; there = later-same i h ∙ s .there }
 
-  pub tree-still : (i : ℕ) (t : Tree) → p ≤ i → TreeIn w i t → TreeIn w' i t
-  tree-still i t h s = record { wf = s .wf; few = s .few; stands = stands-still i (encode t) h (s .stands) }
+  pub tree-still : (i : ℕ) (t : Tree) → p ≤ i → Told note w i t → Told note w' i t
+  tree-still i t h s = record { tells = s .tells; wf = s .wf; few = s .few; stands = stands-still i (encodeBy note t) h (s .stands) }
 
-  pub trees-still : (i n : ℕ) (f : Forest) → p ≤ i → TreesIn w i n f → TreesIn w' i n f
-  trees-still i n f h s = record { counted = s .counted; wf = s .wf; few = s .few; stand = stands-still i (encodes f) h (s .stand) }
+  pub trees-still : (i n : ℕ) (f : Forest) → p ≤ i → ToldTrees note w i n f → ToldTrees note w' i n f
+  trees-still i n f h s =
+      record { tells = s .tells; counted = s .counted; wf = s .wf; few = s .few; stand = stands-still i (encodesBy note f) h (s .stand) }
 
   -- ---- entries that stay
   abbrev Kept : ℕ → Type 0
   Kept j = (le2 w' (j * 4) ≡ le2 w (j * 4)) × (le2 w' (j * 4 + 2) ≡ le2 w (j * 4 + 2))
 
   -- an entry that is copied from entry j to entry k
-  moved : (j k : ℕ) (t : Tree) → le2 w' (k * 4) ≡ le2 w (j * 4) → le2 w' (k * 4 + 2) ≡ le2 w (j * 4 + 2) → Entry w p j t → Entry w' p k t
-  moved j k t a b h =
+  moved : (b : Bool) (j k : ℕ) (t : Tree) → le2 w' (k * 4) ≡ le2 w (j * 4) → le2 w' (k * 4 + 2) ≡ le2 w (j * 4 + 2)
+      → Entry b w p j t → Entry b w' p k t
+  moved b j k t start key h =
       record {
-        there = subst (λ n. TreeIn w' (p + n) t) (sym a) (tree-still (p + le2 w (j * 4)) t (omega arith) (h .there));
-        size = b ∙ h .size;
+        there = subst (λ n. Told note w' (p + n) t) (sym start) (tree-still (p + le2 w (j * 4)) t (omega arith) (h .there));
+        key = key ∙ h .key;
       }
 
-  pub entries-still : (k : ℕ) (l : List Tree) → ((j : ℕ) → k ≤ j → j < k + length l → Kept j) → Entries w p k l → Entries w' p k l
-  entries-still k [] s h = tt
-  entries-still k (t ∷ l) s h =
+  pub entries-still : (b : Bool) (k : ℕ) (l : List Tree) → ((j : ℕ) → k ≤ j → j < k + length l → Kept j)
+      → Entries b w p k l → Entries b w' p k l
+  entries-still b k [] s h = tt
+  entries-still b k (t ∷ l) s h =
       let a = s k (omega arith) (omega arith) in
-      (moved k k t (a .0) (a .1) (h .0), entries-still (k + 1) l (λ j g u. s j (omega arith) (omega arith)) (h .1))
+      (moved b k k t (a .0) (a .1) (h .0), entries-still b (k + 1) l (λ j g u. s j (omega arith) (omega arith)) (h .1))
 
 -- ---- the member of entry k stands where the entry's start says
-pub entry-there : {w : List ℕ} {p k : ℕ} {t : Tree} → Entry w p k t → (start : ℕ) → start ≡ le2 w (k * 4) → TreeIn w (p + start) t
-entry-there {w} {p} {k} {t} h start e = subst (λ n. TreeIn w (p + n) t) (sym e) (h .there)
+pub entry-there : {b : Bool} {w : List ℕ} {p k : ℕ} {t : Tree} → Entry b w p k t → (start : ℕ) → start ≡ le2 w (k * 4) → Told note w (p + start) t
+entry-there {b} {w} {p} {k} {t} h start e = subst (λ n. Told note w (p + n) t) (sym e) (h .there)
 
 -- ---- four bytes put at entry a
 module _ (w x : List ℕ) (a : ℕ) (four : length x ≡ 4) (room : a * 4 + 4 ≤ length w) where
@@ -106,28 +113,32 @@ module _ (w x : List ℕ) (a : ℕ) (four : length x ≡ 4) (room : a * 4 + 4 �
 -- ---- an entry that is written
 entry-length : (a b : ℕ) → length (entryOf a b) ≡ 4
 unfolding entryOf bytes
-entry-length a b = refl
+entry-length a c = refl
 
 entry-start : (a b : ℕ) → a < 65536 → le2 (entryOf a b) 0 ≡ a
 unfolding entryOf bytes le2
 entry-start a b h = le-bytes 2 a h
 
-entry-size : (a b : ℕ) → b < 65536 → le2 (entryOf a b) 2 ≡ b
+entry-key : (a b : ℕ) → b < 65536 → le2 (entryOf a b) 2 ≡ b
 unfolding entryOf bytes le2
-entry-size a b h = le-bytes 2 b h
+entry-key a b h = le-bytes 2 b h
+
+short-lt : (key : ℕ) → shortKey key < 65536
+unfolding shortKey
+short-lt key = omega arith
 
 -- ---- entries in a row
-pub entries-snoc : (w : List ℕ) (p k n : ℕ) (l : List Tree) (t : Tree) → n ≡ k + length l → Entries w p k l → Entry w p n t
-    → Entries w p k (l ++ (t ∷ []))
-entries-snoc w p k n [] t e h g = (subst (λ n. Entry w p n t) (e ∙ omega arith) g, tt)
-entries-snoc w p k n (u ∷ l) t e h g = (h .0, entries-snoc w p (k + 1) n l t (e ∙ omega arith) (h .1) g)
+pub entries-snoc : (b : Bool) (w : List ℕ) (p k n : ℕ) (l : List Tree) (t : Tree) → n ≡ k + length l → Entries b w p k l → Entry b w p n t
+    → Entries b w p k (l ++ (t ∷ []))
+entries-snoc b w p k n [] t e h g = (subst (λ n. Entry b w p n t) (e ∙ omega arith) g, tt)
+entries-snoc b w p k n (u ∷ l) t e h g = (h .0, entries-snoc b w p (k + 1) n l t (e ∙ omega arith) (h .1) g)
 
-entries-last : (w : List ℕ) (p k n : ℕ) (a : Tree) (l : List Tree) → n ≡ k + length l → Entries w p k (a ∷ l)
-    → Entry w p n (lastOf a l) × Entries w p k (initOf a l)
+entries-last : (b : Bool) (w : List ℕ) (p k n : ℕ) (a : Tree) (l : List Tree) → n ≡ k + length l → Entries b w p k (a ∷ l)
+    → Entry b w p n (lastOf a l) × Entries b w p k (initOf a l)
 unfolding lastOf initOf
-entries-last w p k n a [] e h = (subst (λ n. Entry w p n a) (omega arith) (h .0), tt)
-entries-last w p k n a (b ∷ l) e h =
-    let r = entries-last w p (k + 1) n b l (e ∙ omega arith) (h .1) in
+entries-last b w p k n a [] e h = (subst (λ n. Entry b w p n a) (omega arith) (h .0), tt)
+entries-last b w p k n a (u ∷ l) e h =
+    let r = entries-last b w p (k + 1) n u l (e ∙ omega arith) (h .1) in
     (r .0, (h .0, r .1))
 
 init-many : (a : Tree) (l : List Tree) → length (initOf a l) ≡ length l
@@ -161,105 +172,122 @@ module _ (w w' : List ℕ) (p j n : ℕ) (x : Tree) (l : List Tree) (many : n �
   arrives : (b : ℕ) → b + 2 ≤ 4 → le2 w' (j * 4 + b) ≡ le2 w (n * 4 + b)
   arrives b h = ap (λ (y : List ℕ). le2 y (j * 4 + b)) swap ∙ put-here w (part w (n * 4) 4) j four (omega arith) b h ∙ read b h
 
-  pub swap-before : (k : ℕ) (m : List Tree) → k + length m ≤ j → Entries w p k m → Entries w' p k m
-  swap-before k m h e = entries-still w w' p swap-pending k m (λ i g u. stays i (λ q. omega arith)) e
+  pub swap-before : (b : Bool) (k : ℕ) (m : List Tree) → k + length m ≤ j → Entries b w p k m → Entries b w' p k m
+  swap-before b k m h e = entries-still w w' p swap-pending b k m (λ i g u. stays i (λ q. omega arith)) e
 
-  pub swap-after : Entries w p j (x ∷ l) → Entries w' p j (lastFirst l)
+  pub swap-after : (b : Bool) → Entries b w p j (x ∷ l) → Entries b w' p j (lastFirst l)
   unfolding lastFirst
-  swap-after e = go l many (e .1)
+  swap-after b e = go l many (e .1)
     where
-      go : (l : List Tree) → n ≡ j + length l → Entries w p (j + 1) l → Entries w' p j (lastFirst l)
+      go : (l : List Tree) → n ≡ j + length l → Entries b w p (j + 1) l → Entries b w' p j (lastFirst l)
       go [] m h = tt
       go (a ∷ l) m h =
-          let r = entries-last w p (j + 1) n a l (m ∙ omega arith) h in
+          let r = entries-last b w p (j + 1) n a l (m ∙ omega arith) h in
           let start = rw (add-zero (j * 4), add-zero (n * 4)) at (arrives 0 (omega arith)) in (
-            moved w w' p swap-pending n j (lastOf a l) start (arrives 2 (omega arith)) (r .0),
-            entries-still w w' p swap-pending (j + 1) (initOf a l) (λ i g u. stays i (λ q. omega arith)) (r .1),
+            moved w w' p swap-pending b n j (lastOf a l) start (arrives 2 (omega arith)) (r .0),
+            entries-still w w' p swap-pending b (j + 1) (initOf a l) (λ i g u. stays i (λ q. omega arith)) (r .1),
           )
 
 -- ---- the entries that are filled in, one after the other
-entries-length : (i : ℕ) (l : List Tree) → length (entriesOf i l) ≡ length l * 4
-unfolding entriesOf
-entries-length i [] = refl
-entries-length i (t ∷ l) =
-    length-append (entryOf i (records t)) (entriesOf (i + records t) l) ∙ omega (arith, entry-length i (records t), entries-length (i + records t) l)
+module _ (b : Bool) where
+  abbrev entry : ℕ → Tree → List ℕ
+  entry i t = entryOf i (shortKey (partKey b t))
 
-entriesOf-snoc : (i j : ℕ) (l : List Tree) (t : Tree) → j ≡ i + recordses (ofList l)
-    → entriesOf i (l ++ (t ∷ [])) ≡ entriesOf i l ++ entryOf j (records t)
-unfolding entriesOf ofList records
-entriesOf-snoc i j [] t e = append-nil (entryOf i (records t)) ∙ ap (λ n. entryOf n (records t)) (omega arith)
-entriesOf-snoc i j (u ∷ l) t e =
-    ap (λ (x : List ℕ). entryOf i (records u) ++ x) (entriesOf-snoc (i + records u) j l t (omega arith))
-    ∙ sym (append-assoc (entryOf i (records u)) (entriesOf (i + records u) l) (entryOf j (records t)))
+  entries-length : (i : ℕ) (l : List Tree) → length (entriesOf b i l) ≡ length l * 4
+  unfolding entriesOf
+  entries-length i [] = refl
+  entries-length i (t ∷ l) =
+      length-append (entry i t) (entriesOf b (i + records t) l)
+      ∙ omega (arith, entry-length i (shortKey (partKey b t)), entries-length (i + records t) l)
 
-pub record Listing (w₀ w : List ℕ) (p n : ℕ) (f : Forest) (at k : ℕ) : Type 0 where
+  entriesOf-snoc : (i j : ℕ) (l : List Tree) (t : Tree) → j ≡ i + recordses (ofList l)
+      → entriesOf b i (l ++ (t ∷ [])) ≡ entriesOf b i l ++ entry j t
+  unfolding entriesOf ofList records
+  entriesOf-snoc i j [] t e = append-nil (entry i t) ∙ ap (λ n. entry n t) (omega arith)
+  entriesOf-snoc i j (u ∷ l) t e =
+      ap (λ (x : List ℕ). entry i u ++ x) (entriesOf-snoc (i + records u) j l t (omega arith))
+      ∙ sym (append-assoc (entry i u) (entriesOf b (i + records u) l) (entry j t))
+
+pub record Listing (b : Bool) (w₀ w : List ℕ) (p n : ℕ) (f : Forest) (at k : ℕ) : Type 0 where
   pub done : List Tree
   pub others : Forest
   pub whole : toList f ≡ done ++ toList others
-  pub entries : Entries w p 0 done
+  pub entries : Entries b w p 0 done
   pub many : length done ≡ k
-  pub stand : TreesIn w at (n - k) others
+  pub stand : ToldTrees note w at (n - k) others
   pub pending : drop (p * 16) w ≡ drop (p * 16) w₀
   pub place : at + recordses others ≡ p + 1 + recordses f
   pub past : at ≡ p + (1 + recordses (ofList done))
-  pub exact : w ≡ put w₀ 0 (entriesOf 1 done)
+  pub exact : w ≡ put w₀ 0 (entriesOf b 1 done)
 
-pub listing-begins : {w : List ℕ} {p : ℕ} (n : ℕ) {f : Forest} → Listable w p f → n ≡ countIn w p → Listing w w p n f (p + 1) 0
+pub listing-begins : {b : Bool} {w : List ℕ} {p : ℕ} (n : ℕ) {f : Forest} → Listable w p f → n ≡ countIn w p → Listing b w w p n f (p + 1) 0
 unfolding entriesOf ofList records
-listing-begins {w} {p} n {f} h e =
+listing-begins {b} {w} {p} n {f} h e =
     record {
       done = [];
       others = f;
       whole = refl;
       entries = tt;
       many = refl;
-      stand = subst (λ n. TreesIn w (p + 1) n f) (sym e ∙ omega arith) (h .stand);
+      stand = subst (λ n. ToldTrees note w (p + 1) n f) (sym e ∙ omega arith) (h .stand);
       pending = refl;
       place = refl;
       past = omega arith;
       exact = sym (put-none w 0);
     }
 
-module _ {w₀ w : List ℕ} {p n : ℕ} {f : Forest} {at k : ℕ} (v : Listing w₀ w p n f at k) (l : k < n) where
-  abbrev pub head : FirstOf w at (n - k) (v .others)
+module _ {b : Bool} {w₀ w : List ℕ} {p n : ℕ} {f : Forest} {at k : ℕ} (v : Listing b w₀ w p n f at k) (l : k < n) where
+  abbrev pub head : FirstOf note w at (n - k) (v .others)
   head = first-of (v .others) (v .stand) (omega arith)
 
-  pub listing-more : (w' : List ℕ) (next : ℕ) → next ≡ at + records (head .tree) → recordses f < 65536 → n * 4 ≤ p * 16 → p * 16 ≤ length w
-      → length w ≡ length w₀ → w' ≡ put w (k * 4) (entryOf (at - p) (next - at)) → Listing w₀ w' p n f next (k + 1)
+  -- it is no heavier than all of them
+  pub head-light : weights f < 65536 → weight (head .tree) < 65536
+  unfolding weight
+  head-light light =
+      omega (
+        arith,
+        light,
+        weights-list f,
+        ap (total weight) (v .whole),
+        total-append weight (v .done) (toList (v .others)),
+        weights-list (v .others),
+        ap weights (head .whole),
+      )
+
+  pub listing-more : (w' : List ℕ) (next c : ℕ) → next ≡ at + records (head .tree) → c ≡ shortKey (partKey b (head .tree)) → recordses f < 65536
+      → n * 4 ≤ p * 16 → p * 16 ≤ length w → length w ≡ length w₀ → w' ≡ put w (k * 4) (entryOf (at - p) c) → Listing b w₀ w' p n f next (k + 1)
   unfolding records toList
-  listing-more w' next e few low within long q =
+  listing-more w' next c e key-is few low within long q =
       let t = head .tree in
       let a = at - p in
-      let b = next - at in
-      let x = entryOf a b in
+      let x = entryOf a c in
       let sizes = ap recordses (head .whole) in
-      let size-is : b ≡ records t = omega arith in
-      let still : drop (p * 16) w' ≡ drop (p * 16) w = ap (drop (p * 16)) q ∙ pending-still w x k (entry-length a b) (omega arith) p (omega arith) in
+      let still : drop (p * 16) w' ≡ drop (p * 16) w = ap (drop (p * 16)) q ∙ pending-still w x k (entry-length a c) (omega arith) p (omega arith) in
       let start : le2 w' (k * 4) ≡ a =
       rw add-zero at
       (ap (λ (y : List ℕ). le2 y (k * 4 + 0)) q
-      ∙ put-here w x k (entry-length a b) (omega arith) 0 (omega arith)
-      ∙ entry-start a b (omega (arith, v .place, v .past, records-pos t))) in
-      let size : le2 w' (k * 4 + 2) ≡ b =
+      ∙ put-here w x k (entry-length a c) (omega arith) 0 (omega arith)
+      ∙ entry-start a c (omega (arith, v .place, v .past, records-pos t))) in
+      let key : le2 w' (k * 4 + 2) ≡ c =
       ap (λ (y : List ℕ). le2 y (k * 4 + 2)) q
-      ∙ put-here w x k (entry-length a b) (omega arith) 2 (omega arith)
-      ∙ entry-size a b (omega (arith, head .there .few)) in
+      ∙ put-here w x k (entry-length a c) (omega arith) 2 (omega arith)
+      ∙ entry-key a c (omega (arith, key-is, short-lt (partKey b t))) in
       let here : p + le2 w' (k * 4) ≡ at = omega (arith, v .past) in
-      let kept = entries-still w w' p still 0 (v .done)
-      (λ j g u. rw q (put-other w x k (entry-length a b) (omega arith) j (λ m. omega (arith, v .many)))) (v .entries) in
-      let entry : Entry w' p k t = record {
-        there = subst (λ i. TreeIn w' i t) (sym here) (tree-still w w' p still at t (omega (arith, v .past)) (head .there));
-        size = size ∙ omega arith;
+      let kept = entries-still w w' p still b 0 (v .done)
+      (λ j g u. rw q (put-other w x k (entry-length a c) (omega arith) j (λ m. omega (arith, v .many)))) (v .entries) in
+      let entry : Entry b w' p k t = record {
+        there = subst (λ i. Told note w' i t) (sym here) (tree-still w w' p still at t (omega (arith, v .past)) (head .there));
+        key = key ∙ key-is;
       } in
       record {
         done = v .done ++ (t ∷ []);
         others = head .others;
         whole = v .whole ∙ ap (λ g. v .done ++ toList g) (head .whole) ∙ sym (append-assoc (v .done) (t ∷ []) (toList (head .others)));
-        entries = entries-snoc w' p 0 k (v .done) t (sym (v .many) ∙ omega arith) kept entry;
+        entries = entries-snoc b w' p 0 k (v .done) t (sym (v .many) ∙ omega arith) kept entry;
         many = length-append (v .done) (t ∷ []) ∙ omega (arith, v .many);
         stand =
-            subst (λ i. TreesIn w' i (n - (k + 1)) (head .others)) (sym e)
-            (subst (λ m. TreesIn w' (at + records t) m (head .others)) (omega arith)
+            subst (λ i. ToldTrees note w' i (n - (k + 1)) (head .others)) (sym e)
+            (subst (λ m. ToldTrees note w' (at + records t) m (head .others)) (omega arith)
             (trees-still w w' p still (at + records t) (n - k - 1) (head .others) (omega (arith, v .past)) (head .after)));
         pending = still ∙ v .pending;
         place = omega (arith, v .place);
@@ -267,27 +295,27 @@ module _ {w₀ w : List ℕ} {p n : ℕ} {f : Forest} {at k : ℕ} (v : Listing 
         exact =
             q
             ∙ ap (λ (y : List ℕ). put y (k * 4) x) (v .exact)
-            ∙ put-put w₀ 0 (entriesOf 1 (v .done)) (k * 4) x (omega (arith, entries-length 1 (v .done), v .many)) (omega (arith, entry-length a b, long))
-            ∙ ap (λ n. put w₀ 0 (entriesOf 1 (v .done) ++ entryOf a n)) size-is
-            ∙ ap (put w₀ 0) (sym (entriesOf-snoc 1 a (v .done) t (omega (arith, v .past))));
+            ∙ put-put w₀ 0 (entriesOf b 1 (v .done)) (k * 4) x (omega (arith, entries-length b 1 (v .done), v .many)) (omega (arith, entry-length a c, long))
+            ∙ ap (λ n. put w₀ 0 (entriesOf b 1 (v .done) ++ entryOf a n)) key-is
+            ∙ ap (put w₀ 0) (sym (entriesOf-snoc b 1 a (v .done) t (omega (arith, v .past))));
       }
 
 -- all are filled in
-pub listing-ends : {w₀ w : List ℕ} {p n : ℕ} {f : Forest} {at k : ℕ} → Listing w₀ w p n f at k → n ≤ k → k ≤ n → n ≡ countIn w₀ p
-    → n * 4 ≤ p * 16 → p * 16 ≤ length w → ListedIs w₀ w p f at
+pub listing-ends : {b : Bool} {w₀ w : List ℕ} {p n : ℕ} {f : Forest} {at k : ℕ} → Listing b w₀ w p n f at k → n ≤ k → k ≤ n → n ≡ countIn w₀ p
+    → n * 4 ≤ p * 16 → p * 16 ≤ length w → ListedIs b w₀ w p f at
 unfolding toList records
-listing-ends {w₀} {w} {p} {n} {f} {at} {k} v h g e low within =
+listing-ends {b} {w₀} {w} {p} {n} {f} {at} {k} v h g e low within =
     let none : v .others ≡ nil = none-of (v .others) (v .stand) (omega arith) in
     let all : toList f ≡ v .done = v .whole ∙ ap (λ g. v .done ++ toList g) none ∙ append-nil (v .done) in
     let zero = ap recordses none in
     record {
       listed = record {
-        entries = subst (Entries w p 0) (sym all) (v .entries);
+        entries = subst (Entries b w p 0) (sym all) (v .entries);
         many = ap length all ∙ v .many ∙ omega arith;
         low = omega arith;
         within = within;
       };
       pending = v .pending;
       end = omega (arith, v .place);
-      exact = v .exact ∙ ap (λ m. put w₀ 0 (entriesOf 1 m)) (sym all);
+      exact = v .exact ∙ ap (λ m. put w₀ 0 (entriesOf b 1 m)) (sym all);
     }

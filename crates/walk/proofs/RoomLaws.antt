@@ -1,24 +1,24 @@
 -- What the parts of the walk come to: a part that left the range stays out of it, and so does the member it becomes; and the member
--- that a part becomes has no more records than the members weigh that it was made of. A coefficient or an exponent adds two records at
--- most, and what it was taken up from weighs two or more unless it is an integer, when both are. Assumes nothing.
+-- that a part becomes weighs no more than the members that it was made of. A coefficient or an exponent adds two at most, and what it was
+-- taken up from weighs two or more unless it is an integer, when both are. Assumes nothing.
 use Prim.Native.Nat.{ℕ, _+_, _≤_}
 use mathlib.Core.Path.{_≡_, refl, sym, ap, _∙_, subst}
 use mathlib.Core.Bool.{Bool, true, false, _&&_}
-use mathlib.Core.List.{List, [], _∷_}
+use mathlib.Core.List.{List, [], _∷_, _++_}
 use mathlib.Core.Option.{Option, none, some}
 use native.Mathlib.Omega.{arith}
 use lib.Dec.{eqb}
 use lib.ListN.{length}
 use lib.IntN.{ℤ, pos, _+ℤ_, _*ℤ_}
 use borrow.Author.Tests.{eqb-true}
-use Rattle.paper.specs.Tree.{Tree, Forest, integer, symbol, sum, product, power, marked, toList, ofList, weight, records}
+use Rattle.paper.specs.Tree.{Tree, Forest, integer, symbol, sum, product, power, marked, toList, ofList, weight}
 use Rattle.paper.specs.WellFormed.{WF}
 use Rattle.paper.specs.Equal.{equal, eqZ}
 use Rattle.paper.specs.Rules.{asInteger, collapse, productOf, Term, term, integersOf, othersOf, Multiplied, timesEach, unit, productTerm, termOf}
 use Rattle.paper.specs.Rules.{added, coefficientTimes, timesUnless, fromTerm}
 use Rattle.paper.specs.Rules.{Factor, factor, factorOf, bothIntegers, powerUnless, fromFactor}
-use Rattle.paper.proofs.EncodeLaws.{records-pos, records-weight, recordses-weights}
-use Rattle.paper.proofs.Value.{total, weights-list, list-weights, weight-pos}
+use Rattle.paper.proofs.MarkLaws.{marked-weight}
+use Rattle.paper.proofs.Value.{total, total-append, weights-list, list-weights, weight-pos}
 use Rattle.paper.proofs.Bulk.{two-members, same-integer}
 use Rattle.paper.proofs.EqualView.{same-view}
 use Rattle.paper.proofs.LikeTerms.{mergeTerms-some}
@@ -27,7 +27,6 @@ use Rattle.paper.proofs.MergeFactors.{timesBases, addExponents, Merged, by-base
 use Rattle.part.specs.Like.{Like, split, merge, join}
 use Rattle.part.specs.Part.{inRange}
 use Rattle.part.proofs.PartLaws.{and-bad}
-use Rattle.write.proofs.Encoded.{marked-records, longer-records}
 
 -- ---- out of range
 added-bad : (c x : Term) → c .inRange ≡ false → added c x .inRange ≡ false
@@ -43,32 +42,38 @@ pub stays-bad : (b : Bool) (c x d : Like b) → inRange b c ≡ false → merge 
 stays-bad true c x d e m = subst (λ (d : Term). d .inRange ≡ false) (mergeTerms-some c x d m .1) (added-bad c x e)
 stays-bad false c x d e m = merged-bad c x e (mergeFactors-some c x d m)
 
--- ---- how many records a coefficient adds
+-- ---- what a coefficient adds to the weight
 abbrev Extra : Option ℤ → ℕ → ℕ → Type 0
 Extra (some z) n m = m ≡ 1
 Extra none n m = (n ≤ m) × (m ≤ n + 2)
 
-times-records : (μ : ℕ) (z : ℤ) (t : Tree) → Extra (asInteger t) (records t) (records (coefficientTimes μ z t .0))
-unfolding coefficientTimes asInteger records ofList
-times-records μ z (integer ν y) = refl
-times-records μ z (symbol ν s) = (omega arith, omega arith)
-times-records μ z (sum ν f) = (omega arith, omega arith)
-times-records μ z (product ν f) = let r = longer-records μ ν f z in (omega arith, omega arith)
-times-records μ z (power ν b ξ e) = (omega arith, omega arith)
+-- the product with an integer after its members
+longer-weight : (μ ν : ℕ) (f : Forest) (z : ℤ) → weight (product μ (ofList (toList f ++ (integer μ z ∷ [])))) ≡ weight (product ν f) + 1
+unfolding weight total
+longer-weight μ ν f z =
+    omega (arith, list-weights (toList f ++ (integer μ z ∷ [])), total-append weight (toList f) (integer μ z ∷ []), weights-list f)
 
-same-records : (μ : ℕ) (t : Tree) → Extra (asInteger t) (records t) (records (marked μ t))
-unfolding asInteger records marked
-same-records μ (integer ν y) = refl
-same-records μ (symbol ν s) = (omega arith, omega arith)
-same-records μ (sum ν f) = (omega arith, omega arith)
-same-records μ (product ν f) = (omega arith, omega arith)
-same-records μ (power ν b ξ e) = (omega arith, omega arith)
+times-weight : (μ : ℕ) (z : ℤ) (t : Tree) → Extra (asInteger t) (weight t) (weight (coefficientTimes μ z t .0))
+unfolding coefficientTimes asInteger weight ofList
+times-weight μ z (integer ν y) = refl
+times-weight μ z (symbol ν s) = (omega arith, omega arith)
+times-weight μ z (sum ν f) = (omega arith, omega arith)
+times-weight μ z (product ν f) = let r = longer-weight μ ν f z in (omega arith, omega arith)
+times-weight μ z (power ν b ξ e) = (omega arith, omega arith)
+
+same-weight : (μ : ℕ) (t : Tree) → Extra (asInteger t) (weight t) (weight (marked μ t))
+unfolding asInteger weight marked
+same-weight μ (integer ν y) = refl
+same-weight μ (symbol ν s) = (omega arith, omega arith)
+same-weight μ (sum ν f) = (omega arith, omega arith)
+same-weight μ (product ν f) = (omega arith, omega arith)
+same-weight μ (power ν b ξ e) = (omega arith, omega arith)
 
 -- with a coefficient of 1, or any other
-timed-records : (b : Bool) (c : Term) → Extra (asInteger (c .rest)) (records (c .rest)) (records (timesUnless b c .0))
+timed-weight : (b : Bool) (c : Term) → Extra (asInteger (c .rest)) (weight (c .rest)) (weight (timesUnless b c .0))
 unfolding timesUnless
-timed-records true c = same-records (c .mark) (c .rest)
-timed-records false c = times-records (c .mark) (c .coefficient) (c .rest)
+timed-weight true c = same-weight (c .mark) (c .rest)
+timed-weight false c = times-weight (c .mark) (c .coefficient) (c .rest)
 
 extra-most : (a : Option ℤ) (n m : ℕ) → 1 ≤ n → Extra a n m → m ≤ n + 2
 extra-most (some z) n m l h = omega arith
@@ -94,82 +99,82 @@ rest-integer (power μ b ξ x) e = refl
 
 -- ---- a member by itself
 -- the product of l, and a coefficient times it
-whole-records : (μ : ℕ) (l : List Tree) → records (productOf μ l) ≤ 1 + total weight l
-unfolding productOf collapse total records ofList
-whole-records μ [] = omega arith
-whole-records μ (t ∷ []) = omega (arith, records-weight t)
-whole-records μ (t ∷ u ∷ l) = omega (arith, records-weight t, records-weight u, recordses-weights (ofList l), list-weights l)
+whole-weight : (μ : ℕ) (l : List Tree) → weight (productOf μ l) ≤ 1 + total weight l
+unfolding productOf collapse total weight ofList
+whole-weight μ [] = omega arith
+whole-weight μ (t ∷ []) = omega arith
+whole-weight μ (t ∷ u ∷ l) = omega (arith, list-weights l)
 
-others-records : (b : Bool) (c : Term) (μ : ℕ) (l : List Tree) → c .rest ≡ productOf μ l → records (timesUnless b c .0) ≤ 2 + total weight l
-unfolding timesUnless productOf collapse total coefficientTimes records ofList
-others-records true c μ l e = omega (arith, marked-records (c .mark) (c .rest), ap records e, whole-records μ l)
-others-records false c μ l e = omega (arith, ap (λ t. records (coefficientTimes (c .mark) (c .coefficient) t .0)) e, timed l)
+others-weight : (b : Bool) (c : Term) (μ : ℕ) (l : List Tree) → c .rest ≡ productOf μ l → weight (timesUnless b c .0) ≤ 2 + total weight l
+unfolding timesUnless productOf collapse total coefficientTimes weight ofList
+others-weight true c μ l e = omega (arith, marked-weight (c .mark) (c .rest), ap weight e, whole-weight μ l)
+others-weight false c μ l e = omega (arith, ap (λ t. weight (coefficientTimes (c .mark) (c .coefficient) t .0)) e, timed l)
   where
-    timed : (l : List Tree) → records (coefficientTimes (c .mark) (c .coefficient) (productOf μ l) .0) ≤ 2 + total weight l
+    timed : (l : List Tree) → weight (coefficientTimes (c .mark) (c .coefficient) (productOf μ l) .0) ≤ 2 + total weight l
     timed [] = omega arith
     timed (t ∷ []) =
-        let e = extra-most (asInteger t) (records t) (records (coefficientTimes (c .mark) (c .coefficient) t .0)) (records-pos t)
-        (times-records (c .mark) (c .coefficient) t) in
-        omega (arith, records-weight t)
+        let e = extra-most (asInteger t) (weight t) (weight (coefficientTimes (c .mark) (c .coefficient) t .0)) (weight-pos t)
+        (times-weight (c .mark) (c .coefficient) t) in
+        omega arith
     timed (t ∷ u ∷ l) =
-        let e = longer-records (c .mark) μ (ofList (t ∷ u ∷ l)) (c .coefficient) in
-        omega (arith, records-weight t, records-weight u, recordses-weights (ofList l), list-weights l)
+        let e = longer-weight (c .mark) μ (ofList (t ∷ u ∷ l)) (c .coefficient) in
+        omega (arith, list-weights l)
 
 -- with no integer the coefficient is 1 and adds nothing; else an integer pays for it
-product-records : (μ : ℕ) (l : List Tree) → records (fromTerm (productTerm μ l) .0) ≤ 1 + total weight l
+product-weight : (μ : ℕ) (l : List Tree) → weight (fromTerm (productTerm μ l) .0) ≤ 1 + total weight l
 unfolding productTerm fromTerm timesEach unit eqZ timesUnless
-product-records μ l = go (integersOf l) (parted-weight l)
+product-weight μ l = go (integersOf l) (parted-weight l)
   where
     termWith : Multiplied → Term
     termWith c = record { mark = μ; coefficient = c .number; rest = productOf μ (othersOf l); inRange = c .inRange }
 
     go : (is : List ℤ) → length is + total weight (othersOf l) ≡ total weight l
-        → records (timesUnless (eqZ (timesEach unit is .number) (pos 1)) (termWith (timesEach unit is)) .0) ≤ 1 + total weight l
-    go [] h = omega (arith, marked-records μ (productOf μ (othersOf l)), whole-records μ (othersOf l))
+        → weight (timesUnless (eqZ (timesEach unit is .number) (pos 1)) (termWith (timesEach unit is)) .0) ≤ 1 + total weight l
+    go [] h = omega (arith, marked-weight μ (productOf μ (othersOf l)), whole-weight μ (othersOf l))
     go (z ∷ is) h =
         let c = timesEach unit (z ∷ is) in
-        omega (arith, others-records (eqZ (c .number) (pos 1)) (termWith c) μ (othersOf l) refl)
+        omega (arith, others-weight (eqZ (c .number) (pos 1)) (termWith c) μ (othersOf l) refl)
 
-integer-term : (b : Bool) (μ : ℕ) (z : ℤ) → records (timesUnless b (term μ z (integer 0 (pos 1))) .0) ≤ weight (integer μ z)
-unfolding timesUnless term coefficientTimes records weight marked
+integer-term : (b : Bool) (μ : ℕ) (z : ℤ) → weight (timesUnless b (term μ z (integer 0 (pos 1))) .0) ≤ weight (integer μ z)
+unfolding timesUnless term coefficientTimes weight marked
 integer-term true μ z = omega arith
 integer-term false μ z = omega arith
 
-term-records : (t : Tree) → records (fromTerm (termOf t) .0) ≤ weight t
+term-weight : (t : Tree) → weight (fromTerm (termOf t) .0) ≤ weight t
 unfolding termOf fromTerm term timesUnless eqZ weight marked
-term-records (integer μ z) = integer-term (eqZ z (pos 1)) μ z
-term-records (symbol μ s) = records-weight (symbol μ s)
-term-records (sum μ f) = records-weight (sum μ f)
-term-records (product μ f) = omega (arith, product-records μ (toList f), weights-list f)
-term-records (power μ b ξ e) = records-weight (power μ b ξ e)
+term-weight (integer μ z) = integer-term (eqZ z (pos 1)) μ z
+term-weight (symbol μ s) = omega arith
+term-weight (sum μ f) = omega arith
+term-weight (product μ f) = omega (arith, product-weight μ (toList f), weights-list f)
+term-weight (power μ b ξ e) = omega arith
 
-raised-records : (b : Bool) (c : Factor) → records (powerUnless b c .0) ≤ records (c .base) + 2
-unfolding powerUnless records
-raised-records true c = omega (arith, marked-records (c .mark) (c .base))
-raised-records false c = omega arith
+raised-weight : (b : Bool) (c : Factor) → weight (powerUnless b c .0) ≤ weight (c .base) + 2
+unfolding powerUnless weight
+raised-weight true c = omega (arith, marked-weight (c .mark) (c .base))
+raised-weight false c = omega arith
 
-factor-records : (t : Tree) → records (fromFactor (factorOf t) .0) ≤ weight t
+factor-weight : (t : Tree) → weight (fromFactor (factorOf t) .0) ≤ weight t
 unfolding factorOf factor fromFactor powerUnless weight marked
-factor-records (integer μ z) = records-weight (integer μ z)
-factor-records (symbol μ s) = records-weight (symbol μ s)
-factor-records (sum μ f) = records-weight (sum μ f)
-factor-records (product μ f) = records-weight (product μ f)
-factor-records (power μ b ξ e) = omega (arith, raised-records (eqb e 1) (factor μ b e), records-weight b)
+factor-weight (integer μ z) = omega arith
+factor-weight (symbol μ s) = omega arith
+factor-weight (sum μ f) = omega arith
+factor-weight (product μ f) = omega arith
+factor-weight (power μ b ξ e) = omega (arith, raised-weight (eqb e 1) (factor μ b e))
 
-pub join-first : (b : Bool) (t : Tree) → records (join b (split b t) .0) ≤ weight t
-join-first true t = term-records t
-join-first false t = factor-records t
+pub join-first : (b : Bool) (t : Tree) → weight (join b (split b t) .0) ≤ weight t
+join-first true t = term-weight t
+join-first false t = factor-weight t
 
 -- ---- a member that is taken up
 term-grows : (c : Term) (t : Tree) → WF t → equal (c .rest) (termOf t .rest) ≡ true
-    → records (fromTerm (added c (termOf t)) .0) ≤ records (fromTerm c .0) + weight t
+    → weight (fromTerm (added c (termOf t)) .0) ≤ weight (fromTerm c .0) + weight t
 unfolding fromTerm added
 term-grows c t w e =
     go (asInteger (c .rest)) refl _ _
-    (timed-records (eqZ (c .coefficient +ℤ termOf t .coefficient) (pos 1)) (added c (termOf t)))
-    (timed-records (eqZ (c .coefficient) (pos 1)) c)
+    (timed-weight (eqZ (c .coefficient +ℤ termOf t .coefficient) (pos 1)) (added c (termOf t)))
+    (timed-weight (eqZ (c .coefficient) (pos 1)) c)
   where
-    go : (a : Option ℤ) → asInteger (c .rest) ≡ a → (m n : ℕ) → Extra a (records (c .rest)) m → Extra a (records (c .rest)) n → m ≤ n + weight t
+    go : (a : Option ℤ) → asInteger (c .rest) ≡ a → (m n : ℕ) → Extra a (weight (c .rest)) m → Extra a (weight (c .rest)) n → m ≤ n + weight t
     go (some z) q m n h k = omega (arith, weight-pos t)
     go none q m n h k =
         let s = same-view (c .rest) (termOf t .rest) e in
@@ -188,26 +193,26 @@ no-integer c (product μ f) x e h = refl
 no-integer c (power μ b ξ y) x e h = refl
 
 exponents-grow : (b b' : Bool) (c d : Factor) (w : ℕ) → d .base ≡ c .base → (b ≡ true → 2 ≤ w)
-    → records (powerUnless b' d .0) ≤ records (powerUnless b c .0) + w
-unfolding powerUnless records
-exponents-grow true b' c d w q h = omega (arith, raised-records b' d, h refl, ap records q, marked-records (c .mark) (c .base))
-exponents-grow false b' c d w q h = omega (arith, raised-records b' d, ap records q)
+    → weight (powerUnless b' d .0) ≤ weight (powerUnless b c .0) + w
+unfolding powerUnless weight
+exponents-grow true b' c d w q h = omega (arith, raised-weight b' d, h refl, ap weight q, marked-weight (c .mark) (c .base))
+exponents-grow false b' c d w q h = omega (arith, raised-weight b' d, ap weight q)
 
-bases-grow : (b : Bool) (c d : Factor) → records (d .base) ≡ records (c .base) → records (powerUnless b d .0) ≡ records (powerUnless b c .0)
-unfolding powerUnless records
-bases-grow true c d q = marked-records (d .mark) (d .base) ∙ q ∙ sym (marked-records (c .mark) (c .base))
+bases-grow : (b : Bool) (c d : Factor) → weight (d .base) ≡ weight (c .base) → weight (powerUnless b d .0) ≡ weight (powerUnless b c .0)
+unfolding powerUnless weight
+bases-grow true c d q = marked-weight (d .mark) (d .base) ∙ q ∙ sym (marked-weight (c .mark) (c .base))
 bases-grow false c d q = omega arith
 
 factor-grows : (c : Factor) (t : Tree) {d : Factor} → WF t → Merged c (factorOf t) d
-    → records (fromFactor d .0) ≤ records (fromFactor c .0) + weight t
-unfolding fromFactor timesBases addExponents records
-factor-grows c t w (by-bases {y = y} {z = z} p q e) = omega (arith, bases-grow (eqb (c .exponent) 1) c (timesBases c (factorOf t) (y *ℤ z)) (sym (ap records p)))
+    → weight (fromFactor d .0) ≤ weight (fromFactor c .0) + weight t
+unfolding fromFactor timesBases addExponents weight
+factor-grows c t w (by-bases {y = y} {z = z} p q e) = omega (arith, bases-grow (eqb (c .exponent) 1) c (timesBases c (factorOf t) (y *ℤ z)) (sym (ap weight p)))
 factor-grows c t w (by-exponents e h) =
     exponents-grow (eqb (c .exponent) 1) _ c _ (weight t) refl (λ o. heavy t w (no-integer c t (eqb-true (c .exponent) 1 o) e h))
 
 pub join-grows : (b : Bool) (c d : Like b) (t : Tree) → WF t → merge b c (split b t) ≡ some d
-    → records (join b d .0) ≤ records (join b c .0) + weight t
+    → weight (join b d .0) ≤ weight (join b c .0) + weight t
 join-grows true c d t w m =
     let s = mergeTerms-some c (termOf t) d m in
-    subst (λ (d : Term). records (fromTerm d .0) ≤ records (fromTerm c .0) + weight t) (s .1) (term-grows c t w (s .0))
+    subst (λ (d : Term). weight (fromTerm d .0) ≤ weight (fromTerm c .0) + weight t) (s .1) (term-grows c t w (s .0))
 join-grows false c d t w m = factor-grows c t w (mergeFactors-some c (factorOf t) d m)

@@ -9,10 +9,11 @@ use native.Mathlib.Omega.{arith}
 use lib.ListN.{length, take, drop, length-append}
 use lib.Seq.{take-take}
 use Rattle.paper.specs.Tree.{Tree, ofList, records, recordses}
-use Rattle.paper.specs.Table.{encode, encodes}
 use Rattle.paper.specs.Walk.{WalkEnd, walk}
 use Rattle.paper.specs.Rules as paper
 use Rattle.paper.specs.Rules.{allInRange, rebuilt, outcome, combine}
+use Rattle.note.specs.Note.{note}
+use Rattle.note.specs.Noted.{encodeBy, encodesBy}
 use Rattle.stretch.specs.Put.{put, part}
 use Rattle.stretch.proofs.Laws.{take-put}
 use Rattle.part.specs.Like.{Like, nodeOf, split, merge, join}
@@ -97,7 +98,7 @@ abbrev pub Came : (b : Bool) (d : ℕ) (o₀ o : List ℕ) (e : ℕ) (done : Lis
 Came b d o₀ o e done true = allInRange (map (join b) done) ≡ false
 Came b d o₀ o e done false =
     (allInRange (map (join b) done) ≡ true)
-    × (take (e * 16) o ≡ take ((d + 1) * 16) o₀ ++ encodes (ofList (outs b done)))
+    × (take (e * 16) o ≡ take ((d + 1) * 16) o₀ ++ encodesBy note (ofList (outs b done)))
     × (e ≡ d + 1 + recordses (ofList (outs b done)))
 
 pub record Common (b : Bool) (o₀ w₀ : List ℕ) (d p : ℕ) (o w : List ℕ) (i e : ℕ) (late : Bool) (done : List (Like b)) : Type 0 where
@@ -130,13 +131,13 @@ module _ {b : Bool} {o₀ w₀ : List ℕ} {d p : ℕ} {o w : List ℕ} {i e : �
 
   -- the member that c becomes is written
   pub common-written : (o' : List ℕ) (c : Like b) (x : ℕ) → e * 16 ≤ length o → join b c .1 ≡ true → x ≡ e + records (join b c .0)
-      → o' ≡ put o (e * 16) (encode (join b c .0)) → Common b o₀ w₀ d p o' w (i + 1) x late (done ++ (c ∷ []))
+      → o' ≡ put o (e * 16) (encodeBy note (join b c .0)) → Common b o₀ w₀ d p o' w (i + 1) x late (done ++ (c ∷ []))
   common-written o' c x r g q s =
       record {
         many = length-append done (c ∷ []) ∙ omega (arith, v .many);
         pending = v .pending;
         low = omega (arith, v .low);
-        front = ap (take ((d + 1) * 16)) s ∙ take-put o (e * 16) (encode (join b c .0)) ((d + 1) * 16) (omega (arith, v .low)) r ∙ v .front;
+        front = ap (take ((d + 1) * 16)) s ∙ take-put o (e * 16) (encodeBy note (join b c .0)) ((d + 1) * 16) (omega (arith, v .low)) r ∙ v .front;
         came = go late (v .came);
       }
     where
@@ -145,7 +146,7 @@ module _ {b : Bool} {o₀ w₀ : List ℕ} {d p : ℕ} {o w : List ℕ} {i e : �
       go false h = (
         all-good b done c (h .0) g,
         built-more o o' (take ((d + 1) * 16) o₀) e x (outs b done) (join b c .0) (h .1) r s q
-            ∙ ap (λ m. take ((d + 1) * 16) o₀ ++ encodes (ofList m)) (sym (outs-snoc b done c)),
+            ∙ ap (λ m. take ((d + 1) * 16) o₀ ++ encodesBy note (ofList m)) (sym (outs-snoc b done c)),
         omega (arith, h .2, ap (λ m. recordses (ofList m)) (outs-snoc b done c), recordses-snoc (outs b done) (join b c .0)),
       )
 
@@ -193,5 +194,6 @@ shows-still false w w' p (part.Power e i k m) x s f h =
       exponent = h .exponent;
       most = h .most;
       good = h .good;
+      wf = h .wf;
     }
 shows-still false w w' p (part.Number e v a m) x s f h = h

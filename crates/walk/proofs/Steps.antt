@@ -7,8 +7,8 @@ use mathlib.Core.List.{List, [], _∷_, _++_, map, append-nil}
 use mathlib.Core.Option.{none, some}
 use native.Mathlib.Omega.{arith}
 use lib.ListN.{length, take, drop, length-append}
+use Rattle.paper.specs.Bytes.{le2}
 use Rattle.paper.specs.Tree.{Tree, ofList, weight, records, recordses}
-use Rattle.paper.specs.Table.{encode, encodes}
 use Rattle.paper.specs.Walk.{WalkEnd, thenWalk, turn, walk, lastFirst}
 use Rattle.paper.specs.Rules as paper
 use Rattle.paper.specs.Rules.{allInRange}
@@ -16,17 +16,20 @@ use Rattle.paper.proofs.EncodeLaws.{records-weight}
 use Rattle.paper.proofs.Value.{total, total-append, list-weights}
 use Rattle.paper.proofs.WalkLaws.{plus-laws, fold-lastFirst}
 use Rattle.paper.proofs.OutcomeLaws.{total-fold}
+use Rattle.note.specs.Note.{note}
+use Rattle.note.specs.Noted.{encodeBy, encodesBy}
 use Rattle.stretch.specs.Put.{put, part}
 use Rattle.part.specs.Like.{Like, nodeOf, split, merge, join}
 use Rattle.part.specs.Part.{Shows, From, inRange}
 use Rattle.part.specs.declared.Part.{Part}
-use Rattle.walk.specs.Listed.{Entry, Entries}
-use Rattle.walk.specs.Walked.{Walkable, combined, cameOut, CameOut}
+use Rattle.walk.specs.Listed.{shortKey, Entry, Entries}
+use Rattle.walk.specs.Walked.{Walkable, combined, cameOut, CameOut, keyOf}
 use Rattle.paper.proofs.WalkFuel.{lastFirst-length, map-length}
 use Rattle.walk.proofs.TurnLaws.{map-lastFirst, map-append, resumed, resumed-none, after, turn-begins}
 use Rattle.walk.proofs.TurnLaws.{passes-by, takes-up, turn-ends, walk-ends, turn-keeps}
 use Rattle.part.proofs.PartLaws.{joins-bad}
 use Rattle.walk.proofs.RoomLaws.{stays-bad, join-first, join-grows}
+use Rattle.walk.proofs.KeyedLaws.{member-key, key-stays}
 use Rattle.walk.proofs.EntryLaws.{entries-snoc, swap-pending, swap-before, swap-after}
 use Rattle.walk.proofs.States.{walked, outs, idle-outcome, over-outcome, done-outcome, all-snoc, outs-many, Came, Common}
 use Rattle.walk.proofs.States.{common-ticks, common-written, common-late, common-done, shows-still}
@@ -49,47 +52,48 @@ pub record Outer (b : Bool) (l : List Tree) (o₀ w₀ : List ℕ) (d p count : 
   pub whole : walked b l ≡ rest-of-walk b done removed left
   pub gone : n + removed ≡ count
   pub many : i + length left ≡ n
-  pub entries : Entries w p i left
+  pub entries : Entries b w p i left
   pub room : e + total weight left ≤ d + (1 + total weight l)
   pub common : Common b o₀ w₀ d p o w i e late done
 
-pub record Inner (b : Bool) (l : List Tree) (o₀ w₀ : List ℕ) (d p count : ℕ) (o w : List ℕ) (n i e : ℕ) (late : Bool) (c : Part) (j : ℕ)
-    : Type 0 where
+pub record Inner (b : Bool) (l : List Tree) (o₀ w₀ : List ℕ) (d p count : ℕ) (o w : List ℕ) (n i e : ℕ) (late : Bool) (c : Part)
+    (key j : ℕ) : Type 0 where
   pub done : List (Like b)
   pub removed : ℕ
   pub current : Like b
   pub passed : List Tree
   pub left : List Tree
   pub shown : Shows b w c current
+  pub keyed : key ≡ shortKey (keyOf b current)
   pub place : From p c
   pub whole : walked b l ≡ rest-of-turn b done removed current passed left
   pub gone : n + removed ≡ count
   pub behind : i + 1 + length passed ≡ j
   pub many : j + length left ≡ n
-  pub passed-entries : Entries w p (i + 1) passed
-  pub entries : Entries w p j left
-  pub room : e + (records (join b current .0) + (total weight passed + total weight left)) ≤ d + (1 + total weight l)
+  pub passed-entries : Entries b w p (i + 1) passed
+  pub entries : Entries b w p j left
+  pub room : e + (weight (join b current .0) + (total weight passed + total weight left)) ≤ d + (1 + total weight l)
   pub common : Common b o₀ w₀ d p o w i e late done
 
 -- ---- the first of the members that are left
-pub record Head (w : List ℕ) (p i : ℕ) (left : List Tree) : Type 0 where
+pub record Head (b : Bool) (w : List ℕ) (p i : ℕ) (left : List Tree) : Type 0 where
   pub tree : Tree
   pub others : List Tree
   pub is : left ≡ tree ∷ others
-  pub entry : Entry w p i tree
-  pub rest : Entries w p (i + 1) others
+  pub entry : Entry b w p i tree
+  pub rest : Entries b w p (i + 1) others
 
-pub head-of : (w : List ℕ) (p i : ℕ) (left : List Tree) → Entries w p i left → 0 < length left → Head w p i left
-head-of w p i [] e h = absurd (omega arith)
-head-of w p i (t ∷ l) e h = record { tree = t; others = l; is = refl; entry = e .0; rest = e .1 }
+pub head-of : (b : Bool) (w : List ℕ) (p i : ℕ) (left : List Tree) → Entries b w p i left → 0 < length left → Head b w p i left
+head-of b w p i [] e h = absurd (omega arith)
+head-of b w p i (t ∷ l) e h = record { tree = t; others = l; is = refl; entry = e .0; rest = e .1 }
 
 none-left : (l : List Tree) → length l ≡ 0 → l ≡ []
 none-left [] e = refl
 none-left (t ∷ l) e = absurd (omega arith)
 
 module _ {b : Bool} {l : List Tree} {o₀ w₀ : List ℕ} {d p count : ℕ} where
-  pub outer-begins : Walkable o₀ w₀ d p count l → Outer b l o₀ w₀ d p count o₀ w₀ count 0 (d + 1) false
-  unfolding allInRange ofList records encode
+  pub outer-begins : Walkable b o₀ w₀ d p count l → Outer b l o₀ w₀ d p count o₀ w₀ count 0 (d + 1) false
+  unfolding allInRange ofList records encodeBy
   outer-begins h =
       record {
         done = [];
@@ -111,12 +115,13 @@ module _ {b : Bool} {l : List Tree} {o₀ w₀ : List ℕ} {d p count : ℕ} whe
 
   module _ {o w : List ℕ} {n i e : ℕ} {late : Bool} (v : Outer b l o₀ w₀ d p count o w n i e late) where
     module _ (less : i < n) where
-      abbrev pub first : Head w p i (v .left)
-      first = head-of w p i (v .left) (v .entries) (omega (arith, v .many))
+      abbrev pub first : Head b w p i (v .left)
+      first = head-of b w p i (v .left) (v .entries) (omega (arith, v .many))
 
-      pub inner-begins : (c : Part) → Shows b w c (split b (first .tree)) → From p c → Inner b l o₀ w₀ d p count o w n i e late c (i + 1)
+      pub inner-begins : (c : Part) (key : ℕ) → Shows b w c (split b (first .tree)) → From p c → key ≡ le2 w (i * 4 + 2)
+          → Inner b l o₀ w₀ d p count o w n i e late c key (i + 1)
       unfolding total
-      inner-begins c s f =
+      inner-begins c key s f k =
           let t = first .tree in
           let m = first .others in
           let size = ap length (first .is) in
@@ -128,6 +133,7 @@ module _ {b : Bool} {l : List Tree} {o₀ w₀ : List ℕ} {d p count : ℕ} whe
             passed = [];
             left = m;
             shown = s;
+            keyed = k ∙ first .entry .key ∙ ap shortKey (member-key b t);
             place = f;
             whole =
                 v .whole
@@ -166,15 +172,16 @@ module _ {b : Bool} {l : List Tree} {o₀ w₀ : List ℕ} {d p count : ℕ} whe
                 λ μ. done-outcome b l (v .done) (v .removed) all-out μ (omega (arith, v .gone)) (came .0)
                 ∙ ap (λ m. paper.applies (nodeOf b μ m)) (sym these);
             many = ap length these ∙ outs-many b (v .done) ∙ v .common .many;
-            built = came .1 ∙ ap (λ m. take ((d + 1) * 16) o₀ ++ encodes (ofList m)) (sym these);
+            built = came .1 ∙ ap (λ m. take ((d + 1) * 16) o₀ ++ encodesBy note (ofList m)) (sym these);
             end = came .2 ∙ ap (λ m. d + 1 + recordses (ofList m)) (sym these);
             small = omega (arith, v .room, list-weights l);
           }
 
-  module _ {o w : List ℕ} {n i e : ℕ} {late : Bool} {c : Part} {j : ℕ} (v : Inner b l o₀ w₀ d p count o w n i e late c j) where
+  module _ {o w : List ℕ} {n i e : ℕ} {late : Bool} {c : Part} {key j : ℕ}
+      (v : Inner b l o₀ w₀ d p count o w n i e late c key j) where
     module _ (less : j < n) where
-      abbrev pub next : Head w p j (v .left)
-      next = head-of w p j (v .left) (v .entries) (omega (arith, v .many))
+      abbrev pub next : Head b w p j (v .left)
+      next = head-of b w p j (v .left) (v .entries) (omega (arith, v .many))
 
       faced : walked b l ≡ rest-of-turn b (v .done) (v .removed) (v .current) (v .passed) (next .tree ∷ next .others)
       faced = v .whole ∙ ap (rest-of-turn b (v .done) (v .removed) (v .current) (v .passed)) (next .is)
@@ -185,7 +192,7 @@ module _ {b : Bool} {l : List Tree} {o₀ w₀ : List ℕ} {d p count : ℕ} whe
 
       -- it is passed by
       pub inner-apart : (o' : List ℕ) → take (e * 16) o' ≡ take (e * 16) o → merge b (v .current) (split b (next .tree)) ≡ none
-          → Inner b l o₀ w₀ d p count o' w n i e late c (j + 1)
+          → Inner b l o₀ w₀ d p count o' w n i e late c key (j + 1)
       unfolding total
       inner-apart o' s q =
           let x = next .tree in
@@ -199,6 +206,7 @@ module _ {b : Bool} {l : List Tree} {o₀ w₀ : List ℕ} {d p count : ℕ} whe
             passed = v .passed ++ (x ∷ []);
             left = m;
             shown = v .shown;
+            keyed = v .keyed;
             place = v .place;
             whole =
                 faced
@@ -208,7 +216,7 @@ module _ {b : Bool} {l : List Tree} {o₀ w₀ : List ℕ} {d p count : ℕ} whe
             gone = v .gone;
             behind = omega (arith, v .behind, length-append (v .passed) (x ∷ []));
             many = omega (arith, v .many);
-            passed-entries = entries-snoc w p (i + 1) j (v .passed) x (sym (v .behind)) (v .passed-entries) (next .entry);
+            passed-entries = entries-snoc b w p (i + 1) j (v .passed) x (sym (v .behind)) (v .passed-entries) (next .entry);
             entries = next .rest;
             room = omega (arith, v .room, total-append weight (v .passed) (x ∷ []));
             common = common-ticks (v .common) o' w s refl;
@@ -217,7 +225,7 @@ module _ {b : Bool} {l : List Tree} {o₀ w₀ : List ℕ} {d p count : ℕ} whe
       -- it is taken up, and the last member moves into its place
       pub inner-into : (o' w' : List ℕ) (c' : Part) (x : Like b) → take (e * 16) o' ≡ take (e * 16) o
           → merge b (v .current) (split b (next .tree)) ≡ some x → Shows b w c' x → From p c' → n * 4 ≤ p * 16 → p * 16 ≤ length w
-          → w' ≡ put w (j * 4) (part w ((n - 1) * 4) 4) → Inner b l o₀ w₀ d p count o' w' (n - 1) i e late c' j
+          → w' ≡ put w (j * 4) (part w ((n - 1) * 4) 4) → Inner b l o₀ w₀ d p count o' w' (n - 1) i e late c' key j
       unfolding total
       inner-into o' w' c' x s q h f low within k =
           let t = next .tree in
@@ -237,6 +245,7 @@ module _ {b : Bool} {l : List Tree} {o₀ w₀ : List ℕ} {d p count : ℕ} whe
             passed = v .passed;
             left = lastFirst m;
             shown = shows-still b w w' p c' x still f h;
+            keyed = v .keyed ∙ ap shortKey (sym (key-stays b (v .current) (split b t) x q));
             place = f;
             whole =
                 faced
@@ -248,8 +257,8 @@ module _ {b : Bool} {l : List Tree} {o₀ w₀ : List ℕ} {d p count : ℕ} whe
             behind = v .behind;
             many = omega (arith, lastFirst-length m);
             passed-entries =
-                swap-before w w' p j (n - 1) t m rest (omega arith) within k (i + 1) (v .passed) (omega (arith, v .behind)) (v .passed-entries);
-            entries = swap-after w w' p j (n - 1) t m rest (omega arith) within k (subst (Entries w p j) (next .is) (v .entries));
+                swap-before w w' p j (n - 1) t m rest (omega arith) within k b (i + 1) (v .passed) (omega (arith, v .behind)) (v .passed-entries);
+            entries = swap-after w w' p j (n - 1) t m rest (omega arith) within k b (subst (Entries b w p j) (next .is) (v .entries));
             room = omega (arith, v .room);
             common = common-ticks (v .common) o' w' s still;
           }
@@ -273,8 +282,8 @@ module _ {b : Bool} {l : List Tree} {o₀ w₀ : List ℕ} {d p count : ℕ} whe
       no-later : v .left ≡ []
       no-later = none-left (v .left) (omega (arith, v .many))
 
-      pub fitting : (e + records (join b (v .current) .0)) * 16 ≤ (d + (1 + total weight l)) * 16
-      fitting = omega (arith, v .room)
+      pub fitting : ((e + records (join b (v .current) .0)) * 16 ≤ (d + (1 + total weight l)) * 16) × (weight (join b (v .current) .0) ≤ total weight l)
+      fitting = (omega (arith, v .room, records-weight (join b (v .current) .0)), omega (arith, v .room, v .common .low))
 
       turned : walked b l ≡ resumed (v .done ++ (v .current ∷ [])) (v .removed) (walk (merge b) (length (parts b (v .passed))) (parts b (v .passed)))
       turned =
@@ -283,7 +292,7 @@ module _ {b : Bool} {l : List Tree} {o₀ w₀ : List ℕ} {d p count : ℕ} whe
           ∙ turn-ends (merge b) (v .done) (v .removed) (v .current) (parts b (v .passed))
 
       pub outer-written : (o' : List ℕ) (x : ℕ) → e * 16 ≤ length o → join b (v .current) .1 ≡ true → x ≡ e + records (join b (v .current) .0)
-          → o' ≡ put o (e * 16) (encode (join b (v .current) .0)) → Outer b l o₀ w₀ d p count o' w n (i + 1) x late
+          → o' ≡ put o (e * 16) (encodeBy note (join b (v .current) .0)) → Outer b l o₀ w₀ d p count o' w n (i + 1) x late
       outer-written o' x r g q s =
           let size = ap length no-later in
           record {
@@ -294,7 +303,7 @@ module _ {b : Bool} {l : List Tree} {o₀ w₀ : List ℕ} {d p count : ℕ} whe
             gone = v .gone;
             many = omega (arith, v .behind, v .many);
             entries = v .passed-entries;
-            room = omega (arith, v .room);
+            room = omega (arith, v .room, records-weight (join b (v .current) .0));
             common = common-written (v .common) o' (v .current) x r g q s;
           }
 

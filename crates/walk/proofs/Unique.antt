@@ -53,7 +53,8 @@ pub walk-once : (κs : Lfts 2) (a : Dens κs kinds.ps) (l : List Tree) (r r' : W
     let d = a .1 .1 .0 in
     let p = a .1 .1 .1 .0 in
     let count = a .1 .1 .1 .1 .0 in
-    Walkable out work d p count l → reads.Post κs a r x → reads.Post κs a r' x'
+    let terms = a .1 .1 .1 .1 .1 .0 in
+    Walkable terms out work d p count l → reads.Post κs a r x → reads.Post κs a r' x'
     → ((r ≡ r') × BuiltAlike (x .0 .now) (x' .0 .now) r)
     × (drop (p * 16) (x .1 .0 .now) ≡ drop (p * 16) (x' .1 .0 .now))
     × (take (d * 16) (x .0 .now) ≡ take (d * 16) (x' .0 .now))

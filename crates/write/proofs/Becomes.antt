@@ -12,17 +12,19 @@ use lib.ListN.{length}
 use lib.IntN.{ℤ, pos, one, *ℤ-one}
 use lib.Signed.{mag}
 use Rattle.paper.specs.Bytes.{signed}
-use Rattle.paper.specs.Tree.{Tree, Forest, integer, product, power, marked, toList, ofList, records}
+use Rattle.paper.specs.Tree.{Tree, Forest, integer, product, power, marked, toList, ofList, records, weight}
+use Rattle.paper.specs.WellFormed.{WF}
 use Rattle.paper.specs.Record.{kind, markIn}
-use Rattle.paper.specs.Table.{encode}
 use Rattle.paper.specs.Equal.{eqZ}
 use Rattle.paper.specs.Rules.{fits, Term, term, termOf, coefficientTimes, timesUnless, fromTerm, Factor, powerUnless, fromFactor}
 use Rattle.paper.proofs.EncodeLaws.{signed-in-range}
 use Rattle.paper.proofs.Tests.{eqZ-true, not-so}
-use Rattle.paper.proofs.Seen.{Seen, an-integer, a-symbol, a-sum, a-product, a-power}
+use Rattle.note.proofs.ToldLaws.{Seen, an-integer, a-symbol, a-sum, a-product, a-power}
+use Rattle.note.specs.Note.{note}
+use Rattle.note.specs.Noted.{encodeBy}
 use Rattle.stretch.specs.Put.{put}
-use Rattle.split.specs.Standing.{TreeIn}
-use Rattle.paper.proofs.StandingLaws.{seen, mark-number}
+use Rattle.split.specs.Standing.{Told}
+use Rattle.note.proofs.ToldLaws.{seen, mark-number}
 use Rattle.part.specs.Part.{ShowsTerm, ShowsPower, ShowsNumber}
 use Rattle.part.proofs.PartLaws.{same-bits, term-mark}
 use Rattle.write.specs.Written.{timed, WrittenIs, Fitting}
@@ -39,13 +41,16 @@ module _ {x : Tree × Bool} {u : Tree} {k : ℕ} (h : Becomes x u k) (out : List
   as-long = h .size ∙ ap (λ (p : Tree × Bool). records (p .0)) (sym (h .is))
 
   pub room : Fitting x out m → (m + k) * 16 ≤ length out
-  room f = omega (arith, f, as-long)
+  room f = omega (arith, f .room, as-long)
 
-  pub written : (out' : List ℕ) (e : ℕ) → e ≡ m + k → out' ≡ put out (m * 16) (encode u) → WrittenIs x out out' m (To e)
+  pub light : Fitting x out m → weight u < 65536
+  light f = omega (arith, f .light, ap (λ (p : Tree × Bool). weight (p .0)) (h .is))
+
+  pub written : (out' : List ℕ) (e : ℕ) → e ≡ m + k → out' ≡ put out (m * 16) (encodeBy note u) → WrittenIs x out out' m (To e)
   written out' e a b = (
     ap (λ (p : Tree × Bool). p .1) (h .is),
     omega (arith, a, as-long),
-    b ∙ ap (λ (p : Tree × Bool). put out (m * 16) (encode (p .0))) (sym (h .is)),
+    b ∙ ap (λ (p : Tree × Bool). put out (m * 16) (encodeBy note (p .0))) (sym (h .is)),
   )
 
 -- ---- coefficient times rest
@@ -62,12 +67,12 @@ times-product : (μ ν : ℕ) (z : ℤ) (f : Forest)
 unfolding coefficientTimes
 times-product μ ν z f = refl
 
-times-other : (s : List ℕ) (i μ : ℕ) (z : ℤ) (t : Tree) → TreeIn s i t → 1 ≤ kind s i → (kind s i ≡ 3 → ⊥)
+times-other : (s : List ℕ) (i μ : ℕ) (z : ℤ) (t : Tree) → Told note s i t → 1 ≤ kind s i → (kind s i ≡ 3 → ⊥)
     → coefficientTimes μ z t ≡ (product μ (ofList (integer μ z ∷ t ∷ [])), true)
 unfolding coefficientTimes
 times-other s i μ z t h k o = go (seen h)
   where
-    go : {t : Tree} → Seen s i t → coefficientTimes μ z t ≡ (product μ (ofList (integer μ z ∷ t ∷ [])), true)
+    go : {t : Tree} → Seen note s i t → coefficientTimes μ z t ≡ (product μ (ofList (integer μ z ∷ t ∷ [])), true)
     go (an-integer e b w) = absurd (omega arith)
     go (a-symbol e v w) = refl
     go (a-sum e n c w m) = refl
@@ -93,7 +98,7 @@ module _ (μ n : ℕ) (t : Tree) {k : ℕ} (size : k ≡ records t) where
           size = omega (arith, ap records e, longer-records μ ν f (signed n));
         }
 
-    pub pair-becomes : (s : List ℕ) (i : ℕ) → TreeIn s i t → 1 ≤ kind s i → (kind s i ≡ 3 → ⊥)
+    pub pair-becomes : (s : List ℕ) (i : ℕ) → Told note s i t → 1 ≤ kind s i → (kind s i ≡ 3 → ⊥)
         → Becomes (timed μ n t) (product μ (ofList (integer μ (signed n) ∷ t ∷ []))) (k + 2)
     pair-becomes s i h a o =
         record { is = timed-more μ n t l more ∙ times-other s i μ (signed n) t h a o; size = omega (arith, pair-records μ (signed n) t) }
@@ -113,7 +118,7 @@ timed-unit μ ν n l = go (eqZ (signed n) (pos 1)) refl
 
 module _ {s : List ℕ} {n i μ : ℕ} {c : Term} (h : ShowsTerm s n i c) (m : μ ≡ markIn s i) where
   same-mark : c .mark ≡ μ
-  same-mark = h .mark ∙ term-mark (h .member) ∙ sym (mark-number (h .member) (h .there)) ∙ sym m
+  same-mark = h .mark ∙ term-mark (h .member) ∙ sym (mark-number (h .there)) ∙ sym m
 
   pub from-term : fromTerm c ≡ timed μ n (termOf (h .member) .rest)
   unfolding fromTerm timed timesUnless term
@@ -129,13 +134,20 @@ pub record Shown (c : Factor) (e k μ : ℕ) : Type 0 where
   pub exponent : c .exponent ≡ e
   pub good : c .inRange ≡ true
   pub size : k ≡ records (c .base)
+  pub wf : WF (power (c .mark) (c .base) (c .mark) (c .exponent))
 
 pub power-shown : {s : List ℕ} {e i k μ : ℕ} {c : Factor} → ShowsPower s e i k μ c → Shown c e k μ
-power-shown h = record { mark = h .mark; exponent = h .exponent; good = h .good; size = h .sized .size }
+power-shown h = record { mark = h .mark; exponent = h .exponent; good = h .good; size = h .sized .size; wf = h .wf }
 
 pub number-shown : {e v b μ : ℕ} {c : Factor} → ShowsNumber e v b μ c → Shown c e 1 μ
 number-shown {v = v} {b = b} h =
-    record { mark = h .mark; exponent = h .exponent; good = h .good; size = sym (ap records (h .base) ∙ integer-records b (signed v)) }
+    record {
+      mark = h .mark;
+      exponent = h .exponent;
+      good = h .good;
+      size = sym (ap records (h .base) ∙ integer-records b (signed v));
+      wf = h .wf;
+    }
 
 module _ {c : Factor} {e k μ : ℕ} (h : Shown c e k μ) where
   pub base-becomes : e ≡ 1 → Becomes (fromFactor c) (marked μ (c .base)) k
@@ -153,3 +165,6 @@ module _ {c : Factor} {e k μ : ℕ} (h : Shown c e k μ) where
         is = rw (ne-eqb (c .exponent) 1 (λ x. o (sym (h .exponent) ∙ x)), h .good, h .exponent, h .mark) refl;
         size = omega (arith, h .size, power-records μ (c .base) e);
       }
+
+  pub power-wf : WF (power μ (c .base) μ e)
+  power-wf = rw (h .mark, h .exponent) at (h .wf)

@@ -1,77 +1,85 @@
 -- The records of members in a row, of two rows and of one member more, and bytes as the part of the table where they stand. By
 -- induction on the members. Assumes nothing.
-use Prim.Native.Nat.{ℕ, _+_, _*_, _≤_}
+use Prim.Native.Nat.{ℕ, _+_, _*_, _^_, _≤_, _<_}
 use mathlib.Core.Path.{_≡_, refl, sym, ap, _∙_}
 use mathlib.Core.List.{List, [], _∷_, _++_, append-assoc, append-nil}
 use native.Mathlib.Omega.{arith}
 use lib.ListN.{length, take, drop, length-append}
 use lib.Seq.{take-at, drop-drop, drop-at}
-use lib.IntN.{ℤ}
+use lib.IntN.{ℤ, pos}
 use Rattle.paper.specs.Bytes.{bytes, word}
-use Rattle.paper.specs.Tree.{Tree, Forest, integer, symbol, sum, product, power, marked, toList, ofList, count, records, recordses}
-use Rattle.paper.specs.Table.{recordOf, encode, encodes}
-use Rattle.paper.proofs.EncodeLaws.{encode-length}
+use Rattle.paper.specs.Tree.{Tree, Forest, integer, symbol, sum, product, power, marked, toList, ofList, count, markOf, records, recordses, weight}
+use Rattle.paper.specs.Table.{recordOf}
+use Rattle.paper.specs.Standing.{kindNumber}
 use Rattle.paper.proofs.WFLaws.{count-list, list-count, of-to-list}
 use Rattle.paper.proofs.Stands.{Stands}
+use Rattle.note.specs.Note.{note, key}
+use Rattle.note.specs.Noted.{encodeBy, encodesBy, countOf, inner}
+use Rattle.note.proofs.NotedLaws.{encodeBy-length, exponent-word}
+use Rattle.note.proofs.CloseLaws.{unclosed}
 use Rattle.stretch.specs.Put.{put, part}
 use Rattle.stretch.proofs.Laws.{take-put, take-put-end, drop-put-at, length-put, put-put}
 
 -- ---- rows of members
-pub encodes-append : (l m : List Tree) → encodes (ofList (l ++ m)) ≡ encodes (ofList l) ++ encodes (ofList m)
-unfolding encode ofList
+pub encodes-append : (l m : List Tree) → encodesBy note (ofList (l ++ m)) ≡ encodesBy note (ofList l) ++ encodesBy note (ofList m)
+unfolding encodeBy ofList
 encodes-append [] m = refl
 encodes-append (u ∷ l) m =
-    ap (λ (x : List ℕ). encode u ++ x) (encodes-append l m) ∙ sym (append-assoc (encode u) (encodes (ofList l)) (encodes (ofList m)))
+    ap (λ (x : List ℕ). encodeBy note u ++ x) (encodes-append l m) ∙ sym (append-assoc (encodeBy note u) (encodesBy note (ofList l)) (encodesBy note (ofList m)))
 
 pub recordses-append : (l m : List Tree) → recordses (ofList (l ++ m)) ≡ recordses (ofList l) + recordses (ofList m)
 unfolding records ofList
 recordses-append [] m = omega arith
 recordses-append (u ∷ l) m = omega (arith, recordses-append l m)
 
-pub encodes-snoc : (l : List Tree) (t : Tree) → encodes (ofList (l ++ (t ∷ []))) ≡ encodes (ofList l) ++ encode t
-unfolding encode ofList
-encodes-snoc l t = encodes-append l (t ∷ []) ∙ ap (λ (x : List ℕ). encodes (ofList l) ++ x) (append-nil (encode t))
+pub encodes-snoc : (l : List Tree) (t : Tree) → encodesBy note (ofList (l ++ (t ∷ []))) ≡ encodesBy note (ofList l) ++ encodeBy note t
+unfolding encodeBy ofList
+encodes-snoc l t = encodes-append l (t ∷ []) ∙ ap (λ (x : List ℕ). encodesBy note (ofList l) ++ x) (append-nil (encodeBy note t))
 
 pub recordses-snoc : (l : List Tree) (t : Tree) → recordses (ofList (l ++ (t ∷ []))) ≡ recordses (ofList l) + records t
 unfolding records ofList
 recordses-snoc l t = recordses-append l (t ∷ []) ∙ omega arith
 
--- ---- the products and the power that are written
-pub pair-encoded : (μ : ℕ) (z : ℤ) (t : Tree)
-    → encode (product μ (ofList (integer μ z ∷ t ∷ []))) ≡ (recordOf 3 2 μ 0 ++ recordOf 0 0 μ (word z)) ++ encode t
-unfolding encode ofList count
-pair-encoded μ z t =
-    ap (λ (x : List ℕ). recordOf 3 2 μ 0 ++ (recordOf 0 0 μ (word z) ++ x)) (append-nil (encode t))
-    ∙ sym (append-assoc (recordOf 3 2 μ 0) (recordOf 0 0 μ (word z)) (encode t))
+-- ---- the products and the power that are written, before they are closed
+pub pair-unclosed : (μ : ℕ) (z : ℤ) (t : Tree)
+    → unclosed (product μ (ofList (integer μ z ∷ t ∷ []))) ≡ (recordOf 3 2 μ 0 ++ recordOf 0 0 μ (word z)) ++ encodeBy note t
+unfolding encodeBy kindNumber countOf markOf inner ofList count
+pair-unclosed μ z t =
+    ap (λ (x : List ℕ). recordOf 3 2 μ 0 ++ (recordOf 0 0 μ (word z) ++ x)) (append-nil (encodeBy note t))
+    ∙ sym (append-assoc (recordOf 3 2 μ 0) (recordOf 0 0 μ (word z)) (encodeBy note t))
 
 pub pair-records : (μ : ℕ) (z : ℤ) (t : Tree) → records (product μ (ofList (integer μ z ∷ t ∷ []))) ≡ records t + 2
 unfolding records ofList
 pair-records μ z t = omega arith
 
-pub longer-encoded : (μ : ℕ) (f : Forest) (z : ℤ)
-    → encode (product μ (ofList (toList f ++ (integer μ z ∷ [])))) ≡ (recordOf 3 (count f + 1) μ 0 ++ encodes f) ++ recordOf 0 0 μ (word z)
-unfolding encode
-longer-encoded μ f z =
+pub longer-unclosed : (μ : ℕ) (f : Forest) (z : ℤ)
+    → unclosed (product μ (ofList (toList f ++ (integer μ z ∷ [])))) ≡ (recordOf 3 (count f + 1) μ 0 ++ encodesBy note f) ++ recordOf 0 0 μ (word z)
+unfolding encodeBy kindNumber countOf markOf inner
+longer-unclosed μ f z =
     let l = toList f ++ (integer μ z ∷ []) in
     let n : count (ofList l) ≡ count f + 1 = omega (arith, list-count l, length-append (toList f) (integer μ z ∷ []), count-list f) in
-    ap (λ n. recordOf 3 n μ 0 ++ encodes (ofList l)) n
+    ap (λ n. recordOf 3 n μ 0 ++ encodesBy note (ofList l)) n
     ∙ ap (λ (x : List ℕ). recordOf 3 (count f + 1) μ 0 ++ x)
-    (encodes-snoc (toList f) (integer μ z) ∙ ap (λ g. encodes g ++ recordOf 0 0 μ (word z)) (of-to-list f))
-    ∙ sym (append-assoc (recordOf 3 (count f + 1) μ 0) (encodes f) (recordOf 0 0 μ (word z)))
+    (encodes-snoc (toList f) (integer μ z) ∙ ap (λ g. encodesBy note g ++ recordOf 0 0 μ (word z)) (of-to-list f))
+    ∙ sym (append-assoc (recordOf 3 (count f + 1) μ 0) (encodesBy note f) (recordOf 0 0 μ (word z)))
 
 pub longer-records : (μ ν : ℕ) (f : Forest) (z : ℤ) → records (product μ (ofList (toList f ++ (integer μ z ∷ [])))) ≡ records (product ν f) + 1
 unfolding records
 longer-records μ ν f z = omega (arith, recordses-snoc (toList f) (integer μ z), ap recordses (of-to-list f))
 
-pub power-encoded : (μ : ℕ) (b : Tree) (e : ℕ) → encode (power μ b μ e) ≡ (recordOf 4 0 μ 0 ++ encode b) ++ recordOf 0 0 μ e
-unfolding encode
-power-encoded μ b e = sym (append-assoc (recordOf 4 0 μ 0) (encode b) (recordOf 0 0 μ e))
+pub power-unclosed : (μ : ℕ) (b : Tree) (ξ e : ℕ) → e < 2 ^ 63
+    → unclosed (power μ b ξ e) ≡ (recordOf 4 0 μ 0 ++ encodeBy note b) ++ recordOf 0 0 ξ e
+unfolding encodeBy kindNumber countOf markOf inner
+power-unclosed μ b ξ e l =
+    ap (λ (x : List ℕ). recordOf 4 0 μ 0 ++ (encodeBy note b ++ x))
+    (append-nil (recordOf 0 0 ξ (word (pos e))) ∙ ap (recordOf 0 0 ξ) (exponent-word e l))
+    ∙ sym (append-assoc (recordOf 4 0 μ 0) (encodeBy note b) (recordOf 0 0 ξ e))
 
 pub power-records : (μ : ℕ) (b : Tree) (e : ℕ) → records (power μ b μ e) ≡ records b + 2
 unfolding records
 power-records μ b e = omega arith
 
--- ---- another mark at the root: the same records, but for bytes 4-5 of the first
+-- ---- another mark at the root: the same records, but for bytes 4-5 of the first, since notes do not look at marks
 pub marked-records : (μ : ℕ) (t : Tree) → records (marked μ t) ≡ records t
 unfolding marked records
 marked-records μ (integer ν z) = refl
@@ -85,24 +93,24 @@ record MarkAt (μ : ℕ) (t : Tree) : Type 0 where
   before : List ℕ
   behind : List ℕ
   four : length before ≡ 4
-  is : encode t ≡ before ++ (bytes 2 mark ++ behind)
-  other : encode (marked μ t) ≡ before ++ (bytes 2 μ ++ behind)
+  is : encodeBy note t ≡ before ++ (bytes 2 mark ++ behind)
+  other : encodeBy note (marked μ t) ≡ before ++ (bytes 2 μ ++ behind)
 
 mark-at : (μ : ℕ) (t : Tree) → MarkAt μ t
-unfolding marked encode recordOf bytes
+unfolding marked encodeBy recordOf bytes note records weight key
 mark-at μ (integer ν z) =
     record { mark = ν; before = 0 ∷ 0 ∷ bytes 2 0; behind = 0 ∷ 0 ∷ bytes 8 (word z); four = refl; is = refl; other = refl }
 mark-at μ (symbol ν s) =
     record { mark = ν; before = 1 ∷ 0 ∷ bytes 2 0; behind = 0 ∷ 0 ∷ bytes 8 s; four = refl; is = refl; other = refl }
 mark-at μ (sum ν f) =
-    record { mark = ν; before = 2 ∷ 0 ∷ bytes 2 (count f); behind = 0 ∷ 0 ∷ bytes 8 0 ++ encodes f; four = refl; is = refl; other = refl }
+    record { mark = ν; before = 2 ∷ 0 ∷ bytes 2 (count f); behind = 0 ∷ 0 ∷ bytes 8 (note (sum ν f)) ++ encodesBy note f; four = refl; is = refl; other = refl }
 mark-at μ (product ν f) =
-    record { mark = ν; before = 3 ∷ 0 ∷ bytes 2 (count f); behind = 0 ∷ 0 ∷ bytes 8 0 ++ encodes f; four = refl; is = refl; other = refl }
+    record { mark = ν; before = 3 ∷ 0 ∷ bytes 2 (count f); behind = 0 ∷ 0 ∷ bytes 8 (note (product ν f)) ++ encodesBy note f; four = refl; is = refl; other = refl }
 mark-at μ (power ν b ξ e) =
     record {
       mark = ν;
       before = 4 ∷ 0 ∷ bytes 2 0;
-      behind = 0 ∷ 0 ∷ bytes 8 0 ++ (encode b ++ recordOf 0 0 ξ e);
+      behind = 0 ∷ 0 ∷ bytes 8 (note (power ν b ξ e)) ++ (encodeBy note b ++ recordOf 0 0 ξ e);
       four = refl;
       is = refl;
       other = refl;
@@ -136,14 +144,14 @@ put-inside d a b w x y z p e h =
     ∙ put-over (put d a w) b x y z e (omega arith)
     ∙ put-put d a w b (y ++ z) p (omega arith)
 
-pub mark-put : (d d₁ d₂ : List ℕ) (a b μ : ℕ) (t : Tree) → b ≡ a + 4 → a + records t * 16 ≤ length d → d₁ ≡ put d a (encode t)
-    → d₂ ≡ put d₁ b (bytes 2 μ) → d₂ ≡ put d a (encode (marked μ t))
+pub mark-put : (d d₁ d₂ : List ℕ) (a b μ : ℕ) (t : Tree) → b ≡ a + 4 → a + records t * 16 ≤ length d → d₁ ≡ put d a (encodeBy note t)
+    → d₂ ≡ put d₁ b (bytes 2 μ) → d₂ ≡ put d a (encodeBy note (marked μ t))
 mark-put d d₁ d₂ a b μ t e h p q =
     let m = mark-at μ t in
     let long = ap length (m .is) in
     q ∙ ap (λ (u : List ℕ). put u b (bytes 2 μ)) (p ∙ ap (put d a) (m .is))
     ∙ put-inside d a b (m .before) (bytes 2 (m .mark)) (bytes 2 μ) (m .behind) (omega (arith, m .four)) (unfold bytes in refl)
-    (omega (arith, encode-length t))
+    (omega (arith, encodeBy-length note t))
     ∙ ap (put d a) (sym (m .other))
 
 -- ---- bytes that stand in a table, and puts one after the other
@@ -151,8 +159,8 @@ pub stands-bytes : (s : List ℕ) (i n : ℕ) (x : List ℕ) → Stands s i x �
 unfolding part
 stands-bytes s i n x h e = ap (take n) (h .there) ∙ take-at x (h .after) n e
 
-pub stands-part : (s : List ℕ) (i n : ℕ) (t : Tree) → Stands s i (encode t) → n ≡ records t * 16 → part s (i * 16) n ≡ encode t
-stands-part s i n t h e = stands-bytes s i n (encode t) h (omega (arith, encode-length t))
+pub stands-part : (s : List ℕ) (i n : ℕ) (t : Tree) → Stands s i (encodeBy note t) → n ≡ records t * 16 → part s (i * 16) n ≡ encodeBy note t
+stands-part s i n t h e = stands-bytes s i n (encodeBy note t) h (omega (arith, encodeBy-length note t))
 
 -- the bytes x that stand from record i on, copied
 pub copied : (d d' s : List ℕ) (a i n : ℕ) (x : List ℕ) → Stands s i x → length x ≡ n → d' ≡ put d a (part s (i * 16) n) → d' ≡ put d a x
@@ -168,14 +176,14 @@ three-puts d d₁ d₂ d₃ x y z a b c p q r e f l =
     two-puts d d₂ d₃ (x ++ y) z a c (two-puts d d₁ d₂ x y a b p q e (omega arith)) r (omega (arith, length-append x y)) l
 
 -- one more member, put behind those that were built
-pub built-more : (o o' front : List ℕ) (e n : ℕ) (l : List Tree) (t : Tree) → take (e * 16) o ≡ front ++ encodes (ofList l)
-    → e * 16 ≤ length o → o' ≡ put o (e * 16) (encode t) → n ≡ e + records t
-    → take (n * 16) o' ≡ front ++ encodes (ofList (l ++ (t ∷ [])))
+pub built-more : (o o' front : List ℕ) (e n : ℕ) (l : List Tree) (t : Tree) → take (e * 16) o ≡ front ++ encodesBy note (ofList l)
+    → e * 16 ≤ length o → o' ≡ put o (e * 16) (encodeBy note t) → n ≡ e + records t
+    → take (n * 16) o' ≡ front ++ encodesBy note (ofList (l ++ (t ∷ [])))
 built-more o o' front e n l t b w q m =
-    let x = encode t in
-    let long : n * 16 ≡ e * 16 + length x = omega (arith, encode-length t) in
+    let x = encodeBy note t in
+    let long : n * 16 ≡ e * 16 + length x = omega (arith, encodeBy-length note t) in
     ap (take (n * 16)) q
     ∙ take-put-end o (e * 16) x (n * 16) long w
     ∙ ap (λ (y : List ℕ). y ++ x) b
-    ∙ append-assoc front (encodes (ofList l)) x
+    ∙ append-assoc front (encodesBy note (ofList l)) x
     ∙ ap (λ (y : List ℕ). front ++ y) (sym (encodes-snoc l t))

@@ -1,4 +1,5 @@
 pub mod Encoded
+pub mod Closing
 pub mod Becomes
 pub mod WriteLaws
 pub mod Without

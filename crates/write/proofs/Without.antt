@@ -2,25 +2,32 @@
 -- there in the end; a record that counts them in front, and the coefficient behind them where there is one, make the tree. One product
 -- stands at the record, so whatever is known of one such tree is known of every other. Assumes nothing.
 use Prim.Native.Nat.{ℕ, _+_, _-_, _*_, _^_, _<_, _≤_}
-use mathlib.Core.Path.{_≡_, refl, sym, ap, _∙_}
+use mathlib.Core.Path.{_≡_, refl, sym, ap, _∙_, subst}
 use mathlib.Core.List.{List, [], _∷_, _++_, append-assoc, append-nil}
 use native.Mathlib.Omega.{arith}
 use lib.ListN.{length}
-use Rattle.paper.specs.Bytes.{signed}
 use Rattle.paper.specs.Record.{kind, countIn}
-use Rattle.paper.specs.Tree.{Tree, Forest, integer, symbol, sum, product, power, cons, marked, toList, ofList, records, recordses}
-use Rattle.paper.specs.Table.{recordOf, encode, encodes}
+use Rattle.paper.specs.Tree.{Tree, Forest, integer, symbol, sum, product, power, cons, marked, markOf, toList, ofList, records, recordses}
+use Rattle.paper.specs.WellFormed.{Mark, WF}
+use Rattle.paper.specs.Standing.{kindNumber}
+use Rattle.paper.specs.Table.{recordOf}
 use Rattle.paper.specs.Rules.{asInteger, withOther, othersOf}
-use Rattle.paper.proofs.EncodeLaws.{encode-length, encodes-length, record-length, count-records}
+use Rattle.paper.proofs.EncodeLaws.{record-length, count-records}
+use Rattle.note.proofs.NotedLaws.{encodeBy-length, encodesBy-length}
 use Rattle.paper.proofs.WFLaws.{list-count}
-use Rattle.paper.proofs.Seen.{seen-integer}
-use Rattle.paper.proofs.StandingLaws.{seen, product-trees, FirstOf, first-of, none-of, one-tree}
+use Rattle.note.proofs.ToldLaws.{seen-integer}
+use Rattle.note.proofs.ToldLaws.{seen, product-trees, FirstOf, first-of, none-of, one-tree}
+use Rattle.note.proofs.CloseLaws.{unclosed}
+use Rattle.note.specs.Note.{note}
+use Rattle.note.specs.Noted.{encodeBy, encodesBy, countOf, inner}
 use Rattle.stretch.specs.Put.{put}
 use Rattle.stretch.proofs.Laws.{put-none}
-use Rattle.split.specs.Standing.{TreeIn, TreesIn, SomeTree}
+use Rattle.split.specs.Standing.{Told, ToldTrees}
 use Rattle.split.specs.Rest.{Lessened}
 use Rattle.split.proofs.SplitLaws.{no-integer}
 use Rattle.part.specs.Part.{Sized}
+use Rattle.write.specs.Written.{lengthened}
+use Rattle.write.proofs.Closing.{lengthened-wf}
 use Rattle.write.proofs.Encoded.{encodes-snoc, recordses-append, recordses-snoc, two-puts}
 use Rattle.write.proofs.WriteLaws.{longer-written}
 
@@ -32,19 +39,19 @@ others f = othersOf (toList f)
 pub record Copying (s out₀ : List ℕ) (m : ℕ) (f : Forest) (out : List ℕ) (to at left : ℕ) : Type 0 where
   pub done : List Tree
   pub rest : Forest
-  pub stand : TreesIn s at left rest
+  pub stand : ToldTrees note s at left rest
   pub whole : others f ≡ done ++ others rest
   pub place : to ≡ m + recordses (ofList done)
-  pub there : out ≡ put out₀ (m * 16) (encodes (ofList done))
+  pub there : out ≡ put out₀ (m * 16) (encodesBy note (ofList done))
 
-pub copying-start : {s : List ℕ} {i μ : ℕ} {f : Forest} (out : List ℕ) (m : ℕ) → TreeIn s i (product μ f)
+pub copying-start : {s : List ℕ} {i μ : ℕ} {f : Forest} (out : List ℕ) (m : ℕ) → Told note s i (product μ f)
     → Copying s out m f out m (i + 1) (countIn s i)
-unfolding ofList records encode
+unfolding ofList records encodeBy
 copying-start {f = f} out m h =
     record { done = []; rest = f; stand = product-trees h; whole = refl; place = omega arith; there = sym (put-none out (m * 16)) }
 
 module _ {s out₀ : List ℕ} {m : ℕ} {f : Forest} {out : List ℕ} {to at left : ℕ} (h : Copying s out₀ m f out to at left) where
-  pub copied-all : left ≡ 0 → (to ≡ m + recordses (ofList (others f))) × (out ≡ put out₀ (m * 16) (encodes (ofList (others f))))
+  pub copied-all : left ≡ 0 → (to ≡ m + recordses (ofList (others f))) × (out ≡ put out₀ (m * 16) (encodesBy note (ofList (others f))))
   unfolding othersOf toList
   copied-all e =
       let all : others f ≡ h .done =
@@ -52,14 +59,14 @@ module _ {s out₀ : List ℕ} {m : ℕ} {f : Forest} {out : List ℕ} {to at le
       rw all (h .place, h .there)
 
   module _ (l : 0 < left) where
-    next : FirstOf s at left (h .rest)
+    next : FirstOf note s at left (h .rest)
     next = first-of (h .rest) (h .stand) l
 
-    pub copying-tree : SomeTree s at
-    copying-tree = record { tree = next .tree; there = next .there }
+    pub copying-tree : (t : Tree) × Told note s at t
+    copying-tree = (next .tree, next .there)
 
     -- an integer is passed over
-    pub copying-past : (e : ℕ) → ((t : Tree) → TreeIn s at t → e ≡ at + records t) → kind s at ≡ 0 → Copying s out₀ m f out to e (left - 1)
+    pub copying-past : (e : ℕ) → ((t : Tree) → Told note s at t → e ≡ at + records t) → kind s at ≡ 0 → Copying s out₀ m f out to e (left - 1)
     unfolding othersOf withOther asInteger toList
     copying-past e ends k =
         let q = seen-integer (seen (next .there)) k in
@@ -81,7 +88,7 @@ module _ {s out₀ : List ℕ} {m : ℕ} {f : Forest} {out : List ℕ} {to at le
       first =
           ap others (next .whole) ∙ ap (λ o. withOther o (next .tree) (others (next .others))) (no-integer (next .there) k)
 
-      pub copying-room : (m + recordses (ofList (others f))) * 16 ≤ length out₀ → (t : Tree) → TreeIn s at t → (to + records t) * 16 ≤ length out₀
+      pub copying-room : (m + recordses (ofList (others f))) * 16 ≤ length out₀ → (t : Tree) → Told note s at t → (to + records t) * 16 ≤ length out₀
       unfolding ofList records
       copying-room r t g =
           let all : recordses (ofList (others f)) ≡ recordses (ofList (h .done)) + recordses (ofList (others (h .rest))) =
@@ -89,11 +96,11 @@ module _ {s out₀ : List ℕ} {m : ℕ} {f : Forest} {out : List ℕ} {to at le
           omega (arith, h .place, ap (λ (l : List Tree). recordses (ofList l)) first, ap records (one-tree g (next .there)))
 
       pub copying-more : (m + recordses (ofList (others f))) * 16 ≤ length out₀ → (out' : List ℕ) (e : ℕ)
-          → ((t : Tree) → TreeIn s at t → e ≡ at + records t) → ((t : Tree) → TreeIn s at t → out' ≡ put out (to * 16) (encode t))
+          → ((t : Tree) → Told note s at t → e ≡ at + records t) → ((t : Tree) → Told note s at t → out' ≡ put out (to * 16) (encodeBy note t))
           → Copying s out₀ m f out' (to + (e - at)) e (left - 1)
       copying-more r out' e ends told =
           let t = next .tree in
-          let long = encodes-length (ofList (h .done)) in
+          let long = encodesBy-length note (ofList (h .done)) in
           rw (ends t (next .there))
           (record {
             done = h .done ++ (t ∷ []);
@@ -102,15 +109,15 @@ module _ {s out₀ : List ℕ} {m : ℕ} {f : Forest} {out : List ℕ} {to at le
             whole = h .whole ∙ ap (_++_ (h .done)) first ∙ sym (append-assoc (h .done) (t ∷ []) (others (next .others)));
             place = omega (arith, h .place, recordses-snoc (h .done) t);
             there =
-                two-puts out₀ out out' (encodes (ofList (h .done))) (encode t) (m * 16) (to * 16) (h .there) (told t (next .there))
-                (omega (arith, h .place)) (omega (arith, encode-length t, copying-room r t (next .there)))
+                two-puts out₀ out out' (encodesBy note (ofList (h .done))) (encodeBy note t) (m * 16) (to * 16) (h .there) (told t (next .there))
+                (omega (arith, h .place)) (omega (arith, encodeBy-length note t, copying-room r t (next .there)))
                 ∙ ap (put out₀ (m * 16)) (sym (encodes-snoc (h .done) t));
           })
 
 -- ---- the product t of what is left, `many` members
 module _ {s : List ℕ} {i many : ℕ} where
   -- there is one
-  pub lessened-once : {t u : Tree} → Lessened s i many t → Lessened s i many u → t ≡ u
+  pub lessened-once : {t u : Tree} → Lessened note s i many t → Lessened note s i many u → t ≡ u
   lessened-once h g =
       h .left ∙ ap without (one-tree (h .whole) (g .whole)) ∙ sym (g .left)
     where
@@ -122,7 +129,7 @@ module _ {s : List ℕ} {i many : ℕ} where
       without (product μ f) = product μ (ofList (others f))
       without (power μ b ξ e) = power μ b ξ e
 
-  module _ {t : Tree} (h : Lessened s i many t) where
+  module _ {t : Tree} (h : Lessened note s i many t) where
     abbrev left : List Tree
     left = others (h .members)
 
@@ -134,23 +141,31 @@ module _ {s : List ℕ} {i many : ℕ} where
     pub left-many : many + 1 ≤ records t
     left-many = omega (arith, left-records, h .many, list-count left, count-records (ofList left))
 
-    left-encoded : (μ : ℕ) → encode (marked μ t) ≡ recordOf 3 many μ 0 ++ encodes (ofList left)
-    unfolding encode marked
-    left-encoded μ = ap (λ u. encode (marked μ u)) (h .left) ∙ ap (λ n. recordOf 3 n μ 0 ++ encodes (ofList left)) (list-count left ∙ sym (h .many))
+    left-unclosed : (μ : ℕ) → unclosed (marked μ t) ≡ recordOf 3 many μ 0 ++ encodesBy note (ofList left)
+    unfolding marked kindNumber countOf markOf inner
+    left-unclosed μ = ap (λ u. unclosed (marked μ u)) (h .left) ∙ ap (λ n. recordOf 3 n μ 0 ++ encodesBy note (ofList left)) (list-count left ∙ sym (h .many))
 
-    -- written: a record that counts the members, and the members; or, with the integer n after them, one that counts one more
-    module _ (out d₁ d₂ : List ℕ) (m μ : ℕ) (q : d₂ ≡ put d₁ ((m + 1) * 16) (encodes (ofList left))) where
+    -- the trees that are written are products, and well-formed
+    pub left-node : (μ : ℕ) → 2 ≤ kindNumber (marked μ t)
+    unfolding marked kindNumber
+    left-node μ = omega (arith, ap (λ u. kindNumber (marked μ u)) (h .left))
+
+    pub left-longer-wf : (μ n : ℕ) → Mark μ → n < 2 ^ 64 → WF (lengthened μ n (ofList left))
+    left-longer-wf μ n k l = let w = subst WF (h .left) (h .wf) in lengthened-wf μ n (ofList left) k l (w .0) (w .1)
+
+    -- written, and not closed yet: a record that counts the members, and the members; or, with the integer n after them, one that counts one more
+    module _ (out d₁ d₂ : List ℕ) (m μ : ℕ) (q : d₂ ≡ put d₁ ((m + 1) * 16) (encodesBy note (ofList left))) where
       pub left-written : (m + records t) * 16 ≤ length out → d₁ ≡ put out (m * 16) (recordOf 3 many μ 0)
-          → d₂ ≡ put out (m * 16) (encode (marked μ t))
+          → d₂ ≡ put out (m * 16) (unclosed (marked μ t))
       left-written r p =
           let a = record-length 3 many μ 0 in
-          let k = encodes-length (ofList left) in
-          two-puts out d₁ d₂ (recordOf 3 many μ 0) (encodes (ofList left)) (m * 16) ((m + 1) * 16) p q (omega arith) (omega (arith, left-records))
-          ∙ ap (put out (m * 16)) (sym (left-encoded μ))
+          let k = encodesBy-length note (ofList left) in
+          two-puts out d₁ d₂ (recordOf 3 many μ 0) (encodesBy note (ofList left)) (m * 16) ((m + 1) * 16) p q (omega arith) (omega (arith, left-records))
+          ∙ ap (put out (m * 16)) (sym (left-unclosed μ))
 
       pub left-longer-written : (d₃ : List ℕ) (n a : ℕ) → n < 2 ^ 64 → a ≡ m + records t → (m + (records t + 1)) * 16 ≤ length out
           → d₁ ≡ put out (m * 16) (recordOf 3 (many + 1) μ 0) → d₃ ≡ put d₂ (a * 16) (recordOf 0 0 μ n)
-          → d₃ ≡ put out (m * 16) (encode (product μ (ofList (toList (ofList left) ++ (integer μ (signed n) ∷ [])))))
+          → d₃ ≡ put out (m * 16) (unclosed (lengthened μ n (ofList left)))
       left-longer-written d₃ n a b e r p w =
           longer-written out d₁ d₂ d₃ m n b μ (ofList left) (many + 1) (records t) a
           (ap (λ c. c + 1) (h .many ∙ sym (list-count left))) left-records e r p q w

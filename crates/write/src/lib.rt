@@ -1,20 +1,20 @@
-// The member that a part becomes when its turn is done, written to a table: a rest with its coefficient, a base with its exponent.
+// The member that a part becomes when its turn is done, written to a table: a rest with its coefficient, a base with its exponent. Whoever
+// writes a node's record closes it.
 ghost use mathlib.Core.Path.{_≡_};
 ghost use mathlib.Core.Bool.{Bool};
-ghost use mathlib.Core.List.{[], _∷_, _++_};
-ghost use Prim.Native.Nat.{ℕ, _+_, _*_, _≤_};
+ghost use Prim.Native.Nat.{ℕ, _+_, _*_, _≤_, _<_};
 ghost use lib.ListN.{length};
 ghost use mathlib.Core.Option.{none};
-ghost use Rattle.paper.specs.Bytes.{signed};
-ghost use Rattle.paper.specs.Tree.{Tree, Forest, integer, product, marked, toList, ofList, recordses};
-ghost use Rattle.paper.specs.Table.{encode, encodes};
+ghost use Rattle.paper.specs.Tree.{Tree, Forest, product, marked, toList, ofList, recordses};
 ghost use Rattle.paper.specs.Rules.{asInteger, othersOf, Term, Factor, fromTerm, fromFactor};
+ghost use Rattle.note.specs.Note.{note};
+ghost use Rattle.note.specs.Noted.{encodeBy, encodesBy};
 ghost use Rattle.stretch.specs.Put.{put};
-ghost use Rattle.split.specs.Standing.{TreeIn};
+ghost use Rattle.split.specs.Standing.{Told};
 ghost use Rattle.split.specs.Rest.{Lessened};
 ghost use Rattle.part.specs.Like.{Like, join};
 ghost use Rattle.part.specs.Part.{Sized, Shows, ShowsTerm, ShowsPower, ShowsNumber};
-ghost use Rattle.write.specs.Written.{WrittenIs, Fitting, timed};
+ghost use Rattle.write.specs.Written.{WrittenIs, Fitting, Light, paired, lengthened, timed};
 
 // Where the member that was written ends; or that it is out of range.
 pub enum Written {
@@ -25,7 +25,7 @@ pub enum Written {
 // Copies the tree of k records at record i.
 fn copy_tree(out: &mut [u8], m: usize, s: &[u8], i: usize, k: usize)
     requires { ⌜ ((t : Tree) × Sized (now s) i k t) × ((m + k) * 16 ≤ length (now out)) ⌝ }
-    ensures { λ _. ⌜ ((t : Tree) → Sized (now (s .entry)) i k t → now (out .exit) ≡ put (now (out .entry)) (m * 16) (encode t)) ⌝ }
+    ensures { λ _. ⌜ ((t : Tree) → Sized (now (s .entry)) i k t → now (out .exit) ≡ put (now (out .entry)) (m * 16) (encodeBy note t)) ⌝ }
 {
     stretch::copy_bytes(out, m * 16, s, i * 16, k * 16);
 }
@@ -34,7 +34,7 @@ fn copy_tree(out: &mut [u8], m: usize, s: &[u8], i: usize, k: usize)
 fn copy_marked(out: &mut [u8], m: usize, s: &[u8], i: usize, k: usize, mark: usize)
     requires { ⌜ ((t : Tree) × Sized (now s) i k t) × ((m + k) * 16 ≤ length (now out)) ⌝ }
     ensures { λ _. ⌜ ((t : Tree) → Sized (now (s .entry)) i k t
-        → now (out .exit) ≡ put (now (out .entry)) (m * 16) (encode (marked mark t))) ⌝ }
+        → now (out .exit) ≡ put (now (out .entry)) (m * 16) (encodeBy note (marked mark t))) ⌝ }
 {
     copy_tree(out, m, s, i, k);
     record::set_mark(out, m, mark);
@@ -42,31 +42,35 @@ fn copy_marked(out: &mut [u8], m: usize, s: &[u8], i: usize, k: usize, mark: usi
 
 // The product of the integer n and the tree of k records at record i; it and the integer have the mark.
 fn write_pair(out: &mut [u8], m: usize, n: u64, mark: usize, s: &[u8], i: usize, k: usize)
-    requires { ⌜ ((t : Tree) × Sized (now s) i k t) × ((m + (k + 2)) * 16 ≤ length (now out)) ⌝ }
+    requires { ⌜ ((t : Tree) × Sized (now s) i k t × Light (paired mark n t)) × ((m + (k + 2)) * 16 ≤ length (now out)) ⌝ }
     ensures { λ _. ⌜ ((t : Tree) → Sized (now (s .entry)) i k t
-        → now (out .exit) ≡ put (now (out .entry)) (m * 16) (encode (product mark (ofList (integer mark (signed n) ∷ t ∷ []))))) ⌝ }
+        → now (out .exit) ≡ put (now (out .entry)) (m * 16) (encodeBy note (paired mark n t))) ⌝ }
 {
     record::write_record(out, m, 3, 2, mark, 0);
     record::write_record(out, m + 1, 0, 0, mark, n);
     copy_tree(out, m + 2, s, i, k);
+    note::close(out, m);
 }
 
 // The product of k records at record i with the integer n appended last; it and the integer have the mark.
 fn write_longer(out: &mut [u8], m: usize, n: u64, mark: usize, s: &[u8], i: usize, k: usize)
-    requires { ⌜ ((μ : ℕ) × (f : Forest) × Sized (now s) i k (product μ f)) × ((m + (k + 1)) * 16 ≤ length (now out)) ⌝ }
+    requires { ⌜ ((μ : ℕ) × (f : Forest) × Sized (now s) i k (product μ f) × Light (lengthened mark n f))
+        × ((m + (k + 1)) * 16 ≤ length (now out)) ⌝ }
     ensures { λ _. ⌜ ((μ : ℕ) (f : Forest) → Sized (now (s .entry)) i k (product μ f)
-        → now (out .exit) ≡ put (now (out .entry)) (m * 16) (encode (product mark (ofList (toList f ++ (integer mark (signed n) ∷ [])))))) ⌝ }
+        → now (out .exit) ≡ put (now (out .entry)) (m * 16) (encodeBy note (lengthened mark n f))) ⌝ }
 {
     record::write_record(out, m, 3, record::count(s, i) + 1, mark, 0);
     stretch::copy_bytes(out, (m + 1) * 16, s, (i + 1) * 16, (k - 1) * 16);
     record::write_record(out, m + k, 0, 0, mark, n);
+    note::close(out, m);
 }
 
 // The coefficient n times the tree at record i, which is no integer: a product gets the coefficient appended last, any other tree stands
 // after it; 1 times the tree is the tree. What is written has the mark at its root, and so has the coefficient.
 fn write_times(out: &mut [u8], m: usize, n: u64, mark: usize, s: &[u8], i: usize) -> Written
-    requires { ⌜ ((t : Tree) × TreeIn (now s) i t × Fitting (timed mark n t) (now out) m × (asInteger t ≡ none)) ⌝ }
-    ensures { λ r. ⌜ ((t : Tree) → TreeIn (now (s .entry)) i t → WrittenIs (timed mark n t) (now (out .entry)) (now (out .exit)) m r) ⌝ }
+    requires { ⌜ mark < 65536 ⌝ }
+    requires { ⌜ ((t : Tree) × Told note (now s) i t × Fitting (timed mark n t) (now out) m × (asInteger t ≡ none)) ⌝ }
+    ensures { λ r. ⌜ ((t : Tree) → Told note (now (s .entry)) i t → WrittenIs (timed mark n t) (now (out .entry)) (now (out .exit)) m r) ⌝ }
 {
     let k = split::skip_tree(s, i) - i;
     if n == 1 {
@@ -83,11 +87,11 @@ fn write_times(out: &mut [u8], m: usize, n: u64, mark: usize, s: &[u8], i: usize
 
 // The members of the product at record i that are no integers, one after the other; answers the record after them.
 fn copy_others(out: &mut [u8], m: usize, s: &[u8], i: usize) -> usize
-    requires { ⌜ ((μ : ℕ) × (f : Forest) × TreeIn (now s) i (product μ f)
+    requires { ⌜ ((μ : ℕ) × (f : Forest) × Told note (now s) i (product μ f)
         × ((m + recordses (ofList (othersOf (toList f)))) * 16 ≤ length (now out))) ⌝ }
-    ensures { λ r. ⌜ ((μ : ℕ) (f : Forest) → TreeIn (now (s .entry)) i (product μ f)
+    ensures { λ r. ⌜ ((μ : ℕ) (f : Forest) → Told note (now (s .entry)) i (product μ f)
         → (r ≡ m + recordses (ofList (othersOf (toList f))))
-        × (now (out .exit) ≡ put (now (out .entry)) (m * 16) (encodes (ofList (othersOf (toList f)))))) ⌝ }
+        × (now (out .exit) ≡ put (now (out .entry)) (m * 16) (encodesBy note (ofList (othersOf (toList f)))))) ⌝ }
 {
     let mut to = m;
     let mut at = i + 1;
@@ -115,16 +119,20 @@ fn write_without(
     i: usize,
     many: usize,
 ) -> Written
-    requires { ⌜ ((t : Tree) × Lessened (now s) i many t × Fitting (timed mark n t) (now out) m) ⌝ }
-    ensures { λ r. ⌜ ((t : Tree) → Lessened (now (s .entry)) i many t → WrittenIs (timed mark n t) (now (out .entry)) (now (out .exit)) m r) ⌝ }
+    requires { ⌜ mark < 65536 ⌝ }
+    requires { ⌜ ((t : Tree) × Lessened note (now s) i many t × Fitting (timed mark n t) (now out) m) ⌝ }
+    ensures { λ r. ⌜ ((t : Tree) → Lessened note (now (s .entry)) i many t → WrittenIs (timed mark n t) (now (out .entry)) (now (out .exit)) m r) ⌝ }
 {
     if n == 1 {
         record::write_record(out, m, 3, many, mark, 0);
-        return Written::To(copy_others(out, m + 1, s, i));
+        let end = copy_others(out, m + 1, s, i);
+        note::close(out, m);
+        return Written::To(end);
     }
     record::write_record(out, m, 3, many + 1, mark, 0);
     let e = copy_others(out, m + 1, s, i);
     record::write_record(out, e, 0, 0, mark, n);
+    note::close(out, m);
     Written::To(e + 1)
 }
 
@@ -166,6 +174,7 @@ fn write_power(
     record::write_record(out, m, 4, 0, mark, 0);
     copy_tree(out, m + 1, s, i, k);
     record::write_record(out, m + 1 + k, 0, 0, mark, e);
+    note::close(out, m);
     Written::To(m + 2 + k)
 }
 
@@ -182,6 +191,7 @@ fn write_number(out: &mut [u8], m: usize, e: u64, v: u64, b: usize, mark: usize)
     record::write_record(out, m, 4, 0, mark, 0);
     record::write_record(out, m + 1, 0, 0, b, v);
     record::write_record(out, m + 2, 0, 0, mark, e);
+    note::close(out, m);
     Written::To(m + 3)
 }
 

@@ -11,6 +11,7 @@ use Rattle.paper.specs.Standing.{SomeTree}
 use Rattle.paper_differ.specs.Differ.{differencesOf}
 use Rattle.paper.proofs.StandingLaws.{record-within}
 use Rattle.stretch.specs.Put.{put}
+use Rattle.note.proofs.ToldLaws.{plain-told, some-told}
 use Rattle.differ.proofs.WalkedLaws.{Walked, Agree, Past, walked-start, walked-all, walked-tree, walked-other}
 use Rattle.differ.proofs.WalkedLaws.{walked-alike, walked-further, walked-unlike, walked-room}
 use Rattle.differ.proofs.ListLaws.{written, written-none, written-length, written-more, written-all}
@@ -87,10 +88,10 @@ add-pairs : tie.Need-add-pairs Inv-loop μ-loop
 add-pairs c = omega (arith, turn-of (c .before .before .before .before) .before .loop .inv .1 .few)
 
 skip-tree-requires : tie.Need-skip-tree-requires Inv-loop μ-loop
-skip-tree-requires c κs = tree-there (c .before .before .before .before)
+skip-tree-requires c κs = some-told (plain-told (tree-there (c .before .before .before .before) .there))
 
 skip-tree-requires-2 : tie.Need-skip-tree-requires-2 Inv-loop μ-loop
-skip-tree-requires-2 c κs = other-there (c .before .before .before .before .before)
+skip-tree-requires-2 c κs = some-told (plain-told (other-there (c .before .before .before .before .before) .there))
 
 loop-less-2 : tie.Need-loop-less-2 Inv-loop μ-loop
 loop-less-2 c =

@@ -3,6 +3,7 @@
 use mathlib.Core.Path.{_≡_, sym, _∙_}
 use borrow.Author.Needs.{needs}
 use Rattle.paper.specs.Tree.{Tree}
+use Rattle.note.specs.Note.{note}
 use Rattle.part.proofs.PartLaws.{coefficient-is, coefficient-out, later-over, term-into, term-over}
 use Rattle.part.proofs.add_term.Statement.{statement}
 use Rattle.part.proofs.add_term.Tie as tie
@@ -48,7 +49,7 @@ returns c =
     let later = later-of added in
     let read = read-of later .coefficient in (
       λ x t h there e.
-          let m = coefficient-is t (there .wf) (sym (later .later .given .1) ∙ read .ensures t there) in
+          let m = coefficient-is t (there .wf) (sym (later .later .given .1) ∙ read .ensures note t there) in
           term-into x t e h (later .later .given .0 .0) (m .0) (m .2) (sym (added .add .ensures) ∙ c .before .sum .given .1),
       λ p h. h,
     )
@@ -59,7 +60,7 @@ returns-2 c =
     let later = later-of added in
     let read = read-of later .coefficient in (
       λ x t h there e.
-          let m = coefficient-is t (there .wf) (sym (later .later .given .1) ∙ read .ensures t there) in
+          let m = coefficient-is t (there .wf) (sym (later .later .given .1) ∙ read .ensures note t there) in
           term-over x t e h (later .later .given .0 .0) (m .0) (m .2) (sym (added .add .ensures) ∙ c .enum-told .given .1),
       λ p h. tt,
     )
@@ -67,7 +68,7 @@ returns-2 c =
 returns-3 : tie.Need-returns-3
 returns-3 c =
     let read = c .before .before .coefficient in
-    (λ x t h there e. later-over x t e (h .good) (coefficient-out t (sym (c .enum-told2 .given .1) ∙ read .ensures t there)), λ p h. tt)
+    (λ x t h there e. later-over x t e (h .good) (coefficient-out t (sym (c .enum-told2 .given .1) ∙ read .ensures note t there)), λ p h. tt)
 
 pub add-term-spec : {M : Type 1} → statement M
 add-term-spec =

@@ -2,6 +2,7 @@
 -- shown of it. The part shows a factor or a term by its form (`of-term`, `of-wide`, `of-power`, `of-number`). Assumes nothing.
 use mathlib.Core.Path.{subst}
 use borrow.Author.Needs.{needs}
+use Rattle.note.specs.Note.{note}
 use Rattle.part.specs.Part.{Shows}
 use Rattle.part.proofs.PartLaws.{of-term, of-wide, of-power, of-number, term-stands, wide-stands, power-stands}
 use Rattle.part.proofs.merge.Statement.{statement}
@@ -61,7 +62,7 @@ merge-term-requires c κs =
     let q = entry .pre in
     let shown = subst (λ k. Shows (q .flag) (entry .args .s .now) k (q .current)) (term .c .given .1) (q .shown) in
     let one = term-stands _ _ _ (q .flag) (q .current) shown in
-    record { one = one .tree; other = q .later; one-there = one .there; other-there = q .there; enough = q .enough }
+    record { how = note; one = one .0; other = q .later; one-there = one .1; other-there = q .there; enough = q .enough }
 
 enum-known-c-2 : tie.Need-enum-known-c-2
 enum-known-c-2 c = search needs
@@ -73,7 +74,7 @@ merge-wide-requires c κs =
     let q = entry .pre in
     let shown = subst (λ k. Shows (q .flag) (entry .args .s .now) k (q .current)) (wide .c2 .given .1) (q .shown) in
     let one = wide-stands _ _ (q .flag) (q .current) shown in
-    record { one = one .tree; other = q .later; one-there = one .there; other-there = q .there; enough = q .enough }
+    record { how = note; one = one .0; other = q .later; one-there = one .1; other-there = q .there; enough = q .enough }
 
 enum-known-c-3 : tie.Need-enum-known-c-3
 enum-known-c-3 c = search needs
@@ -85,7 +86,7 @@ merge-power-requires c κs =
     let q = entry .pre in
     let shown = subst (λ k. Shows (q .flag) (entry .args .s .now) k (q .current)) (power .c3 .given .1) (q .shown) in
     let one = power-stands _ _ _ _ _ (q .flag) (q .current) shown in
-    record { one = one .tree; other = q .later; one-there = one .there; other-there = q .there; enough = q .enough }
+    record { how = note; one = one .0; other = q .later; one-there = one .1; other-there = q .there; enough = q .enough }
 
 enum-known-c-4 : tie.Need-enum-known-c-4
 enum-known-c-4 c = search needs

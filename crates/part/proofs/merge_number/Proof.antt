@@ -8,8 +8,9 @@ use borrow.Author.Needs.{needs}
 use Rattle.paper.specs.Record.{markIn}
 use Rattle.paper.specs.Tree.{Tree}
 use Rattle.paper.specs.Rules.{factorOf}
-use Rattle.split.specs.Standing.{TreeIn}
-use Rattle.paper.proofs.StandingLaws.{record-within}
+use Rattle.note.specs.Note.{note}
+use Rattle.split.specs.Standing.{Told}
+use Rattle.note.proofs.ToldLaws.{record-within}
 use Rattle.part.specs.Part.{ShowsNumber}
 use Rattle.split.proofs.SplitLaws.{no-integer}
 use Rattle.part.proofs.PartLaws.{number-part, number-apart, number-times, number-times-over}
@@ -56,14 +57,14 @@ read-by c = c .before .before .before
 later : (c : Read) (t : Tree)
     → let g = entry-of (found-of (known-of c)) .args in
     let j = found-of (known-of c) .base .result in
-    TreeIn (g .s .now) (g .at) t
+    Told note (g .s .now) (g .at) t
     → ShowsNumber (c .exponent .result) (c .before .bits .result) (markIn (g .s .now) j) (markIn (g .s .now) (g .at)) (factorOf t)
 later c t there =
     let known = known-of c in
     let found = found-of known in
     let integer = c .before .before .if1 .left in
-    let base = found .base .ensures .0 t there in
-    let exponent = c .exponent .ensures t there in
+    let base = found .base .ensures .0 note t there in
+    let exponent = c .exponent .ensures note t there in
     number-part _ _ _ (found .base .result) _ _ _ t there base (omega (arith, known .kind .ensures, integer)) (c .before .bits .ensures) refl refl
     (exponent .0) (exponent .1)
 
@@ -73,14 +74,14 @@ base-requires c κs = search needs
 kind-requires : tie.Need-kind-requires
 kind-requires c κs =
     let q = entry-of c .pre in
-    record-within (c .base .ensures .0 (q .tree) (q .there))
+    record-within (c .base .ensures .0 (q .how) (q .tree) (q .there))
 
 returns : tie.Need-returns
 returns c =
     let known = c .before in
     let found = found-of known in (
       λ x t h there.
-          let base = found .base .ensures .0 t there in
+          let base = found .base .ensures .0 note t there in
           number-apart h _ (no-integer base (omega (arith, known .kind .ensures))),
       λ p. tt,
     )
@@ -89,7 +90,7 @@ bits-requires : tie.Need-bits-requires
 bits-requires c κs =
     let found = found-of (c .before) in
     let q = entry-of found .pre in
-    record-within (found .base .ensures .0 (q .tree) (q .there))
+    record-within (found .base .ensures .0 (q .how) (q .tree) (q .there))
 
 exponent-requires : tie.Need-exponent-requires
 exponent-requires c κs = search needs

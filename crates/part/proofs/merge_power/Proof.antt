@@ -8,7 +8,8 @@ use borrow.Author.Needs.{needs}
 use Rattle.paper.specs.Tree.{Tree}
 use Rattle.paper.specs.Equal.{equal}
 use Rattle.paper.specs.Rules.{Factor, factorOf}
-use Rattle.split.specs.Standing.{TreeIn}
+use Rattle.note.specs.Note.{note}
+use Rattle.split.specs.Standing.{Told}
 use Rattle.equal.proofs.SameLaws.{match-ends, match-differs}
 use Rattle.part.specs.Part.{ShowsPower}
 use Rattle.part.proofs.PartLaws.{base-size, Raised, raised-later, power-apart, power-into, power-over}
@@ -53,23 +54,23 @@ alike-by c = c .before .before .before .before
 -- the current part is x and the later member is t: what is known of their bases, and of the later exponent
 module _ (x : Factor) (t : Tree) where
   abbrev Meets : Entry → Type 0
-  Meets c = let g = c .args in ShowsPower (g .s .now) (g .e) (g .i) (g .k) (g .m) x × TreeIn (g .s .now) (g .at) t
+  Meets c = let g = c .args in ShowsPower (g .s .now) (g .e) (g .i) (g .k) (g .m) x × Told note (g .s .now) (g .at) t
 
   bases-differ : (c : Unlike) → Meets (entry-of (found-of (unlike-by c))) → equal (x .base) (factorOf t .base) ≡ false
   bases-differ c m =
       let compared = unlike-by c in
       let found = found-of compared in
-      match-differs _ _ (sym (compared .same .ensures _ _ (m .0 .sized .there) (found .base .ensures .0 t (m .1))) ∙ c .enum-told .given .1)
+      match-differs _ _ (sym (compared .same .ensures note _ _ (m .0 .sized .there) (found .base .ensures .0 note t (m .1))) ∙ c .enum-told .given .1)
 
   bases-equal : (c : Alike) → Meets (entry-of (found-of (alike-by c))) → equal (x .base) (factorOf t .base) ≡ true
   bases-equal c m =
       let compared = alike-by c in
       let found = found-of compared in
-      match-ends _ _ _ (sym (compared .same .ensures _ _ (m .0 .sized .there) (found .base .ensures .0 t (m .1))) ∙ c .enum-told2 .given .1) .0
+      match-ends _ _ _ (sym (compared .same .ensures note _ _ (m .0 .sized .there) (found .base .ensures .0 note t (m .1))) ∙ c .enum-told2 .given .1) .0
 
   raised : (c : Read) → Meets (entry-of (found-of (alike-by (c .before)))) → Raised (factorOf t) (c .exponent .result)
   raised c m =
-      let read = c .exponent .ensures t (m .1) in
+      let read = c .exponent .ensures note t (m .1) in
       raised-later t (read .0) (read .1)
 
 base-requires : tie.Need-base-requires
@@ -80,10 +81,11 @@ same-requires c κs =
     let found = c .before in
     let q = entry-of found .pre in
     record {
+      how = q .how;
       one = q .one;
       other = factorOf (q .other) .base;
       one-there = q .one-there;
-      other-there = found .base .ensures .0 (q .other) (q .other-there);
+      other-there = found .base .ensures .0 (q .how) (q .other) (q .other-there);
       enough = omega (arith, q .enough, base-size (q .other));
     }
 

@@ -4,6 +4,8 @@ use mathlib.Core.Path.{sym, ap, _∙_}
 use borrow.Author.Needs.{needs}
 use Rattle.paper.specs.Equal.{equal}
 use Rattle.paper.specs.Rules.{termOf}
+use Rattle.note.proofs.ToldLaws.{some-told}
+use Rattle.note.specs.Note.{note}
 use Rattle.equal.proofs.HeadLaws.{rests-unlike}
 use Rattle.part.proofs.PartLaws.{term-apart}
 use Rattle.part.proofs.merge_term.Statement.{statement}
@@ -12,7 +14,7 @@ use Rattle.part.proofs.merge_term.Tie as tie
 rests-differ-requires : tie.Need-rests-differ-requires
 rests-differ-requires c κs =
     let some = c .before .before .pre in
-    (record { tree = some .one; there = some .one-there }, record { tree = some .other; there = some .other-there })
+    (some-told (some .one-there), some-told (some .other-there))
 
 returns : tie.Need-returns
 returns c =
@@ -37,7 +39,7 @@ returns-2 c =
     let says = c .add-term .ensures in (
       λ x t h there.
           says .0 x t h there
-          (ap (λ r. equal r (termOf t .rest)) (h .rest) ∙ sym (same .ensures (h .member) t (h .there) there) ∙ alike .if2 .taken),
+          (ap (λ r. equal r (termOf t .rest)) (h .rest) ∙ sym (same .ensures note (h .member) t (h .there) there) ∙ alike .if2 .taken),
       says .1,
     )
 
@@ -49,7 +51,7 @@ returns-3 c =
     let same = c .before .before .before .same-rest in (
       λ x t h there.
           term-apart x t
-          (ap (λ r. equal r (termOf t .rest)) (h .rest) ∙ sym (same .ensures (h .member) t (h .there) there) ∙ c .if2 .left),
+          (ap (λ r. equal r (termOf t .rest)) (h .rest) ∙ sym (same .ensures note (h .member) t (h .there) there) ∙ c .if2 .left),
       λ p h. tt,
     )
 

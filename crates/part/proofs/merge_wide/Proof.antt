@@ -4,6 +4,7 @@ use mathlib.Core.Path.{sym, ap, _∙_}
 use borrow.Author.Needs.{needs}
 use Rattle.paper.specs.Equal.{equal}
 use Rattle.paper.specs.Rules.{termOf}
+use Rattle.note.specs.Note.{note}
 use Rattle.part.proofs.PartLaws.{term-apart, wide-over}
 use Rattle.part.proofs.merge_wide.Statement.{statement}
 use Rattle.part.proofs.merge_wide.Tie as tie
@@ -19,7 +20,7 @@ returns c =
     let same = c .before .before .before .same-rest in (
       λ x t h there.
           wide-over x t
-          (ap (λ r. equal r (termOf t .rest)) (h .rest) ∙ sym (same .ensures (h .member) t (h .there) there) ∙ c .if1 .taken) (h .wide),
+          (ap (λ r. equal r (termOf t .rest)) (h .rest) ∙ sym (same .ensures note (h .member) t (h .there) there) ∙ c .if1 .taken) (h .wide),
       λ p. tt,
     )
 
@@ -31,7 +32,7 @@ returns-2 c =
     let same = c .before .before .before .same-rest in (
       λ x t h there.
           term-apart x t
-          (ap (λ r. equal r (termOf t .rest)) (h .rest) ∙ sym (same .ensures (h .member) t (h .there) there) ∙ c .if1 .left),
+          (ap (λ r. equal r (termOf t .rest)) (h .rest) ∙ sym (same .ensures note (h .member) t (h .there) there) ∙ c .if1 .left),
       λ p. tt,
     )
 

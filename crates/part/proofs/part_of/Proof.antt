@@ -6,8 +6,9 @@ use mathlib.Core.Option.{none}
 use native.Mathlib.Omega.{arith}
 use Rattle.paper.specs.Tree.{Tree}
 use Rattle.paper.specs.Rules.{asInteger, factorOf}
-use Rattle.split.specs.Standing.{TreeIn}
-use Rattle.paper.proofs.StandingLaws.{record-within}
+use Rattle.note.specs.Note.{note}
+use Rattle.split.specs.Standing.{Told}
+use Rattle.note.proofs.ToldLaws.{record-within, some-told}
 use Rattle.split.proofs.SplitLaws as laws
 use Rattle.part.proofs.PartLaws.{number-part, power-part, base-part, power-two}
 use Rattle.part.proofs.part_of.Statement.{statement}
@@ -48,16 +49,16 @@ known-of c = c .before .before
 -- the base is no integer
 no-integer : (c : Other) (t : Tree)
     → let g = entry-of (found-of (known-of c) .before) .args in
-    TreeIn (g .s .now) (g .at) t → asInteger (factorOf t .base) ≡ none
+    Told note (g .s .now) (g .at) t → asInteger (factorOf t .base) ≡ none
 no-integer c t there =
     let known = known-of c in
     let found = found-of known in
-    laws.no-integer (found .base .ensures .0 t there) (omega (arith, known .kind .ensures, c .before .if2 .left))
+    laws.no-integer (found .base .ensures .0 note t there) (omega (arith, known .kind .ensures, c .before .if2 .left))
 
 term-of-requires : tie.Need-term-of-requires
 term-of-requires c κs =
     let q = c .before .before .pre in
-    record { tree = q .0; there = q .1 .there }
+    some-told (q .1 .there)
 
 returns : tie.Need-returns
 returns c = (λ t h. rw (c .before .if1 .taken) (c .term-of .ensures .0 t (h .there)), c .term-of .ensures .1)
@@ -65,12 +66,12 @@ returns c = (λ t h. rw (c .before .if1 .taken) (c .term-of .ensures .0 t (h .th
 exponent-requires : tie.Need-exponent-requires
 exponent-requires c κs =
     let q = c .before .before .pre in
-    record { tree = q .0; there = q .1 .there }
+    some-told (q .1 .there)
 
 base-requires : tie.Need-base-requires
 base-requires c κs =
     let q = entry-of c .pre in
-    record { tree = q .0; there = q .1 .there }
+    some-told (q .1 .there)
 
 mark-requires : tie.Need-mark-requires
 mark-requires c κs =
@@ -81,19 +82,19 @@ kind-requires : tie.Need-kind-requires
 kind-requires c κs =
     let found = c .before in
     let q = entry-of (found .before) .pre in
-    record-within (found .base .ensures .0 (q .0) (q .1 .there))
+    record-within (found .base .ensures .0 note (q .0) (q .1 .there))
 
 bits-requires : tie.Need-bits-requires
 bits-requires c κs =
     let found = found-of (c .before) in
     let q = entry-of (found .before) .pre in
-    record-within (found .base .ensures .0 (q .0) (q .1 .there))
+    record-within (found .base .ensures .0 note (q .0) (q .1 .there))
 
 mark-requires-2 : tie.Need-mark-requires-2
 mark-requires-2 c κs =
     let found = found-of (c .before .before) in
     let q = entry-of (found .before) .pre in
-    record-within (found .base .ensures .0 (q .0) (q .1 .there))
+    record-within (found .base .ensures .0 note (q .0) (q .1 .there))
 
 returns-2 : tie.Need-returns-2
 returns-2 c =
@@ -101,8 +102,8 @@ returns-2 c =
     let found = found-of known in
     let read = found .before in (
       λ t h.
-          let e = read .exponent .ensures t (h .there) in
-          let b = found .base .ensures .0 t (h .there) in
+          let e = read .exponent .ensures note t (h .there) in
+          let b = found .base .ensures .0 note t (h .there) in
           rw (read .before .if1 .left)
           (number-part _ _ _ (found .base .result) _ _ _ t (h .there) b (omega (arith, known .kind .ensures)) (c .before .bits .ensures)
           (c .mark2 .ensures .0) (marked-of known .mark .ensures .0) (e .0) (e .1)),
@@ -129,7 +130,7 @@ returns-3 c =
     let marked = marked-of (known-of (c .before)) in
     let read = marked .before .before in (
       λ t h.
-          let e = read .exponent .ensures t (h .there) in
+          let e = read .exponent .ensures note t (h .there) in
           let is-power = sym (c .before .kind2 .ensures) ∙ c .if3 .taken in
           rw (read .before .if1 .left) (power-part _ _ _ _ t h (no-integer (c .before) t (h .there)) (e .0) (e .1) (marked .mark .ensures .0) is-power),
       λ p h. omega arith,
@@ -140,7 +141,7 @@ returns-4 c =
     let marked = marked-of (known-of (c .before)) in
     let read = marked .before .before in (
       λ t h.
-          let e = read .exponent .ensures t (h .there) in
+          let e = read .exponent .ensures note t (h .there) in
           let other = no-integer (c .before) t (h .there) in
           rw (read .before .if1 .left) (base-part _ _ _ _ t h other (e .0) (e .1) (marked .mark .ensures .0) (λ k. c .if3 .left (c .before .kind2 .ensures ∙ k))),
       λ p h. h,

@@ -3,7 +3,8 @@
 use mathlib.Core.Path.{sym, ap, _∙_}
 use native.Mathlib.Omega.{arith}
 use borrow.Author.Needs.{needs}
-use Rattle.paper.proofs.StandingLaws.{record-within}
+use Rattle.note.proofs.ToldLaws.{record-within}
+use Rattle.note.specs.Note.{note}
 use Rattle.number.specs.declared.Num.the-variants.{Is}
 use Rattle.split.proofs.SplitLaws.{term-integer}
 use Rattle.equal.proofs.HeadLaws.{whole-coefficient}
@@ -43,12 +44,12 @@ enum-told c = search needs
 returns-3 : tie.Need-returns-3
 returns-3 c =
     let read = c .before .before .before .coefficient in
-    (λ t h. term-part _ _ t h (sym (c .before .n .given .1) ∙ read .ensures t h), λ p h. h)
+    (λ t h. term-part _ _ t h (sym (c .before .n .given .1) ∙ read .ensures note t h), λ p h. h)
 
 returns-4 : tie.Need-returns-4
 returns-4 c =
     let read = c .before .before .coefficient in
-    (λ t h. wide-part _ _ t h (sym (c .enum-told .given .1) ∙ read .ensures t h), λ p h. h)
+    (λ t h. wide-part _ _ t h (sym (c .enum-told .given .1) ∙ read .ensures note t h), λ p h. h)
 
 pub term-of-spec : {M : Type 1} → statement M
 term-of-spec = tie.close (tie.spec

@@ -14,7 +14,7 @@ use Rattle.rules.specs.Alike.{ruleOf, firstFor, endFor}
 use Rattle.rules.specs.Asked.{Ready}
 use Rattle.rules.specs.Tried.{Answers}
 use Rattle.rules.specs.declared.Tried.{Tried}
-use Rattle.paper.proofs.StandingLaws.{record-within}
+use Rattle.note.proofs.ToldLaws.{record-within}
 use Rattle.rules.proofs.RuleLaws.{ready-tree}
 use Rattle.rules.proofs.AskLaws.{stepAt, rulesIn, rules-in, in-order, Going, begins, goes-on, steps, leaves, ends}
 use Rattle.rules.proofs.ask.Statement.{statement}

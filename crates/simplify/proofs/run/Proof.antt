@@ -1,7 +1,7 @@
 -- `simplify::run` meets its contract: each need is one law of Running, for the tree that the table holds. That places fit where the run
 -- is done follows from `done-bounds`. Assumes nothing.
-use Prim.Native.Nat.{_-_, _*_, _/_, _<_, _≤_}
-use mathlib.Core.Path.{_≡_, _∙_, subst}
+use Prim.Native.Nat.{_-_, _*_, _/_, _%_, _<_, _≤_}
+use mathlib.Core.Path.{_≡_, ap, _∙_, subst}
 use mathlib.Core.List.{[]}
 use native.Mathlib.Omega.{arith}
 use lib.ListN.{length}
@@ -10,28 +10,30 @@ use Rattle.record.specs.declared.Flaw.the-variants.{Sound}
 use Rattle.driver.specs.declared.Driven.{Driven as Answer}
 use Rattle.driver.specs.declared.Driven.the-variants as driven-as
 use Rattle.simplify.specs.Answer.{Leaves}
+use Rattle.note.specs.Note.{note}
+use Rattle.note.specs.Noted.{Whole}
 use Rattle.driver.specs.Driven.{Set, DrivenIs, Drove}
 use Rattle.driver.proofs.Runs.{drives}
-use Rattle.simplify.proofs.Running.{for-every, table-fits, set-up, left-over, done-fits, left-done}
+use Rattle.simplify.proofs.Running.{for-every, table-fits, whole-table, set-up, left-over, done-fits, whole-result, left-done}
 use Rattle.simplify.proofs.run.Statement.{statement}
 use Rattle.simplify.proofs.run.Tie as tie
 
--- places on the way through the code, and from each the one before it: the entry, after the table was copied, after the driver was called,
--- after work was cleared, and where the run is done
+-- places on the way through the code, and from each the one before it: the entry, after the table was copied, after it was noted, after the driver was
+-- called, after work was cleared, where the run is done, and after the notes were read and taken out
 abbrev Entry : Type 0
 Entry = tie.Start
 
 abbrev Moved : Type 0
 Moved = tie.After-copy-bytes
 
-abbrev Copied : Type 0
-Copied = tie.After-drive-arg3
+abbrev Made : Type 0
+Made = tie.After-note-all
 
 abbrev Called : Type 0
 Called = tie.After-drive
 
 abbrev Driven : Type 0
-Driven = tie.After-slice-known7
+Driven = tie.After-slice-known8
 
 abbrev Cleared : Type 0
 Cleared = tie.After-clear
@@ -39,14 +41,17 @@ Cleared = tie.After-clear
 abbrev Finished : Type 0
 Finished = tie.After-known-told2
 
+abbrev Stripped : Type 0
+Stripped = tie.After-strip
+
 abbrev entry-of : Moved → Entry
 entry-of c = c .before .before .before .before .before .before
 
-abbrev moved-of : Copied → Moved
-moved-of c = c .before .before .before .before .before
+abbrev moved-of : Made → Moved
+moved-of c = c .before .before .before .before
 
-abbrev copied-of : Called → Copied
-copied-of c = c .before
+abbrev made-of : Called → Made
+made-of c = c .before .before .before .before .before .before
 
 abbrev called-of : Driven → Called
 called-of c = c .before .before .before .before .before .before
@@ -57,37 +62,41 @@ driven-of c = c .before .before
 abbrev cleared-of : Finished → Cleared
 cleared-of c = c .before .before .before .before .before
 
--- the table's tree stands where the driver takes it
-set : (c : Copied)
+abbrev finished-of : Stripped → Finished
+finished-of c = c .before .before .before .before
+
+-- the table's tree stands where the driver takes it, with its notes
+set : (c : Made)
     → let moved = moved-of c in
     let entry = entry-of moved in
     let g = entry .args in
-    Set (g .out .now) (moved .copy-bytes .last .0) (g .steps .now) 0 (length (g .work .now) / 16 - length (g .table .now) / 16) 0 (entry .pre .0) []
+    Set (g .out .now) (c .note-all .last .0) (g .steps .now) 0 (length (g .work .now) / 16 - length (g .table .now) / 16) 0 (entry .pre .0) []
 set c =
     let moved = moved-of c in
-    let entry = entry-of moved in
+    let h = entry-of moved .pre .1 in
     let m = moved .copy-bytes in
-    set-up (entry .pre .1) (m .last .0) (m .ensures) (m .kept .0)
+    let n = c .note-all in
+    set-up h (m .ensures) (m .kept .0) (n .last .0) (n .ensures _ (whole-table h (m .ensures) (m .kept .0))) (n .kept .0)
 
 -- what the driver's answer x says
 result : (c : Driven) (x : Answer)
     → let called = called-of c in
-    let entry = entry-of (moved-of (copied-of called)) in
+    let entry = entry-of (moved-of (made-of called)) in
     let g = entry .args in
     let r = called .drive in
     r .result ≡ x → DrivenIs (drives (entry .args .edition) (entry .pre .0)) [] (g .out .now) (r .last .0) (r .last .1 .0) (g .steps .now) (r .last .1 .1 .0) 0 0 x
 result c x e =
     let called = called-of c in
-    let copied = copied-of called in
-    let entry = entry-of (moved-of copied) in
+    let made = made-of called in
+    let entry = entry-of (moved-of made) in
     let g = entry .args in
     let r = called .drive in
     subst (DrivenIs (drives (entry .args .edition) (entry .pre .0)) [] (g .out .now) (r .last .0) (r .last .1 .0) (g .steps .now) (r .last .1 .1 .0) 0 0) e
-    (r .ensures (entry .pre .0) [] (set copied))
+    (r .ensures (entry .pre .0) [] (set made))
 
 drove : (c : Finished)
     → let called = called-of (driven-of (cleared-of c)) in
-    let entry = entry-of (moved-of (copied-of called)) in
+    let entry = entry-of (moved-of (made-of called)) in
     let g = entry .args in
     let r = called .drive in
     let n = c .before .g2 .given .0 in
@@ -102,9 +111,19 @@ done-bounds : (c : Finished)
     (n .0 * 16 ≤ length (r .last .0)) × (n .1 .1 .0 ≤ length (r .last .1 .1 .0)) × (n .0 < 65536)
 done-bounds c =
     let called = called-of (driven-of (cleared-of c)) in
-    let moved = moved-of (copied-of called) in
+    let made = made-of called in
+    let moved = moved-of made in
     let k = called .drive .kept in
-    done-fits (entry-of moved .pre .1) (entry-of moved .args .edition) (drove c) (k .0) (k .1 .1 .0) (k .1 .0 ∙ moved .copy-bytes .kept .0)
+    done-fits (entry-of moved .pre .1) (entry-of moved .args .edition) (drove c) (k .0) (k .1 .1 .0) (k .1 .0 ∙ made .note-all .kept .0 ∙ moved .copy-bytes .kept .0)
+
+-- the notes are taken out
+result-whole : (c : Finished) → let r = called-of (driven-of (cleared-of c)) .drive in let n = c .before .g2 .given .0 in Whole note (r .last .0) 0 (n .0) (drove c .to)
+result-whole c =
+    let called = called-of (driven-of (cleared-of c)) in
+    let made = made-of called in
+    let moved = moved-of made in
+    let k = called .drive .kept in
+    whole-result (entry-of moved .pre .1) (entry-of moved .args .edition) (drove c) (k .0) (k .1 .1 .0) (k .1 .0 ∙ made .note-all .kept .0 ∙ moved .copy-bytes .kept .0)
 
 sub-p : tie.Need-sub-p
 sub-p c =
@@ -123,10 +142,18 @@ copy-bytes-requires c κs =
     let fits = table-fits (entry .pre .1) .1 in
     (omega arith, omega arith)
 
+note-all-requires : tie.Need-note-all-requires
+note-all-requires c κs =
+    let moved = c .before .before .before in
+    let h = entry-of moved .pre .1 in
+    let m = moved .copy-bytes in
+    (_, whole-table h (m .ensures) (m .kept .0))
+
 drive-requires : tie.Need-drive-requires
 drive-requires c κs =
-    let entry = entry-of (moved-of c) in
-    (entry .pre .0, [], set c)
+    let made = c .before .before .before .before .before in
+    let entry = entry-of (moved-of made) in
+    (entry .pre .0, [], set made)
 
 clear-requires : tie.Need-clear-requires
 clear-requires c κs = search needs
@@ -146,28 +173,29 @@ refusal-requires c κs = search needs
 enum-known-g-2 : tie.Need-enum-known-g-2
 enum-known-g-2 c = search needs
 
+note-at-requires : tie.Need-note-at-requires
+note-at-requires c κs = (_, result-whole (c .before) .there)
+
+strip-requires : tie.Need-strip-requires
+strip-requires c κs = (_, result-whole (c .before .before .before))
+
 mul-clear : tie.Need-mul-clear
-mul-clear c = omega (arith, done-bounds (c .before))
+mul-clear c = omega (arith, done-bounds (c .before .before .before .before .before .before .before))
 
 mul-clear-2 : tie.Need-mul-clear-2
-mul-clear-2 c = omega (arith, done-bounds (c .before))
+mul-clear-2 c = omega (arith, done-bounds (c .before .before .before .before .before .before .before))
 
 sub-clear : tie.Need-sub-clear
-sub-clear c = omega (arith, done-bounds (c .before))
+sub-clear c = omega (arith, done-bounds (c .before .before .before .before .before .before .before), c .before .before .before .strip .kept .0)
 
 clear-requires-4 : tie.Need-clear-requires-4
-clear-requires-4 c κs = omega (arith, done-bounds (c .before))
+clear-requires-4 c κs = omega (arith, done-bounds (c .before .before .before .before .before .before .before), c .before .before .before .strip .kept .0)
 
 sub-clear-2 : tie.Need-sub-clear-2
-sub-clear-2 c = omega (arith, done-bounds (c .before .before .before .before .before))
+sub-clear-2 c = omega (arith, done-bounds (c .before .before .before .before .before .before .before .before .before .before .before))
 
 clear-requires-5 : tie.Need-clear-requires-5
-clear-requires-5 c κs = omega (arith, done-bounds (c .before .before .before .before .before))
-
-weight-of-requires : tie.Need-weight-of-requires
-weight-of-requires c κs =
-    let cleared-out = c .before .before .before .before .before .before .before in
-    omega (arith, done-bounds (cleared-out .before .before), cleared-out .clear4 .kept .0)
+clear-requires-5 c κs = omega (arith, done-bounds (c .before .before .before .before .before .before .before .before .before .before .before))
 
 same-length : tie.Need-same-length
 same-length c = search needs
@@ -179,18 +207,19 @@ same-length-3 : tie.Need-same-length-3
 same-length-3 c =
     let cleared = c .before .before .before .before .before .before .before .before .before .before .before .before .before .before in
     let called = called-of (driven-of cleared) in
-    let moved = moved-of (copied-of called) in
-    cleared .clear .kept .0 ∙ called .drive .kept .1 .0 ∙ moved .copy-bytes .kept .0
+    let made = made-of called in
+    cleared .clear .kept .0 ∙ called .drive .kept .1 .0 ∙ made .note-all .kept .0 ∙ moved-of made .copy-bytes .kept .0
 
 returns : tie.Need-returns
 returns c =
     let cleared = c .before .before .before .before .before .before .before .before .before .before .before .before .before .before in
     let driven = driven-of cleared in
     let called = called-of driven in
-    let moved = moved-of (copied-of called) in
+    let made = made-of called in
+    let moved = moved-of made in
     let entry = entry-of moved in
     let r = called .drive in
-    let long = r .kept .1 .0 ∙ moved .copy-bytes .kept .0 in
+    let long = r .kept .1 .0 ∙ made .note-all .kept .0 ∙ moved .copy-bytes .kept .0 in
     let g = entry .args in
     let told = c .before .before .before .before .before .before .before .before .before .before .g .given in
     let out = c .before .before .before .before .before .before .before .clear2 in
@@ -209,23 +238,30 @@ same-length-5 : tie.Need-same-length-5
 same-length-5 c = search needs
 
 same-length-6 : tie.Need-same-length-6
-same-length-6 c = search needs
+same-length-6 c =
+    let cleared = c .before .before .before .before .before .before .before .before .before .before .before .before .before .before .before .before .before .before .before in
+    let called = called-of (driven-of cleared) in
+    let made = made-of called in
+    cleared .clear .kept .0 ∙ called .drive .kept .1 .0 ∙ made .note-all .kept .0 ∙ moved-of made .copy-bytes .kept .0
 
 returns-2 : tie.Need-returns-2
 returns-2 c =
-    let finished = c .before .before .before .before .before .before .before .before .before .before in
+    let stripped = c .before .before .before .before .before .before .before .before .before .before in
+    let finished = finished-of stripped in
     let cleared = cleared-of finished in
     let called = called-of (driven-of cleared) in
-    let moved = moved-of (copied-of called) in
+    let made = made-of called in
+    let moved = moved-of made in
     let entry = entry-of moved in
     let r = called .drive in
-    let long = r .kept .1 .0 ∙ moved .copy-bytes .kept .0 in
+    let long = r .kept .1 .0 ∙ made .note-all .kept .0 ∙ moved .copy-bytes .kept .0 in
     let g = entry .args in
-    let n = c .before .before .before .before .before .before .before .before .before .before .before .g2 .given .0 in
-    let out = c .before .before .before .before .before .before .before .before .clear4 in
-    let steps = c .before .before .before .before .clear5 in
+    let n = finished .before .g2 .given .0 in
+    let out = c .before .before .before .before .before .before .clear4 in
+    let steps = c .before .before .clear5 in
     let work = cleared .clear in
-    let x = c .weight-of .result in
+    let noted = stripped .before .before .note-at in
+    let x = noted .result / 65536 % 65536 in
     for-every (entry .pre .1)
     (λ u. Leaves (drives (entry .args .edition) u) (g .w)
     (record {
@@ -240,8 +276,9 @@ returns-2 c =
       tries = n .1 .1 .1 .1 .0;
     })
     (g .out .now) (out .last .0) (g .steps .now) (steps .last .0) (g .work .now) (work .last .0))
-    (left-done (entry .pre .1) (entry .args .edition) (drove finished) (r .kept .0) (r .kept .1 .1 .0) long (out .last .0) (steps .last .0) (work .last .0) x
-    (out .ensures) (steps .ensures) (work .ensures) (c .weight-of .ensures))
+    (left-done (entry .pre .1) (entry .args .edition) (drove finished) (r .kept .0) (r .kept .1 .1 .0) long
+    (stripped .strip .ensures _ (result-whole finished)) (stripped .strip .kept .0) (out .last .0) (steps .last .0) (work .last .0) x
+    (out .ensures) (steps .ensures) (work .ensures) (ap (λ v. v / 65536 % 65536) (noted .ensures _ (result-whole finished .there))))
 
 pub run-spec : {M : Type 1} → statement M
 run-spec =
@@ -250,6 +287,7 @@ run-spec =
     sub-p
     mul-copy-bytes
     copy-bytes-requires
+    note-all-requires
     drive-requires
     clear-requires
     enum-known-g
@@ -257,13 +295,14 @@ run-spec =
     clear-requires-3
     refusal-requires
     enum-known-g-2
+    note-at-requires
+    strip-requires
     mul-clear
     mul-clear-2
     sub-clear
     clear-requires-4
     sub-clear-2
     clear-requires-5
-    weight-of-requires
     same-length
     same-length-2
     same-length-3

@@ -2,7 +2,7 @@
 -- Assumes nothing.
 use mathlib.Core.Path.{sym, _∙_}
 use native.Mathlib.Omega.{arith}
-use Rattle.paper.proofs.StandingLaws.{record-within}
+use Rattle.note.proofs.ToldLaws.{record-within}
 use Rattle.split.proofs.SplitLaws.{base-power, base-itself, base-behind, base-here}
 use Rattle.split.proofs.base.Statement.{statement}
 use Rattle.split.proofs.base.Tie as tie
@@ -16,12 +16,12 @@ add-result c = omega (arith, record-within (c .before .before .before .pre .ther
 returns : tie.Need-returns
 returns c =
     let k = sym (c .before .kind .ensures) ∙ c .if1 .taken in
-    (λ t h. base-power t h k, λ t h. base-behind t h k)
+    (λ how t h. base-power t h k, λ how t h. base-behind t h k)
 
 returns-2 : tie.Need-returns-2
 returns-2 c = (
-  λ t h. base-itself t h (λ e. c .if1 .left (c .before .kind .ensures ∙ e)),
-  λ t h. base-here t h (λ e. c .if1 .left (c .before .kind .ensures ∙ e)),
+  λ how t h. base-itself t h (λ e. c .if1 .left (c .before .kind .ensures ∙ e)),
+  λ how t h. base-here t h (λ e. c .if1 .left (c .before .kind .ensures ∙ e)),
 )
 
 pub base-spec : {M : Type 1} → statement M

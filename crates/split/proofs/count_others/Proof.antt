@@ -3,16 +3,16 @@
 use Prim.Native.Nat.{ℕ, _+_, _≤_}
 use mathlib.Core.Logic.{⊎-elim}
 use native.Mathlib.Omega.{arith}
-use Rattle.paper.specs.Tree.{Forest, product}
-use Rattle.split.specs.Standing.{TreeIn}
-use Rattle.paper.proofs.StandingLaws.{record-within}
+use Rattle.paper.specs.Tree.{Tree, Forest, product}
+use Rattle.split.specs.Standing.{Told}
+use Rattle.note.proofs.ToldLaws.{record-within}
 use Rattle.split.proofs.SplitLaws.{Counting, counting-start, counting-tree, counted-other, counted-integer, counted-all}
 use Rattle.split.proofs.count_others.Statement.{statement}
 use Rattle.split.proofs.count_others.Tie as tie
 
 abbrev Inv-loop : tie.InvT-loop
 Inv-loop s i many₀ last₀ at₀ left₀ many last at left =
-    (many + left ≤ 65535) × ((μ : ℕ) (f : Forest) → TreeIn s i (product μ f) → Counting s i at left many last f)
+    (many + left ≤ 65535) × ((how : Tree → ℕ) (μ : ℕ) (f : Forest) → Told how s i (product μ f) → Counting how s i at left many last f)
 
 abbrev μ-loop : tie.MeasureT-loop
 μ-loop s i many₀ last₀ at₀ left₀ many last at left = left
@@ -24,12 +24,12 @@ count-requires : tie.Need-count-requires Inv-loop μ-loop
 count-requires c κs = record-within (c .before .pre .there)
 
 loop-holds : tie.Need-loop-holds Inv-loop μ-loop
-loop-holds c = (omega (arith, c .count .ensures .1), λ μ f h. rw (c .count .ensures .0) (counting-start h))
+loop-holds c = (omega (arith, c .count .ensures .1), λ how μ f h. rw (c .count .ensures .0) (counting-start h))
 
 kind-requires : tie.Need-kind-requires Inv-loop μ-loop
 kind-requires c κs =
     let some = c .before .before .before .before .pre in
-    record-within (counting-tree (c .before .loop .inv .1 (some .mark) (some .members) (some .there)) (c .loop-test .taken) .there)
+    record-within (counting-tree (c .before .loop .inv .1 (some .how) (some .mark) (some .members) (some .there)) (c .loop-test .taken) .there)
 
 add-many : tie.Need-add-many Inv-loop μ-loop
 add-many c = let left = c .before .before in omega (arith, left .before .loop .inv .0)
@@ -38,7 +38,7 @@ skip-tree-requires : tie.Need-skip-tree-requires Inv-loop μ-loop
 skip-tree-requires c κs =
     let left = c .before .before in
     let some = left .before .before .before .before .pre in
-    counting-tree (left .before .loop .inv .1 (some .mark) (some .members) (some .there)) (left .loop-test .taken)
+    counting-tree (left .before .loop .inv .1 (some .how) (some .mark) (some .members) (some .there)) (left .loop-test .taken)
 
 sub-left : tie.Need-sub-left Inv-loop μ-loop
 sub-left c = let l = c .before .before .before .loop-test .taken in omega arith
@@ -56,18 +56,18 @@ loop-again c =
     ⊎-elim
     (λ a. (
       omega (arith, inv .0, a .1),
-      λ μ f h.
-          rw (a .1, a .2) (counted-other (inv .1 μ f h) l (next .result) (next .ensures) (omega (arith, kinded .kind .ensures, a .0 .taken))),
+      λ how μ f h.
+          rw (a .1, a .2) (counted-other (inv .1 how μ f h) l (next .result) (next .ensures how) (omega (arith, kinded .kind .ensures, a .0 .taken))),
     ))
     (λ a. (
       omega (arith, inv .0, a .1),
-      λ μ f h.
-          rw (a .1, a .2) (counted-integer (inv .1 μ f h) l (next .result) (next .ensures) (omega (arith, kinded .kind .ensures, a .0 .left))),
+      λ how μ f h.
+          rw (a .1, a .2) (counted-integer (inv .1 how μ f h) l (next .result) (next .ensures how) (omega (arith, kinded .kind .ensures, a .0 .left))),
     ))
     (c .before .if1 .came)
 
 returns : tie.Need-returns Inv-loop μ-loop
-returns c = λ μ f h. counted-all (c .before .loop .inv .1 μ f h) (omega arith)
+returns c = λ how μ f h. counted-all (c .before .loop .inv .1 how μ f h) (omega arith)
 
 pub count-others-spec : {M : Type 1} → statement M
 count-others-spec =

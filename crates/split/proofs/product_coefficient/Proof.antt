@@ -7,16 +7,16 @@ use native.Mathlib.Omega.{arith}
 use lib.IntN.{_*ℤ_}
 use borrow.Author.Needs.{needs}
 use Rattle.paper.specs.Bytes.{signed}
-use Rattle.paper.specs.Tree.{Forest, product}
+use Rattle.paper.specs.Tree.{Tree, Forest, product}
 use Rattle.number.specs.Num.{numOf}
-use Rattle.split.specs.Standing.{TreeIn}
-use Rattle.paper.proofs.StandingLaws.{record-within}
+use Rattle.split.specs.Standing.{Told}
+use Rattle.note.proofs.ToldLaws.{record-within}
 use Rattle.split.proofs.SplitLaws.{Multiplying, multiplying-start, multiplying-tree, multiplied-in, multiplied-out, multiplied-by, multiplied-all}
 use Rattle.split.proofs.product_coefficient.Statement.{statement}
 use Rattle.split.proofs.product_coefficient.Tie as tie
 
 abbrev Inv-loop : tie.InvT-loop
-Inv-loop s i n₀ at₀ left₀ n at left = (μ : ℕ) (f : Forest) → TreeIn s i (product μ f) → Multiplying s n at left f
+Inv-loop s i n₀ at₀ left₀ n at left = (how : Tree → ℕ) (μ : ℕ) (f : Forest) → Told how s i (product μ f) → Multiplying how s n at left f
 
 abbrev μ-loop : tie.MeasureT-loop
 μ-loop s i n₀ at₀ left₀ n at left = left
@@ -28,18 +28,18 @@ count-requires : tie.Need-count-requires Inv-loop μ-loop
 count-requires c κs = record-within (c .before .pre .there)
 
 loop-holds : tie.Need-loop-holds Inv-loop μ-loop
-loop-holds c = λ μ f h. rw (c .count .ensures .0) (multiplying-start h)
+loop-holds c = λ how μ f h. rw (c .count .ensures .0) (multiplying-start h)
 
 kind-requires : tie.Need-kind-requires Inv-loop μ-loop
 kind-requires c κs =
     let some = c .before .before .before .before .pre in
-    record-within (multiplying-tree (c .before .loop .inv (some .mark) (some .members) (some .there)) (c .loop-test .taken) .there)
+    record-within (multiplying-tree (c .before .loop .inv (some .how) (some .mark) (some .members) (some .there)) (c .loop-test .taken) .there)
 
 bits-requires : tie.Need-bits-requires Inv-loop μ-loop
 bits-requires c κs =
     let left = c .before .before in
     let some = left .before .before .before .before .pre in
-    record-within (multiplying-tree (left .before .loop .inv (some .mark) (some .members) (some .there)) (left .loop-test .taken) .there)
+    record-within (multiplying-tree (left .before .loop .inv (some .how) (some .mark) (some .members) (some .there)) (left .loop-test .taken) .there)
 
 mul-requires : tie.Need-mul-requires Inv-loop μ-loop
 mul-requires c κs = search needs
@@ -51,20 +51,20 @@ enum-told : tie.Need-enum-told Inv-loop μ-loop
 enum-told c = search needs
 
 returns : tie.Need-returns Inv-loop μ-loop
-returns c = λ μ f h.
+returns c = λ how μ f h.
     let mul = c .before .before in
     let kinded = mul .before .before .before in
     let left = kinded .before in
     let answer =
     ap (λ b. numOf (signed (left .before .loop .n) *ℤ signed b)) (sym (mul .before .bits .ensures)) ∙ sym (mul .mul .ensures)
     ∙ c .enum-told .given .1 in
-    multiplied-out (left .before .loop .inv μ f h) (left .loop-test .taken) (omega (arith, kinded .kind .ensures, mul .before .before .if1 .taken)) μ answer
+    multiplied-out (left .before .loop .inv how μ f h) (left .loop-test .taken) (omega (arith, kinded .kind .ensures, mul .before .before .if1 .taken)) μ answer
 
 skip-tree-requires : tie.Need-skip-tree-requires Inv-loop μ-loop
 skip-tree-requires c κs =
     let left = c .before .before in
     let some = left .before .before .before .before .pre in
-    multiplying-tree (left .before .loop .inv (some .mark) (some .members) (some .there)) (left .loop-test .taken)
+    multiplying-tree (left .before .loop .inv (some .how) (some .mark) (some .members) (some .there)) (left .loop-test .taken)
 
 sub-left : tie.Need-sub-left Inv-loop μ-loop
 sub-left c = let l = c .before .before .before .loop-test .taken in omega arith
@@ -80,16 +80,16 @@ loop-again c =
     let l = left .loop-test .taken in
     let next = c .skip-tree in
     ⊎-elim
-    (λ a μ f h.
+    (λ a how μ f h.
     let answer =
     ap (λ b. numOf (signed (left .before .loop .n) *ℤ signed b)) (sym (a .1 .ensures)) ∙ sym (a .2 .ensures) ∙ a .4 .given .1 in
     rw (a .6)
-    (multiplied-in (inv μ f h) l (omega (arith, kinded .kind .ensures, a .0 .taken)) answer (next .result) (next .ensures)))
-    (λ a μ f h. rw (a .1) (multiplied-by (inv μ f h) l (omega (arith, kinded .kind .ensures, a .0 .left)) (next .result) (next .ensures)))
+    (multiplied-in (inv how μ f h) l (omega (arith, kinded .kind .ensures, a .0 .taken)) answer (next .result) (next .ensures how)))
+    (λ a how μ f h. rw (a .1) (multiplied-by (inv how μ f h) l (omega (arith, kinded .kind .ensures, a .0 .left)) (next .result) (next .ensures how)))
     (c .before .if1 .came)
 
 returns-2 : tie.Need-returns-2 Inv-loop μ-loop
-returns-2 c = λ μ f h. multiplied-all (c .before .loop .inv μ f h) μ (omega arith)
+returns-2 c = λ how μ f h. multiplied-all (c .before .loop .inv how μ f h) μ (omega arith)
 
 pub product-coefficient-spec : {M : Type 1} → statement M
 product-coefficient-spec =

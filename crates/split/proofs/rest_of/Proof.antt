@@ -2,7 +2,7 @@
 -- members that are no integers. Assumes nothing.
 use mathlib.Core.Path.{refl, sym, _∙_}
 use native.Mathlib.Omega.{arith}
-use Rattle.paper.proofs.StandingLaws.{record-within}
+use Rattle.note.proofs.ToldLaws.{record-within}
 use Rattle.split.proofs.SplitLaws.{term-integer, rest-itself, some-product, rest-whole, rest-one, rest-single, rest-others}
 use Rattle.split.proofs.SplitLaws.{place-integer, place-other, place-whole, place-one, place-single, place-others}
 use Rattle.split.proofs.rest_of.Statement.{statement}
@@ -14,13 +14,13 @@ kind-requires c κs = record-within (c .before .pre .there)
 returns : tie.Need-returns
 returns c =
     let k = c .before .kind .ensures in
-    (λ t h. term-integer t h (omega arith) .1, λ t h. place-integer t h (omega arith))
+    (λ how t h. term-integer t h (omega arith) .1, λ how t h. place-integer t h (omega arith))
 
 returns-2 : tie.Need-returns-2
 returns-2 c =
     let k = c .before .before .kind .ensures in (
-      λ t h. rest-itself t h (omega arith) (λ e. c .if2 .taken (k ∙ e)),
-      λ t h. place-other t h (omega arith) (λ e. c .if2 .taken (k ∙ e)),
+      λ how t h. rest-itself t h (omega arith) (λ e. c .if2 .taken (k ∙ e)),
+      λ how t h. place-other t h (omega arith) (λ e. c .if2 .taken (k ∙ e)),
     )
 
 count-others-requires : tie.Need-count-others-requires
@@ -36,7 +36,7 @@ returns-3 c =
     let k = sym (split .before .before .before .kind .ensures) ∙ split .before .if2 .left in
     let n = counted .count .ensures .0 in
     let told = split .count-others .ensures in
-    (λ t h. rest-whole t h k n told (c .if3 .taken), λ t h. place-whole t h k n told (c .if3 .taken))
+    (λ how t h. rest-whole t h k n (told how) (c .if3 .taken), λ how t h. place-whole t h k n (told how) (c .if3 .taken))
 
 returns-4 : tie.Need-returns-4
 returns-4 c =
@@ -46,7 +46,7 @@ returns-4 c =
     let n = counted .count .ensures .0 in
     let told = split .count-others .ensures in
     let some = c .before .before .if3 .left in
-    (λ t h. rest-one t h k n told some (c .if4 .taken), λ t h. place-one t h k n told some (c .if4 .taken))
+    (λ how t h. rest-one t h k n (told how) some (c .if4 .taken), λ how t h. place-one t h k n (told how) some (c .if4 .taken))
 
 returns-5 : tie.Need-returns-5
 returns-5 c =
@@ -57,7 +57,7 @@ returns-5 c =
     let told = split .count-others .ensures in
     let some = c .before .before .before .before .if3 .left in
     let one = c .before .before .if4 .left in
-    (λ t h. rest-single t h k n told some one (c .if5 .taken), λ t h. place-single t h k n told some one (c .if5 .taken))
+    (λ how t h. rest-single t h k n (told how) some one (c .if5 .taken), λ how t h. place-single t h k n (told how) some one (c .if5 .taken))
 
 returns-6 : tie.Need-returns-6
 returns-6 c =
@@ -67,7 +67,7 @@ returns-6 c =
     let n = counted .count .ensures .0 in
     let told = split .count-others .ensures in
     let some = c .before .before .before .before .if3 .left in
-    (λ t h. (refl, rest-others t h k n told some (c .if5 .left)), λ t h. place-others t h k n told some (c .if5 .left))
+    (λ how t h. (refl, rest-others t h k n (told how) some (c .if5 .left)), λ how t h. place-others t h k n (told how) some (c .if5 .left))
 
 pub rest-of-spec : {M : Type 1} → statement M
 rest-of-spec =

@@ -1,21 +1,22 @@
--- `split::skip_tree` meets its contract. A leaf owes nothing, so it ends at the next record. The loop's invariant: for each tree that
--- stands at the record, the trees owed end where it does; so few are owed that their number fits. Assumes nothing.
-use Prim.Native.Nat.{_+_, _-_, _*_, _≤_, _<_}
+-- `split::skip_tree` meets its contract. A leaf owes nothing, so it ends at the next record; a node's record tells its number of records,
+-- or nothing. The loop's invariant: for each tree that stands at the record, the trees owed end where it does; so few are owed that their
+-- number fits. Assumes nothing.
+use Prim.Native.Nat.{ℕ, _+_, _-_, _*_, _≤_, _<_}
 use native.Mathlib.Omega.{arith}
 use lib.ListN.{length}
 use Rattle.paper.specs.Record.{kind}
 use Rattle.paper.specs.Tree.{Tree}
-use Rattle.split.specs.Standing.{TreeIn}
-use Rattle.paper.proofs.StandingLaws.{record-within}
+use Rattle.split.specs.Standing.{Told}
+use Rattle.note.proofs.ToldLaws.{record-within, node-size}
 use Rattle.split.proofs.OwedLaws.{Owed, owed-one, owed-within, owed-step, owed-none, leaf-owes-none}
 use Rattle.split.proofs.skip_tree.Statement.{statement}
 use Rattle.split.proofs.skip_tree.Tie as tie
 
 abbrev Inv-loop : tie.InvT-loop
-Inv-loop s i at₀ owed₀ at owed = (i ≤ at) × (owed ≤ 1 + 65535 * (at - i)) × ((t : Tree) → TreeIn s i t → Owed s i t at owed)
+Inv-loop s i told at₀ owed₀ at owed = (i ≤ at) × (owed ≤ 1 + 65535 * (at - i)) × ((how : Tree → ℕ) (t : Tree) → Told how s i t → Owed s i t at owed)
 
 abbrev μ-loop : tie.MeasureT-loop
-μ-loop s i at₀ owed₀ at owed = length s - at
+μ-loop s i told at₀ owed₀ at owed = length s - at
 
 kind-requires : tie.Need-kind-requires Inv-loop μ-loop
 kind-requires c κs = record-within (c .before .pre .there)
@@ -27,44 +28,56 @@ returns : tie.Need-returns Inv-loop μ-loop
 returns c =
     let a = c .before .before .before .args in
     let leaf : kind (a .s .now) (a .i) < 2 = omega (arith, c .before .kind .ensures, c .if1 .taken) in
-    λ t h. owed-none (owed-step (owed-one h) (omega arith)) (leaf-owes-none (a .s .now) (a .i) leaf)
+    λ how t h. owed-none (owed-step (owed-one h) (omega arith)) (leaf-owes-none (a .s .now) (a .i) leaf)
+
+bits-requires : tie.Need-bits-requires Inv-loop μ-loop
+bits-requires c κs = record-within (c .before .before .before .pre .there)
+
+add-result-2 : tie.Need-add-result-2 Inv-loop μ-loop
+add-result-2 c = omega (arith, record-within (c .before .before .before .before .before .pre .there))
+
+returns-2 : tie.Need-returns-2 Inv-loop μ-loop
+returns-2 c = λ how t h.
+    let k = c .before .before .before .kind .ensures in
+    let b = c .before .bits .ensures in
+    omega (arith, node-size h (omega arith) (omega (arith, c .if2 .taken)))
 
 loop-holds : tie.Need-loop-holds Inv-loop μ-loop
-loop-holds c = (omega arith, omega arith, λ t h. owed-one h)
+loop-holds c = (omega arith, omega arith, λ how t h. owed-one h)
 
 sub-owed : tie.Need-sub-owed Inv-loop μ-loop
 sub-owed c = omega arith
 
 arity-requires : tie.Need-arity-requires Inv-loop μ-loop
 arity-requires c κs =
-    let some = c .before .before .before .before .before .pre in
-    owed-within (some .there) (c .before .loop .inv .2 (some .tree) (some .there)) (c .loop-test .taken) .0
+    let some = c .before .before .before .before .before .before .before .pre in
+    owed-within (some .there) (c .before .loop .inv .2 (some .how) (some .tree) (some .there)) (c .loop-test .taken) .0
 
 add-owed : tie.Need-add-owed Inv-loop μ-loop
 add-owed c =
-    let some = c .before .before .before .before .before .before .pre in
-    let w = owed-within (some .there) (c .before .before .loop .inv .2 (some .tree) (some .there)) (c .before .loop-test .taken) in
+    let some = c .before .before .before .before .before .before .before .before .pre in
+    let w = owed-within (some .there) (c .before .before .loop .inv .2 (some .how) (some .tree) (some .there)) (c .before .loop-test .taken) in
     omega (arith, w .1)
 
 add-at : tie.Need-add-at Inv-loop μ-loop
 add-at c =
-    let some = c .before .before .before .before .before .before .pre in
-    omega (arith, owed-within (some .there) (c .before .before .loop .inv .2 (some .tree) (some .there)) (c .before .loop-test .taken) .0)
+    let some = c .before .before .before .before .before .before .before .before .pre in
+    omega (arith, owed-within (some .there) (c .before .before .loop .inv .2 (some .how) (some .tree) (some .there)) (c .before .loop-test .taken) .0)
 
 loop-less : tie.Need-loop-less Inv-loop μ-loop
 loop-less c =
-    let some = c .before .before .before .before .before .before .pre in
-    omega (arith, owed-within (some .there) (c .before .before .loop .inv .2 (some .tree) (some .there)) (c .before .loop-test .taken) .0)
+    let some = c .before .before .before .before .before .before .before .before .pre in
+    omega (arith, owed-within (some .there) (c .before .before .loop .inv .2 (some .how) (some .tree) (some .there)) (c .before .loop-test .taken) .0)
 
 loop-again : tie.Need-loop-again Inv-loop μ-loop
 loop-again c = (
   omega arith,
   omega arith,
-  λ t h. rw (c .arity .ensures .0) (owed-step (c .before .before .loop .inv .2 t h) (c .before .loop-test .taken)),
+  λ how t h. rw (c .arity .ensures .0) (owed-step (c .before .before .loop .inv .2 how t h) (c .before .loop-test .taken)),
 )
 
-returns-2 : tie.Need-returns-2 Inv-loop μ-loop
-returns-2 c = λ t h. owed-none (c .before .loop .inv .2 t h) (omega arith)
+returns-3 : tie.Need-returns-3 Inv-loop μ-loop
+returns-3 c = λ how t h. owed-none (c .before .loop .inv .2 how t h) (omega arith)
 
 pub skip-tree-spec : {M : Type 1} → statement M
 skip-tree-spec =
@@ -75,6 +88,9 @@ skip-tree-spec =
     kind-requires
     add-result
     returns
+    bits-requires
+    add-result-2
+    returns-2
     loop-holds
     sub-owed
     arity-requires
@@ -82,4 +98,4 @@ skip-tree-spec =
     add-at
     loop-less
     loop-again
-    returns-2)
+    returns-3)

@@ -1,39 +1,42 @@
--- `walk::current` meets its contract: the member stands where its entry's start says (`entry-there`), with as many records as the entry's
--- size says, and its part there is what was asked for. Assumes nothing.
-use Prim.Native.Nat.{_+_}
-use mathlib.Core.Path.{_∙_}
+-- `walk::current` meets its contract: the member stands where its entry's start says (`entry-there`), with as many records as
+-- skipping it over tells, and its part there is what was asked for. Assumes nothing.
+use Prim.Native.Nat.{_+_, _-_}
 use native.Mathlib.Omega.{arith}
 use borrow.Author.Needs.{needs}
 use Rattle.paper.specs.Tree.{Tree}
-use Rattle.paper.proofs.StandingLaws.{record-within}
+use Rattle.note.specs.Note.{note}
+use Rattle.note.proofs.ToldLaws.{record-within, some-told}
 use Rattle.part.specs.Part.{Sized}
 use Rattle.walk.specs.Listed.{Entry as Listed}
 use Rattle.walk.proofs.EntryLaws.{entry-there}
 use Rattle.walk.proofs.current.Statement.{statement}
 use Rattle.walk.proofs.current.Tie as tie
 
--- places on the way through the code, and from each the one before it: the entry, after the start was read, and after the size was read
+-- places on the way through the code, and from each the one before it: the entry, after the start was read, and after the member was skipped over
 abbrev Entry : Type 0
 Entry = tie.Start
 
 abbrev Start : Type 0
 Start = tie.After-read2
 
-abbrev Read : Type 0
-Read = tie.After-read22
+abbrev Skipped : Type 0
+Skipped = tie.After-skip-tree
 
 abbrev entry-of : Start → Entry
 entry-of c = c .before .before
 
-abbrev start-of : Read → Start
+abbrev start-of : Skipped → Start
 start-of c = c .before
 
--- the member t of the entry, by its start and its size
-member : (c : Read) (t : Tree)
+-- the member t of the entry, by its start and where it ends
+member : (c : Skipped) (t : Tree)
     → let start = start-of c in
     let g = entry-of start .args in
-    Listed (g .s .now) (g .p) (g .i) t → Sized (g .s .now) (g .p + start .read2 .result) (c .read22 .result) t
-member c t h = record { there = entry-there h _ (start-of c .read2 .ensures .0); size = c .read22 .ensures .0 ∙ h .size }
+    let at = g .p + start .read2 .result in
+    Listed (g .terms) (g .s .now) (g .p) (g .i) t → Sized (g .s .now) at (c .skip-tree .result - at) t
+member c t h =
+    let there = entry-there h _ (start-of c .read2 .ensures .0) in
+    record { there = there; size = omega (arith, c .skip-tree .ensures note t there) }
 
 mul-read2 : tie.Need-mul-read2
 mul-read2 c = search needs
@@ -44,14 +47,13 @@ read2-requires c κs = search needs
 add-start : tie.Need-add-start
 add-start c = record { fits = omega (arith, record-within (entry-of c .pre .1 .there), c .read2 .ensures .0) }
 
-mul-read2-2 : tie.Need-mul-read2-2
-mul-read2-2 c = search needs
+skip-tree-requires : tie.Need-skip-tree-requires
+skip-tree-requires c κs = some-told (entry-there (entry-of c .pre .1) _ (c .read2 .ensures .0))
 
-add-read2 : tie.Need-add-read2
-add-read2 c = search needs
-
-read2-requires-2 : tie.Need-read2-requires-2
-read2-requires-2 c κs = search needs
+sub-part-of : tie.Need-sub-part-of
+sub-part-of c =
+    let q = entry-of (start-of c) .pre in
+    omega (arith, c .skip-tree .ensures note (q .0) (entry-there (q .1) _ (start-of c .read2 .ensures .0)))
 
 part-of-requires : tie.Need-part-of-requires
 part-of-requires c κs =
@@ -70,8 +72,7 @@ current-spec =
     mul-read2
     read2-requires
     add-start
-    mul-read2-2
-    add-read2
-    read2-requires-2
+    skip-tree-requires
+    sub-part-of
     part-of-requires
     returns)

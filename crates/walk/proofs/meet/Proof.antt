@@ -1,24 +1,34 @@
--- `walk::meet` meets its contract: the member stands where its entry's start says (`entry-there`), and merging with it there is what was
+-- `walk::meet` meets its contract: where the entry's 16 bits are others than those of the current part's key, the part does not take up the
+-- member's (`apart-by-key`); else the member stands where its entry's start says (`entry-there`), and merging with it there is what was
 -- asked for. Assumes nothing.
+use mathlib.Core.Path.{sym, _∙_}
 use native.Mathlib.Omega.{arith}
 use borrow.Author.Needs.{needs}
-use Rattle.paper.proofs.StandingLaws.{record-within}
+use Rattle.note.proofs.ToldLaws.{record-within}
 use Rattle.walk.proofs.EntryLaws.{entry-there}
+use Rattle.walk.proofs.KeyedLaws.{apart-by-key}
 use Rattle.walk.proofs.meet.Statement.{statement}
 use Rattle.walk.proofs.meet.Tie as tie
 
--- places on the way through the code, and from each the one before it: the entry, after the start was read, and after the merge
+-- places on the way through the code, and from each the one before it: the entry, after the entry's key was read, after its start
+-- was read, and after the merge
 abbrev Entry : Type 0
 Entry = tie.Start
 
+abbrev Keyed : Type 0
+Keyed = tie.After-read2
+
 abbrev Read : Type 0
-Read = tie.After-read2
+Read = tie.After-read22
 
 abbrev Merged : Type 0
 Merged = tie.After-merge
 
-abbrev entry-of : Read → Entry
+abbrev entry-of : Keyed → Entry
 entry-of c = c .before .before .before
+
+abbrev keyed-of : Read → Keyed
+keyed-of c = c .before .before
 
 abbrev read-of : Merged → Read
 read-of c = c .before .before
@@ -26,35 +36,60 @@ read-of c = c .before .before
 mul-read2 : tie.Need-mul-read2
 mul-read2 c = search needs
 
+add-read2 : tie.Need-add-read2
+add-read2 c = search needs
+
 read2-requires : tie.Need-read2-requires
 read2-requires c κs = search needs
 
+returns : tie.Need-returns
+returns c =
+    let key = c .before .read2 in
+    (λ b x t h keyed entry. apart-by-key b x t (λ e. c .if1 .taken (key .ensures .0 ∙ entry .key ∙ e ∙ sym keyed)), λ h. tt)
+
+mul-read2-2 : tie.Need-mul-read2-2
+mul-read2-2 c = search needs
+
+read2-requires-2 : tie.Need-read2-requires-2
+read2-requires-2 c κs = search needs
+
 add-start : tie.Need-add-start
-add-start c = record { fits = omega (arith, record-within (entry-of c .pre .entry .there), c .read2 .ensures .0) }
+add-start c = record { fits = omega (arith, record-within (entry-of (keyed-of c) .pre .entry .there), c .read22 .ensures .0) }
 
 merge-requires : tie.Need-merge-requires
 merge-requires c κs =
     let read = c .before in
-    let q = entry-of read .pre in
+    let q = entry-of (keyed-of read) .pre in
     record {
       flag = q .flag;
       current = q .current;
       later = q .later;
       shown = q .shown;
-      there = entry-there (q .entry) _ (read .read2 .ensures .0);
+      there = entry-there (q .entry) _ (read .read22 .ensures .0);
       enough = q .enough;
     }
 
 same-length : tie.Need-same-length
 same-length c = search needs
 
-returns : tie.Need-returns
-returns c =
+returns-2 : tie.Need-returns-2
+returns-2 c =
     let merged = c .before .before in
-    let start = read-of merged .read2 in
+    let start = read-of merged .read22 in
     let says = merged .merge .ensures in
-    (λ b x t h entry. says .0 b x t h (entry-there entry _ (start .ensures .0)), says .1 _)
+    (λ b x t h keyed entry. says .0 b x t h (entry-there entry _ (start .ensures .0)), says .1 _)
 
 pub meet-spec : {M : Type 1} → statement M
 meet-spec =
-    tie.close (tie.spec mul-read2 read2-requires add-start merge-requires same-length returns)
+    tie.close
+    (tie.spec
+    mul-read2
+    add-read2
+    read2-requires
+    returns
+    mul-read2-2
+    read2-requires-2
+    add-start
+    merge-requires
+    same-length
+    returns-2)

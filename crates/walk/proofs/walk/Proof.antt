@@ -24,6 +24,9 @@ walk-spec =
     Outer.add-e
     Outer.walk-holds
     Outer.current-requires
+    Outer.mul-read2
+    Outer.add-read2
+    Outer.read2-requires
     Outer.add-j
     Outer.loop-holds
     Inner.mul-a

@@ -1,4 +1,4 @@
--- `walk::write_entry` meets its contract: the array holds the entry's four bytes, the two of its start and the two of its size, and is
+-- `walk::write_entry` meets its contract: the array holds the entry's four bytes, the two of its start and the two of its key, and is
 -- copied to the entry's place. Assumes nothing.
 use Rattle.paper.specs.Bytes.{bytes}
 use Rattle.stretch.specs.Put.{part}

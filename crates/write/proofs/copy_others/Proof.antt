@@ -9,8 +9,9 @@ use borrow.Author.Needs.{needs}
 use lib.ListN.{length}
 use Rattle.paper.specs.Record.{kind}
 use Rattle.paper.specs.Tree.{Tree, Forest, product, ofList, records, recordses}
-use Rattle.paper.proofs.StandingLaws.{record-within, one-product}
-use Rattle.split.specs.Standing.{TreeIn, SomeTree}
+use Rattle.note.proofs.ToldLaws.{record-within, one-product, some-told}
+use Rattle.note.specs.Note.{note}
+use Rattle.split.specs.Standing.{Told}
 use Rattle.part.proofs.PartLaws.{sized}
 use Rattle.write.proofs.Without.{others, Copying, copying-start, copied-all, copying-tree, copying-past, copying-room, copying-more}
 use Rattle.write.proofs.copy_others.Statement.{statement}
@@ -19,7 +20,7 @@ use Rattle.write.proofs.copy_others.Tie as tie
 abbrev Inv-loop : tie.InvT-loop
 Inv-loop out₀ m s i to₀ at₀ left₀ out to at left =
     (length out ≡ length out₀)
-    × ((μ : ℕ) (f : Forest) → TreeIn s i (product μ f) → (m + recordses (ofList (others f))) * 16 ≤ length out₀ → Copying s out₀ m f out to at left)
+    × ((μ : ℕ) (f : Forest) → Told note s i (product μ f) → (m + recordses (ofList (others f))) * 16 ≤ length out₀ → Copying s out₀ m f out to at left)
 
 abbrev μ-loop : tie.MeasureT-loop
 μ-loop out₀ m s i to₀ at₀ left₀ out to at left = left
@@ -52,12 +53,12 @@ copying : (c : Head)
 copying c = let q = entry-of c .pre in c .loop .inv .1 (q .0) (q .1) (q .2) (q .3)
 
 -- the next tree
-next-tree : (c : Turn) → let head = head-of c in SomeTree (entry-of head .args .s .now) (head .loop .at)
+next-tree : (c : Turn) → let head = head-of c in (t : Tree) × Told note (entry-of head .args .s .now) (head .loop .at) t
 next-tree c = copying-tree (copying (head-of c)) (c .loop-test .taken)
 
 -- the record after it, and the room for it where it is no integer
-ends : (c : Ended) → let o = next-tree (c .before) in c .skip-tree .result ≡ head-of (c .before) .loop .at + records (o .tree)
-ends c = let o = next-tree (c .before) in c .skip-tree .ensures (o .tree) (o .there)
+ends : (c : Ended) → let o = next-tree (c .before) in c .skip-tree .result ≡ head-of (c .before) .loop .at + records (o .0)
+ends c = let o = next-tree (c .before) in c .skip-tree .ensures note (o .0) (o .1)
 
 room : (c : tie.Then1 Inv-loop μ-loop)
     → let ended = c .before .before in
@@ -69,7 +70,7 @@ room c =
     let head = head-of turn in
     let other : 1 ≤ kind (entry-of head .args .s .now) (head .loop .at) = omega (arith, c .before .kind .ensures, c .if1 .taken) in
     let o = next-tree turn in
-    let enough = copying-room (copying head) (turn .loop-test .taken) other (entry-of head .pre .3) (o .tree) (o .there) in
+    let enough = copying-room (copying head) (turn .loop-test .taken) other (entry-of head .pre .3) (o .0) (o .1) in
     omega (arith, ends ended, head .loop .inv .0)
 
 add-at : tie.Need-add-at Inv-loop μ-loop
@@ -82,10 +83,10 @@ loop-holds : tie.Need-loop-holds Inv-loop μ-loop
 loop-holds c = (refl, λ μ f h r. rw (c .count .ensures .0) (copying-start _ _ h))
 
 skip-tree-requires : tie.Need-skip-tree-requires Inv-loop μ-loop
-skip-tree-requires c κs = next-tree c
+skip-tree-requires c κs = some-told (next-tree c .1)
 
 kind-requires : tie.Need-kind-requires Inv-loop μ-loop
-kind-requires c κs = record-within (next-tree (c .before) .there)
+kind-requires c κs = record-within (next-tree (c .before) .1)
 
 sub-copy-tree : tie.Need-sub-copy-tree Inv-loop μ-loop
 sub-copy-tree c = omega (arith, ends (c .before .before .before))
@@ -94,7 +95,7 @@ copy-tree-requires : tie.Need-copy-tree-requires Inv-loop μ-loop
 copy-tree-requires c κs =
     let ended = c .before .before .before in
     let o = next-tree (ended .before) in
-    ((o .tree, sized _ _ _ (o .tree) (o .there) (omega (arith, ends ended))), room (c .before))
+    ((o .0, sized _ _ _ (o .0) (o .1) (omega (arith, ends ended))), room (c .before))
 
 sub-to : tie.Need-sub-to Inv-loop μ-loop
 sub-to c = omega (arith, ends (c .before .before .before .before .before .before))
@@ -122,17 +123,17 @@ loop-again c =
     ⊎-elim
     (λ w.
     let copy = w .2 in
-    let size : (t : Tree) → TreeIn (entry-of (head-of turn) .args .s .now) (l .at) t → past .result - l .at ≡ records t =
-    λ t h. omega (arith, past .ensures t h) in (
+    let size : (t : Tree) → Told note (entry-of (head-of turn) .args .s .now) (l .at) t → past .result - l .at ≡ records t =
+    λ t h. omega (arith, past .ensures note t h) in (
       ap length (w .5) ∙ copy .kept .0 ∙ l .inv .0,
       λ μ f h r. rw (w .5, w .6)
-          (copying-more (l .inv .1 μ f h r) more (omega (arith, kind, w .0 .taken)) r (copy .last .0) (past .result) (past .ensures)
+          (copying-more (l .inv .1 μ f h r) more (omega (arith, kind, w .0 .taken)) r (copy .last .0) (past .result) (past .ensures note)
           (λ t g. copy .ensures t (sized _ _ _ t g (size t g)))),
     ))
     (λ w. (
       ap length (w .1) ∙ l .inv .0,
       λ μ f h r. rw (w .1, w .2)
-          (copying-past (l .inv .1 μ f h r) more (past .result) (past .ensures) (omega (arith, kind, w .0 .left))),
+          (copying-past (l .inv .1 μ f h r) more (past .result) (past .ensures note) (omega (arith, kind, w .0 .left))),
     ))
     (c .if1 .came)
 

@@ -3,9 +3,10 @@
 use Prim.Native.Nat.{_+_, _*_, _≤_}
 use native.Mathlib.Omega.{arith}
 use lib.ListN.{length}
-use Rattle.paper.specs.Table.{encode}
-use Rattle.paper.proofs.EncodeLaws.{encode-length}
-use Rattle.paper.proofs.StandingLaws.{tree-within}
+use Rattle.note.proofs.NotedLaws.{encodeBy-length}
+use Rattle.note.proofs.ToldLaws.{tree-within}
+use Rattle.note.specs.Note.{note}
+use Rattle.note.specs.Noted.{encodeBy}
 use Rattle.write.proofs.Encoded.{copied}
 use borrow.Author.Needs.{needs}
 use Rattle.write.proofs.copy_tree.Statement.{statement}
@@ -33,7 +34,7 @@ same-length c = search needs
 returns : tie.Need-returns
 returns c t h =
     let g = c .before .before .before .before .before .before .args in
-    copied (g .out .now) _ (g .s .now) (g .m * 16) (g .i) (g .k * 16) (encode t) (h .there .stands) (omega (arith, encode-length t, h .size))
+    copied (g .out .now) _ (g .s .now) (g .m * 16) (g .i) (g .k * 16) (encodeBy note t) (h .there .stands) (omega (arith, encodeBy-length note t, h .size))
     (c .before .before .copy-bytes .ensures)
 
 pub copy-tree-spec : {M : Type 1} → statement M

@@ -2,10 +2,18 @@
 -- any other it is the record of a power, the base, and the exponent, two records more; the contract asks for room for the answer. The
 -- laws are those of `write_power`, with k = 1. Assumes nothing.
 use Prim.Native.Nat.{_+_, _*_, _≤_}
+use mathlib.Core.Path.{_≡_, sym, _∙_, subst}
 use native.Mathlib.Omega.{arith}
 use lib.ListN.{length}
+use Rattle.paper.specs.Tree.{power}
+use Rattle.paper.specs.Rules.{Factor}
+use Rattle.note.proofs.CloseLaws.{unclosed}
+use Rattle.stretch.specs.Put.{put}
+use Rattle.part.specs.Part.{ShowsNumber}
+use Rattle.write.specs.Written.{Light}
+use Rattle.write.proofs.Closing.{put-closable, put-closed, power-node}
 use Rattle.write.proofs.Becomes.{number-shown}
-use Rattle.write.proofs.WriteLaws.{base-room, base-answer, power-room, power-answer, number-written, number-marked}
+use Rattle.write.proofs.WriteLaws.{base-room, base-answer, power-room, power-light, power-put, power-answer, number-written, number-marked}
 use borrow.Author.Needs.{needs}
 use Rattle.write.proofs.write_number.Statement.{statement}
 use Rattle.write.proofs.write_number.Tie as tie
@@ -50,6 +58,39 @@ room-for-power c =
     let start = c .before .before in
     power-room (number-shown (start .pre .1)) (start .args .out .now) (start .args .m) (c .if1 .left) (start .pre .2)
 
+-- where record, base and exponent are put, for any factor that the arguments show: the power can be closed
+module _ (c : tie.After-slice-known5) where
+  abbrev test-of : tie.Else1
+  test-of = more-of (base-of (exponent-of c))
+
+  abbrev start-at : tie.Start
+  start-at = test-of .before .before
+
+  abbrev At : Factor → Type 0
+  At x = let g = start-at .args in ShowsNumber (g .e) (g .v) (g .b) (g .mark) x
+
+  power-is-light : (x : Factor) → At x → let g = start-at .args in Light (power (g .mark) (x .base) (g .mark) (g .e))
+  power-is-light x h =
+      let q = start-at .pre in
+      let g = start-at .args in
+      subst (λ b. Light (power (g .mark) b (g .mark) (g .e))) (q .1 .base ∙ sym (h .base))
+      (power-light (number-shown (q .1)) (g .out .now) (g .m) (test-of .if1 .left) (q .2))
+
+  low : let g = start-at .args in g .m * 16 ≤ length (g .out .now)
+  low = omega (arith, room-for-power test-of)
+
+  unclosed-there : (x : Factor) → At x
+      → let g = start-at .args in
+      c .before .before .write-record4 .last .0 ≡ put (g .out .now) (g .m * 16) (unclosed (power (g .mark) (x .base) (g .mark) (g .e)))
+  unclosed-there x h =
+      let exponent = exponent-of c in
+      let base = base-of exponent in
+      let g = start-at .args in
+      power-put (number-shown h) (g .out .now) (g .m) (room-for-power test-of) _ _ _ _ (omega arith)
+      (base .before .before .before .write-record2 .ensures)
+      (number-written h _ _ ((g .m + 1) * 16) (exponent .before .before .before .write-record3 .ensures))
+      (c .before .before .write-record4 .ensures)
+
 write-record-requires-2 : tie.Need-write-record-requires-2
 write-record-requires-2 c κs = omega (arith, room-for-power (c .before))
 
@@ -69,6 +110,12 @@ write-record-requires-4 c κs =
     let kept-2 = c .before .before .before .write-record3 .kept .0 in
     omega (arith, room-for-power (more-of base))
 
+close-requires : tie.Need-close-requires
+close-requires c κs =
+    let known = c .before in
+    let q = start-at known .pre in
+    (_, put-closable _ (power-is-light known (q .0) (q .1)) (power-node _ _ _ _) _ _ _ (low known) (unclosed-there known (q .0) (q .1)))
+
 add-t17 : tie.Need-add-t17
 add-t17 c = search needs
 
@@ -77,14 +124,10 @@ same-length-2 c = search needs
 
 returns-2 : tie.Need-returns-2
 returns-2 c x h =
-    let exponent = exponent-of c in
-    let base = base-of exponent in
-    let test = more-of base in
-    let g = test .before .before .args in
-    power-answer (number-shown h) (g .out .now) (g .m) (test .if1 .left) (room-for-power test) _ _ _ _ _ (omega arith) (omega arith)
-    (base .before .before .before .write-record2 .ensures)
-    (number-written h _ _ ((g .m + 1) * 16) (exponent .before .before .before .write-record3 .ensures))
-    (c .before .before .write-record4 .ensures)
+    let known = c .before .before .before .before in
+    let g = start-at known .args in
+    power-answer (number-shown h) (g .out .now) (g .m) (test-of known .if1 .left) _ _ (omega arith)
+    (put-closed _ (power-is-light known x h) (power-node _ _ _ _) _ _ _ (low known) (unclosed-there known x h) _ (c .before .before .close .ensures))
 
 pub write-number-spec : {M : Type 1} → statement M
 write-number-spec =
@@ -99,6 +142,7 @@ write-number-spec =
     write-record-requires-3
     add-write-record-2
     write-record-requires-4
+    close-requires
     add-t17
     same-length-2
     returns-2)

@@ -1,7 +1,7 @@
 -- `write::write_term` meets its contract. The term becomes its coefficient n times the rest of the member, and `rest_of` tells what that rest
 -- is: 1, and the coefficient is written by itself; a tree that stands at a record; or a product without one of its members. For the
 -- last two there is a function that writes n times such a rest, and its contract is this one. Assumes nothing.
-use Prim.Native.Nat.{ℕ, _*_}
+use Prim.Native.Nat.{ℕ, _*_, _<_}
 use mathlib.Core.Path.{_≡_, refl, sym, subst}
 use mathlib.Core.Bool.{Bool}
 use mathlib.Core.List.{List}
@@ -10,7 +10,8 @@ use Rattle.paper.specs.Record.{markIn}
 use Rattle.paper.specs.Tree.{Tree}
 use Rattle.paper.specs.Rules.{Term, termOf, fromTerm}
 use Rattle.paper.proofs.EncodeLaws.{records-pos}
-use Rattle.paper.proofs.StandingLaws.{record-within}
+use Rattle.note.proofs.ToldLaws.{record-within, some-told}
+use Rattle.note.specs.Note.{note}
 use Rattle.split.specs.Rest.{StandsFor}
 use Rattle.split.specs.declared.Rest.{Rest}
 use Rattle.part.specs.Part.{ShowsTerm}
@@ -50,9 +51,9 @@ module _ (c : Known) where
   rest h = termOf (h .member) .rest
 
   stands-for : {x : Term} (h : Shown x) (r : Rest) → c .rest-of .result ≡ r
-      → let g = start-of c .args in StandsFor (g .s .now) (g .i) r (rest h)
+      → let g = start-of c .args in StandsFor note (g .s .now) (g .i) r (rest h)
   stands-for h r e =
-      let g = start-of c .args in subst (λ (r : Rest). StandsFor (g .s .now) (g .i) r (rest h)) e (c .rest-of .ensures .0 (h .member) (h .there))
+      let g = start-of c .args in subst (λ (r : Rest). StandsFor note (g .s .now) (g .i) r (rest h)) e (c .rest-of .ensures .0 note (h .member) (h .there))
 
   -- the mark that was read is the member's
   abbrev μ : ℕ
@@ -60,6 +61,9 @@ module _ (c : Known) where
 
   is-mark : let g = start-of c .args in μ ≡ markIn (g .s .now) (g .i)
   is-mark = mark-of c .mark .ensures .0
+
+  mark-fits : μ < 65536
+  mark-fits = mark-of c .mark .ensures .1
 
   answered : {x : Term} (h : Shown x) (out' : List ℕ) (r : Written)
       → let g = start-of c .args in
@@ -80,7 +84,7 @@ mark-requires : tie.Need-mark-requires
 mark-requires c κs = record-within (c .before .before .pre .1 .there)
 
 rest-of-requires : tie.Need-rest-of-requires
-rest-of-requires c κs = let h = c .before .before .before .pre .1 in record { tree = h .member; there = h .there }
+rest-of-requires c κs = some-told (c .before .before .before .pre .1 .there)
 
 -- ---- the rest is 1
 enum-told : tie.Need-enum-told
@@ -89,7 +93,7 @@ enum-told c = search needs
 write-record-requires : tie.Need-write-record-requires
 write-record-requires c κs =
     let q = start-of (c .before .before .before) .pre in
-    omega (arith, records-pos (fromTerm (q .0) .0), q .2)
+    omega (arith, records-pos (fromTerm (q .0) .0), q .2 .room)
 
 add-t15 : tie.Need-add-t15
 add-t15 c = search needs
@@ -103,7 +107,7 @@ write-times-requires c κs =
     let answer = c .before .before in
     let known = answer .before .before in
     let stands = stands-for known (asked known) _ (answer .rest .given .1) in
-    (rest known (asked known), stands .0, fitting known, stands .1)
+    (mark-fits known, (rest known (asked known), stands .0, fitting known, stands .1))
 
 -- ---- the rest is a product without one of its members
 enum-known-rest-2 : tie.Need-enum-known-rest-2
@@ -113,7 +117,7 @@ write-without-requires : tie.Need-write-without-requires
 write-without-requires c κs =
     let answer = c .before .before in
     let known = answer .before .before in
-    (rest known (asked known), stands-for known (asked known) _ (answer .rest2 .given .1) .1, fitting known)
+    (mark-fits known, (rest known (asked known), stands-for known (asked known) _ (answer .rest2 .given .1) .1, fitting known))
 
 -- ---- the answers
 same-length : tie.Need-same-length

@@ -2,20 +2,23 @@
 -- members: with n = 1 the tree itself, but for its mark; for a product the same with n after its members, one record more; for any other tree the product of n and the tree, two records more (the laws of Becomes). The contract
 -- asks for room for that member, so there is room for the records that are written; and the function that is called puts that member
 -- there. Assumes nothing.
-use Prim.Native.Nat.{ℕ, _+_, _-_, _*_, _≤_}
+use Prim.Native.Nat.{ℕ, _+_, _-_, _*_, _<_, _≤_}
 use mathlib.Core.Path.{_≡_, refl, sym, ap, _∙_, subst}
 use mathlib.Core.List.{[], _∷_, _++_}
 use native.Mathlib.Omega.{arith}
 use lib.ListN.{length}
 use Rattle.paper.specs.Bytes.{signed}
-use Rattle.paper.specs.Tree.{Tree, integer, product, marked, toList, ofList, records}
+use Rattle.paper.specs.Tree.{Tree, integer, product, marked, toList, ofList, records, weight}
+use Rattle.paper.specs.WellFormed.{WF}
 use Rattle.paper.proofs.EncodeLaws.{records-pos}
-use Rattle.split.specs.Standing.{TreeIn}
-use Rattle.paper.proofs.StandingLaws.{record-within}
+use Rattle.note.specs.Note.{note}
+use Rattle.split.specs.Standing.{Told}
+use Rattle.note.proofs.ToldLaws.{record-within, some-told}
 use Rattle.part.specs.Part.{Sized}
 use Rattle.part.proofs.PartLaws.{sized}
-use Rattle.write.specs.Written.{timed}
-use Rattle.write.proofs.Becomes.{Becomes, room, written, one-becomes, longer-becomes, pair-becomes}
+use Rattle.write.specs.Written.{Light, paired, lengthened, timed}
+use Rattle.write.proofs.Closing.{paired-wf, lengthened-wf}
+use Rattle.write.proofs.Becomes.{Becomes, room, light, written, one-becomes, longer-becomes, pair-becomes}
 use Rattle.write.proofs.WriteLaws.{IsProduct, is-product, kind-other}
 use borrow.Author.Needs.{needs}
 use Rattle.write.proofs.write_times.Statement.{statement}
@@ -48,34 +51,38 @@ other-of c = c .before .before .before .before
 -- is room for those
 module _ (c : Known) where
   abbrev At : Tree → Type 0
-  At t = let g = start-of c .args in TreeIn (g .s .now) (g .i) t
+  At t = let g = start-of c .args in Told note (g .s .now) (g .i) t
 
   abbrev k : ℕ
   k = c .skip-tree .result - start-of c .args .i
 
   size : (t : Tree) → At t → k ≡ records t
-  size t h = omega (arith, c .skip-tree .ensures t h)
+  size t h = omega (arith, c .skip-tree .ensures note t h)
 
   stands : (t : Tree) → At t → let g = start-of c .args in Sized (g .s .now) (g .i) k t
   stands t h = let g = start-of c .args in sized (g .s .now) (g .i) k t h (size t h)
 
   abbrev asked : Tree
-  asked = start-of c .pre .0
+  asked = start-of c .pre .1 .0
 
   abbrev there : At asked
-  there = start-of c .pre .1
+  there = start-of c .pre .1 .1
 
   abbrev Room : ℕ → Type 0
   Room r = let g = start-of c .args in (g .m + r) * 16 ≤ length (g .out .now)
 
   fitting : {u : Tree} {r : ℕ} → Becomes (timed (start-of c .args .mark) (start-of c .args .n) asked) u r → Room r
-  fitting b = let start = start-of c in room b (start .args .out .now) (start .args .m) (start .pre .2)
+  fitting b = let start = start-of c in room b (start .args .out .now) (start .args .m) (start .pre .1 .2)
+
+  -- and it is light
+  weighed : {u : Tree} {r : ℕ} → Becomes (timed (start-of c .args .mark) (start-of c .args .n) asked) u r → weight u < 65536
+  weighed b = let start = start-of c in light b (start .args .out .now) (start .args .m) (start .pre .1 .2)
 
 skip-tree-requires : tie.Need-skip-tree-requires
-skip-tree-requires c κs = let q = c .before .before .pre in record { tree = q .0; there = q .1 }
+skip-tree-requires c κs = some-told (c .before .before .pre .1 .1)
 
 sub-k : tie.Need-sub-k
-sub-k c = omega (arith, c .skip-tree .ensures (asked c) (there c))
+sub-k c = omega (arith, c .skip-tree .ensures note (asked c) (there c))
 
 -- ---- with n = 1, the tree
 module _ (c : tie.Then1) where
@@ -127,13 +134,25 @@ module _ (c : tie.Then2) where
       longer-becomes _ _ t (size product-known t h) (start-of product-known .fits .n .fits) (c .before .before .if1 .left)
       (a-product t h .is)
 
+  longer-light : let known = product-known in
+      let g = start-of known .args in
+      Light (lengthened (g .mark) (g .n) (a-product (asked known) (there known) .members))
+  longer-light =
+      let start = start-of product-known in
+      let p = a-product (asked product-known) (there product-known) in
+      let w = subst WF (p .is) (there product-known .wf) in (
+        lengthened-wf _ _ (p .members) (start .pre .0) (start .fits .n .fits) (w .0) (w .1),
+        weighed product-known (longer (asked product-known) (there product-known)),
+      )
+
   longer-room : Room product-known (k product-known + 1)
   longer-room = fitting product-known (longer (asked product-known) (there product-known))
 
 write-longer-requires : tie.Need-write-longer-requires
 write-longer-requires c κs =
-    let known = product-known (c .before) in
-    ((_, _, product-stands (c .before) (asked known) (there known)), longer-room (c .before))
+    let test = c .before in
+    let known = product-known test in
+    ((_, _, product-stands test (asked known) (there known), longer-light test), longer-room test)
 
 add-t18 : tie.Need-add-t18
 add-t18 c = record { fits = omega (arith, longer-room (product-of c)) }
@@ -163,15 +182,23 @@ module _ (c : tie.Else2) where
       let kind = c .before in
       let start = start-of other-known in
       pair-becomes _ _ t (size other-known t h) (start .fits .n .fits) (kind .before .if1 .left) (start .args .s .now) (start .args .i) h
-      (kind-other (start .pre .1) (start .pre .3)) (λ e. c .if2 .left (kind .kind .ensures ∙ e))
+      (kind-other (start .pre .1 .1) (start .pre .1 .3)) (λ e. c .if2 .left (kind .kind .ensures ∙ e))
+
+  pair-light : let g = start-of other-known .args in Light (paired (g .mark) (g .n) (asked other-known))
+  pair-light =
+      let start = start-of other-known in (
+        paired-wf _ _ (asked other-known) (start .pre .0) (start .fits .n .fits) (there other-known .wf),
+        weighed other-known (pair (asked other-known) (there other-known)),
+      )
 
   pair-room : Room other-known (k other-known + 2)
   pair-room = fitting other-known (pair (asked other-known) (there other-known))
 
 write-pair-requires : tie.Need-write-pair-requires
 write-pair-requires c κs =
-    let known = other-known (c .before) in
-    ((asked known, stands known (asked known) (there known)), pair-room (c .before))
+    let test = c .before in
+    let known = other-known test in
+    ((asked known, stands known (asked known) (there known), pair-light test), pair-room test)
 
 add-t8 : tie.Need-add-t8
 add-t8 c = record { fits = omega (arith, pair-room (other-of c)) }

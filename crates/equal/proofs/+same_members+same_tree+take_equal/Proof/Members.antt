@@ -8,8 +8,8 @@ use native.Mathlib.Omega.{arith}
 use borrow.Author.Needs.{needs}
 use lib.ListN.{length}
 use Rattle.paper.specs.Tree.{Tree, Forest, records}
-use Rattle.split.specs.Standing.{TreeIn, TreesIn, SomeTree}
-use Rattle.paper.proofs.StandingLaws.{record-within}
+use Rattle.split.specs.Standing.{Told, ToldTrees}
+use Rattle.note.proofs.ToldLaws.{record-within, some-told}
 use Rattle.equal.specs.Matching.{without, unticked, Took}
 use Rattle.equal.specs.declared.Match.{Match}
 use Rattle.equal.specs.declared.Match.the-variants.{Different, Ends}
@@ -28,8 +28,8 @@ claims t = (passed-reads.Asked, passed-reads.Learnt, take-below t, take.Post)
 abbrev pub Inv : lts.InvT-loop
 Inv a i n skip b j m ticks₀ at₀ left₀ ticks at left =
     (i ≤ at) × (length ticks ≡ length ticks₀)
-    × ((f g : Forest) → TreesIn a i n f → TreesIn b j m g → length (without skip f) ≡ length (unticked ticks₀ 0 g)
-    → Matched a i skip ticks₀ ticks f g at left)
+    × ((how : Tree → ℕ) (f g : Forest) → ToldTrees how a i n f → ToldTrees how b j m g → length (without skip f) ≡ length (unticked ticks₀ 0 g)
+    → Matched how a i skip ticks₀ ticks f g at left)
 
 abbrev pub μ : lts.MeasureT-loop
 μ a i n skip b j m ticks₀ at₀ left₀ ticks at left = left
@@ -63,31 +63,34 @@ module _ (t : ℕ) where
       → let entry = entry-of c in
       let g = entry .args in
       let some = entry .pre .1 in
-      Matched (g .a .now) (g .i) (g .skip) (g .ticks .now) (c .loop .ticks) (some .ones) (some .others) (c .loop .at) (c .loop .left)
+      Matched (some .how) (g .a .now) (g .i) (g .skip) (g .ticks .now) (c .loop .ticks) (some .ones) (some .others) (c .loop .at) (c .loop .left)
   matched c =
       let some = entry-of c .pre .1 in
-      c .loop .inv .2 (some .ones) (some .others) (some .ones-there) (some .others-there) (some .as-many)
+      c .loop .inv .2 (some .how) (some .ones) (some .others) (some .ones-there) (some .others-there) (some .as-many)
 
   -- the next tree to match
-  next : (c : Turn) → let head = head-of c in SomeTree (entry-of head .args .a .now) (head .loop .at)
+  next : (c : Turn)
+      → let head = head-of c in
+      let entry = entry-of head in
+      (x : Tree) × Told (entry .pre .1 .how) (entry .args .a .now) (head .loop .at) x
   next c = matched-tree (matched (head-of c)) (c .loop-test .taken)
 
   -- what the search's answer r says of it
   took : (c : Called) (r : Match)
       → let head = head-of (turn-of c) in
       let a = entry-of head .args in
-      c .take-equal .result ≡ r → (x : Tree) (g : Forest) → TreeIn (a .a .now) (head .loop .at) x → TreesIn (a .b .now) (a .j) (a .m) g
+      c .take-equal .result ≡ r → (how : Tree → ℕ) (x : Tree) (g : Forest) → Told how (a .a .now) (head .loop .at) x → ToldTrees how (a .b .now) (a .j) (a .m) g
       → Took x g (head .loop .ticks) (c .take-equal .last .1 .1 .1 .1 .1 .0) (head .loop .at + records x) r
-  took c r e x g h q = subst (Took x g _ _ _) e (c .take-equal .ensures x g h q)
+  took c r e how x g h q = subst (Took x g _ _ _) e (c .take-equal .ensures how x g h q)
 
   pub loop-holds : lts.Need-loop-holds (claims t) (members-at t) reads.Post Inv μ
-  loop-holds c = (omega arith, refl, λ f g h q l. matched-start _ h l)
+  loop-holds c = (omega arith, refl, λ how f g h q l. matched-start _ h l)
 
   pub is-passed-requires : lts.Need-is-passed-requires (claims t) (members-at t) reads.Post Inv μ
-  is-passed-requires c κs = next c
+  is-passed-requires c κs = some-told (next c .1)
 
   pub add-at : lts.Need-add-at (claims t) (members-at t) reads.Post Inv μ
-  add-at c = omega (arith, record-within (next (c .before .before) .there))
+  add-at c = omega (arith, record-within (next (c .before .before) .1))
 
   pub take-equal-requires : lts.Need-take-equal-requires (claims t) (members-at t) reads.Post Inv μ
   take-equal-requires c κs =
@@ -95,7 +98,7 @@ module _ (t : ℕ) where
       let head = head-of turn in
       let l = head .loop in
       let some = entry-of head .pre .1 in (
-        omega (arith, l .inv .0, record-within (next turn .there)),
+        omega (arith, l .inv .0, record-within (next turn .1)),
         matched-takeable (matched head) (turn .loop-test .taken) _ (some .others-there) (omega (arith, some .enough, l .inv .1)),
       )
 
@@ -111,10 +114,10 @@ module _ (t : ℕ) where
       let turn = turn-of called in
       let tested = called .before .before in
       let other = sym (tested .before .is-passed .ensures) ∙ tested .if1 .left in
-      λ f g h q l.
+      λ how f g h q l.
       is-different _
-      (matched-none (head-of turn .loop .inv .2 f g h q l) (turn .loop-test .taken) other
-      (λ x o. took called Different (c .enum-told .given .1) x g o q))
+      (matched-none (head-of turn .loop .inv .2 how f g h q l) (turn .loop-test .taken) other
+      (λ x o. took called Different (c .enum-told .given .1) how x g o q))
 
   pub enum-known-e : lts.Need-enum-known-e (claims t) (members-at t) reads.Post Inv μ
   enum-known-e c = search needs
@@ -141,17 +144,17 @@ module _ (t : ℕ) where
       (λ w. (
         omega (arith, w .2, l .inv .0),
         ap length (w .1) ∙ l .inv .1,
-        λ f g h q n. rw (w .1, w .2) (matched-out (l .inv .2 f g h q n) more (passed ∙ w .0 .taken)),
+        λ how f g h q n. rw (w .1, w .2) (matched-out (l .inv .2 how f g h q n) more (passed ∙ w .0 .taken)),
       ))
       (λ w.
       let called : Called = record { before = record { before = record { before = tested; if1 = w .0 }; take-equal-arg = w .1 }; take-equal = w .2 } in
       let e = w .6 .given .0 .0 in
       let says = took called (Ends e) (w .6 .given .1) in
-      let past = says (o .tree) (some .others) (o .there) (some .others-there) .0 in (
+      let past = says (some .how) (o .0) (some .others) (o .1) (some .others-there) .0 in (
         omega (arith, w .9, past, l .inv .0),
         ap length (w .8) ∙ w .2 .kept .1 .1 .1 .1 .1 .0 ∙ l .inv .1,
-        λ f g h q n. rw (w .8, w .9)
-            (matched-more (l .inv .2 f g h q n) more (passed ∙ w .0 .left) (w .2 .last .1 .1 .1 .1 .1 .0) e (λ x v. says x g v q)),
+        λ how f g h q n. rw (w .8, w .9)
+            (matched-more (l .inv .2 how f g h q n) more (passed ∙ w .0 .left) (w .2 .last .1 .1 .1 .1 .1 .0) e (λ x v. says how x g v q)),
       ))
       (c .if1 .came)
 
@@ -160,6 +163,6 @@ module _ (t : ℕ) where
 
   pub returns-2 : lts.Need-returns-2 (claims t) (members-at t) reads.Post Inv μ
   returns-2 c =
-      λ f g h q l.
-      let all = matched-done (c .before .loop .inv .2 f g h q l) (omega arith) in
+      λ how f g h q l.
+      let all = matched-done (c .before .loop .inv .2 how f g h q l) (omega arith) in
       is-equal (all .0) (all .1)

@@ -13,7 +13,8 @@ use lib.ListN.{length, getD, set, length-set, length-take, length-drop}
 use Rattle.paper.specs.Tree.{Tree, Forest, records}
 use Rattle.paper.specs.Equal.{equal}
 use Rattle.paper.proofs.EncodeLaws.{count-records}
-use Rattle.split.specs.Standing.{TreeIn, TreesIn}
+use Rattle.note.proofs.ToldLaws.{some-told}
+use Rattle.split.specs.Standing.{Told, ToldTrees}
 use Rattle.equal.specs.Matching.{matchOf}
 use Rattle.equal.specs.declared.Match.{Match}
 use Rattle.equal.specs.declared.Match.the-variants.{Different, Ends}
@@ -34,7 +35,7 @@ claims t = (candidate-reads.Asked, candidate-reads.Learnt, tree-below t, tree.Po
 abbrev pub Inv : lts.InvT-loop
 Inv a i b j m ticks₀ at₀ k₀ ticks at k =
     (k ≤ m) × (length ticks ≡ length ticks₀)
-    × ((t : Tree) (g : Forest) → TreeIn a i t → TreesIn b j m g → Looked t b m ticks₀ ticks g at k)
+    × ((how : Tree → ℕ) (t : Tree) (g : Forest) → Told how a i t → ToldTrees how b j m g → Looked how t b m ticks₀ ticks g at k)
 
 abbrev pub μ : lts.MeasureT-loop
 μ a i b j m ticks₀ at₀ k₀ ticks at k = m - k
@@ -79,10 +80,10 @@ module _ (t : ℕ) where
   look : (c : Head)
       → let entry = entry-of c in
       let some = entry .pre .1 in
-      Looked (some .one) (entry .args .b .now) (entry .args .m) (entry .args .ticks .now) (c .loop .ticks) (some .others) (c .loop .at) (c .loop .k)
+      Looked (some .how) (some .one) (entry .args .b .now) (entry .args .m) (entry .args .ticks .now) (c .loop .ticks) (some .others) (c .loop .at) (c .loop .k)
   look c =
       let some = entry-of c .pre .1 in
-      c .loop .inv .2 (some .one) (some .others) (some .one-there) (some .others-there)
+      c .loop .inv .2 (some .how) (some .one) (some .others) (some .one-there) (some .others-there)
 
   -- a candidate has no tick
   no-tick : (c : Free) → let l = head-of (turn-of c) .loop in getD (l .ticks) (l .k) 0 ≡ 0
@@ -128,19 +129,19 @@ module _ (t : ℕ) where
   -- what the comparison's answer r says of it
   told : (c : Compared) (r : Match)
       → let a = entry-of (head-at c) .args in
-      c .same-tree .result ≡ r → (x u : Tree) → TreeIn (a .a .now) (a .i) x → TreeIn (a .b .now) (head-at c .loop .at) u
+      c .same-tree .result ≡ r → (how : Tree → ℕ) (x u : Tree) → Told how (a .a .now) (a .i) x → Told how (a .b .now) (head-at c .loop .at) u
       → matchOf (equal x u) (a .i + records x) ≡ r
-  told c r e x u h v = sym (c .same-tree .ensures x u h v) ∙ e
+  told c r e how x u h v = sym (c .same-tree .ensures how x u h v) ∙ e
 
   pub loop-holds : lts.Need-loop-holds (claims t) (take-at t) reads.Post Inv μ
-  loop-holds c = (omega arith, refl, λ x g h q. looked-start _ _ q)
+  loop-holds c = (omega arith, refl, λ how x g h q. looked-start _ _ q)
 
   pub is-candidate-requires : lts.Need-is-candidate-requires (claims t) (take-at t) reads.Post Inv μ
   is-candidate-requires c κs =
       let turn = c .before in
       let some = entry-of (head-of turn) .pre .1 in
       let more = turn .loop-test .taken in
-      (record { tree = some .one; there = some .one-there }, looked-tree (look (head-of turn)) more, omega (arith, room (head-of turn)))
+      (some-told (some .one-there), some-told (looked-tree (look (head-of turn)) more .1), omega (arith, room (head-of turn)))
 
   pub slice-write-ticks : lts.Need-slice-write-ticks (claims t) (take-at t) reads.Post Inv μ
   slice-write-ticks c = omega (arith, room (head-of (turn-of c)))
@@ -178,12 +179,12 @@ module _ (t : ℕ) where
       let more = turn .loop-test .taken in
       let e = c .before .e .given .0 .0 in
       let says = told compared (Ends e) (c .before .e .given .1) in
-      λ x g h q.
-      let look = head-of turn .loop .inv .2 x g h q in
+      λ how x g h q.
+      let look = head-of turn .loop .inv .2 how x g h q in
       let o = looked-tree look more in (
-        match-ends (equal x (o .tree)) _ e (says x (o .tree) h (o .there)) .1,
+        match-ends (equal x (o .0)) _ e (says how x (o .0) h (o .1)) .1,
         looked-found look more (after-it compared) (ticked compared) (no-tick free)
-            (λ u v. match-ends (equal x u) _ e (says x u h v) .0),
+            (λ u v. match-ends (equal x u) _ e (says how x u h v) .0),
       )
 
   pub enum-told : lts.Need-enum-told (claims t) (take-at t) reads.Post Inv μ
@@ -195,7 +196,7 @@ module _ (t : ℕ) where
   pub skip-tree-requires : lts.Need-skip-tree-requires (claims t) (take-at t) reads.Post Inv μ
   skip-tree-requires c κs =
       let turn = c .before .before .before in
-      looked-tree (look (head-of turn)) (turn .loop-test .taken)
+      some-told (looked-tree (look (head-of turn)) (turn .loop-test .taken) .1)
 
   pub add-k : lts.Need-add-k (claims t) (take-at t) reads.Post Inv μ
   add-k c = omega arith
@@ -221,15 +222,15 @@ module _ (t : ℕ) where
       let back = ticked-back (ticked compared) in (
         omega arith,
         ap length (w .7) ∙ length-set (after-it compared) (l .k) _ ∙ length-kept compared,
-        λ x g h q. rw (w .7)
-            (looked-next (l .inv .2 x g h q) more _ (past .result) (back _ (sym (no-tick free))) (past .ensures)
-            (λ z u v. match-differs (equal x u) _ (says x u h v))),
+        λ how x g h q. rw (w .7)
+            (looked-next (l .inv .2 how x g h q) more _ (past .result) (back _ (sym (no-tick free))) (past .ensures how)
+            (λ z u v. match-differs (equal x u) _ (says how x u h v))),
       ))
       (λ w. (
         omega arith,
         ap length (w .1) ∙ l .inv .1,
-        λ x g h q. rw (w .1)
-            (looked-next (l .inv .2 x g h q) more (l .ticks) (past .result) (λ n v. refl) (past .ensures)
+        λ how x g h q. rw (w .1)
+            (looked-next (l .inv .2 how x g h q) more (l .ticks) (past .result) (λ n v. refl) (past .ensures how)
             (λ z u v. passed-by h v (l .ticks) (l .k) (sym (tested .is-candidate .ensures) ∙ w .0 .left) z)),
       ))
       (joined .if1 .came)
@@ -238,4 +239,4 @@ module _ (t : ℕ) where
   same-length-2 c = c .before .loop .inv .1
 
   pub returns-2 : lts.Need-returns-2 (claims t) (take-at t) reads.Post Inv μ
-  returns-2 c = λ x g h q. looked-none (c .before .loop .inv .2 x g h q) (c .loop-test .left)
+  returns-2 c = λ how x g h q. looked-none (c .before .loop .inv .2 how x g h q) (c .loop-test .left)

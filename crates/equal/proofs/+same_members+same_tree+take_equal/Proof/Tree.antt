@@ -9,8 +9,8 @@ use borrow.Author.Needs.{needs}
 use lib.ListN.{length, getD}
 use Rattle.paper.specs.Record.{kind, countIn}
 use Rattle.paper.specs.Tree.{Tree, records}
-use Rattle.split.specs.Standing.{TreeIn}
-use Rattle.paper.proofs.StandingLaws.{record-within}
+use Rattle.split.specs.Standing.{Told}
+use Rattle.note.proofs.ToldLaws.{record-within}
 use Rattle.equal.proofs.SameLaws.{is-equal, is-different, kinds-differ, leaf-records, leaves-equal, leaves-differ}
 use Rattle.equal.proofs.SameLaws.{PowersEnd, powers-pair, powers-differ, powers-end, Nodes, nodes, counts-differ}
 use Rattle.equal.proofs.TickLaws.{cleared}
@@ -127,13 +127,13 @@ module _ (t : ℕ) where
   -- powers with equal bases, that of the first ending before record e: for all trees that stand there, and for those of the contract
   ended : (c : BasesEqual)
       → let a = entry-of (powers-alike (powers-of (compared-of c))) .args in
-      (x y : Tree) → TreeIn (a .a .now) (a .i) x → TreeIn (a .b .now) (a .j) y
+      (how : Tree → ℕ) (x y : Tree) → Told how (a .a .now) (a .i) x → Told how (a .b .now) (a .j) y
       → PowersEnd (a .a .now) (a .i) (a .b .now) (a .j) x y (c .e .given .0 .0)
-  ended c x y h g =
+  ended c how x y h g =
       let compared = compared-of c in
       let powers = powers-of compared in
       let r = compared .same-tree in
-      powers-end h g (kinds (powers-alike powers)) (power powers) (r .result) (r .ensures) (c .e .given .0 .0) (c .e .given .1)
+      powers-end h g (kinds (powers-alike powers)) (power powers) (r .result) (r .ensures how) (c .e .given .0 .0) (c .e .given .1)
 
   ends : (c : BasesEqual)
       → let entry = entry-of (powers-alike (powers-of (compared-of c))) in
@@ -142,13 +142,13 @@ module _ (t : ℕ) where
       PowersEnd (a .a .now) (a .i) (a .b .now) (a .j) (some .one) (some .other) (c .e .given .0 .0)
   ends c =
       let some = entry-of (powers-alike (powers-of (compared-of c))) .pre .1 in
-      ended c (some .one) (some .other) (some .one-there) (some .other-there)
+      ended c (some .how) (some .one) (some .other) (some .one-there) (some .other-there)
 
   -- two sums, or two products: likewise
   noded : (c : TwoNodes)
       → let a = entry-of (nodes-alike c) .args in
-      (x y : Tree) → TreeIn (a .a .now) (a .i) x → TreeIn (a .b .now) (a .j) y → Nodes (a .a .now) (a .i) (a .b .now) (a .j) x y
-  noded c x y h g =
+      (how : Tree → ℕ) (x y : Tree) → Told how (a .a .now) (a .i) x → Told how (a .b .now) (a .j) y → Nodes how (a .a .now) (a .i) (a .b .now) (a .j) x y
+  noded c how x y h g =
       let alike = nodes-alike c in
       let first = alike .before .before .kind .ensures in
       let two = c .before .if2 .left in
@@ -158,10 +158,10 @@ module _ (t : ℕ) where
       → let entry = entry-of (nodes-alike c) in
       let a = entry .args in
       let some = entry .pre .1 in
-      Nodes (a .a .now) (a .i) (a .b .now) (a .j) (some .one) (some .other)
+      Nodes (some .how) (a .a .now) (a .i) (a .b .now) (a .j) (some .one) (some .other)
   node c =
       let some = entry-of (nodes-alike c) .pre .1 in
-      noded c (some .one) (some .other) (some .one-there) (some .other-there)
+      noded c (some .how) (some .one) (some .other) (some .one-there) (some .other-there)
 
   -- the number of members, which both have, is read off the first
   abbrev members-of : AsMany → ℕ
@@ -190,7 +190,7 @@ module _ (t : ℕ) where
   returns c =
       let one = c .before .before .kind .ensures in
       let other = c .before .kind2 .ensures in
-      λ x y h g. is-different _ (kinds-differ h g (λ e. c .if1 .taken (one ∙ e ∙ sym other)))
+      λ how x y h g. is-different _ (kinds-differ h g (λ e. c .if1 .taken (one ∙ e ∙ sym other)))
 
   -- ---- leaves
   pub bits-requires : lts.Need-bits-requires (claims t) (tree-at t) reads.Post
@@ -209,7 +209,7 @@ module _ (t : ℕ) where
       let a = entry-of alike .args in
       let one = c .before .before .bits .ensures in
       let other = c .before .bits2 .ensures in
-      λ x y h g.
+      λ how x y h g.
       let size : a .i + 1 ≡ a .i + records x = omega (arith, leaf-records h g (kinds alike) (leaf leaves)) in
       is-equal (leaves-equal h g (kinds alike) (leaf leaves) (sym one ∙ c .if3 .taken ∙ other)) size
 
@@ -218,7 +218,7 @@ module _ (t : ℕ) where
       let leaves = leaves-of (c .before) in
       let one = c .before .before .bits .ensures in
       let other = c .before .bits2 .ensures in
-      λ x y h g. is-different _ (leaves-differ h g (kinds (leaves-alike leaves)) (leaf leaves) (λ e. c .if3 .left (one ∙ e ∙ sym other)))
+      λ how x y h g. is-different _ (leaves-differ h g (kinds (leaves-alike leaves)) (leaf leaves) (λ e. c .if3 .left (one ∙ e ∙ sym other)))
 
   -- ---- powers
   pub add-same-tree : lts.Need-add-same-tree (claims t) (tree-at t) reads.Post
@@ -247,8 +247,8 @@ module _ (t : ℕ) where
       let compared = c .before .before .before .before in
       let powers = powers-of compared in
       let r = compared .same-tree in
-      λ x y h g.
-      is-different _ (powers-differ h g (kinds (powers-alike powers)) (power powers) (r .result) (r .ensures) (c .enum-told .given .1))
+      λ how x y h g.
+      is-different _ (powers-differ h g (kinds (powers-alike powers)) (power powers) (r .result) (r .ensures how) (c .enum-told .given .1))
 
   pub enum-known-e : lts.Need-enum-known-e (claims t) (tree-at t) reads.Post
   enum-known-e c = search needs
@@ -275,8 +275,8 @@ module _ (t : ℕ) where
   returns-5 c =
       let one = c .before .before .bits3 .ensures in
       let other = c .before .bits4 .ensures in
-      λ x y h g.
-      let end = ended (equal-of (c .before)) x y h g in
+      λ how x y h g.
+      let end = ended (equal-of (c .before)) how x y h g in
       is-equal (end .yes-if (sym one ∙ c .if5 .taken ∙ other)) (end .size)
 
   pub same-length-3 : lts.Need-same-length-3 (claims t) (tree-at t) reads.Post
@@ -286,7 +286,7 @@ module _ (t : ℕ) where
   returns-6 c =
       let one = c .before .before .bits3 .ensures in
       let other = c .before .bits4 .ensures in
-      λ x y h g. is-different _ (ended (equal-of (c .before)) x y h g .no-if (λ e. c .if5 .left (one ∙ e ∙ sym other)))
+      λ how x y h g. is-different _ (ended (equal-of (c .before)) how x y h g .no-if (λ e. c .if5 .left (one ∙ e ∙ sym other)))
 
   -- ---- sums and products
   pub count-requires : lts.Need-count-requires (claims t) (tree-at t) reads.Post
@@ -299,8 +299,8 @@ module _ (t : ℕ) where
   returns-7 c =
       let one = c .before .before .count .ensures .0 in
       let other = c .before .count2 .ensures .0 in
-      λ x y h g.
-      is-different _ (counts-differ h g (noded (c .before .before .before) x y h g) (λ e. c .if6 .taken (one ∙ e ∙ sym other)))
+      λ how x y h g.
+      is-different _ (counts-differ h g (noded (c .before .before .before) how x y h g) (λ e. c .if6 .taken (one ∙ e ∙ sym other)))
 
   pub clear-requires : lts.Need-clear-requires (claims t) (tree-at t) reads.Post
   clear-requires c κs =
@@ -336,6 +336,6 @@ module _ (t : ℕ) where
       let cleared = compared .before .before .before .before in
       let as-many = as-many-of cleared in
       let r = compared .same-members in
-      λ x y h g.
-      nodes-same (noded (nodes-of as-many) x y h g) (members-of as-many) (one-count as-many) (other-count as-many)
-      (cleared .clear .last .0) (clear-ticks cleared) (r .result) (r .ensures)
+      λ how x y h g.
+      nodes-same (noded (nodes-of as-many) how x y h g) (members-of as-many) (one-count as-many) (other-count as-many)
+      (cleared .clear .last .0) (clear-ticks cleared) (r .result) (r .ensures how)

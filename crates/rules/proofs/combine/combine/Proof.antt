@@ -8,13 +8,14 @@ use borrow.Author.Needs.{needs}
 use Rattle.paper.specs.Record.{markIn}
 use Rattle.paper.specs.Tree.{Tree, toList}
 use Rattle.part.specs.Like.{nodeOf}
-use Rattle.paper.proofs.StandingLaws.{record-within}
+use Rattle.note.proofs.ToldLaws.{record-within}
+use Rattle.write.specs.Written.{Light}
 use Rattle.walk.specs.Listed.{ListedIs}
 use Rattle.walk.specs.Walked.{cameOut, CameOut, Says, WalkedIs}
 use Rattle.walk.specs.declared.Walked.{Walked as Answer}
 use Rattle.rules.specs.Asked.{Ready}
 use Rattle.rules.proofs.Dropping.{held-length}
-use Rattle.rules.proofs.RuleLaws.{ready-tree, combine-other, IsNode, is-node, combine-at}
+use Rattle.rules.proofs.RuleLaws.{ready-tree, combine-other, combine-light, IsNode, is-node, combine-at}
 use Rattle.rules.proofs.CombineLaws.{listable, walkable, after-walk, came-built, came-short, end-within}
 use Rattle.rules.proofs.Puts.{put-follows}
 use Rattle.rules.proofs.combine.combine.Statement.{statement}
@@ -68,7 +69,7 @@ node c h = is-node h _ (sym (c .before .before .kind .ensures) ∙ c .if1 .left 
 listed : (c : Listed) {t : Tree} {rest : List ℕ} (h : Pending (entry-of (kind-of c)) t rest)
     → let g = entry-of (kind-of c) .args in
     let r = c .list-members in
-    ListedIs (g .work .now) (r .last .0) (g .p) (node (kind-of c) h .members) (r .result)
+    ListedIs (g .terms) (g .work .now) (r .last .0) (g .p) (node (kind-of c) h .members) (r .result)
 listed c h = let s = node (kind-of c) h in c .list-members .ensures (s .members) (listable (s .held))
 
 -- they were walked over
@@ -100,6 +101,18 @@ came : (c : Came) {t : Tree} {rest : List ℕ} (h : Pending (entry-of (kind-of (
     let given = c .walked .given .0 in
     CameOut (g .terms) l (g .out .now) (walk .walk .last .0) (g .d) (given .0) (given .1 .0)
 came c h = says (walked-of (answered-of c)) h _ (c .walked .given .1)
+
+-- the node that is made of it can be closed
+light : (c : Came) {t : Tree} {rest : List ℕ} (h : Pending (entry-of (kind-of (listed-of (walked-of (answered-of c))))) t rest)
+    → let list = listed-of (walked-of (answered-of c)) in
+    let g = entry-of (kind-of list) .args in
+    Light (nodeOf (g .terms) (list .before .before .mark .result) (cameOut (g .terms) (toList (node (kind-of list) h .members))))
+light c h =
+    let list = listed-of (walked-of (answered-of c)) in
+    let g = entry-of (kind-of list) .args in
+    let s = node (kind-of list) h in
+    subst (λ μ. Light (nodeOf (g .terms) μ (cameOut (g .terms) (toList (s .members))))) (sym (list .before .before .mark .ensures .0))
+    (combine-light h (g .terms) _ (combine-at s ∙ came c h .applies _))
 
 kind-requires : tie.Need-kind-requires
 kind-requires c κs = record-within (ready-tree (c .before .before .before .pre .2))
@@ -156,7 +169,7 @@ put-back-requires c κs =
     let s = node (kind-of list) h .held in
     let k = listed list h in
     let m = came here h in (
-      (_, came-built s k m (walk .walk .kept .0), m .many),
+      (_, came-built s k m (walk .walk .kept .0), m .many, light here h),
       came-short s k m,
       omega (arith, end-within s k, list .list-members .kept .0, walk .walk .kept .1 .0),
     )
@@ -209,7 +222,7 @@ returns-4 c =
     let v = walked walk h in
     let m = came here h in
     let l = cameOut (g .terms) (toList (s .members)) in
-    let r = put .put-back .ensures l (came-built (s .held) k m (walk .walk .kept .0)) (m .many) in
+    let r = put .put-back .ensures l (came-built (s .held) k m (walk .walk .kept .0)) (m .many) (light here h) in
     let b = put-follows r (list .before .before .mark .ensures .0) (after-walk (s .held) k _ (v .pending)) (v .done) in
     (nodeOf (g .terms) (markIn (g .work .now) (g .p)) l, combine-at s ∙ m .applies _, b .stands, b .done)
 

@@ -10,16 +10,17 @@ use mathlib.Core.List.{List}
 use lib.IntN.{pos}
 use Rattle.paper.specs.Tree.{Forest, toList, records}
 use Rattle.paper.specs.Rules.{isThe, anyOf}
-use Rattle.split.specs.Standing.{TreesIn, SomeTree}
+use Rattle.note.specs.Note.{note}
+use Rattle.split.specs.Standing.{ToldTrees, SomeTold}
 use Rattle.rules.specs.Tried.{MembersIn}
-use Rattle.paper.proofs.StandingLaws.{FirstOf, first-of, none-of}
+use Rattle.note.proofs.ToldLaws.{FirstOf, first-of, none-of, some-told}
 use Rattle.rules.proofs.Nodes.{after-first, members-in, node-within}
 use Rattle.rules.proofs.members.any_member.Statement.{statement}
 use Rattle.rules.proofs.members.any_member.Tie as tie
 
 record Left (s : List ℕ) (z : ℕ) (f : Forest) (at left : ℕ) : Type 0 where
   others : Forest
-  stand : TreesIn s at left others
+  stand : ToldTrees note s at left others
   same : anyOf (isThe (pos z)) (toList f) ≡ anyOf (isThe (pos z)) (toList others)
 
 module _ {s : List ℕ} {z : ℕ} {f : Forest} {at left : ℕ} (h : Left s z f at left) where
@@ -29,11 +30,11 @@ module _ {s : List ℕ} {z : ℕ} {f : Forest} {at left : ℕ} (h : Left s z f a
 
   module _ (l : 0 < left) where
     -- the first of those that are left
-    abbrev head : FirstOf s at left (h .others)
+    abbrev head : FirstOf note s at left (h .others)
     head = first-of (h .others) (h .stand) l
 
-    some-left : SomeTree s at
-    some-left = record { tree = head .tree; there = head .there }
+    some-left : SomeTold s at
+    some-left = some-told (head .there)
 
     it-or-others : anyOf (isThe (pos z)) (toList f) ≡ (isThe (pos z) (head .tree) || anyOf (isThe (pos z)) (toList (head .others)))
     unfolding anyOf toList
@@ -77,7 +78,7 @@ abbrev some-of : Tested → Some
 some-of c = c .before
 
 -- a member is left, so one stands there
-stands : (c : Some) → SomeTree (entry-of (c .before) .args .s .now) (c .before .loop .at)
+stands : (c : Some) → SomeTold (entry-of (c .before) .args .s .now) (c .before .loop .at)
 stands c = let q = entry-of (c .before) .pre .0 in some-left (c .before .loop .inv (q .0) (q .1)) (c .loop-test .taken)
 
 -- whether it is the integer
@@ -121,7 +122,7 @@ loop-again c =
     λ f h.
     let v = some-of at .before .loop .inv f h in
     let t = head v l in
-    passed v l _ (sym (tested at h) ∙ c .before .if1 .left) (c .skip-tree .ensures (t .tree) (t .there))
+    passed v l _ (sym (tested at h) ∙ c .before .if1 .left) (c .skip-tree .ensures note (t .tree) (t .there))
 
 returns-2 : tie.Need-returns-2 Inv-loop μ-loop
 returns-2 c = λ f h. sym (none-left (c .before .loop .inv f h) (c .loop-test .left))

@@ -11,9 +11,12 @@ use native.Mathlib.Omega.{arith}
 use borrow.Author.Needs.{needs}
 use lib.ListN.{length}
 use Rattle.paper.specs.Tree.{Forest, toList}
-use Rattle.split.specs.Standing.{SomeTree}
+use Rattle.note.specs.Note.{note}
+use Rattle.split.specs.Standing.{SomeTold}
+use Rattle.part.specs.Like.{nodeOf}
+use Rattle.write.specs.Written.{Light}
 use Rattle.rules.specs.Tried.{Held}
-use Rattle.rules.proofs.Dropping.{held-length, kept, Dropping, Ended, Room, begins, head, some-member, room, passes, keeps, ends}
+use Rattle.rules.proofs.Dropping.{dropped-light, held-length, kept, Dropping, Ended, Room, begins, head, some-member, room, passes, keeps, ends}
 use Rattle.rules.proofs.Puts.{put-follows}
 use Rattle.rules.proofs.members.drop_members.Statement.{statement}
 use Rattle.rules.proofs.members.drop_members.Tie as tie
@@ -70,7 +73,7 @@ abbrev skipped-of : Copying → Skipped
 skipped-of c = c .before .before .before .before .before
 
 -- a member is left, so one stands there
-stands : (c : Left) → SomeTree (entry-of (c .before) .args .work .now) (c .before .loop .at)
+stands : (c : Left) → SomeTold (entry-of (c .before) .args .work .now) (c .before .loop .at)
 stands c =
     let h = entry-of (c .before) .pre .0 .2 in
     some-member h (c .before .loop .inv .1 _ _ h) (c .loop-test .taken)
@@ -86,7 +89,7 @@ fits c =
     let h = entry-of (left .before) .pre .0 .2 in
     let v = u .inv .1 _ _ h in
     let t = head h v (left .loop-test .taken) in
-    room h v (left .loop-test .taken) _ (c .skip-tree .ensures (t .tree) (t .there)) (u .inv .0)
+    room h v (left .loop-test .taken) _ (c .skip-tree .ensures note (t .tree) (t .there)) (u .inv .0)
 
 -- none is left: all that is kept stands in `out`
 ended : (c : Done) {f : Forest} {rest : List ℕ}
@@ -97,6 +100,15 @@ ended : (c : Done) {f : Forest} {rest : List ℕ}
 ended c h =
     let u = c .before .loop in
     ends h (u .inv .0) (u .inv .1 _ _ h) (c .loop-test .left)
+
+-- and the node of it can be closed
+light-of : (c : Done) {f : Forest} {rest : List ℕ}
+    → let g = entry-of (c .before) .args in
+    Held (g .out .now) (g .work .now) (g .d) (g .p) f rest
+    → Light (nodeOf (g .sum) (marked-of (c .before) .mark .result) (kept (g .z) (toList f)))
+light-of c {f} h =
+    let g = entry-of (c .before) .args in
+    dropped-light (g .sum) (marked-of (c .before) .mark .result) (g .z) f (marked-of (c .before) .mark .ensures .1) (h .wf) (h .light)
 
 mark-requires : tie.Need-mark-requires Inv-loop μ-loop
 mark-requires c κs = let h = c .before .before .before .pre .0 .2 in omega (arith, held-length h)
@@ -168,7 +180,7 @@ loop-again c =
           let t = head h v l in
           let not-it = sym (is .ensures (t .tree) (t .there)) ∙ was-false _ (a .0 .taken) in
           rw (a .6, a .7, a .8)
-          (keeps h v l (next .result) (next .ensures (t .tree) (t .there)) long (a .3 .last .0) not-it (a .3 .ensures)),
+          (keeps h v l (next .result) (next .ensures note (t .tree) (t .there)) long (a .3 .last .0) not-it (a .3 .ensures)),
     ))
     (λ a. (
       ap length (a .1) ∙ long,
@@ -176,7 +188,7 @@ loop-again c =
           let v = u .inv .1 f rest h in
           let t = head h v l in
           let it = sym (is .ensures (t .tree) (t .there)) ∙ was-true _ (a .0 .left) in
-          rw (a .1, a .2, a .3) (passes h v l (next .result) (next .ensures (t .tree) (t .there)) long it),
+          rw (a .1, a .2, a .3) (passes h v l (next .result) (next .ensures note (t .tree) (t .there)) long it),
     ))
     (c .if1 .came)
 
@@ -184,7 +196,7 @@ put-back-requires : tie.Need-put-back-requires Inv-loop μ-loop
 put-back-requires c κs =
     let done = c .before .before in
     let e = ended done (entry-of (done .before) .pre .0 .2) in
-    ((_, e .built, e .many), e .short, e .within)
+    ((_, e .built, e .many, light-of done (entry-of (done .before) .pre .0 .2)), e .short, e .within)
 
 same-length : tie.Need-same-length Inv-loop μ-loop
 same-length c = search needs
@@ -199,7 +211,7 @@ returns c =
     let g = entry-of (done .before) .args in
     λ f rest h.
     let e = ended done h in
-    put-follows (put .put-back .ensures (kept (g .z) (toList f)) (e .built) (e .many)) (marked-of (done .before) .mark .ensures .0) (e .follow)
+    put-follows (put .put-back .ensures (kept (g .z) (toList f)) (e .built) (e .many) (light-of done h)) (marked-of (done .before) .mark .ensures .0) (e .follow)
     (e .done)
 
 pub drop-members-spec : {M : Type 1} → statement M

@@ -10,7 +10,7 @@ use Rattle.paper.specs.Tree.{Tree, toList}
 use Rattle.paper.specs.Rules as paper
 use Rattle.paper.specs.Rules.{isThe, anyOf, dropAll}
 use Rattle.part.specs.Like.{neutral, nodeOf}
-use Rattle.paper.proofs.StandingLaws.{record-within}
+use Rattle.note.proofs.ToldLaws.{record-within}
 use Rattle.rules.specs.Asked.{Ready}
 use Rattle.rules.proofs.Dropping.{held-members}
 use Rattle.rules.proofs.RuleLaws.{ready-tree, IsNode, is-node, drops, looks-elsewhere, finds, finds-none}

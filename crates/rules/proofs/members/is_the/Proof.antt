@@ -3,7 +3,7 @@
 use mathlib.Core.Path.{ap, _∙_}
 use native.Mathlib.Omega.{arith}
 use lib.Dec.{eqb}
-use Rattle.paper.proofs.StandingLaws.{record-within}
+use Rattle.note.proofs.ToldLaws.{record-within}
 use Rattle.rules.proofs.Nodes.{other-kind, integer-kind}
 use Rattle.rules.proofs.members.is_the.Statement.{statement}
 use Rattle.rules.proofs.members.is_the.Tie as tie

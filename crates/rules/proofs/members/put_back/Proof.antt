@@ -6,6 +6,8 @@ use native.Mathlib.Omega.{arith}
 use borrow.Author.Needs.{needs}
 use lib.ListN.{length}
 use Rattle.paper.specs.Tree.{Tree}
+use Rattle.part.specs.Like.{nodeOf}
+use Rattle.write.specs.Written.{Light}
 use Rattle.rules.specs.Tried.{Built, Collapsed}
 use Rattle.rules.proofs.Puts.{put-back}
 use Rattle.rules.proofs.members.put_back.Statement.{statement}
@@ -30,10 +32,11 @@ made-of c = c .before .before
 -- the tree of the members l stands in `out`
 module _ (c : Made) (l : List Tree) where
   made : Built (entry-of c .args .out .now) (entry-of c .args .d) (entry-of c .args .e) l → length l ≡ entry-of c .args .count
+      → Light (nodeOf (entry-of c .args .sum) (entry-of c .args .mark) l)
       → let g = entry-of c .args in
       let r = c .before .before .collapse in
       Collapsed (g .sum) (g .mark) l (g .out .now) (r .last .0) (g .d) (g .e) (r .result)
-  made b n = c .before .before .collapse .ensures (entry-of c .args .e) l b n
+  made b n k = c .before .before .collapse .ensures (entry-of c .args .e) l b n k
 
 -- and of those that stand there by what is required
 abbrev Stands : Made → Type 0
@@ -43,7 +46,7 @@ Stands c =
     Collapsed (g .sum) (g .mark) (entry-of c .pre .0 .0) (g .out .now) (r .last .0) (g .d) (g .e) (r .result)
 
 stands : (c : Made) → Stands c
-stands c = let q = entry-of c .pre .0 in made c (q .0) (q .1) (q .2)
+stands c = let q = entry-of c .pre .0 in made c (q .0) (q .1) (q .2) (q .3)
 
 collapse-requires : tie.Need-collapse-requires
 collapse-requires c κs = search needs
@@ -84,8 +87,8 @@ returns c =
     let made-at = made-of (copied .before) in
     let g = entry-of made-at .args in
     let q = entry-of made-at .pre in
-    λ l b n.
-    let h = made made-at l b n in
+    λ l b n k.
+    let h = made made-at l b n k in
     put-back (g .sum) (g .mark) l (g .out .now) _ (g .work .now) _ (g .d) (g .e) (g .end) _ _ h refl (omega (arith, h .end, h .low, q .1)) (q .2)
     (copied .copy-bytes .ensures)
 

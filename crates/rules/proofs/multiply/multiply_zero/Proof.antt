@@ -12,7 +12,8 @@ use Rattle.paper.specs.Tree.{Tree, integer, toList, records}
 use Rattle.paper.specs.Rules as paper
 use Rattle.paper.specs.Rules.{isThe, anyOf}
 use Rattle.paper.proofs.EncodeLaws.{records-pos}
-use Rattle.paper.proofs.StandingLaws.{record-within}
+use Rattle.note.proofs.ToldLaws.{record-within, some-told}
+use Rattle.note.specs.Note.{note}
 use Rattle.rules.specs.Asked.{Ready}
 use Rattle.rules.proofs.Dropping.{held-members}
 use Rattle.rules.proofs.RuleLaws.{ready-tree, ready-length, ready-after, IsNode, is-node, zeroes, looks-elsewhere, finds, finds-none, zero-put}
@@ -65,7 +66,7 @@ record End (w : List ℕ) (p : ℕ) (t : Tree) (rest : List ℕ) (e : ℕ) : Typ
 end : (c : Skipped) {t : Tree} {rest : List ℕ} → Pending (entry-of (product-of (searched-of c))) t rest
     → let g = entry-of (product-of (searched-of c)) .args in End (g .work .now) (g .p) t rest (c .skip-tree .result)
 end c {t} h =
-    let e = c .skip-tree .ensures t (ready-tree h) in
+    let e = c .skip-tree .ensures note t (ready-tree h) in
     record { is = e; some = omega (arith, e, records-pos t); within = omega (arith, e, ready-length h) }
 
 kind-requires : tie.Need-kind-requires
@@ -87,8 +88,7 @@ mark-requires c κs = record-within (ready-tree (entry-of (product-of (c .before
 
 skip-tree-requires : tie.Need-skip-tree-requires
 skip-tree-requires c κs =
-    let q = entry-of (product-of (c .before .before .before .before)) .pre in
-    record { tree = q .0; there = ready-tree (q .2) }
+    some-told (ready-tree (entry-of (product-of (c .before .before .before .before)) .pre .2))
 
 sub-q : tie.Need-sub-q
 sub-q c = let e = end c (entry-of (product-of (searched-of c)) .pre .2) in omega (arith, e .some)

@@ -8,7 +8,7 @@ use borrow.Author.Needs.{needs}
 use Rattle.paper.specs.Tree.{Tree}
 use Rattle.paper.specs.Record.{kind, markIn}
 use Rattle.paper.proofs.EncodeLaws.{records-pos}
-use Rattle.paper.proofs.StandingLaws.{record-within}
+use Rattle.note.proofs.ToldLaws.{record-within}
 use Rattle.paper.specs.Table.{recordOf}
 use Rattle.stretch.specs.Put.{put}
 use Rattle.rules.specs.Asked.{Ready}

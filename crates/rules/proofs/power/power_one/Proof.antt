@@ -8,7 +8,8 @@ use borrow.Author.Needs.{needs}
 use Rattle.paper.specs.Tree.{Tree, records}
 use Rattle.paper.specs.Record.{bits}
 use Rattle.paper.proofs.EncodeLaws.{records-pos}
-use Rattle.paper.proofs.StandingLaws.{record-within}
+use Rattle.note.proofs.ToldLaws.{record-within, some-told}
+use Rattle.note.specs.Note.{note}
 use Rattle.rules.specs.Asked.{Ready}
 use Rattle.rules.proofs.RuleLaws.{ready-tree, ready-seen}
 use Rattle.rules.proofs.PowerLaws.{on-no-power, IsPower, is-power, one-applies, one-idle, base-moved}
@@ -53,7 +54,7 @@ power c h = is-power h (sym (c .before .kind .ensures) ∙ c .if1 .left)
 -- where the exponent stands, and what it is
 place : (c : Skipped) {t : Tree} {rest : List ℕ} (h : Pending (entry-of (power-of c)) t rest)
     → c .skip-tree .result ≡ entry-of (power-of c) .args .p + 1 + records (power (power-of c) h .base)
-place c h = let s = power (power-of c) h in c .skip-tree .ensures (s .base) (s .there)
+place c h = let s = power (power-of c) h in c .skip-tree .ensures note (s .base) (s .there)
 
 exponent : (c : Read) {t : Tree} {rest : List ℕ} (h : Pending (entry-of (power-of (skipped-of c))) t rest)
     → c .bits .result ≡ power (power-of (skipped-of c)) h .exponent
@@ -76,8 +77,7 @@ add-skip-tree c = let s = power (c .before) (entry-of (c .before) .pre .2) in om
 
 skip-tree-requires : tie.Need-skip-tree-requires
 skip-tree-requires c κs =
-    let s = power (c .before) (entry-of (c .before) .pre .2) in
-    record { tree = s .base; there = s .there }
+    some-told (power (c .before) (entry-of (c .before) .pre .2) .there)
 
 bits-requires : tie.Need-bits-requires
 bits-requires c κs =

@@ -1,18 +1,25 @@
 -- `rules::power::power_power` meets its contract: at a tree of another kind, and at a power whose base is none, the step does not apply;
--- else the product of the exponents is in range, and the inner base is moved between a power's record and that product, or it is not.
--- Assumes nothing.
-use Prim.Native.Nat.{ℕ, _+_}
+-- else the product of the exponents is in range, and the inner base is moved between a power's record and that product, or it is not. What
+-- the step makes is lighter than the tree, so it can be closed. Assumes nothing.
+use Prim.Native.Nat.{ℕ, _+_, _*_, _≤_}
 use mathlib.Core.Path.{_≡_, refl, sym, ap, _∙_}
-use mathlib.Core.List.{List}
+use mathlib.Core.List.{List, _++_}
 use native.Mathlib.Omega.{arith}
 use borrow.Author.Needs.{needs}
+use lib.ListN.{length, drop}
 use lib.IntN.{_*ℤ_}
 use Rattle.paper.specs.Tree.{Tree, power, records}
 use Rattle.paper.specs.Record.{markIn, bits}
 use Rattle.paper.proofs.EncodeLaws.{records-pos}
-use Rattle.paper.proofs.StandingLaws.{record-within}
+use Rattle.paper.proofs.PowerRules.{power-power-good}
+use Rattle.note.specs.Noted.{Unnoted}
+use Rattle.note.proofs.CloseLaws.{unclosed, closable, closed-pending}
+use Rattle.write.specs.Written.{Light}
+use Rattle.write.proofs.Closing.{power-node}
+use Rattle.note.proofs.ToldLaws.{record-within, some-told}
+use Rattle.note.specs.Note.{note}
 use Rattle.rules.specs.Asked.{Ready}
-use Rattle.rules.proofs.RuleLaws.{ready-tree, ready-seen}
+use Rattle.rules.proofs.RuleLaws.{ready-tree, ready-seen, rule-light}
 use Rattle.paper.specs.Bytes.{signed}
 use Rattle.paper.specs.Rules as paper
 use Rattle.paper.specs.Rules.{powerPower}
@@ -74,7 +81,7 @@ tower c h = is-tower (raised (power-of c) h) (sym (c .before .kind2 .ensures) �
 -- where the inner exponent stands, and what the product of both is
 place : (c : Skipped) {t : Tree} {rest : List ℕ} (h : Pending (start-of (tower-of c)) t rest)
     → c .skip-tree .result ≡ start-of (tower-of c) .args .p + 2 + records (tower (tower-of c) h .base)
-place c h = let s = tower (tower-of c) h in c .skip-tree .ensures (s .base) (s .there)
+place c h = let s = tower (tower-of c) h in c .skip-tree .ensures note (s .base) (s .there)
 
 product : (c : Multiplied) {t : Tree} {rest : List ℕ} (h : Pending (start-of (tower-of (skipped-of c))) t rest)
     → let s = tower (tower-of (skipped-of c)) h in c .mul .result ≡ numOf (signed (s .inner) *ℤ signed (s .outer))
@@ -89,6 +96,52 @@ product c h =
     let inner = first .bits .ensures ∙ ap (bits w) e ∙ s .inner-said in
     let outer = second .bits2 .ensures ∙ ap (bits w) next ∙ s .outer-said in
     c .mul .ensures ∙ ap (λ a. numOf (signed a *ℤ signed (second .bits2 .result))) inner ∙ ap (λ b. numOf (signed (s .inner) *ℤ signed b)) outer
+
+-- where the power's record was written: for any tree that is pending, the power that the step makes of it, which can be closed
+module _ (c : tie.After-write-record2) where
+  abbrev moving-of : Moving
+  moving-of = c .before .before .before .before .before .before .before .before .before
+
+  abbrev at-of : Skipped
+  at-of = skipped-of (multiplied-of moving-of)
+
+  abbrev begun : Entry
+  begun = start-of (tower-of at-of)
+
+  module _ {t : Tree} {rest : List ℕ} (h : Pending begun t rest) where
+    abbrev s : let g = begun .args in IsTower (g .work .now) (g .p) t rest
+    s = tower (tower-of at-of) h
+
+    abbrev made : Tree
+    made =
+        let known = moving-of .before .before .before .before .before .before .product .given in
+        power (moving-of .before .before .before .mark .result) (s .base) (moving-of .before .mark2 .result) (known .0 .0)
+
+    applies : powerPower t ≡ paper.applies made
+    applies =
+        let first = moving-of .before .before .before .mark in
+        let second = moving-of .before .mark2 in
+        let known = moving-of .before .before .before .before .before .before .product .given in
+        let g = begun .args in
+        let outer : at-of .skip-tree .result + 1 ≡ g .p + 3 + records (s .base) = omega (arith, place at-of h) in
+        tower-applies s _ (sym (product (multiplied-of moving-of) h) ∙ known .1)
+        ∙ ap (λ m. paper.applies (power m (s .base) (markIn (g .work .now) (g .p + 3 + records (s .base))) (known .0 .0))) (sym (first .ensures .0))
+        ∙ ap (λ m. paper.applies (power (first .result) (s .base) m (known .0 .0)))
+        (ap (markIn (g .work .now)) (sym outer) ∙ sym (second .ensures .0))
+
+    light : Light made
+    light = rule-light h _ power-power-good made applies
+
+    there : let at = (begun .args .p + 2) * 16 in
+        let w = c .write-record2 .last .0 in
+        (drop at w ≡ unclosed made ++ rest) × (at ≤ length w)
+    there =
+        let first = c .before .before .before .before in
+        let moved = first .before .before .before .before in
+        tower-put s _ _ _ _ _ _ _ (place at-of h) (moved .shift-right .ensures) (first .write-record .ensures) (c .write-record2 .ensures) (light .0 .2)
+
+    can-close : Unnoted (c .write-record2 .last .0) (begun .args .p + 2) made
+    can-close = closable made (light .0) (power-node _ _ _ _) (light .1) (record { after = rest; there = there .0 })
 
 kind-requires : tie.Need-kind-requires
 kind-requires c κs = record-within (ready-tree (c .before .before .before .pre .2))
@@ -119,8 +172,7 @@ add-skip-tree c = omega (arith, tower (c .before) (start-of (c .before) .pre .2)
 
 skip-tree-requires : tie.Need-skip-tree-requires
 skip-tree-requires c κs =
-    let s = tower (c .before) (start-of (c .before) .pre .2) in
-    record { tree = s .base; there = s .there }
+    some-told (tower (c .before) (start-of (c .before) .pre .2) .there)
 
 bits-requires : tie.Need-bits-requires
 bits-requires c κs =
@@ -233,11 +285,18 @@ write-record-requires-2 c κs =
     let h = start-of (tower-of at) .pre .2 in
     omega (arith, c .before .before .before .write-record .kept .0, c .before .before .before .before .before .before .before .shift-right .kept .0, tower (tower-of at) h .long)
 
-add-t39 : tie.Need-add-t39
-add-t39 c =
-    let at = skipped-of (multiplied-of (c .before .before .before .before .before .before .before .before .before .before .before)) in
-    let h = start-of (tower-of at) .pre .2 in
-    omega (arith, tower (tower-of at) h .long)
+add-close : tie.Need-add-close
+add-close c =
+    let at = at-of (c .before .before .before) in
+    omega (arith, tower (tower-of at) (start-of (tower-of at) .pre .2) .long)
+
+close-requires : tie.Need-close-requires
+close-requires c κs = let second = c .before .before .before in (_, can-close second (begun second .pre .2))
+
+add-t38 : tie.Need-add-t38
+add-t38 c =
+    let at = at-of (c .before .before .before .before .before .before) in
+    omega (arith, tower (tower-of at) (start-of (tower-of at) .pre .2) .long)
 
 enum-told : tie.Need-enum-told
 enum-told c = search needs
@@ -247,27 +306,13 @@ same-length-3 c = search needs
 
 returns-3 : tie.Need-returns-3
 returns-3 c =
-    let second = c .before .before in
-    let first = second .before .before .before .before in
-    let moved = first .before .before .before .before in
-    let moving = moved .before in
-    let mul = multiplied-of moving in
-    let at = skipped-of mul in
-    let second-mark = moving .before .mark2 in
-    let first-mark = moving .before .before .before .mark in
-    let known = moving .before .before .before .before .before .before .product .given in
-    let g = start-of (tower-of at) .args in
+    let second = c .before .before .before .before .before .before in
     λ t rest h.
-    let s = tower (tower-of at) h in
-    let outer : at .skip-tree .result + 1 ≡ g .p + 3 + records (s .base) = omega (arith, place at h) in (
-      power (first-mark .result) (s .base) (second-mark .result) (known .0 .0),
-      tower-applies s _ (sym (product mul h) ∙ known .1)
-          ∙ ap (λ m. paper.applies (power m (s .base) (markIn (g .work .now) (g .p + 3 + records (s .base))) (known .0 .0))) (sym (first-mark .ensures .0))
-          ∙ ap (λ m. paper.applies (power (first-mark .result) (s .base) m (known .0 .0)))
-          (ap (markIn (g .work .now)) (sym outer) ∙ sym (second-mark .ensures .0)),
-      tower-put s _ _ _ _ _ _ _ (place at h) (moved .shift-right .ensures) (first .write-record .ensures) (second .write-record2 .ensures),
-      refl,
-    )
+    let u = made second h in
+    let w = light second h .0 in
+    let at = there second h in
+    let q = closed-pending u w (power-node _ _ _ _) _ _ rest _ (at .1) (at .0) (c .before .before .close .ensures u (can-close second h)) in
+    (u, applies second h, q .0, refl)
 
 same-length-4 : tie.Need-same-length-4
 same-length-4 c = search needs
@@ -310,7 +355,9 @@ power-power-spec =
     write-record-requires
     add-write-record-2
     write-record-requires-2
-    add-t39
+    add-close
+    close-requires
+    add-t38
     enum-told
     same-length-3
     returns-3

@@ -30,7 +30,8 @@ state c =
 
 abbrev later : (c : Facing)
     → let s = c .before .loop in
-    Head (s .work) (entry-of (around (c .before)) .args .p) (s .j) (state c .left)
+    let g = entry-of (around (c .before)) .args in
+    Head (g .terms) (s .work) (g .p) (s .j) (state c .left)
 later c = next (state c) (c .loop-test .taken)
 
 pub ticks-fit : (c : Facing) → around (c .before) .walk .e * 16 + records (later c .tree) ≤ length (c .before .loop .out)
@@ -41,12 +42,12 @@ module _ (c : Met) where
   abbrev pub here : Within
   here = facing-of c .before
 
-  -- the byte of `out` from which on the ticks were lent, the ticks as `meet` left them in its fifth parameter, and `out` with them
+  -- the byte of `out` from which on the ticks were lent, the ticks as `meet` left them in its sixth parameter, and `out` with them
   abbrev pub front : ℕ
   front = around here .walk .e * 16
 
   abbrev pub ticks : List ℕ
-  ticks = c .meet .last .1 .1 .1 .1 .0
+  ticks = c .meet .last .1 .1 .1 .1 .1 .0
 
   abbrev pub marked : List ℕ
   marked = putMid front (length (here .loop .out) - front) (here .loop .out) ticks
@@ -55,7 +56,7 @@ module _ (c : Met) where
   ticks-behind = take-put front (length (here .loop .out) - front) (here .loop .out) ticks (omega (arith, ticks-fit (facing-of c)))
 
   pub ticks-length : length marked ≡ length (here .loop .out)
-  ticks-length = same-len-mid front (length (here .loop .out) - front) (here .loop .out) ticks (c .meet .kept .1 .1 .1 .1 .0)
+  ticks-length = same-len-mid front (length (here .loop .out) - front) (here .loop .out) ticks (c .meet .kept .1 .1 .1 .1 .1 .0)
 
   -- what the answer r says of the current part and the member that it met, in any state that the turn may be in; and where the part stands
   module _ {l : List Tree} {o w : List ℕ} (z : State here l o w) where
@@ -66,7 +67,7 @@ module _ (c : Met) where
         let terms = entry-of (around here) .args .terms in
         let y = next z (facing-of c .loop-test .taken) in
         subst (MergedIs terms (here .loop .work) (z .current) (split terms (y .tree))) is
-        (c .meet .ensures .0 terms (z .current) (y .tree) (z .shown) (y .entry))
+        (c .meet .ensures .0 terms (z .current) (y .tree) (z .shown) (z .keyed) (y .entry))
 
     pub told-from : (r : Merged) → c .meet .result ≡ r → IntoFrom (entry-of (around here) .args .p) r
     told-from r is = subst (IntoFrom (entry-of (around here) .args .p)) is (c .meet .ensures .1 (z .place))
@@ -102,6 +103,7 @@ meet-requires c κs =
       current = v .current;
       later = x .tree;
       shown = v .shown;
+      keyed = v .keyed;
       entry = x .entry;
       low = omega (arith, b .low, b .high, b .few, facing .loop-test .taken);
       enough = simp (length-take, length-drop) (omega arith);

@@ -8,14 +8,14 @@ use mathlib.Core.Logic.{⊎-elim}
 use native.Mathlib.Omega.{arith}
 use borrow.Author.Needs.{needs}
 use lib.ListN.{length}
-use Rattle.paper.specs.Tree.{Tree, records}
+use Rattle.paper.specs.Tree.{Tree}
 use Rattle.part.specs.Like.{join}
-use Rattle.write.specs.Written.{WrittenIs}
+use Rattle.write.specs.Written.{WrittenIs, Fitting}
 use Rattle.write.specs.declared.Written.{Written as Answer}
 use Rattle.write.specs.declared.Written.the-variants.{To, Over}
 use Rattle.walk.proofs.Steps.{outer-begins, first, fitting, outer-written, outer-late}
 use Rattle.walk.proofs.walk.Tie as tie
-use Rattle.walk.proofs.walk.Proof.Places.{Inv-loop, μ-loop, Inv-walk, μ-walk, Turned, Written, entry-of, turn-of, turned-of, around}
+use Rattle.walk.proofs.walk.Proof.Places.{Inv-loop, μ-loop, Inv-walk, μ-walk, Begun, Turned, Written, entry-of, turn-of, begun-of, turned-of, around}
 use Rattle.walk.proofs.walk.Proof.Places.{State, within, members, entry-bounds, turn-bounds, bounds}
 
 pub add-e : tie.Need-add-e Inv-loop μ-loop Inv-walk μ-walk
@@ -36,9 +36,24 @@ current-requires c κs =
     let t = first (turn .walk .inv .state (members entry) (entry .pre .1)) less in
     (t .tree, t .entry, omega (arith, b .low, b .high, b .few))
 
+-- its entry is read once more, for its key
+entry-fits : (c : Begun) → let u = turn-of c .walk in u .i * 4 + 4 ≤ length (u .work)
+entry-fits c =
+    let b = turn-bounds (turn-of c) in
+    omega (arith, b .low, b .high, b .few, c .before .before .walk-test .taken)
+
+pub mul-read2 : tie.Need-mul-read2 Inv-loop μ-loop Inv-walk μ-walk
+mul-read2 c = record { fits = omega (arith, entry-fits (c .before)) }
+
+pub add-read2 : tie.Need-add-read2 Inv-loop μ-loop Inv-walk μ-walk
+add-read2 c = record { fits = omega (arith, entry-fits (c .before)) }
+
+pub read2-requires : tie.Need-read2-requires Inv-loop μ-loop Inv-walk μ-walk
+read2-requires c κs = omega (arith, entry-fits (c .before))
+
 pub add-j : tie.Need-add-j Inv-loop μ-loop Inv-walk μ-walk
 add-j c =
-    let b = turn-bounds (turn-of c) in
+    let b = turn-bounds (turn-of (begun-of c)) in
     record { fits = omega (arith, b .low, b .high, b .few) }
 
 pub loop-holds : tie.Need-loop-holds Inv-loop μ-loop Inv-walk μ-walk
@@ -52,11 +67,14 @@ state c =
     let entry = entry-of (around (c .before)) in
     within (c .before) (members entry) (entry .pre .1)
 
--- there is room for it behind what has come out
+-- there is room for it behind what has come out, and its note can be made
 room-for : (c : Turned)
     → let turn = around (c .before) in
-    (turn .walk .e + records (join (entry-of turn .args .terms) (state c .current) .0)) * 16 ≤ length (c .before .loop .out)
-room-for c = omega (arith, bounds (c .before) .room, fitting (state c) (c .loop-test .left))
+    Fitting (join (entry-of turn .args .terms) (state c .current)) (c .before .loop .out) (turn .walk .e)
+room-for c =
+    let b = bounds (c .before) in
+    let f = fitting (state c) (c .loop-test .left) in
+    record { room = omega (arith, b .room, f .0); light = omega (arith, b .light, f .1) }
 
 pub write-part-requires : tie.Need-write-part-requires Inv-loop μ-loop Inv-walk μ-walk
 write-part-requires c κs =
@@ -111,7 +129,7 @@ walk-again c =
           (λ a.
           let answer = a .1 .given in
           let to = told written z (To (answer .0 .0)) (answer .1) in
-          rw (a .3, a .4) (outer-written z met-all _ _ (omega (arith, room-for turned)) (to .0) (to .1) (to .2)))
+          rw (a .3, a .4) (outer-written z met-all _ _ (omega (arith, room-for turned .room)) (to .0) (to .1) (to .2)))
           -- it is out of range: e stays, and `late` becomes true
           (λ a.
           let out-of-range = told written z Over (a .1 .given .1) in

@@ -25,9 +25,9 @@ use Rattle.walk.proofs.walk.Proof.InnerLoop.{ticks-behind, ticks-length
 record Leaves (terms : Bool) (out₀ work₀ : List ℕ) (d p count : ℕ) (out work : List ℕ) (n i e : ℕ) (late over : Bool) : Type 0 where
   long : length out ≡ length out₀
   wide : length work ≡ length work₀
-  burst : over ≡ true → (l : List Tree) → Walkable out₀ work₀ d p count l → WalkedIs terms l out₀ out work₀ work d p Over
+  burst : over ≡ true → (l : List Tree) → Walkable terms out₀ work₀ d p count l → WalkedIs terms l out₀ out work₀ work d p Over
   ended : over ≡ false → n ≤ i
-  state : over ≡ false → (l : List Tree) → Walkable out₀ work₀ d p count l → Outer terms l out₀ work₀ d p count out work n i e late
+  state : over ≡ false → (l : List Tree) → Walkable terms out₀ work₀ d p count l → Outer terms l out₀ work₀ d p count out work n i e late
 
 left : (c : Left)
     → let g = entry-of (c .before) .args in
@@ -59,23 +59,29 @@ left c =
         before = record {
           before = record {
             before = record {
-              before = record { before = record { before = record { before = c .before; walk-test = a .0 }; current-arg = a .1 }; current = a .2 };
-              loop = a .3;
+              before = record {
+                before = record {
+                  before = record { before = record { before = record { before = c .before; walk-test = a .0 }; current-arg = a .1 }; current = a .2 };
+                  read2-arg = a .3;
+                };
+                read2 = a .4;
+              };
+              loop = a .5;
             };
-            loop-test = a .4;
+            loop-test = a .6;
           };
-          meet-arg = a .5;
+          meet-arg = a .7;
         };
-        meet-arg2 = a .6;
+        meet-arg2 = a .8;
       };
-      meet = a .7;
+      meet = a .9;
     } in
     let facing = facing-of met in
     let w = facing .before .loop .inv in
-    let answer-is = a .11 .given .1 in
-    let out-is = a .12 in
-    let work-is = a .13 in
-    let over-is = a .15 in
+    let answer-is = a .13 .given .1 in
+    let out-is = a .14 in
+    let work-is = a .15 in
+    let over-is = a .17 in
     record {
       long = ap length out-is ∙ ticks-length met ∙ w .long ∙ v .long;
       wide = ap length work-is ∙ w .wide ∙ v .wide;
@@ -104,7 +110,7 @@ Ended c l =
 answered : (c : Left) (r : Walked) (l : List Tree)
     → let g = entry-of (c .before) .args in
     let x = c .walk-test in
-    Walkable (g .out .now) (g .work .now) (g .d) (g .p) (g .count) l → x .over ≡ false
+    Walkable (g .terms) (g .out .now) (g .work .now) (g .d) (g .p) (g .count) l → x .over ≡ false
     → (Ended c l → x .n ≤ c .before .walk .i → Says (g .terms) l (g .out .now) (x .out) (g .d) r)
     → WalkedIs (g .terms) l (g .out .now) (x .out) (g .work .now) (x .work) (g .d) (g .p) r
 answered c r l h calm says =

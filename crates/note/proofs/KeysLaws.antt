@@ -1,0 +1,156 @@
+-- Keys kept in scratch: looking through them finds one that is among them; a flag that is zero saves looking; and one key more is kept. A key's
+-- bytes and the flags do not overlap, so the store of one leaves the others alone. Assumes nothing.
+use Prim.Native.Nat.{ℕ, zero, suc, _+_, _*_, _/_, _≤_, _<_}
+use mathlib.Core.Path.{_≡_, refl, sym, ap, _∙_}
+use mathlib.Core.Bool.{Bool, true, false, _||_}
+use mathlib.Core.List.{List, [], _∷_, _++_}
+use mathlib.Core.Logic.{_⊎_, inl, inr}
+use native.Mathlib.Nat.{eq-or-lt-of-le, mul-lt-mul-of-pos-right}
+use native.Mathlib.Omega.{arith}
+use borrow.Author.Tests.{eqb-true, eqb-false, eq-eqb, ne-eqb}
+use lib.Dec.{eqb}
+use lib.ListN.{length, getD, set, drop, length-append, length-set, List·getD-append}
+use lib.Seq.{drop-cons, getD-set-same, getD-set-other}
+use Rattle.paper.specs.Limits.{modulus}
+use Rattle.paper.specs.Bytes.{le8, bytes}
+use Rattle.paper.proofs.BytesLaws.{le-bytes, le8-drop, length-bytes}
+use Rattle.paper.proofs.Tests.{not-so, never}
+use Rattle.stretch.specs.Put.{put}
+use Rattle.stretch.proofs.Laws.{drop-put-at, getD-put-before, getD-put-after}
+use Rattle.note.specs.Note.{keys}
+use Rattle.note.specs.Still.{among}
+use Rattle.note.specs.Keys.{flagOf, Kept, KeptIn, keeping}
+
+-- ---- looking through
+module _ (ks : List ℕ) (k j : ℕ) (l : j < length ks) where
+  unfold-look : among k (drop j ks) ≡ (eqb k (getD ks j 0) || among k (drop (suc j) ks))
+  unfolding among
+  unfold-look = ap (among k) (drop-cons ks j 0 l)
+
+  pub look-found : getD ks j 0 ≡ k → among k (drop j ks) ≡ true
+  look-found e = unfold-look ∙ rw (eq-eqb k (getD ks j 0) (sym e))
+
+  pub look-on : (getD ks j 0 ≡ k → ⊥) → among k (drop (j + 1) ks) ≡ among k (drop j ks)
+  look-on n =
+      let s : j + 1 ≡ suc j = omega arith in
+      ap (λ i. among k (drop i ks)) s ∙ sym (unfold-look ∙ rw (ne-eqb k (getD ks j 0) (λ e. n (sym e))))
+
+pub look-end : (ks : List ℕ) (k j : ℕ) → length ks ≤ j → among k (drop j ks) ≡ false
+unfolding among
+look-end [] k zero l = refl
+look-end [] k (suc j) l = refl
+look-end (x ∷ ks) k zero l = absurd (omega arith)
+look-end (x ∷ ks) k (suc j) l = look-end ks k j (omega arith)
+
+-- ---- flags
+pub flag-lt : (n k : ℕ) → k < modulus → 0 < n → flagOf n k < n * 32
+unfolding flagOf
+flag-lt n k h p =
+    let a : k / keys < keys = omega arith in
+    let c : 0 < 32 * n = omega arith in
+    let b : k / keys * (32 * n) < keys * (32 * n) = mul-lt-mul-of-pos-right a c in
+    omega (arith, b)
+
+-- a flag that is zero
+pub flag-new : {d : List ℕ} {o n : ℕ} {ks : List ℕ} → Kept d o n ks → (k : ℕ) → getD d (o + n * 8 + flagOf n k) 0 < 1 → among k ks ≡ false
+flag-new {d} {o} {n} {ks} h k z = not-so (among k ks) (λ e. absurd (omega (arith, h .flagged k e)))
+
+-- ---- one key more
+-- the eight bytes at a place, where each of them is as it was
+le8-same : (d e : List ℕ) (a : ℕ) → ((x : ℕ) → a ≤ x → x < a + 8 → getD d x 0 ≡ getD e x 0) → le8 d a ≡ le8 e a
+unfolding le8
+le8-same d e a h =
+    rw (
+      h a (omega arith) (omega arith),
+      h (a + 1) (omega arith) (omega arith),
+      h (a + 2) (omega arith) (omega arith),
+      h (a + 3) (omega arith) (omega arith),
+      h (a + 4) (omega arith) (omega arith),
+      h (a + 5) (omega arith) (omega arith),
+      h (a + 6) (omega arith) (omega arith),
+      h (a + 7) (omega arith) (omega arith),
+    )
+
+le8-put : (d : List ℕ) (a v : ℕ) → a ≤ length d → v < modulus → le8 (put d a (bytes 8 v)) a ≡ v
+unfolding le8 bytes
+le8-put d a v l h =
+    let z : a + 0 ≡ a = omega arith in
+    ap (le8 (put d a (bytes 8 v))) (sym z)
+    ∙ sym (le8-drop a (put d a (bytes 8 v)) 0)
+    ∙ ap (λ (x : List ℕ). le8 x 0) (drop-put-at d a (bytes 8 v) l)
+    ∙ le-bytes 8 v h
+
+getD-last : (ks : List ℕ) (k j : ℕ) → j ≡ length ks → getD (ks ++ (k ∷ [])) j 0 ≡ k
+getD-last [] k zero e = refl
+getD-last [] k (suc j) e = absurd (omega arith)
+getD-last (x ∷ ks) k zero e = absurd (omega arith)
+getD-last (x ∷ ks) k (suc j) e = getD-last ks k j (omega arith)
+
+among-last : (q k : ℕ) (ks : List ℕ) → among q (ks ++ (k ∷ [])) ≡ true → (among q ks ≡ true) ⊎ (q ≡ k)
+unfolding among
+among-last q k [] e = go (eqb q k) refl e
+  where
+    go : (b : Bool) → eqb q k ≡ b → (b || false) ≡ true → (false ≡ true) ⊎ (q ≡ k)
+    go true h e = inr (eqb-true q k h)
+    go false h e = never e
+among-last q k (x ∷ ks) e = go (eqb q x) (among-last q k ks) e
+  where
+    go : (b : Bool) → (among q (ks ++ (k ∷ [])) ≡ true → (among q ks ≡ true) ⊎ (q ≡ k)) → (b || among q (ks ++ (k ∷ []))) ≡ true
+        → ((b || among q ks) ≡ true) ⊎ (q ≡ k)
+    go true h e = inl refl
+    go false h e = h e
+
+module _ {d : List ℕ} {o n m : ℕ} {ks : List ℕ} (h : KeptIn d o n m ks) (k : ℕ) (b : k < modulus) where
+  abbrev f : ℕ
+  f = o + n * 8 + flagOf n k
+
+  abbrev e : List ℕ
+  e = set d f 1
+
+  flag-within : f < length d
+  flag-within = omega (arith, flag-lt n k b (omega (arith, h .place)), h .room, h .place)
+
+  key-within : o + m * 8 + 8 ≤ length e
+  key-within = omega (arith, length-set d f 1, h .room, h .place)
+
+  -- what was kept stays where it was
+  earlier : (j : ℕ) → j < m → le8 (keeping d o n m k) (o + j * 8) ≡ le8 d (o + j * 8)
+  unfolding keeping
+  earlier j l =
+      le8-same (put e (o + m * 8) (bytes 8 k)) d (o + j * 8)
+      (λ x u v. getD-put-before e (o + m * 8) (bytes 8 k) x (omega (arith, key-within)) (omega arith)
+      ∙ getD-set-other d f x 1 0 (λ z. omega (arith, h .place)))
+
+  flags : (x : ℕ) → o + n * 8 ≤ x → getD (keeping d o n m k) x 0 ≡ getD e x 0
+  unfolding keeping
+  flags x l = getD-put-after e (o + m * 8) (bytes 8 k) x (omega (arith, key-within)) (omega (arith, length-bytes 8 k, h .place))
+
+  flag-stays : (x : ℕ) → getD d x 0 ≡ 1 → getD e x 0 ≡ 1
+  flag-stays x z = go (eqb x f) refl
+    where
+      go : (c : Bool) → eqb x f ≡ c → getD e x 0 ≡ 1
+      go true w = ap (λ y. getD e y 0) (eqb-true x f w) ∙ getD-set-same d f 1 0 flag-within
+      go false w = getD-set-other d f x 1 0 (eqb-false x f w) ∙ z
+
+  last : (j : ℕ) → j ≡ m → le8 (keeping d o n m k) (o + j * 8) ≡ getD (ks ++ (k ∷ [])) j 0
+  unfolding keeping
+  last j x =
+      ap (λ y. le8 (put e (o + m * 8) (bytes 8 k)) (o + y * 8)) x
+      ∙ le8-put e (o + m * 8) k (omega (arith, key-within)) b
+      ∙ sym (getD-last ks k j (x ∙ sym (h .many)))
+
+  pub keeping-kept : Kept (keeping d o n m k) o n (ks ++ (k ∷ []))
+  keeping-kept =
+      record {
+        keys-there = λ j l. by j (eq-or-lt-of-le {n = j} {m = m} (omega (arith, length-append ks (k ∷ []), h .many, l)));
+        flagged = λ q a. flags (o + n * 8 + flagOf n q) (omega arith) ∙ told q (among-last q k ks a);
+      }
+    where
+      by : (j : ℕ) → (j ≡ m) ⊎ (j < m) → le8 (keeping d o n m k) (o + j * 8) ≡ getD (ks ++ (k ∷ [])) j 0
+      by j (inl x) = last j x
+      by j (inr x) =
+          earlier j x ∙ h .kept .keys-there j (omega (arith, h .many)) ∙ sym (List·getD-append ks (k ∷ []) 0 j (omega (arith, h .many)))
+
+      told : (q : ℕ) → (among q ks ≡ true) ⊎ (q ≡ k) → getD e (o + n * 8 + flagOf n q) 0 ≡ 1
+      told q (inl x) = flag-stays (o + n * 8 + flagOf n q) (h .kept .flagged q x)
+      told q (inr x) = ap (λ y. getD e (o + n * 8 + flagOf n y) 0) x ∙ getD-set-same d f 1 0 flag-within

@@ -1,0 +1,122 @@
+-- `note::members_note` meets its contract. The loop's invariant: what is added and what the members still to come add make the node's
+-- note. Assumes nothing.
+use Prim.Native.Nat.{_+_, _%_, _≤_, _<_}
+use mathlib.Core.Path.{ap, _∙_}
+use native.Mathlib.Omega.{arith}
+use Rattle.paper.specs.Limits.{modulus}
+use Rattle.paper.specs.Tree.{Tree}
+use Rattle.paper.specs.Standing.{kindNumber}
+use Rattle.note.specs.Noted.{Unnoted}
+use Rattle.note.proofs.NotedLaws.{record-within, kind-of, kind-lt}
+use Rattle.note.proofs.AddingLaws.{Adding, own-within, adding-start, adding-end}
+use Rattle.note.proofs.SumLaws.{summing-first, summing-step}
+use borrow.Author.Needs.{needs}
+use Rattle.note.proofs.members_note.Statement.{statement}
+use Rattle.note.proofs.members_note.Tie as tie
+
+abbrev Inv-loop : tie.InvT-loop
+Inv-loop s i sum₀ at₀ left₀ sum at left = (sum < modulus) × ((t : Tree) → Unnoted s i t → kindNumber t ≤ 3 → Adding s i t at left sum)
+
+abbrev μ-loop : tie.MeasureT-loop
+μ-loop s i sum₀ at₀ left₀ sum at left = left
+
+kind-requires : tie.Need-kind-requires Inv-loop μ-loop
+kind-requires c κs = own-within (c .before .pre .1)
+
+cast-sum : tie.Need-cast-sum Inv-loop μ-loop
+cast-sum c = search needs
+
+mul-sum : tie.Need-mul-sum Inv-loop μ-loop
+mul-sum c = search needs
+
+add-sum : tie.Need-add-sum Inv-loop μ-loop
+add-sum c = search needs
+
+add-at : tie.Need-add-at Inv-loop μ-loop
+add-at c = omega (arith, own-within (c .before .before .pre .1))
+
+count-requires : tie.Need-count-requires Inv-loop μ-loop
+count-requires c κs = own-within (c .before .before .pre .1)
+
+loop-holds : tie.Need-loop-holds Inv-loop μ-loop
+loop-holds c =
+    (omega arith, λ t q l. adding-start q l (c .before .kind .result) (c .count .result) (c .before .kind .ensures) (c .count .ensures .0))
+
+note-at-requires : tie.Need-note-at-requires Inv-loop μ-loop
+note-at-requires c κs =
+    let head = c .before in
+    let some = head .before .before .before .before .pre in
+    let f = summing-first (head .loop .inv .1 (some .0) (some .1) (some .2)) (c .loop-test .taken) in
+    (f .tree, f .there)
+
+kind-requires-2 : tie.Need-kind-requires-2 Inv-loop μ-loop
+kind-requires-2 c κs =
+    let test = c .before in
+    let head = test .before in
+    let some = head .before .before .before .before .pre in
+    record-within (summing-first (head .loop .inv .1 (some .0) (some .1) (some .2)) (test .loop-test .taken) .there)
+
+added-requires : tie.Need-added-requires Inv-loop μ-loop
+added-requires c κs =
+    let test = c .before .before in
+    let head = test .before in
+    let some = head .before .before .before .before .pre in
+    let f = summing-first (head .loop .inv .1 (some .0) (some .1) (some .2)) (test .loop-test .taken) in
+    omega (arith, c .kind2 .ensures, kind-of (f .there), kind-lt (f .tree))
+
+wrapping-add-u64-requires : tie.Need-wrapping-add-u64-requires Inv-loop μ-loop
+wrapping-add-u64-requires c κs = search needs
+
+add-at-2 : tie.Need-add-at-2 Inv-loop μ-loop
+add-at-2 c =
+    let test = c .before .before .before .before in
+    let head = test .before in
+    let some = head .before .before .before .before .pre in
+    omega (arith, record-within (summing-first (head .loop .inv .1 (some .0) (some .1) (some .2)) (test .loop-test .taken) .there))
+
+sub-left : tie.Need-sub-left Inv-loop μ-loop
+sub-left c = omega arith
+
+loop-less : tie.Need-loop-less Inv-loop μ-loop
+loop-less c = omega arith
+
+loop-again : tie.Need-loop-again Inv-loop μ-loop
+loop-again c =
+    let more = c .wrapping-add-u64 in
+    let k = c .before .before .kind2 in
+    let n = c .before .before .before .note-at in
+    let test = c .before .before .before .before in
+    let loop = test .before .loop in (
+      omega (arith, more .ensures),
+      λ t q l.
+          summing-step (loop .inv .1 t q l) (test .loop-test .taken) (k .result) (n .result) (k .ensures) (n .ensures) (more .result)
+          (more .ensures ∙ ap (λ x. (loop .sum + x) % modulus) (c .before .added .ensures)),
+    )
+
+returns : tie.Need-returns Inv-loop μ-loop
+returns c =
+    let i = c .before .before .before .before .before .args .i in
+    λ t q l. adding-end i t (c .before .loop .inv .1 t q l) (omega arith) (c .before .loop .inv .0)
+
+pub members-note-spec : {M : Type 1} → statement M
+members-note-spec =
+    tie.close
+    (tie.spec
+    Inv-loop
+    μ-loop
+    kind-requires
+    cast-sum
+    mul-sum
+    add-sum
+    add-at
+    count-requires
+    loop-holds
+    note-at-requires
+    kind-requires-2
+    added-requires
+    wrapping-add-u64-requires
+    add-at-2
+    sub-left
+    loop-less
+    loop-again
+    returns)

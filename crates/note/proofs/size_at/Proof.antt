@@ -1,0 +1,17 @@
+-- `note::size_at` meets its contract: a leaf is one record, and a node's note tells. Assumes nothing.
+use native.Mathlib.Omega.{arith}
+use Rattle.note.proofs.NotedLaws.{record-within, size-of-leaf, size-of-node}
+use Rattle.note.proofs.size_at.Statement.{statement}
+use Rattle.note.proofs.size_at.Tie as tie
+
+returns : tie.Need-returns
+returns c = λ t h k. size-of-leaf t (omega arith)
+
+bits-requires : tie.Need-bits-requires
+bits-requires c κs = record-within (c .before .before .pre .1)
+
+returns-2 : tie.Need-returns-2
+returns-2 c = λ t h k. size-of-node h (omega arith) (c .bits .result) (c .bits .ensures)
+
+pub size-at-spec : {M : Type 1} → statement M
+size-at-spec = tie.close (tie.spec returns bits-requires returns-2)

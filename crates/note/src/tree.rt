@@ -1,0 +1,46 @@
+// The note of a plain tree in a table that is only read: its nodes hold none, so it is added up by recursion.
+ghost use mathlib.Core.Path.{_≡_};
+ghost use Prim.Native.Nat.{_+_, _*_, _≤_, _<_};
+ghost use lib.ListN.{length};
+ghost use Rattle.paper.specs.Standing.{TreeIn};
+ghost use Rattle.paper.specs.Tree.{Tree, weight};
+ghost use Rattle.note.specs.Note.{note};
+ghost use Rattle.note.specs.Plain.{partsIn};
+use crate::added;
+use crate::added_exponent;
+use crate::leaf_note;
+
+// The number of trees that are added up behind the record i of a node of kind k: its members, or a power's base.
+fn parts(s: &[u8], i: usize, k: u8) -> usize
+    requires { ⌜ i * 16 + 16 ≤ length (now s) ⌝ }
+    ensures { λ r. ⌜ r ≡ partsIn (now (s .entry)) i k ⌝ }
+{
+    if k < 4 {
+        return record::count(s, i);
+    }
+    1
+}
+
+// The note of the tree at record i. A member ends as many records later as its note says, and there an exponent stands.
+pub fn tree_note(s: &[u8], i: usize) -> u64
+    requires { ⌜ ((t : Tree) × TreeIn (now s) i t × (weight t < 65536)) ⌝ }
+    ensures { λ r. ⌜ ((t : Tree) → TreeIn (now (s .entry)) i t → weight t < 65536 → r ≡ note t) ⌝ }
+{
+    let k = record::kind(s, i);
+    if k < 2 {
+        return leaf_note(k, record::bits(s, i));
+    }
+    let mut sum = 0x1_0001 + k as u64 * 0x1_0000_0000;
+    let mut at = i + 1;
+    let mut left = parts(s, i, k);
+    while 0 < left {
+        let n = tree_note(s, at);
+        sum = std::num::wrapping_add_u64(sum, added(record::kind(s, at), n));
+        at += (n % 0x1_0000) as usize;
+        left -= 1;
+    }
+    if 3 < k {
+        return std::num::wrapping_add_u64(sum, added_exponent(record::bits(s, at)));
+    }
+    sum
+}
