@@ -115,12 +115,35 @@ static void opens_and_steps(unsigned n) { /* a*(a*(b + a*(a*(b + .. */
     symbol(2);
 }
 
+static void chain_factors(unsigned n) { /* a*(b*(.. with 32 factors over and over: each is like one further in */
+    for (unsigned i = 0; i + 1 < n; i++) { put_record(3, 2, 0); symbol(i % 32); }
+    symbol((n - 1) % 32);
+}
+
+static void ones_between(unsigned n) { /* a*1*(b + 0 + a*1*(b + 0 + .. */
+    for (unsigned i = 0; i < n; i++) {
+        put_record(3, 3, 0); symbol(0); integer(1);
+        put_record(2, 3, 0); symbol(1); integer(0);
+    }
+    symbol(2);
+}
+
+static void adds_and_steps(unsigned n) { /* a + (a + b*(a + (a + b*( .. */
+    for (unsigned i = 0; i < n; i++) {
+        put_record(2, 2, 0); symbol(0);
+        put_record(2, 2, 0); symbol(0);
+        put_record(3, 2, 0); symbol(1);
+    }
+    symbol(2);
+}
+
 static const struct { const char *name; void (*make)(unsigned); } families[] = {
     {"like-terms-1", like_one}, {"like-terms-16", like_sixteen}, {"unlike-terms", unlike}, {"unlike-products", unlike_long},
     {"powers-16", powers_sixteen}, {"powers-unlike", powers_unlike}, {"nest-still", nest_still}, {"nest-changes", nest_changes},
     {"powers-nested", powers_nested}, {"chain-opens", chain_opens}, {"tree-opens", tree_opens},
     {"one-pair", one_pair}, {"ones-nested", ones_nested}, {"chain-like", chain_like}, {"chain-like-all", chain_like_all},
     {"products-of-three", products_of_three}, {"fives-nested", fives_nested}, {"opens-and-steps", opens_and_steps},
+    {"adds-and-steps", adds_and_steps}, {"chain-factors", chain_factors}, {"ones-between", ones_between},
 };
 #define FAMILIES (sizeof families / sizeof families[0])
 

@@ -1,12 +1,12 @@
--- The driver's loop. Its invariant says in continuation style what is still to do: the run of the tree that stood there is the run of
+-- How the driver goes on from a tree to which it has come. `Come` says in continuation style what is still to do: the run of the tree that stood there is the run of
 -- the tree that stands there now, after the steps, openings and tries so far; no rule applies to that tree; it weighs less by the steps and openings, and
--- what it may still cost, with the tries so far, is within what the first may cost. Each way that a turn goes is one law: a refusal,
--- nothing changed, finished, begun again after steps. Assumes nothing.
+-- what it may still cost, with the tries so far, is within what the first may cost. Each way that a pass ends is one law: a refusal,
+-- nothing changed, finished, finished after one step more, begun again after steps. Assumes nothing.
 use Prim.Native.Nat.{ℕ, _+_, _-_, _*_, _^_, _<_, _≤_}
-use mathlib.Core.Path.{_≡_, refl, sym, ap, _∙_, subst}
+use mathlib.Core.Path.{_≡_, refl, sym, ap, _∙_}
 use mathlib.Core.List.{List, [], _∷_, _++_, append-nil, append-assoc}
 use native.Mathlib.Omega.{arith}
-use native.Mathlib.Nat.{add-zero, zero-add}
+use native.Mathlib.Nat.{add-zero}
 use lib.ListN.{length, take, drop, length-append}
 use Rattle.paper.specs.Tree.{Tree, records, weight}
 use Rattle.paper.specs.WellFormed.{WF}
@@ -14,61 +14,17 @@ use Rattle.paper.specs.Verdict.{tableWeight}
 use Rattle.paper.specs.Rules.{rulesOf}
 use Rattle.paper.specs.Driver.{done, over, no-rule, ask, after, each, members}
 use Rattle.paper.proofs.EncodeLaws.{records-weight}
-use Rattle.paper.proofs.Value.{weight-pos}
 use Rattle.paper.proofs.Simplified.{simplify-again}
-use Rattle.paper.proofs.Squares.{cost}
 use Rattle.driver.specs.declared.Taken.the-variants as taken
 use Rattle.driver.specs.Driven.{withNotes, passed, Set, Back, Came, Burst, TakenIs, Drove}
+use Rattle.driver.specs.Paused.{Come}
 use Rattle.driver.proofs.Forests.{front-long}
 use Rattle.driver.proofs.Weighs.{weighs-tree}
 use Rattle.driver.proofs.Places.{none-of, front-of}
-use Rattle.driver.proofs.Runs.{drives, pass-over, pass-done, pass-again, pass-kept, run-lighter, after-none, after-after}
+use Rattle.driver.proofs.Runs.{drives, pass-over, pass-done, pass-again, pass-kept, visit-step, step-kept, run-lighter, after-after}
 use Rattle.driver.proofs.Stepping.{Kept, steps-keep, steps-burst}
-use Rattle.driver.proofs.Finishing.{settled}
-use Rattle.driver.proofs.Counting.{cost-least, cost-steps, cost-small, drives-few, pass-few, pass-pays}
-
--- out₀, work₀, steps₀ at the entry, the tree at record p; out, work, steps now, the tree at record at, n steps noted, o openings; τ tries
-pub record DInv (ed : ℕ) (out₀ work₀ steps₀ : List ℕ) (d p s : ℕ) (out work steps : List ℕ) (at n o τ : ℕ) : Type 0 where
-  pub t : Tree
-  pub rest : List ℕ
-  pub set-up : Set out₀ work₀ steps₀ d p s t rest
-  pub u : Tree
-  pub ks : List ℕ
-  pub wf : WF u
-  pub none : ask (rulesOf ed) u ≡ no-rule
-  pub stands : drop (at * 16) work ≡ withNotes u ++ rest
-  pub kept : take (d * 16) out ≡ take (d * 16) out₀
-  pub noted-end : n ≡ s + length ks
-  pub noted : take n steps ≡ take s steps₀ ++ ks
-  pub goes-on : drives ed t ≡ after ks o τ (drives ed u)
-  pub lighter : length ks + o + weight u ≤ weight t
-  pub tried-bound : τ + cost (weight u) ≤ cost (weight t)
-  pub out-long : length out ≡ length out₀
-  pub work-long : length work ≡ length work₀
-  pub steps-long : length steps ≡ length steps₀
-
-pub start : {ed : ℕ} {out work steps : List ℕ} {d p s : ℕ} {t : Tree} {rest : List ℕ} → Set out work steps d p s t rest → ask (rulesOf ed) t ≡ no-rule
-    → DInv ed out work steps d p s out work steps p s 0 0
-start {ed = ed} {steps = steps} {s = s} {t = t} {rest = rest} h none =
-    record {
-      t = t;
-      rest = rest;
-      set-up = h;
-      u = t;
-      ks = [];
-      wf = h .ready .wf;
-      none = none;
-      stands = h .ready .stands;
-      kept = refl;
-      noted-end = omega arith;
-      noted = sym (append-nil (take s steps));
-      goes-on = sym (after-none (drives ed t));
-      lighter = omega arith;
-      tried-bound = omega arith;
-      out-long = refl;
-      work-long = refl;
-      steps-long = refl;
-    }
+use Rattle.driver.proofs.Finishing.{settled, parts-finished}
+use Rattle.driver.proofs.Counting.{cost-steps, cost-small, pass-few, pass-pays}
 
 -- where a pass is done, with records up to e in out, what is pending from record q on in work, j steps noted, b openings and υ tries: its
 -- places are in order, and within the areas
@@ -89,9 +45,9 @@ after-over : (ks : List ℕ) (o τ k : ℕ) → after ks o τ (over k) ≡ over 
 unfolding after
 after-over ks o τ k = refl
 
-module _ {ed : ℕ} {out₀ work₀ steps₀ : List ℕ} {d p s : ℕ} {out work steps : List ℕ} {at n o τ : ℕ}
-    (v : DInv ed out₀ work₀ steps₀ d p s out work steps at n o τ) where
-  pub set-now : Set out work steps d at n (v .u) (v .rest)
+module _ {ed : ℕ} {t : Tree} {rest out₀ work₀ steps₀ : List ℕ} {d p s : ℕ} {out work steps : List ℕ} {at n o τ : ℕ}
+    (v : Come ed t rest out₀ work₀ steps₀ d p s out work steps at n o τ) where
+  pub set-now : Set out work steps d at n (v .u) rest
   set-now =
       let r = v .set-up .ready in
       record {
@@ -106,18 +62,18 @@ module _ {ed : ℕ} {out₀ work₀ steps₀ : List ℕ} {d p s : ℕ} {out work
         steps-room = omega (arith, v .set-up .steps-room, v .lighter, v .noted-end, v .steps-long);
       }
 
-  pub weighs-now : tableWeight (drop (at * 16) work) ≡ weight (v .u) + tableWeight (v .rest)
-  weighs-now = ap tableWeight (v .stands) ∙ weighs-tree (v .u) (v .rest)
+  pub weighs-now : tableWeight (drop (at * 16) work) ≡ weight (v .u) + tableWeight rest
+  weighs-now = ap tableWeight (v .stands) ∙ weighs-tree (v .u) rest
 
-  pub weighs-then : tableWeight (drop (p * 16) work₀) ≡ weight (v .t) + tableWeight (v .rest)
-  weighs-then = ap tableWeight (v .set-up .ready .stands) ∙ weighs-tree (v .t) (v .rest)
+  pub weighs-then : tableWeight (drop (p * 16) work₀) ≡ weight t + tableWeight rest
+  weighs-then = ap tableWeight (v .set-up .ready .stands) ∙ weighs-tree t rest
 
   pub no-heavier : tableWeight (drop (at * 16) work) ≤ tableWeight (drop (p * 16) work₀)
   no-heavier = omega (arith, weighs-now, weighs-then, v .lighter)
 
   -- the pass was refused
   pub pass-burst : (m : ℕ) → (k : ℕ) × (passed (v .u) (each (drives ed) (members (v .u))) ≡ over k) × (m ≡ n + k)
-      → (k : ℕ) × (drives ed (v .t) ≡ over k) × (m ≡ s + k)
+      → (k : ℕ) × (drives ed t ≡ over k) × (m ≡ s + k)
   pass-burst m b = (
     length (v .ks) + b .0,
     v .goes-on ∙ ap (after (v .ks) o τ) (pass-over ed (v .u) (v .wf) (v .none) (b .0) (b .1)) ∙ after-over (v .ks) o τ (b .0),
@@ -126,7 +82,7 @@ module _ {ed : ℕ} {out₀ work₀ steps₀ : List ℕ} {d p s : ℕ} {out work
 
   -- a pass that is done
   module _ {out' work' steps' : List ℕ} {e q j b υ : ℕ}
-      (a : Drove (passed (v .u) (each (drives ed) (members (v .u)))) (v .rest) out out' work' steps steps' d n e q j b υ)
+      (a : Drove (passed (v .u) (each (drives ed) (members (v .u)))) rest out out' work' steps steps' d n e q j b υ)
       (lo : length out' ≡ length out) (lw : length work' ≡ length work) (lz : length steps' ≡ length steps) where
     pub less : WF (a .to) × (length (a .ks) + b + weight (a .to) ≤ weight (v .u))
     less = run-lighter (v .u) (a .to) (a .ks) b υ _ (pass-kept ed (v .u) (v .wf)) (a .ran)
@@ -144,12 +100,12 @@ module _ {ed : ℕ} {out₀ work₀ steps₀ : List ℕ} {d p s : ℕ} {out work
           in-out = omega (arith, a .end, r .out-room);
           few = omega (arith, a .noted-end, v .lighter, v .set-up .ready .light);
           few-tries =
-              let most = cost-small (weight (v .t)) (v .set-up .ready .light) in
+              let most = cost-small (weight t) (v .set-up .ready .light) in
               omega (arith, v .tried-bound, a .end, r .light, pass-few (v .u) (v .wf) (a .to) (a .ks) b υ ed (a .ran));
         }
 
     -- nothing changed: the node is finished
-    pub nothing-changed : j - n + b < 1 → Drove (drives ed (v .t)) (v .rest) out₀ out' work' steps₀ steps' d s e q n o (τ + (υ + 1))
+    pub nothing-changed : j - n + b < 1 → Drove (drives ed t) rest out₀ out' work' steps₀ steps' d s e q n o (τ + (υ + 1))
     nothing-changed h =
         let z : length (a .ks) + b ≡ 0 = omega (arith, a .noted-end) in
         let jn : j ≡ n = omega (arith, a .noted-end) in
@@ -177,7 +133,7 @@ module _ {ed : ℕ} {out₀ work₀ steps₀ : List ℕ} {d p s : ℕ} {out work
       changed : 1 ≤ length (a .ks) + b
       changed = omega (arith, a .noted-end)
 
-      pub gathered : Back out' work' steps' d e q j (a .to) (v .rest)
+      pub gathered : Back out' work' steps' d e q j (a .to) rest
       gathered =
           let l = less .1 in
           let r = set-now .ready in
@@ -194,7 +150,7 @@ module _ {ed : ℕ} {out₀ work₀ steps₀ : List ℕ} {d p s : ℕ} {out work
           }
 
       -- the run so far, and then that of the gathered node
-      runs-on : drives ed (v .t) ≡ after (v .ks ++ a .ks) (o + b) (τ + (υ + 1)) (drives ed (a .to))
+      runs-on : drives ed t ≡ after (v .ks ++ a .ks) (o + b) (τ + (υ + 1)) (drives ed (a .to))
       runs-on =
           v .goes-on ∙ ap (after (v .ks) o τ) (pass-again ed (v .u) (v .wf) (v .none) (a .to) (a .ks) b υ (a .ran) changed)
           ∙ after-after (v .ks) o τ (a .ks) b (υ + 1) (drives ed (a .to))
@@ -203,7 +159,7 @@ module _ {ed : ℕ} {out₀ work₀ steps₀ : List ℕ} {d p s : ℕ} {out work
       so-far = a .noted ∙ ap (λ (x : List ℕ). x ++ a .ks) (v .noted) ∙ append-assoc (take s steps₀) (v .ks) (a .ks)
 
       -- a rule left the range
-      pub burst : (m : ℕ) → Burst (rulesOf ed) (a .to) j m → (k : ℕ) × (drives ed (v .t) ≡ over k) × (m ≡ s + k)
+      pub burst : (m : ℕ) → Burst (rulesOf ed) (a .to) j m → (k : ℕ) × (drives ed t ≡ over k) × (m ≡ s + k)
       burst m x =
           let b′ = steps-burst ed j m (less .0) x in
           let b2 = b′ .2 in (
@@ -213,8 +169,8 @@ module _ {ed : ℕ} {out₀ work₀ steps₀ : List ℕ} {d p s : ℕ} {out work
           )
 
       -- it is finished: the driver would ask each of its records once more
-      pub finished : {out'' work'' steps'' : List ℕ} {r : ℕ} → TakenIs (rulesOf ed) (a .to) (v .rest) out' out'' work'' steps' steps'' d e j (taken.Finished r)
-          → Drove (drives ed (v .t)) (v .rest) out₀ out'' work'' steps₀ steps'' d s e r j (o + b) (τ + (υ + 1) + (e - d))
+      pub finished : {out'' work'' steps'' : List ℕ} {r : ℕ} → TakenIs (rulesOf ed) (a .to) rest out' out'' work'' steps' steps'' d e j (taken.Finished r)
+          → Drove (drives ed t) rest out₀ out'' work'' steps₀ steps'' d s e r j (o + b) (τ + (υ + 1) + (e - d))
       finished x =
           let size : records (a .to) ≡ e - d = omega (arith, a .end) in
           let again : drives ed (a .to) ≡ done (a .to) [] 0 (e - d)
@@ -233,15 +189,44 @@ module _ {ed : ℕ} {out₀ work₀ steps₀ : List ℕ} {d p s : ℕ} {out work
             noted = x .4 ∙ so-far;
           }
 
+      -- one step was taken, to a tree that admits none: the driver would ask each of its records once more
+      pub quieted : {out'' work'' steps'' : List ℕ} {f r : ℕ} → TakenIs (rulesOf ed) (a .to) rest out' out'' work'' steps' steps'' d e j (taken.Quiet f r)
+          → Drove (drives ed t) rest out₀ out'' work'' steps₀ steps'' d s f r (j + 1) (o + b) (τ + (υ + 1) + 1 + (f - d))
+      quieted {f = f} x =
+          let k = x .0 in
+          let y = x .1 in
+          let last = k ∷ [] in
+          let before = v .ks ++ a .ks in
+          let tries = τ + (υ + 1) in
+          let end = x .3 in
+          let kept = step-kept ed (a .to) (less .0) k y (x .2) in
+          let parts = parts-finished ed (v .u) (a .to) (a .ks) b υ (v .wf) (a .ran) in
+          let size : records y ≡ f - d = omega arith in
+          let still : drives ed y ≡ done y [] 0 (f - d) = simplify-again y (kept .0) (x .8 (parts .0) (parts .1)) ∙ ap (done y [] 0) size in
+          record {
+            to = y;
+            ks = before ++ last;
+            ran =
+                runs-on ∙ ap (after before (o + b) tries) (visit-step ed (a .to) (less .0) k y (x .2) ∙ ap (after last 0 1) still)
+                ∙ after-after before (o + b) tries last 0 1 (done y [] 0 (f - d)) ∙ after-done (before ++ last) (o + b + 0) (tries + 1) y (f - d)
+                ∙ ap (λ i. done y (before ++ last) i (tries + 1 + (f - d))) (add-zero (o + b));
+            end = x .3;
+            wrote = x .4 ∙ ap (λ (z : List ℕ). z ++ withNotes y) (front-same ∙ v .kept);
+            left = x .5;
+            place = x .6;
+            noted-end = omega (arith, v .noted-end, a .noted-end, length-append (v .ks) (a .ks), length-append before last);
+            noted = x .7 ∙ ap (λ (z : List ℕ). z ++ last) so-far ∙ append-assoc (take s steps₀) before last;
+          }
+
       -- steps were taken, and the driver begins again
       module _ {out'' work'' steps'' : List ℕ} {r m : ℕ}
-          (x : TakenIs (rulesOf ed) (a .to) (v .rest) out' out'' work'' steps' steps'' d e j (taken.Stepped r m)) where
+          (x : TakenIs (rulesOf ed) (a .to) rest out' out'' work'' steps' steps'' d e j (taken.Stepped r m)) where
         stepped-kept : Kept ed (a .to) (x .1 .ks) (x .0)
         stepped-kept = steps-keep ed (less .0) (x .1 .taken)
 
         pub stepped-fits : (j ≤ m) × (τ + (υ + 1) + (m - j) < 2 ^ 63)
         stepped-fits =
-            let most = cost-small (weight (v .t)) (v .set-up .ready .light) in
+            let most = cost-small (weight t) (v .set-up .ready .light) in
             let l = less .1 in
             let r = set-now .ready in (
               omega (arith, x .1 .noted-end),
@@ -249,7 +234,7 @@ module _ {ed : ℕ} {out₀ work₀ steps₀ : List ℕ} {d p s : ℕ} {out work
             )
 
         pub again : length out'' ≡ length out' → length work'' ≡ length work' → length steps'' ≡ length steps'
-            → DInv ed out₀ work₀ steps₀ d p s out'' work'' steps'' r m (o + b) (τ + (υ + 1) + (m - j))
+            → Come ed t rest out₀ work₀ steps₀ d p s out'' work'' steps'' r m (o + b) (τ + (υ + 1) + (m - j))
         again lo' lw' lz' =
             let c = x .1 in
             let k = stepped-kept in
@@ -257,8 +242,6 @@ module _ {ed : ℕ} {out₀ work₀ steps₀ : List ℕ} {d p s : ℕ} {out work
             let before = v .ks ++ a .ks in
             let tries : length (c .ks) ≡ m - j = omega (arith, c .noted-end) in
             record {
-              t = v .t;
-              rest = v .rest;
               set-up = v .set-up;
               u = x .0;
               ks = before ++ c .ks;
@@ -290,71 +273,39 @@ module _ {ed : ℕ} {out₀ work₀ steps₀ : List ℕ} {d p s : ℕ} {out work
         again-less =
             let l = less .1 in
             let k = stepped-kept .lighter in
-            let g : tableWeight (drop (r * 16) work'') ≡ weight (x .0) + tableWeight (v .rest)
-            = ap tableWeight (x .1 .stands) ∙ weighs-tree (x .0) (v .rest) in
+            let g : tableWeight (drop (r * 16) work'') ≡ weight (x .0) + tableWeight rest
+            = ap tableWeight (x .1 .stands) ∙ weighs-tree (x .0) rest in
             omega (arith, weighs-now, a .noted-end)
 
--- ---- a tree that is settled first, and then driven on
+-- ---- a tree that is settled first
 module _ (ed : ℕ) {out work steps : List ℕ} {d p s : ℕ} {t : Tree} {rest : List ℕ} (h : Set out work steps d p s t rest) {out' work' steps' : List ℕ} {q n : ℕ}
     (a : (u : Tree) × Came (rulesOf ed) t u rest out out' work' steps steps' d s q n × (ask (rulesOf ed) u ≡ no-rule)) where
   first-kept : Kept ed t (a .1 .ks) (a .0)
   first-kept = steps-keep ed (h .ready .wf) (a .1 .taken)
 
-  pub settled-set : length out' ≡ length out → length work' ≡ length work → length steps' ≡ length steps → Set out' work' steps' d q n (a .0) rest
-  settled-set lo lw lz =
-      let r = h .ready in
-      let l = first-kept .lighter in
-      record {
-        ready =
-            record {
-              wf = first-kept .wf;
-              light = omega (arith, r .light);
-              stands = a .1 .stands;
-              out-room = omega (arith, r .out-room);
-              work-room = omega (arith, r .work-room);
-            };
-        steps-room = omega (arith, h .steps-room, a .1 .noted-end);
-      }
-
-  pub settled-less : tableWeight (drop (q * 16) work') ≤ tableWeight (drop (p * 16) work)
-  settled-less =
-      let now : tableWeight (drop (q * 16) work') ≡ weight (a .0) + tableWeight rest = ap tableWeight (a .1 .stands) ∙ weighs-tree (a .0) rest in
-      let then : tableWeight (drop (p * 16) work) ≡ weight t + tableWeight rest = ap tableWeight (h .ready .stands) ∙ weighs-tree t rest in
-      omega (arith, first-kept .lighter)
-
   pub first-steps : s ≤ n
   first-steps = omega (arith, a .1 .noted-end)
 
-  pub later-burst : (m : ℕ) → (k : ℕ) × (drives ed (a .0) ≡ over k) × (m ≡ n + k) → (k : ℕ) × (drives ed t ≡ over k) × (m ≡ s + k)
-  later-burst m b =
-      let ks = a .1 .ks in
-      let b2 = b .2 in (
-        length ks + b .0,
-        first-kept .runs-on ∙ ap (after ks 0 (length ks)) (b .1) ∙ after-over ks 0 (length ks) (b .0),
-        omega (arith, a .1 .noted-end),
-      )
-
-  module _ {out'' work'' steps'' : List ℕ} {e r m o τ : ℕ} (g : Drove (drives ed (a .0)) rest out' out'' work'' steps' steps'' d n e r m o τ) where
-    pub tries-fit : τ + (n - s) < 2 ^ 63
-    tries-fit =
-        let l = first-kept .lighter in
-        let most = cost-small (weight (a .0)) (omega (arith, h .ready .light)) in
-        omega (arith, a .1 .noted-end, h .ready .light, drives-few ed (a .0) (first-kept .wf) (g .to) (g .ks) o τ (g .ran))
-
-    pub driven-on : Drove (drives ed t) rest out out'' work'' steps steps'' d s e r m o (τ + (n - s))
-    unfolding after
-    driven-on =
-        let ks = a .1 .ks in
-        let tries : length ks + τ ≡ τ + (n - s) = omega (arith, a .1 .noted-end) in
-        record {
-          to = g .to;
-          ks = ks ++ g .ks;
-          ran = first-kept .runs-on ∙ ap (after ks 0 (length ks)) (g .ran) ∙ ap (λ i. done (g .to) (ks ++ g .ks) i (length ks + τ)) (zero-add o)
-              ∙ ap (done (g .to) (ks ++ g .ks) o) tries;
-          end = g .end;
-          wrote = g .wrote ∙ ap (λ (x : List ℕ). x ++ withNotes (g .to)) (a .1 .kept);
-          left = g .left;
-          place = g .place;
-          noted-end = omega (arith, a .1 .noted-end, g .noted-end, length-append ks (g .ks));
-          noted = g .noted ∙ ap (λ (x : List ℕ). x ++ g .ks) (a .1 .noted) ∙ append-assoc (take s steps) ks (g .ks);
-        }
+  pub settled-come : length out' ≡ length out → length work' ≡ length work → length steps' ≡ length steps
+      → Come ed t rest out work steps d p s out' work' steps' q n 0 (n - s)
+  settled-come lo lw lz =
+      let c = a .1 in
+      let k = first-kept in
+      let tries : length (c .ks) ≡ n - s = omega (arith, c .noted-end) in
+      record {
+        set-up = h;
+        u = a .0;
+        ks = c .ks;
+        wf = k .wf;
+        none = a .2;
+        stands = c .stands;
+        kept = c .kept;
+        noted-end = c .noted-end;
+        noted = c .noted;
+        goes-on = k .runs-on ∙ ap (λ i. after (c .ks) 0 i (drives ed (a .0))) tries;
+        lighter = omega (arith, k .lighter);
+        tried-bound = omega (arith, cost-steps (length (c .ks)) (weight (a .0)) (weight t) (k .lighter));
+        out-long = lo;
+        work-long = lw;
+        steps-long = lz;
+      }

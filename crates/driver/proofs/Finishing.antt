@@ -20,8 +20,9 @@ use Rattle.paper.proofs.GatherLaws.{members-wf, kepts-length}
 use Rattle.paper.proofs.DriverLaws.{RunsKept, each-kept}
 use Rattle.paper.proofs.FinishedLaws.{Ended, simplify-ended}
 use Rattle.paper.proofs.Simplified.{simplify-again}
+use Rattle.rules.proofs.Finished.{both-none, integer-none}
 use Rattle.driver.specs.Driven.{kindNumber, inside, openedRuns, passed, Shape}
-use Rattle.driver.proofs.Runs.{drives, no-rule-on, drives-kept}
+use Rattle.driver.proofs.Runs.{drives, drives-kept}
 
 module _ (ed : ℕ) where
   abbrev None : Tree → Type 0
@@ -31,13 +32,9 @@ module _ (ed : ℕ) where
   Nones = AllAdmitNone (rulesOf ed)
 
   -- ---- an integer is finished
-  integer-none : (μ : ℕ) (z : ℤ) → None (integer μ z)
-  unfolding openingsAt gather members kindNumber
-  integer-none μ z = admits-none (no-rule-on ed (integer μ z) (omega arith)) refl no-more
-
   pub integer-drives : (μ : ℕ) (z : ℤ) → WF (integer μ z) → drives ed (integer μ z) ≡ done (integer μ z) [] 0 1
   unfolding records
-  integer-drives μ z w = simplify-again (integer μ z) w (integer-none μ z)
+  integer-drives μ z w = simplify-again (integer μ z) w (integer-none ed μ z)
 
   -- ---- to which lists a node's members are gathered
   power-shape : (b : Tree) (ξ e : ℕ) (g : List Tree) (ks : List ℕ) (o τ : ℕ) (a : Ran)
@@ -75,10 +72,6 @@ module _ (ed : ℕ) where
   unfolding each
   each-ended [] w = no-more
   each-ended (t ∷ l) w = then-ended (drives ed t) (each (drives ed) l) (simplify-ended (rulesOf ed) (edition-good ed) t (w .0)) (each-ended l (w .1))
-
-  both-none : (l m : List Tree) → Nones l → Nones m → Nones (l ++ m)
-  both-none [] m a b = b
-  both-none (t ∷ l) m (and-more x a) b = and-more x (both-none l m a b)
 
   -- ---- opening among finished members: those of a node of the kind are finished, and none of them is of the kind
   module _ (ins : Tree → Option (List Tree)) (node : (t : Tree) (l : List Tree) → ins t ≡ some l → None t → Nones l × (opened ins l .1 ≡ 0)) where
@@ -129,45 +122,39 @@ module _ (ed : ℕ) where
   product-node (power μ b ξ x) l e h = none-some e
 
   -- ---- the gathered node
-  sum-finished : (μ : ℕ) (m : List Tree) → Nones m → opened asSum m .1 ≡ 0 → ask (rulesOf ed) (sum μ (ofList m)) ≡ no-rule → None (sum μ (ofList m))
-  unfolding members openingsAt gather
-  sum-finished μ m n o a =
-      let b : toList (ofList m) ≡ m = to-of-list m in
-      admits-none a (subst (λ l. opened asSum l .1 ≡ 0) (sym b) o) (subst Nones (sym b) n)
-
-  product-finished : (μ : ℕ) (m : List Tree) → Nones m → opened asProduct m .1 ≡ 0 → ask (rulesOf ed) (product μ (ofList m)) ≡ no-rule
-      → None (product μ (ofList m))
-  unfolding members openingsAt gather
-  product-finished μ m n o a =
-      let b : toList (ofList m) ≡ m = to-of-list m in
-      admits-none a (subst (λ l. opened asProduct l .1 ≡ 0) (sym b) o) (subst Nones (sym b) n)
-
   first-none : (b : Tree) (l : List Tree) → length l ≡ 2 → Nones l → None (baseFrom b l)
   unfolding baseFrom
   first-none b [] e h = absurd (omega arith)
   first-none b (u ∷ l) e (and-more x h) = x
 
-  gathered-none : (t : Tree) (l : List Tree) (s : List ℕ) (o τ : ℕ) → WF t → RunsKept (members t) (dones l s o τ) → Nones l
-      → ask (rulesOf ed) (gather t l .0) ≡ no-rule → None (gather t l .0)
+  -- its members are finished, and none of them opens
+  gathered-parts : (t : Tree) (l : List Tree) (s : List ℕ) (o τ : ℕ) → WF t → RunsKept (members t) (dones l s o τ) → Nones l
+      → Nones (members (gather t l .0)) × (openingsAt (gather t l .0) ≡ 0)
   unfolding gather members openingsAt
-  gathered-none (integer μ z) l s o τ w k h a = integer-none μ z
-  gathered-none (symbol μ v) l s o τ w k h a = admits-none a refl no-more
-  gathered-none (sum μ f) l s o τ w k h a =
+  gathered-parts (integer μ z) l s o τ w k h = (no-more, refl)
+  gathered-parts (symbol μ v) l s o τ w k h = (no-more, refl)
+  gathered-parts (sum μ f) l s o τ w k h =
+      let m = opened asSum l .0 in
       let n = opened-none asSum sum-node l h in
-      sum-finished μ (opened asSum l .0) (n .0) (n .1) a
-  gathered-none (product μ f) l s o τ w k h a =
+      let b : toList (ofList m) ≡ m = to-of-list m in
+      (subst Nones (sym b) (n .0), subst (λ i. opened asSum i .1 ≡ 0) (sym b) (n .1))
+  gathered-parts (product μ f) l s o τ w k h =
+      let m = opened asProduct l .0 in
       let n = opened-none asProduct product-node l h in
-      product-finished μ (opened asProduct l .0) (n .0) (n .1) a
-  gathered-none (power μ b ξ e) l s o τ w k h a =
-      admits-none a refl (and-more (first-none b l (kepts-length (k .1)) h) (and-more (integer-none ξ (pos e)) no-more))
+      let b : toList (ofList m) ≡ m = to-of-list m in
+      (subst Nones (sym b) (n .0), subst (λ i. opened asProduct i .1 ≡ 0) (sym b) (n .1))
+  gathered-parts (power μ b ξ e) l s o τ w k h = (and-more (first-none b l (kepts-length (k .1)) h) (and-more (integer-none ed ξ (pos e)) no-more), refl)
 
-  pub settled : (t u : Tree) (s : List ℕ) (o τ : ℕ) → WF t → passed t (each (drives ed) (members t)) ≡ done u s o τ → ask (rulesOf ed) u ≡ no-rule → None u
+  pub parts-finished : (t u : Tree) (s : List ℕ) (o τ : ℕ) → WF t → passed t (each (drives ed) (members t)) ≡ done u s o τ → Nones (members u) × (openingsAt u ≡ 0)
   unfolding passed
-  settled t u s o τ w e a =
+  parts-finished t u s o τ w e =
       go (each (drives ed) (members t)) e (each-kept (drives ed) (drives-kept ed) (members t) (members-wf t w)) (each-ended (members t) (members-wf t w))
     where
-      go : (r : Rans) → passed t r ≡ done u s o τ → RunsKept (members t) r → EndedAll r → None u
+      go : (r : Rans) → passed t r ≡ done u s o τ → RunsKept (members t) r → EndedAll r → Nones (members u) × (openingsAt u ≡ 0)
       go (overs k) e k′ h = absurd (let z : _≡_ {A = ℕ} 0 1 = cc in omega arith)
       go (dones l s′ o′ τ′) e k h =
           let q : gather t l .0 ≡ u = cc in
-          subst None q (gathered-none t l s′ o′ τ′ w k h (ap (ask (rulesOf ed)) q ∙ a))
+          subst (λ x. Nones (members x) × (openingsAt x ≡ 0)) q (gathered-parts t l s′ o′ τ′ w k h)
+
+  pub settled : (t u : Tree) (s : List ℕ) (o τ : ℕ) → WF t → passed t (each (drives ed) (members t)) ≡ done u s o τ → ask (rulesOf ed) u ≡ no-rule → None u
+  settled t u s o τ w e a = let p = parts-finished t u s o τ w e in admits-none a (p .1) (p .0)

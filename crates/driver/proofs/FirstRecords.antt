@@ -33,6 +33,15 @@ module _ (s : List ℕ) (i : ℕ) where
   kind-first (power μ b ξ x) r e =
       kind-there s i 4 0 μ (note (power μ b ξ x)) ((withNotes b ++ recordOf 0 0 ξ x) ++ r) (e ∙ append-assoc (recordOf 4 0 μ (note (power μ b ξ x))) (withNotes b ++ recordOf 0 0 ξ x) r)
 
+  -- the kind in the first record, whatever stands after it
+  pub kind-there-first : (t : Tree) (r : List ℕ) → drop (i * 16) s ≡ firstRecord t ++ r → kind s i ≡ kindNumber t
+  unfolding firstRecord kindNumber
+  kind-there-first (integer μ z) r e = kind-there s i 0 0 μ (word z) r e
+  kind-there-first (symbol μ v) r e = kind-there s i 1 0 μ v r e
+  kind-there-first (sum μ f) r e = kind-there s i 2 (count f) μ (note (sum μ f)) r e
+  kind-there-first (product μ f) r e = kind-there s i 3 (count f) μ (note (product μ f)) r e
+  kind-there-first (power μ b ξ x) r e = kind-there s i 4 0 μ (note (power μ b ξ x)) r e
+
   -- the mark in the first record
   pub mark-first : (t : Tree) (r : List ℕ) → drop (i * 16) s ≡ firstRecord t ++ r → Mark (markOf t) → markIn s i ≡ markOf t
   unfolding firstRecord markOf

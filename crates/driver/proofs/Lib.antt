@@ -4,7 +4,9 @@ pub mod Weighs
 pub mod Finishing
 pub mod Counting
 pub mod Places
+pub mod Cells
 pub mod Stepping
+pub mod Easing
 pub mod Taking
 pub mod Driving
 pub mod FirstRecords
@@ -12,5 +14,6 @@ pub mod Opening
 pub mod Leaves
 pub mod Membering
 pub mod Passing
+pub mod Between
 pub mod Closing
 pub mod Unique

@@ -1,7 +1,7 @@
--- The loop over a node's members. Its invariant in continuation style: what is gathered of all the members is what was gathered so
+-- The members of a node, one after the other. `Gathering` says in continuation style: what is gathered of all the members is what was gathered so
 -- far, before what will be gathered of those left; and all together weigh less by the steps and openings so far; those left pay
 -- for their tries. Assumes nothing.
-use Prim.Native.Nat.{ℕ, _+_, _*_, _^_, _<_, _≤_}
+use Prim.Native.Nat.{ℕ, _+_, _-_, _*_, _^_, _<_, _≤_}
 use mathlib.Core.Path.{_≡_, refl, sym, ap, _∙_, subst}
 use mathlib.Core.List.{List, [], _∷_, _++_, append-nil, append-assoc}
 use native.Mathlib.Omega.{arith}
@@ -15,47 +15,20 @@ use Rattle.note.proofs.NotedLaws.{encodesBy-length}
 use Rattle.paper.proofs.Squares.{cost}
 use Rattle.note.specs.Note.{note}
 use Rattle.note.specs.Noted.{encodeBy}
-use Rattle.driver.specs.Driven.{withNotes, encodeAll, recordsAll, weightAll, inside, openedRuns, Set, SetAll, Gave}
-use Rattle.driver.proofs.Forests.{encode-both, records-both, weight-both, all-many, set-all-once}
+use Rattle.driver.specs.Driven.{withNotes, encodeAll, weightAll, inside, openedRuns, Set, SetAll, Gave}
+use Rattle.driver.specs.Paused.{before, Gathering}
+use Rattle.driver.proofs.Forests.{encode-both, records-both, weight-both, all-many}
 use Rattle.driver.proofs.Weighs.{weighs-all}
-use Rattle.driver.proofs.Runs.{drives, drives-kept, run-lighter, before, joined, before-none, before-joined, gather-first, gather-none, same-dones}
+use Rattle.driver.proofs.Runs.{drives, drives-kept, run-lighter, joined, before-none, before-joined, gather-first, gather-none, same-dones}
 use Rattle.driver.proofs.Places.{none-of}
 use Rattle.driver.proofs.Opening.{member-weighs}
 use Rattle.driver.proofs.Counting.{cost-both, cost-small, member-tries}
 
--- out₀, work₀, steps₀ at the entry, members from record p on; i of the c are driven, and gathered to m up to record e of out
-pub record MInv (ed : ℕ) (out₀ work₀ steps₀ : List ℕ) (k c d p s : ℕ) (out work steps : List ℕ) (i e q n o m τ : ℕ) : Type 0 where
-  pub l : List Tree
-  pub rest : List ℕ
-  pub many : length l ≡ c
-  pub set-up : SetAll out₀ work₀ steps₀ d p s l rest
-  pub g : List Tree
-  pub r : List Tree
-  pub ks : List ℕ
-  pub wf : WFl r
-  pub stands : drop (q * 16) work ≡ encodeAll r ++ rest
-  pub place : q * 16 + length (encodeAll r ++ rest) ≡ length work
-  pub to-go : length r + i ≡ c
-  pub gathered : m ≡ length g
-  pub end : e ≡ d + recordsAll g
-  pub wrote : take (e * 16) out ≡ take (d * 16) out₀ ++ encodeAll g
-  pub noted-end : n ≡ s + length ks
-  pub noted : take n steps ≡ take s steps₀ ++ ks
-  pub goes-on : openedRuns (inside k) (each (drives ed) l) ≡ before g ks o τ (openedRuns (inside k) (each (drives ed) r))
-  pub lighter : weightAll g + (length ks + o) + weightAll r ≤ weightAll l
-  pub tried-bound : τ + cost (weightAll r) ≤ cost (weightAll l)
-  pub out-long : length out ≡ length out₀
-  pub work-long : length work ≡ length work₀
-  pub steps-long : length steps ≡ length steps₀
-
-pub start : {ed : ℕ} {out work steps : List ℕ} {d p s : ℕ} {l : List Tree} {rest : List ℕ} (k c : ℕ) → length l ≡ c → SetAll out work steps d p s l rest
-    → MInv ed out work steps k c d p s out work steps 0 d p s 0 0 0
+pub start : {ed : ℕ} {out work steps : List ℕ} {d p s : ℕ} {l : List Tree} {rest : List ℕ} (k : ℕ) → SetAll out work steps d p s l rest
+    → Gathering ed l rest out work steps k d p s out work steps (length l) d p s 0 0 0
 unfolding encodeBy records weight ofList
-start {ed = ed} {out = out} {steps = steps} {d = d} {s = s} {l = l} {rest = rest} k c e h =
+start {ed = ed} {out = out} {steps = steps} {d = d} {s = s} {l = l} k h =
     record {
-      l = l;
-      rest = rest;
-      many = e;
       set-up = h;
       g = [];
       r = l;
@@ -63,7 +36,7 @@ start {ed = ed} {out = out} {steps = steps} {d = d} {s = s} {l = l} {rest = rest
       wf = h .wf;
       stands = h .stands;
       place = h .place;
-      to-go = omega arith;
+      to-go = refl;
       gathered = refl;
       end = omega arith;
       wrote = sym (append-nil (take (d * 16) out));
@@ -83,68 +56,55 @@ pub record First (r : List Tree) : Type 0 where
   pub xs : List Tree
   pub is : r ≡ x ∷ xs
 
-first : (r : List Tree) → 0 < length r → First r
+pub first : (r : List Tree) → 0 < length r → First r
 first [] h = absurd (omega arith)
 first (t ∷ l) h = record { x = t; xs = l; is = refl }
 
-module _ {ed : ℕ} {out₀ work₀ steps₀ : List ℕ} {k c d p s : ℕ} {out work steps : List ℕ} {i e q n o m τ : ℕ}
-    (v : MInv ed out₀ work₀ steps₀ k c d p s out work steps i e q n o m τ) where
-  pub for-every : (Q : List Tree → List ℕ → Type 0) → Q (v .l) (v .rest) → (l : List Tree) (rest : List ℕ) → length l ≡ c
-      → SetAll out₀ work₀ steps₀ d p s l rest → Q l rest
-  for-every Q z l rest a h =
-      let b = set-all-once (v .set-up) h (v .many ∙ sym a) in
-      subst (λ x. Q l x) (b .1) (subst (λ x. Q x (v .rest)) (b .0) z)
-
-  pub small : (o < 65536) × (m < 65536) × (i ≤ c) × (c < 65536)
+module _ {ed : ℕ} {l : List Tree} {rest out₀ work₀ steps₀ : List ℕ} {k d p s : ℕ} {out work steps : List ℕ} {left e q n o m τ : ℕ}
+    (v : Gathering ed l rest out₀ work₀ steps₀ k d p s out work steps left e q n o m τ) where
+  pub small : (o < 65536) × (m < 65536) × (left < 65536)
   small =
       let a = recordses-weights (ofList (v .g)) in
       let b = all-many (v .g) in
-      let f = recordses-weights (ofList (v .l)) in
-      let j = all-many (v .l) in (
+      let f = recordses-weights (ofList (v .r)) in
+      let j = all-many (v .r) in (
         omega (arith, v .lighter, v .set-up .light),
         omega (arith, v .gathered, v .lighter, v .set-up .light),
-        omega (arith, v .to-go),
-        omega (arith, v .many, v .set-up .light),
+        omega (arith, v .to-go, v .lighter, v .set-up .light),
       )
 
-  weighs-now : tableWeight (drop (q * 16) work) ≡ weightAll (v .r) + tableWeight (v .rest)
-  weighs-now = ap tableWeight (v .stands) ∙ weighs-all (v .r) (v .rest)
+  weighs-now : tableWeight (drop (q * 16) work) ≡ weightAll (v .r) + tableWeight rest
+  weighs-now = ap tableWeight (v .stands) ∙ weighs-all (v .r) rest
 
-  weighs-then : tableWeight (drop (p * 16) work₀) ≡ weightAll (v .l) + tableWeight (v .rest)
-  weighs-then = ap tableWeight (v .set-up .stands) ∙ weighs-all (v .l) (v .rest)
+  weighs-then : tableWeight (drop (p * 16) work₀) ≡ weightAll l + tableWeight rest
+  weighs-then = ap tableWeight (v .set-up .stands) ∙ weighs-all l rest
 
   pub no-heavier : tableWeight (drop (q * 16) work) ≤ tableWeight (drop (p * 16) work₀)
   no-heavier = omega (arith, weighs-now, weighs-then, v .lighter)
 
   -- the next member
-  module _ (h : i < c) where
-    pub f : First (v .r)
-    f = first (v .r) (omega (arith, v .to-go))
-
-    abbrev pub x : Tree
-    x = f .x
-
+  module _ {x : Tree} {xs : List Tree} (is : v .r ≡ x ∷ xs) where
     abbrev pub rest-after : List ℕ
-    rest-after = encodeAll (f .xs) ++ v .rest
+    rest-after = encodeAll xs ++ rest
 
-    weight-next : weightAll (v .r) ≡ weight x + weightAll (f .xs)
+    pub weight-next : weightAll (v .r) ≡ weight x + weightAll xs
     unfolding weight ofList
-    weight-next = ap weightAll (f .is)
+    weight-next = ap weightAll is
 
     stands-next : drop (q * 16) work ≡ withNotes x ++ rest-after
     unfolding encodeBy ofList
-    stands-next = v .stands ∙ ap (λ r. encodeAll r ++ v .rest) (f .is) ∙ append-assoc (withNotes x) (encodeAll (f .xs)) (v .rest)
+    stands-next = v .stands ∙ ap (λ r. encodeAll r ++ rest) is ∙ append-assoc (withNotes x) (encodeAll xs) rest
 
-    wf-next : WF x × WFl (f .xs)
-    wf-next = subst WFl (f .is) (v .wf)
+    wf-next : WF x × WFl xs
+    wf-next = subst WFl is (v .wf)
 
     pub set-next : Set out work steps e q n x rest-after
     set-next =
         let a = recordses-weights (ofList (v .g)) in
         let b = weight-next in
-        let w = recordses-weights (ofList (f .xs)) in
-        let y = encodesBy-length note (ofList (f .xs)) in
-        let z : length rest-after ≡ length (encodeAll (f .xs)) + length (v .rest) = length-append (encodeAll (f .xs)) (v .rest) in
+        let w = recordses-weights (ofList xs) in
+        let y = encodesBy-length note (ofList xs) in
+        let z : length rest-after ≡ length (encodeAll xs) + length rest = length-append (encodeAll xs) rest in
         let u = v .set-up in
         record {
           ready =
@@ -158,17 +118,17 @@ module _ {ed : ℕ} {out₀ work₀ steps₀ : List ℕ} {k c d p s : ℕ} {out 
           steps-room = omega (arith, u .steps-room, v .lighter, v .noted-end, v .steps-long);
         }
 
-    goes-next : openedRuns (inside k) (each (drives ed) (v .l))
-        ≡ before (v .g) (v .ks) o τ (joined (openedRuns (inside k) (each (drives ed) (x ∷ []))) (openedRuns (inside k) (each (drives ed) (f .xs))))
-    goes-next = v .goes-on ∙ ap (before (v .g) (v .ks) o τ) (ap (λ r. openedRuns (inside k) (each (drives ed) r)) (f .is) ∙ gather-first (inside k) ed x (f .xs))
+    goes-next : openedRuns (inside k) (each (drives ed) l)
+        ≡ before (v .g) (v .ks) o τ (joined (openedRuns (inside k) (each (drives ed) (x ∷ []))) (openedRuns (inside k) (each (drives ed) xs)))
+    goes-next = v .goes-on ∙ ap (before (v .g) (v .ks) o τ) (ap (λ r. openedRuns (inside k) (each (drives ed) r)) is ∙ gather-first (inside k) ed x xs)
 
     -- the member was refused
     pub burst : (j : ℕ) → (b : ℕ) × (openedRuns (inside k) (each (drives ed) (x ∷ [])) ≡ overs b) × (j ≡ n + b)
-        → (b : ℕ) × (openedRuns (inside k) (each (drives ed) (v .l)) ≡ overs b) × (j ≡ s + b)
+        → (b : ℕ) × (openedRuns (inside k) (each (drives ed) l) ≡ overs b) × (j ≡ s + b)
     unfolding before joined
     burst j b = (
       length (v .ks) + b .0,
-      goes-next ∙ ap (λ r. before (v .g) (v .ks) o τ (joined r (openedRuns (inside k) (each (drives ed) (f .xs))))) (b .1),
+      goes-next ∙ ap (λ r. before (v .g) (v .ks) o τ (joined r (openedRuns (inside k) (each (drives ed) xs)))) (b .1),
       let b2 = b .2 in omega (arith, v .noted-end),
     )
 
@@ -181,9 +141,9 @@ module _ {ed : ℕ} {out₀ work₀ steps₀ : List ℕ} {k c d p s : ℕ} {out 
           member-weighs ed k x (λ u s o υ r. run-lighter x u s o υ (drives ed x) (drives-kept ed x (wf-next .0)) r .1) (a .to) (a .ks) o' τ' (a .ran)
 
       -- what may still come pays for its tries
-      paid : τ' + cost (weightAll (f .xs)) ≤ cost (weightAll (v .r))
+      paid : τ' + cost (weightAll xs) ≤ cost (weightAll (v .r))
       paid =
-          let both = cost-both (weight x) (weightAll (f .xs)) in
+          let both = cost-both (weight x) (weightAll xs) in
           omega (arith, ap cost weight-next, member-tries ed k x (wf-next .0) (a .to) (a .ks) o' τ' (a .ran))
 
       pub sums-fit : (o + o' < 65536) × (m + m' < 131072) × (τ + τ' < 2 ^ 63)
@@ -194,26 +154,23 @@ module _ {ed : ℕ} {out₀ work₀ steps₀ : List ℕ} {k c d p s : ℕ} {out 
           let y = all-many (a .to) in (
             omega (arith, v .lighter, v .set-up .light),
             omega (arith, small .1, a .many, v .lighter, v .set-up .light),
-            omega (arith, v .tried-bound, paid, cost-small (weightAll (v .l)) (v .set-up .light)),
+            omega (arith, v .tried-bound, paid, cost-small (weightAll l) (v .set-up .light)),
           )
 
-      pub next : MInv ed out₀ work₀ steps₀ k c d p s out' work' steps' (i + 1) e' q' n' (o + o') (m + m') (τ + τ')
+      pub next : Gathering ed l rest out₀ work₀ steps₀ k d p s out' work' steps' (left - 1) e' q' n' (o + o') (m + m') (τ + τ')
       unfolding joined
       next =
           let w = weighs in
           let z = weight-next in
           record {
-            l = v .l;
-            rest = v .rest;
-            many = v .many;
             set-up = v .set-up;
             g = v .g ++ a .to;
-            r = f .xs;
+            r = xs;
             ks = v .ks ++ a .ks;
             wf = wf-next .1;
             stands = a .left;
             place = a .place;
-            to-go = let y : length (v .r) ≡ 1 + length (f .xs) = ap length (f .is) ∙ omega arith in omega (arith, v .to-go);
+            to-go = let y : length (v .r) ≡ 1 + length xs = ap length is ∙ omega arith in omega (arith, v .to-go);
             gathered = omega (arith, v .gathered, a .many, length-append (v .g) (a .to));
             end = omega (arith, v .end, a .end, records-both (v .g) (a .to));
             wrote =
@@ -223,8 +180,8 @@ module _ {ed : ℕ} {out₀ work₀ steps₀ : List ℕ} {k c d p s : ℕ} {out 
             noted-end = omega (arith, v .noted-end, a .noted-end, length-append (v .ks) (a .ks));
             noted = a .noted ∙ ap (λ (y : List ℕ). y ++ a .ks) (v .noted) ∙ append-assoc (take s steps₀) (v .ks) (a .ks);
             goes-on =
-                goes-next ∙ ap (λ r. before (v .g) (v .ks) o τ (joined r (openedRuns (inside k) (each (drives ed) (f .xs))))) (a .ran)
-                ∙ before-joined (v .g) (v .ks) o τ (a .to) (a .ks) o' τ' (openedRuns (inside k) (each (drives ed) (f .xs)));
+                goes-next ∙ ap (λ r. before (v .g) (v .ks) o τ (joined r (openedRuns (inside k) (each (drives ed) xs)))) (a .ran)
+                ∙ before-joined (v .g) (v .ks) o τ (a .to) (a .ks) o' τ' (openedRuns (inside k) (each (drives ed) xs));
             lighter = omega (arith, v .lighter, weight-both (v .g) (a .to), length-append (v .ks) (a .ks));
             tried-bound = omega (arith, v .tried-bound, paid);
             out-long = lo ∙ v .out-long;
@@ -233,7 +190,7 @@ module _ {ed : ℕ} {out₀ work₀ steps₀ : List ℕ} {k c d p s : ℕ} {out 
           }
 
   -- all members are gathered
-  pub finish : c ≤ i → Gave (openedRuns (inside k) (each (drives ed) (v .l))) (v .rest) out₀ out work steps₀ steps d s e q n o m τ
+  pub finish : left ≤ 0 → Gave (openedRuns (inside k) (each (drives ed) l)) rest out₀ out work steps₀ steps d s e q n o m τ
   unfolding before encodeBy ofList
   finish h =
       let z : v .r ≡ [] = none-of (v .r) (omega (arith, v .to-go)) in
@@ -247,8 +204,8 @@ module _ {ed : ℕ} {out₀ work₀ steps₀ : List ℕ} {k c d p s : ℕ} {out 
         many = v .gathered;
         end = v .end;
         wrote = v .wrote;
-        left = v .stands ∙ ap (λ r. encodeAll r ++ v .rest) z;
-        place = subst (λ r. q * 16 + length (encodeAll r ++ v .rest) ≡ length work) z (v .place);
+        left = v .stands ∙ ap (λ r. encodeAll r ++ rest) z;
+        place = subst (λ r. q * 16 + length (encodeAll r ++ rest) ≡ length work) z (v .place);
         noted-end = v .noted-end;
         noted = v .noted;
       }

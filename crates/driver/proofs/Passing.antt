@@ -70,7 +70,7 @@ module _ {out work steps : List ℕ} {d p s : ℕ} {t : Tree} {rest : List ℕ} 
 
   -- the first record is copied
   module _ (out' : List ℕ) (c : out' ≡ put out (d * 16) (part work (p * 16) 16)) where
-    front-now : take ((d + 1) * 16) out' ≡ take (d * 16) out ++ firstRecord t
+    pub front-now : take ((d + 1) * 16) out' ≡ take (d * 16) out ++ firstRecord t
     front-now =
         let f = record-fits .1 in
         let l = first-length t in

@@ -23,6 +23,7 @@ use Rattle.paper.proofs.FinishedLaws.{Still, Stills, each-still, run-still}
 use Rattle.paper.proofs.DriverLaws.{RunKept, RunsKept, AskedKept, ask-kept, each-kept, gathered-tree, run-kept}
 use Rattle.paper.proofs.Simplified.{edition-visits}
 use Rattle.driver.specs.Driven.{kindNumber, inside, openedRuns, passed, closedOver}
+use Rattle.driver.specs.Paused.{before}
 
 -- the driver of an edition
 abbrev pub drives : ℕ → Tree → Ran
@@ -43,10 +44,6 @@ no-rule-on ed = go (eqb ed 2)
     go x (power μ b ξ e) h = absurd (omega arith)
 
 -- ---- members gathered before others
-unfoldable pub before : List Tree → List ℕ → ℕ → ℕ → Rans → Rans
-before g ks o τ (overs k) = overs (length ks + k)
-before g ks o τ (dones l s n υ) = dones (g ++ l) (ks ++ s) (o + n) (τ + υ)
-
 -- what was gathered, and then what follows it
 unfoldable pub joined : Rans → Rans → Rans
 joined (overs k) r = overs k
@@ -211,6 +208,15 @@ module _ (ed : ℕ) (t : Tree) (w : WF t) where
       pass-again z =
           visit-pass ∙ ap (λ r. tried (concluded ed r)) h
           ∙ ap (λ b. tried (settle (drives ed) s o τ u b)) (ne-eqb (length s + o) 0 (λ x. omega arith)) ∙ asked-before s o τ (drives ed u)
+
+-- a run that is done took a try
+tried-one : (r : Ran) (u : Tree) (s : List ℕ) (o τ : ℕ) → tried r ≡ done u s o τ → 1 ≤ τ
+unfolding tried after
+tried-one (over k) u s o τ e = absurd (let z : _≡_ {A = ℕ} 0 1 = cc in omega arith)
+tried-one (done v s′ o′ τ′) u s o τ e = let h : 1 + τ′ ≡ τ = cc in omega arith
+
+pub drives-tried : (ed : ℕ) (t : Tree) → WF t → (u : Tree) (s : List ℕ) (o τ : ℕ) → drives ed t ≡ done u s o τ → 1 ≤ τ
+drives-tried ed t w u s o τ e = tried-one (visit (drives ed) t (ask (rulesOf ed) t)) u s o τ (sym (edition-visits ed t w) ∙ e)
 
 pub step-kept : (ed : ℕ) (t : Tree) → WF t → (k : ℕ) (u : Tree) → ask (rulesOf ed) t ≡ step k u → WF u × (weight u + 1 ≤ weight t)
 step-kept ed t w k u e =

@@ -1,16 +1,16 @@
 -- Steps at one node: they keep the run, the tries being one for each, and each makes the tree lighter. The loop that asks the rules again and again:
 -- its invariant is that steps came from the tree that stood there to the one that stands there now. Assumes nothing.
-use Prim.Native.Nat.{ℕ, _+_, _-_, _*_, _<_, _≤_}
-use mathlib.Core.Path.{_≡_, refl, sym, ap, _∙_, subst}
+use Prim.Native.Nat.{ℕ, _+_, _*_, _<_, _≤_}
+use mathlib.Core.Path.{_≡_, refl, sym, ap, _∙_}
 use mathlib.Core.List.{List, [], _∷_, _++_, append-nil, append-assoc}
 use native.Mathlib.Omega.{arith}
-use lib.ListN.{length, take, drop, set, length-append, length-set}
+use lib.ListN.{length, take, set, length-append, length-set}
 use Rattle.paper.specs.Tree.{Tree, weight}
 use Rattle.paper.specs.WellFormed.{WF}
 use Rattle.paper.specs.Rules.{Rule, rulesOf}
-use Rattle.paper.specs.Driver.{over, no-rule, out-of-range, ask, after}
+use Rattle.paper.specs.Driver.{over, no-rule, step, out-of-range, ask, after}
 use Rattle.paper.proofs.Value.{weight-pos}
-use Rattle.rules.specs.declared.Asked.the-variants.{Nothing, Step, Over}
+use Rattle.rules.specs.declared.Asked.the-variants.{Nothing, Step}
 use Rattle.rules.specs.Asked.{AskedIs}
 use Rattle.note.specs.Note.{note}
 use Rattle.note.specs.Noted.{TreeBy}
@@ -23,6 +23,11 @@ use Rattle.driver.proofs.Runs.{drives, visit-step, visit-over, step-kep
 pub nothing-taken : {rs : List Rule} {t u : Tree} {ks : List ℕ} → Steps rs t ks u → length ks ≡ 0 → t ≡ u
 nothing-taken no-step e = refl
 nothing-taken (then-step {ks = ks} {k = k} h a) e = absurd (omega (arith, length-append ks (k ∷ [])))
+
+-- a step, and then steps
+pub step-first : {rs : List Rule} {t u v : Tree} {ks : List ℕ} {k : ℕ} → ask rs t ≡ step k u → Steps rs u ks v → Steps rs t (k ∷ ks) v
+step-first a no-step = then-step no-step a
+step-first a (then-step h b) = then-step (step-first a h) b
 
 -- what steps from t to u keep
 pub record Kept (ed : ℕ) (t : Tree) (ks : List ℕ) (u : Tree) : Type 0 where

@@ -1,30 +1,24 @@
 -- A gathered node is taken up: where its keys tell that no rule applies, it stays where it is; else it goes back in front of what is pending, and
 -- where no step is taken it moves to where it was. Assumes nothing.
-use Prim.Native.Nat.{ℕ, _+_, _-_, _*_, _%_, _<_, _≤_}
-use mathlib.Core.Path.{_≡_, refl, sym, ap, _∙_, subst}
-use mathlib.Core.Bool.{true}
-use mathlib.Core.List.{List, [], _∷_, _++_, append-nil, append-assoc}
+use Prim.Native.Nat.{ℕ, _+_, _-_, _*_, _≤_}
+use mathlib.Core.Path.{_≡_, sym, ap, _∙_, subst}
+use mathlib.Core.List.{List, [], _++_, append-nil, append-assoc}
 use native.Mathlib.Omega.{arith}
 use lib.ListN.{length, take, drop, length-append, take-append-drop}
 use lib.Seq.{drop-drop, drop-at, length-take-le}
 use Rattle.paper.specs.Tree.{Tree, records, weight}
-use Rattle.paper.specs.Table.{encode}
 use Rattle.paper.specs.Rules.{rulesOf}
-use Rattle.paper.specs.Driver.{no-rule, ask}
-use Rattle.paper.proofs.EncodeLaws.{encode-length, records-pos, records-weight}
+use Rattle.paper.proofs.EncodeLaws.{records-pos, records-weight}
 use Rattle.stretch.specs.Put.{part, put}
-use Rattle.stretch.proofs.Laws.{drop-put-at, take-put-end}
+use Rattle.stretch.proofs.Laws.{take-put-end}
 use Rattle.note.specs.Note.{note}
-use Rattle.note.specs.Noted.{encodeBy, TreeBy, Whole}
-use Rattle.note.specs.Still.{stillBy}
+use Rattle.note.specs.Noted.{TreeBy}
 use Rattle.note.specs.Keys.{Scratched}
-use Rattle.note.proofs.KeyLaws.{note-size}
-use Rattle.note.proofs.NotedLaws.{plain-encode, encodeBy-length}
-use Rattle.note.proofs.StillLaws.{still-no-rule, still-by}
+use Rattle.note.proofs.NotedLaws.{encodeBy-length}
 use Rattle.driver.specs.Driven.{withNotes, Set, Back, Came}
 use Rattle.driver.proofs.Forests.{few-records, tree-once}
 use Rattle.driver.proofs.Places.{none-of, advance, part-there, part-end, ends-after, put-before}
-use Rattle.driver.proofs.Stepping.{nothing-taken, steps-keep}
+use Rattle.driver.proofs.Stepping.{nothing-taken}
 
 -- ---- a gathered node
 -- which node is gathered is determined
@@ -69,6 +63,10 @@ module _ {out work steps : List ℕ} {d e q s : ℕ} {g : Tree} {rest : List ℕ
         omega (arith, b .place),
         omega (arith, b .end),
       )
+
+  -- where it went back, it ends where it ended
+  pub ends-quiet : q - (e - d) + records g ≡ q
+  ends-quiet = let f0 = size-fits .0 in let f1 = size-fits .1 in omega arith
 
   -- scratch in work is in front of what is pending
   module _ {work' : List ℕ} (c : Scratched work work' 0 (16 * weight g)) where

@@ -15,15 +15,14 @@ use Rattle.paper.specs.Tree.{Tree, integer, symbol, sum, product, power, ofList
 use Rattle.paper.specs.WellFormed.{Mark, WF, WFl}
 use Rattle.paper.specs.Table.{recordOf}
 use Rattle.paper.specs.Rules.{Rule}
-use Rattle.paper.specs.Driver.{ask, no-rule, step, out-of-range, Ran, done, over, Rans, dones, overs, asSum, asProduct, opened, baseFrom, gather}
+use Rattle.paper.specs.Admits.{openingsAt, AdmitsNone, AllAdmitNone}
+use Rattle.paper.specs.Driver.{ask, no-rule, step, out-of-range, members, Ran, done, over, Rans, dones, overs, asSum, asProduct, opened, baseFrom, gather}
 use Rattle.note.specs.Note.{note}
 use Rattle.note.specs.Noted.{encodeBy, encodesBy}
-use Rattle.driver.specs.declared.Driven.{Driven}
-use Rattle.driver.specs.declared.Driven.the-variants as driven
-use Rattle.driver.specs.declared.Given.{Given}
-use Rattle.driver.specs.declared.Given.the-variants as given
 use Rattle.driver.specs.declared.Settled.{Settled}
 use Rattle.driver.specs.declared.Settled.the-variants as settled
+use Rattle.driver.specs.declared.Eased.{Eased}
+use Rattle.driver.specs.declared.Eased.the-variants as eased
 use Rattle.driver.specs.declared.Taken.{Taken}
 use Rattle.driver.specs.declared.Taken.the-variants as taken
 use Rattle.rules.specs.Asked.{Ready}
@@ -125,12 +124,32 @@ SettledIs rs t rest out out' work' steps steps' d s (settled.At q n) =
     (u : Tree) × Came rs t u rest out out' work' steps steps' d s q n × (ask rs u ≡ no-rule)
 SettledIs rs t rest out out' work' steps steps' d s (settled.Over n) = Burst rs t s n
 
+-- the answer on a tree that is settled, of a gathered node
+abbrev pub easedOf : Settled → Eased
+easedOf (settled.At q n) = eased.At q n
+easedOf (settled.Over n) = eased.Over n
+
+-- `Quiet e`, one step came from the gathered node t, at record p, to a tree that stands after what is done, up to record e, and what followed t is pending; and where
+-- t's members admit no rule and no opening, and none of them opens, neither does that tree; else as of a tree that is settled
+abbrev pub EasedIs : (rs : List Rule) (t : Tree) (rest out out' work' steps steps' : List ℕ) (d p s : ℕ) → Eased → Type 0
+EasedIs rs t rest out out' work' steps steps' d p s (eased.Quiet e) =
+    (k : ℕ) × (u : Tree) × (ask rs t ≡ step k u) × (e ≡ d + records u) × (take (e * 16) out' ≡ take (d * 16) out ++ withNotes u)
+    × (drop ((p + records t) * 16) work' ≡ rest) × (take (s + 1) steps' ≡ take s steps ++ (k ∷ []))
+    × (AllAdmitNone rs (members t) → openingsAt t ≡ 0 → AdmitsNone rs u)
+EasedIs rs t rest out out' work' steps steps' d p s (eased.At q n) = SettledIs rs t rest out out' work' steps steps' d s (settled.At q n)
+EasedIs rs t rest out out' work' steps steps' d p s (eased.Over n) = SettledIs rs t rest out out' work' steps steps' d s (settled.Over n)
+
 -- `Finished r`, no rule applies to the gathered node g: it stays among what is done, up to record e, and rest is pending from record r on;
+-- `Quiet f q`, one step came from g to a tree that stands among what is done, up to record f, and rest is pending from record q on; it admits none where g's parts do;
 -- `Stepped q n`, steps came from g to a node to which no rule applies, and which is pending; `Over n`, a rule left the range
 abbrev pub TakenIs : (rs : List Rule) (g : Tree) (rest out out' work' steps steps' : List ℕ) (d e s : ℕ) → Taken → Type 0
 TakenIs rs g rest out out' work' steps steps' d e s (taken.Finished r) =
     (ask rs g ≡ no-rule) × (take (e * 16) out' ≡ take (e * 16) out) × (drop (r * 16) work' ≡ rest) × (r * 16 + length rest ≡ length work')
     × (take s steps' ≡ take s steps)
+TakenIs rs g rest out out' work' steps steps' d e s (taken.Quiet f q) =
+    (k : ℕ) × (u : Tree) × (ask rs g ≡ step k u) × (f ≡ d + records u) × (take (f * 16) out' ≡ take (d * 16) out ++ withNotes u)
+    × (drop (q * 16) work' ≡ rest) × (q * 16 + length rest ≡ length work') × (take (s + 1) steps' ≡ take s steps ++ (k ∷ []))
+    × (AllAdmitNone rs (members g) → openingsAt g ≡ 0 → AdmitsNone rs u)
 TakenIs rs g rest out out' work' steps steps' d e s (taken.Stepped q n) =
     (u : Tree) × Came rs g u rest out out' work' steps steps' d s q n × (s < n) × (ask rs u ≡ no-rule)
 TakenIs rs g rest out out' work' steps steps' d e s (taken.Over n) = Burst rs g s n
@@ -148,10 +167,6 @@ pub record Drove (r : Ran) (rest out out' work' steps steps' : List ℕ) (d s e 
   pub noted-end : n ≡ s + length ks
   pub noted : take n steps' ≡ take s steps ++ ks
 
-abbrev pub DrivenIs : (r : Ran) (rest out out' work' steps steps' : List ℕ) (d s : ℕ) → Driven → Type 0
-DrivenIs r rest out out' work' steps steps' d s (driven.Done e q n o τ) = Drove r rest out out' work' steps steps' d s e q n o τ
-DrivenIs r rest out out' work' steps steps' d s (driven.Over n) = (k : ℕ) × (r ≡ over k) × (n ≡ s + k)
-
 -- the same of runs on members: m trees stand at the end of what is done
 pub record Gave (r : Rans) (rest out out' work' steps steps' : List ℕ) (d s e q n o m τ : ℕ) : Type 0 where
   pub to : List Tree
@@ -164,10 +179,6 @@ pub record Gave (r : Rans) (rest out out' work' steps steps' : List ℕ) (d s e 
   pub place : q * 16 + length rest ≡ length work'
   pub noted-end : n ≡ s + length ks
   pub noted : take n steps' ≡ take s steps ++ ks
-
-abbrev pub GivenIs : (r : Rans) (rest out out' work' steps steps' : List ℕ) (d s : ℕ) → Given → Type 0
-GivenIs r rest out out' work' steps steps' d s (given.Members e q n o m τ) = Gave r rest out out' work' steps steps' d s e q n o m τ
-GivenIs r rest out out' work' steps steps' d s (given.Over n) = (k : ℕ) × (r ≡ overs k) × (n ≡ s + k)
 
 -- ---- the gathered node's first record
 -- which lists t's members are gathered to: a leaf has none, a power its base's result and its exponent

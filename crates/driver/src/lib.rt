@@ -1,28 +1,17 @@
 // The driver: at a node the rules of an edition are asked, then the members are driven and gathered, and it begins again while anything changes.
 ghost use mathlib.Core.Path.{_≡_};
-ghost use mathlib.Core.List.{List, [], _∷_};
-ghost use Prim.Native.Nat.{ℕ, _+_, _*_, _≤_, _<_};
+ghost use mathlib.Core.List.{List};
+ghost use Prim.Native.Nat.{ℕ, _+_, _*_, _/_, _%_, _^_, _≤_, _<_};
 ghost use mathlib.Core.Bool.{_&&_};
 ghost use lib.ListN.{length};
 ghost use lib.Dec.{eqb};
-ghost use Rattle.paper.specs.Record.{isNode};
+ghost use Rattle.paper.specs.Record.{isNode, arity};
 ghost use Rattle.paper.specs.Tree.{Tree};
 ghost use Rattle.paper.specs.Rules.{rulesOf};
-ghost use Rattle.paper.specs.Driver.{ask, no-rule, each, members, simplify};
-ghost use Rattle.driver.specs.Driven.{inside, openedRuns, passed, closedOver, Set, Back, SetAll, SettledIs, TakenIs, DrivenIs, GivenIs, Gathers, Closed};
-
-// What became of a tree: the records done, the first record pending, the steps noted, the openings and the tries; or the steps
-// completed when a rule left the range.
-pub enum Driven {
-    Done(usize, usize, usize, usize, usize),
-    Over(usize),
-}
-
-// The same of members, with their number before the tries.
-enum Given {
-    Members(usize, usize, usize, usize, usize, usize),
-    Over(usize),
-}
+ghost use Rattle.stretch.specs.Put.{part, put};
+ghost use Rattle.driver.specs.Driven.{closedOver, Set, Back, easedOf, SettledIs, EasedIs, TakenIs, Gathers, Closed};
+ghost use Rattle.driver.specs.Paused.{standOf, cells, begunAt, joinedTo, keptBy, endedAt, packed, entered, returned, Small, Onward};
+ghost use Rattle.driver.specs.Paused.{Call, call, Called, DrivenTo, Midway, Resumed, GoesOn, Begun, WentOn, TurnIs};
 
 // Where a tree stands once no rule applies to it, and the steps noted; or the steps completed when a rule left the range.
 enum Settled {
@@ -64,16 +53,68 @@ fn settle(
     }
 }
 
-// A gathered node: finished, and what is pending after it; or, after steps, where it stands in work and the steps noted; or the steps completed
-// when a rule left the range.
+// What became of a gathered node that stands in front of what is pending: finished after one step, its result standing in out, up to a record; or where it
+// stands once no rule applies to it, and the steps noted; or the steps completed when a rule left the range.
+enum Eased {
+    Quiet(usize),
+    At(usize, usize),
+    Over(usize),
+}
+
+// The answer on a tree that is settled, as one on a gathered node.
+fn as_settled(x: Settled) -> Eased
+    ensures { λ r. ⌜ r ≡ easedOf x ⌝ }
+{
+    match x {
+        Settled::At(q, n) => Eased::At(q, n),
+        Settled::Over(n) => Eased::Over(n),
+    }
+}
+
+// Takes steps at the gathered node at record p of work until no rule applies, its like members being combined first.
+fn ease(
+    out: &mut [u8],
+    work: &mut [u8],
+    steps: &mut [u8],
+    d: usize,
+    p: usize,
+    s: usize,
+    edition: usize,
+) -> Eased
+    requires { ⌜ ((t : Tree) × (rest : List ℕ) × Set (now out) (now work) (now steps) d p s t rest) ⌝ }
+    ensures { λ r. ⌜ ((t : Tree) (rest : List ℕ) → Set (now (out .entry)) (now (work .entry)) (now (steps .entry)) d p s t rest
+        → EasedIs (rulesOf edition) t rest (now (out .entry)) (now (out .exit)) (now (work .exit))
+        (now (steps .entry)) (now (steps .exit)) d p s r) ⌝ }
+{
+    let c = rules::combine_gathered(out, work, d, p, edition);
+    match c {
+        rules::Combined::No => {
+            let x = settle(out, work, steps, d, p, s, edition);
+            as_settled(x)
+        }
+        rules::Combined::Pending(k, q) => {
+            steps[s] = k;
+            let x = settle(out, work, steps, d, q, s + 1, edition);
+            as_settled(x)
+        }
+        rules::Combined::Quiet(k, e) => {
+            steps[s] = k;
+            Eased::Quiet(e)
+        }
+    }
+}
+
+// A gathered node: finished, and what is pending after it; or finished after one more step, up to a record of out, and what is pending; or, after steps, where it stands in work
+// and the steps noted; or the steps completed when a rule left the range.
 enum Taken {
     Finished(usize),
+    Quiet(usize, usize),
     Stepped(usize, usize),
     Over(usize),
 }
 
 // Takes up the gathered node that stands from record d up to e of out, q being the first record pending: where no rule applies it is finished, for its
-// members are; else it goes back in front of what is pending, and steps are taken.
+// members are; else it goes back in front of what is pending, and steps are taken, its like members being combined first.
 fn take_up(
     out: &mut [u8],
     work: &mut [u8],
@@ -95,10 +136,11 @@ fn take_up(
     let size = e - d;
     let at = q - size;
     stretch::copy_bytes(work, at * 16, out, d * 16, size * 16);
-    let g = settle(out, work, steps, d, at, s, edition);
+    let g = ease(out, work, steps, d, at, s, edition);
     match g {
-        Settled::Over(k) => Taken::Over(k),
-        Settled::At(r, m) => {
+        Eased::Over(k) => Taken::Over(k),
+        Eased::Quiet(f) => Taken::Quiet(f, q),
+        Eased::At(r, m) => {
             if s < m {
                 return Taken::Stepped(r, m);
             }
@@ -108,187 +150,297 @@ fn take_up(
     }
 }
 
-// Drives the tree at record p of work until nothing changes, and appends its result to the d records done and its steps to the s.
-pub fn drive(
-    out: &mut [u8],
-    work: &mut [u8],
-    steps: &mut [u8],
-    d: usize,
-    p: usize,
-    s: usize,
+// Where the driver stands: the first record pending, the steps noted, the openings and the tries so far; and at which node: its record in out, where what
+// is gathered after it ends, its members left, the trees gathered, and the steps and openings before the pass over them.
+struct Stand {
     edition: usize,
-) -> Driven
-    requires { ⌜ ((t : Tree) × (rest : List ℕ) × Set (now out) (now work) (now steps) d p s t rest) ⌝ }
-    ensures { λ r. ⌜ ((t : Tree) (rest : List ℕ) → Set (now (out .entry)) (now (work .entry)) (now (steps .entry)) d p s t rest
-        → DrivenIs (simplify (rulesOf edition) t) rest (now (out .entry)) (now (out .exit)) (now (work .exit))
-        (now (steps .entry)) (now (steps .exit)) d s r) ⌝ }
+    place: usize,
+    noted: usize,
+    openings: usize,
+    tries: usize,
+    node: usize,
+    end: usize,
+    left: usize,
+    gathered: usize,
+    prior: usize,
+}
+
+// How a pass ended: the tree is finished, up to a record of out, or it begins again; the first record pending, the steps noted and the tries; or the steps
+// completed when a rule left the range.
+enum Turn {
+    Finished(usize, usize, usize, usize),
+    Again(usize, usize, usize),
+    Over(usize),
+}
+
+// Drives the tree pending until nothing changes, and appends its result to the records done and its steps to those noted. Answers where the
+// result ends, 0 where a rule left the range. The cells hold the numbers of a `Stand`, in its order, and are all that the levels share beside the areas; a level keeps
+// one number of its own.
+pub fn drive(out: &mut [u8], work: &mut [u8], steps: &mut [u8], st: &mut [usize; 10]) -> usize
+    requires { ⌜ (length (now st) ≡ 10) × ((t : Tree) × (rest : List ℕ) × Called (call (now out) (now work) (now steps) (standOf (now st)) t rest)) ⌝ }
+    ensures { λ r. ⌜ (length (now (st .exit)) ≡ 10) × ((t : Tree) (rest : List ℕ) → Called (call (now (out .entry)) (now (work .entry)) (now (steps .entry)) (standOf (now (st .entry))) t rest)
+        → DrivenTo (call (now (out .entry)) (now (work .entry)) (now (steps .entry)) (standOf (now (st .entry))) t rest)
+        (now (out .exit)) (now (work .exit)) (now (steps .exit)) (standOf (now (st .exit))) r) ⌝ }
 {
-    let first = settle(out, work, steps, d, p, s, edition);
-    match first {
-        Settled::Over(n) => Driven::Over(n),
-        Settled::At(q, n) => {
-            let g = go_on(out, work, steps, d, q, n, edition);
-            match g {
-                Driven::Over(m) => Driven::Over(m),
-                Driven::Done(e, r, m, o, tries) => Driven::Done(e, r, m, o, tries + (n - s)),
-            }
+    let mut e = go_on(out, work, steps, st, 0);
+    while 0 < st[7] {
+        let c = saved(st);
+        let g = drive(out, work, steps, st);
+        restore(st, c);
+        if g < 1 {
+            return 0;
         }
+        e = go_on(out, work, steps, st, g);
+    }
+    e
+}
+
+// The numbers of the node in one, two bytes each; the member that is next is the node now.
+fn saved(st: &mut [usize; 10]) -> usize
+    requires { ⌜ (length (now st) ≡ 10) × Small (standOf (now st)) ⌝ }
+    ensures { λ r. ⌜ (r ≡ packed (standOf (now (st .entry)))) × (now (st .exit) ≡ cells (entered (standOf (now (st .entry))))) ⌝ }
+{
+    let c = ((st[9] * 65536 + st[8]) * 65536 + st[7]) * 65536 + st[5];
+    st[5] = st[6];
+    c
+}
+
+// Puts the numbers of the node back; what is gathered ends where the member stands.
+fn restore(st: &mut [usize; 10], c: usize)
+    requires { ⌜ length (now st) ≡ 10 ⌝ }
+    ensures { λ _. ⌜ now (st .exit) ≡ cells (returned (standOf (now (st .entry))) (c % 65536) (c / 65536 % 65536) (c / 4294967296 % 65536) (c / 281474976710656)) ⌝ }
+{
+    st[6] = st[5];
+    st[5] = c % 65536;
+    st[7] = c / 65536 % 65536;
+    st[8] = c / 4294967296 % 65536;
+    st[9] = c / 281474976710656;
+}
+
+// Where the driver stands, from its cells.
+fn from_cells(st: &[usize; 10]) -> Stand
+    ensures { λ r. ⌜ r ≡ standOf (now (st .entry)) ⌝ }
+{
+    Stand {
+        edition: st[0],
+        place: st[1],
+        noted: st[2],
+        openings: st[3],
+        tries: st[4],
+        node: st[5],
+        end: st[6],
+        left: st[7],
+        gathered: st[8],
+        prior: st[9],
     }
 }
 
-// Drives the tree at record p of work, to which no rule applies: passes over its members, and begins again while anything changes.
-fn go_on(
-    out: &mut [u8],
-    work: &mut [u8],
-    steps: &mut [u8],
-    d: usize,
-    p: usize,
-    s: usize,
-    edition: usize,
-) -> Driven
-    requires { ⌜ ((t : Tree) × (rest : List ℕ) × Set (now out) (now work) (now steps) d p s t rest × (ask (rulesOf edition) t ≡ no-rule)) ⌝ }
-    ensures { λ r. ⌜ ((t : Tree) (rest : List ℕ) → Set (now (out .entry)) (now (work .entry)) (now (steps .entry)) d p s t rest
-        → DrivenIs (simplify (rulesOf edition) t) rest (now (out .entry)) (now (out .exit)) (now (work .exit))
-        (now (steps .entry)) (now (steps .exit)) d s r) ⌝ }
+// Where the driver stands, to its cells. The edition stays. Answers where what is gathered ends.
+fn to_cells(st: &mut [usize; 10], s: Stand) -> usize
+    requires { ⌜ (length (now st) ≡ 10) × (s .edition ≡ standOf (now st) .edition) ⌝ }
+    ensures { λ r. ⌜ (r ≡ s .end) × (now (st .exit) ≡ cells s) ⌝ }
 {
-    // The tree's record, the steps noted, the openings and the tries so far.
-    let mut at = p;
-    let mut n = s;
-    let mut o = 0;
-    let mut tries = 0;
-    loop {
-        let g = pass(out, work, steps, d, at, n, edition);
-        match g {
-            Driven::Over(k) => return Driven::Over(k),
-            Driven::Done(e, q, j, b, asked_below) => {
-                tries += asked_below + 1;
-                if j - n + b < 1 {
-                    return Driven::Done(e, q, n, o, tries);
-                }
-                o += b;
-                let t = take_up(out, work, steps, d, e, q, j, edition);
-                match t {
-                    Taken::Over(k) => return Driven::Over(k),
-                    Taken::Finished(r) => {
-                        // Each of its records would be asked once more, in vain.
-                        return Driven::Done(e, r, j, o, tries + (e - d));
-                    }
-                    Taken::Stepped(r, m) => {
-                        tries += m - j;
-                        n = m;
-                        at = r;
-                    }
-                }
-            }
-        }
+    st[1] = s.place;
+    st[2] = s.noted;
+    st[3] = s.openings;
+    st[4] = s.tries;
+    st[5] = s.node;
+    st[6] = s.end;
+    st[7] = s.left;
+    st[8] = s.gathered;
+    st[9] = s.prior;
+    s.end
+}
+
+// Goes on with the tree, from its beginning where g is 0, else from the result of the member that it waited for, which ends at g: up to the next member
+// that is a node, or to the end.
+fn go_on(out: &mut [u8], work: &mut [u8], steps: &mut [u8], st: &mut [usize; 10], g: usize) -> usize
+    requires { ⌜ (length (now st) ≡ 10) × ((c : Call) × GoesOn c (now out) (now work) (now steps) (standOf (now st)) g) ⌝ }
+    ensures { λ r. ⌜ (length (now (st .exit)) ≡ 10) × (r ≡ standOf (now (st .exit)) .end) × Onward (standOf (now (st .entry))) (standOf (now (st .exit)))
+        × ((c : Call) → GoesOn c (now (out .entry)) (now (work .entry)) (now (steps .entry)) (standOf (now (st .entry))) g
+        → WentOn c (now (out .exit)) (now (work .exit)) (now (steps .exit)) (standOf (now (st .exit)))) ⌝ }
+{
+    let s = from_cells(st);
+    let begun = first(out, work, steps, s, g);
+    if begun.end < 1 {
+        return to_cells(st, begun);
+    }
+    let last = pass_on(out, work, steps, begun);
+    to_cells(st, last)
+}
+
+// The tree is settled and a pass begun; or the member's result is gathered. Where a rule left the range nothing is gathered: the end is 0.
+fn first(out: &mut [u8], work: &mut [u8], steps: &mut [u8], s: Stand, g: usize) -> Stand
+    requires { ⌜ ((c : Call) × GoesOn c (now out) (now work) (now steps) s g) ⌝ }
+    ensures { λ r. ⌜ Onward s r × ((c : Call) → GoesOn c (now (out .entry)) (now (work .entry)) (now (steps .entry)) s g
+        → Begun c (now (out .exit)) (now (work .exit)) (now (steps .exit)) r) ⌝ }
+{
+    if 0 < g {
+        return gather(out, s, g);
+    }
+    let t = settle(out, work, steps, s.node, s.place, s.noted, s.edition);
+    match t {
+        Settled::Over(n) => ended(s, 0, s.place, n, s.tries),
+        Settled::At(q, n) => begin(out, work, s, q, n, s.tries + (n - s.noted)),
     }
 }
 
-// Passes once over the members of the tree at record p: its first record goes to done, and its members' results, gathered.
-fn pass(
-    out: &mut [u8],
-    work: &mut [u8],
-    steps: &mut [u8],
-    d: usize,
-    p: usize,
-    s: usize,
-    edition: usize,
-) -> Driven
-    requires { ⌜ ((t : Tree) × (rest : List ℕ) × Set (now out) (now work) (now steps) d p s t rest) ⌝ }
-    ensures { λ r. ⌜ ((t : Tree) (rest : List ℕ) → Set (now (out .entry)) (now (work .entry)) (now (steps .entry)) d p s t rest
-        → DrivenIs (passed t (each (simplify (rulesOf edition)) (members t))) rest (now (out .entry)) (now (out .exit)) (now (work .exit))
-        (now (steps .entry)) (now (steps .exit)) d s r) ⌝ }
+// Begins a pass over the members of the tree at record q of work: its first record goes to done.
+fn begin(out: &mut [u8], work: &[u8], s: Stand, q: usize, n: usize, tries: usize) -> Stand
+    requires { ⌜ (s .node * 16 + 16 ≤ length (now out)) × (q * 16 + 16 ≤ length (now work)) × (n + s .openings < 65536) ⌝ }
+    ensures { λ r. ⌜ (r ≡ begunAt s q n tries (arity (now (work .entry)) q))
+        × (now (out .exit) ≡ put (now (out .entry)) (s .node * 16) (part (now (work .entry)) (q * 16) 16)) ⌝ }
 {
-    let k = record::kind(work, p);
-    let c = record::arity(work, p);
-    stretch::copy_bytes(out, d * 16, work, p * 16, 16);
-    let g = drive_members(out, work, steps, k, c, d + 1, p + 1, s, edition);
-    match g {
-        Given::Over(n) => Driven::Over(n),
-        Given::Members(e, q, n, o, m, tries) => {
-            if 0 < n - s + o {
-                close_up(out, k, m, d);
-            }
-            Driven::Done(e, q, n, o, tries)
-        }
+    let d = s.node;
+    stretch::copy_bytes(out, d * 16, work, q * 16, 16);
+    let left = record::arity(work, q);
+    Stand {
+        edition: s.edition,
+        place: q + 1,
+        noted: n,
+        openings: s.openings,
+        tries,
+        node: d,
+        end: d + 1,
+        left,
+        gathered: 0,
+        prior: n + s.openings,
     }
 }
 
-// Drives the c members of a node of kind k that stand from record p on, first to last.
-fn drive_members(
-    out: &mut [u8],
-    work: &mut [u8],
-    steps: &mut [u8],
-    k: u8,
-    c: usize,
-    d: usize,
-    p: usize,
-    s: usize,
-    edition: usize,
-) -> Given
-    requires { ⌜ ((l : List Tree) × (rest : List ℕ) × (length l ≡ c) × SetAll (now out) (now work) (now steps) d p s l rest) ⌝ }
-    ensures { λ r. ⌜ ((l : List Tree) (rest : List ℕ) → length l ≡ c → SetAll (now (out .entry)) (now (work .entry)) (now (steps .entry)) d p s l rest
-        → GivenIs (openedRuns (inside k) (each (simplify (rulesOf edition)) l)) rest (now (out .entry)) (now (out .exit)) (now (work .exit))
-        (now (steps .entry)) (now (steps .exit)) d s r) ⌝ }
+// Gathers the result of a member, which ends at g: opens it where it is of the node's kind.
+fn gather(out: &mut [u8], s: Stand, g: usize) -> Stand
+    requires { ⌜ ((c : Call) × (work : List ℕ) × (steps : List ℕ) × Resumed c (now out) work steps s g) ⌝ }
+    ensures { λ r. ⌜ Onward s r × ((c : Call) (work steps : List ℕ) → Resumed c (now (out .entry)) work steps s g → Midway c (now (out .exit)) work steps r) ⌝ }
+{
+    let e = s.end;
+    let k = record::kind(out, s.node);
+    if opens(k, record::kind(out, e)) {
+        let m = record::count(out, e);
+        stretch::shift_left(out, e * 16, e * 16 + 16, (g - e - 1) * 16);
+        return joined(s, g - 1, s.openings + 1, m);
+    }
+    joined(s, g, s.openings, 1)
+}
+
+// A member's result is gathered to m trees, which end at f, after o openings.
+fn joined(s: Stand, f: usize, o: usize, m: usize) -> Stand
+    requires { ⌜ (1 ≤ s .left) × (s .gathered + m < 2 ^ 63) ⌝ }
+    ensures { λ r. ⌜ r ≡ joinedTo s f o m ⌝ }
+{
+    Stand {
+        edition: s.edition,
+        place: s.place,
+        noted: s.noted,
+        openings: o,
+        tries: s.tries,
+        node: s.node,
+        end: f,
+        left: s.left - 1,
+        gathered: s.gathered + m,
+        prior: s.prior,
+    }
+}
+
+// Keeps the members up to the next one that is a node: each is a leaf, and finished after one try.
+fn keep_leaves(out: &mut [u8], work: &[u8], s: Stand) -> Stand
+    requires { ⌜ ((c : Call) × (steps : List ℕ) × Midway c (now out) (now work) steps s) ⌝ }
+    ensures { λ r. ⌜ Onward s r × (r .noted ≡ s .noted) × ((c : Call) (steps : List ℕ) → Midway c (now (out .entry)) (now (work .entry)) steps s
+        → Midway c (now (out .exit)) (now (work .entry)) steps r) ⌝ }
 {
     let mut i = 0;
-    let mut e = d;
-    let mut q = p;
-    let mut n = s;
-    let mut o = 0;
-    let mut m = 0;
-    let mut tries = 0;
-    while i < c {
-        let g = drive_member(out, work, steps, k, e, q, n, edition);
-        match g {
-            Given::Over(j) => return Given::Over(j),
-            Given::Members(e1, q1, n1, o1, m1, tries1) => {
-                e = e1;
-                q = q1;
-                n = n1;
-                o += o1;
-                m += m1;
-                tries += tries1;
-            }
+    while i < s.left {
+        let q = s.place + i;
+        let j = record::kind(work, q);
+        if 1 < j {
+            return kept(s, i);
         }
+        stretch::copy_bytes(out, (s.end + i) * 16, work, q * 16, 16);
         i += 1;
     }
-    Given::Members(e, q, n, o, m, tries)
+    kept(s, i)
 }
 
-// Drives the member at record p of a node of kind k, and opens its result where that is of the node's kind. A leaf is finished
-// after one try, and kept.
-fn drive_member(
-    out: &mut [u8],
-    work: &mut [u8],
-    steps: &mut [u8],
-    k: u8,
-    d: usize,
-    p: usize,
-    s: usize,
-    edition: usize,
-) -> Given
-    requires { ⌜ ((t : Tree) × (rest : List ℕ) × Set (now out) (now work) (now steps) d p s t rest) ⌝ }
-    ensures { λ r. ⌜ ((t : Tree) (rest : List ℕ) → Set (now (out .entry)) (now (work .entry)) (now (steps .entry)) d p s t rest
-        → GivenIs (openedRuns (inside k) (each (simplify (rulesOf edition)) (t ∷ []))) rest (now (out .entry)) (now (out .exit)) (now (work .exit))
-        (now (steps .entry)) (now (steps .exit)) d s r) ⌝ }
+// Members are kept, i of them, each one record and one try.
+fn kept(s: Stand, i: usize) -> Stand
+    requires { ⌜ (i ≤ s .left) × (s .place + i < 2 ^ 63) × (s .tries + i < 2 ^ 63) × (s .end + i < 2 ^ 63) × (s .gathered + i < 2 ^ 63) ⌝ }
+    ensures { λ r. ⌜ r ≡ keptBy s i ⌝ }
 {
-    let j = record::kind(work, p);
-    if j < 2 {
-        stretch::copy_bytes(out, d * 16, work, p * 16, 16);
-        return Given::Members(d + 1, p + 1, s, 0, 1, 1);
+    Stand {
+        edition: s.edition,
+        place: s.place + i,
+        noted: s.noted,
+        openings: s.openings,
+        tries: s.tries + i,
+        node: s.node,
+        end: s.end + i,
+        left: s.left - i,
+        gathered: s.gathered + i,
+        prior: s.prior,
     }
-    let g = drive(out, work, steps, d, p, s, edition);
-    match g {
-        Driven::Over(n) => Given::Over(n),
-        Driven::Done(e, q, n, o, tries) => {
-            if opens(k, record::kind(out, d)) {
-                let m = record::count(out, d);
-                stretch::shift_left(out, d * 16, d * 16 + 16, (e - d - 1) * 16);
-                return Given::Members(e - 1, q, n, o + 1, m, tries);
-            }
-            Given::Members(e, q, n, o, 1, tries)
+}
+
+// Goes on with a pass: up to the next member that is a node, or, beginning again while anything changes, to the end.
+fn pass_on(out: &mut [u8], work: &mut [u8], steps: &mut [u8], from: Stand) -> Stand
+    requires { ⌜ ((c : Call) × Midway c (now out) (now work) (now steps) from) ⌝ }
+    ensures { λ r. ⌜ Onward from r × ((c : Call) → Midway c (now (out .entry)) (now (work .entry)) (now (steps .entry)) from
+        → WentOn c (now (out .exit)) (now (work .exit)) (now (steps .exit)) r) ⌝ }
+{
+    let mut s = from;
+    loop {
+        let k = keep_leaves(out, work, s);
+        if 0 < k.left {
+            return k;
         }
+        let t = end_pass(out, work, steps, k);
+        match t {
+            Turn::Over(n) => return ended(k, 0, k.place, n, k.tries),
+            Turn::Finished(e, q, n, tries) => return ended(k, e, q, n, tries),
+            Turn::Again(q, n, tries) => {
+                s = begin(out, work, k, q, n, tries);
+            }
+        }
+    }
+}
+
+// The tree is finished, or was refused.
+fn ended(s: Stand, e: usize, q: usize, n: usize, tries: usize) -> Stand
+    ensures { λ r. ⌜ r ≡ endedAt s e q n tries ⌝ }
+{
+    Stand {
+        edition: s.edition,
+        place: q,
+        noted: n,
+        openings: s.openings,
+        tries,
+        node: s.node,
+        end: e,
+        left: 0,
+        gathered: s.gathered,
+        prior: s.prior,
+    }
+}
+
+// Ends a pass, all members being gathered: where nothing changed the node is finished; else it is closed up and taken up.
+fn end_pass(out: &mut [u8], work: &mut [u8], steps: &mut [u8], s: Stand) -> Turn
+    requires { ⌜ (s .left ≤ 0) × ((c : Call) × Midway c (now out) (now work) (now steps) s) ⌝ }
+    ensures { λ r. ⌜ ((c : Call) → Midway c (now (out .entry)) (now (work .entry)) (now (steps .entry)) s
+        → TurnIs c (now (out .exit)) (now (work .exit)) (now (steps .exit)) s r) ⌝ }
+{
+    let tries = s.tries + 1;
+    if s.noted + s.openings <= s.prior {
+        return Turn::Finished(s.end, s.place, s.noted, tries);
+    }
+    close_up(out, record::kind(out, s.node), s.gathered, s.node);
+    let t = take_up(out, work, steps, s.node, s.end, s.place, s.noted, s.edition);
+    match t {
+        Taken::Over(n) => Turn::Over(n),
+        Taken::Finished(r) => {
+            // Each of its records would be asked once more, in vain.
+            Turn::Finished(s.end, r, s.noted, tries + (s.end - s.node))
+        }
+        Taken::Quiet(f, r) => Turn::Finished(f, r, s.noted + 1, tries + 1 + (f - s.node)),
+        Taken::Stepped(r, m) => Turn::Again(r, m, tries + (m - s.noted)),
     }
 }
 

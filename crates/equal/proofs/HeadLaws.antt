@@ -27,8 +27,7 @@ use Rattle.equal.specs.Head.{sameHead, beginAlike, isCandidate, isWhole,
 use Rattle.equal.proofs.AnswerLaws.{equal-turned}
 use Rattle.equal.proofs.RestLaws.{integer-apart}
 use Rattle.equal.proofs.TwoLaws.{not-false, positive, two-rest, product-apart}
-use Rattle.equal.proofs.SameLaws.{kinds-differ, leaf-records, leaves-equal, leaves-differ, powers-differ, is-different}
-use Rattle.equal.specs.declared.Match.the-variants.{Different}
+use Rattle.equal.proofs.SameLaws.{kinds-differ, leaf-records, leaves-equal, leaves-differ, powers-differ}
 
 -- the base of a power stands in the table
 pub base-within : {how : Tree → ℕ} {s : List ℕ} {i : ℕ} {t : Tree} → Told how s i t → kind s i ≡ 4 → (i + 1) * 16 + 16 ≤ length s
@@ -53,6 +52,11 @@ pub heads-kinds : (a : List ℕ) (i : ℕ) (b : List ℕ) (j : ℕ) → sameHead
 unfolding sameHead
 heads-kinds a i b j e = eqb-true _ _ (and-both (eqb (bits a i) (bits b j)) (eqb (kind a i) (kind b j)) e .1)
 
+pub begin-kinds : (a : List ℕ) (i : ℕ) (b : List ℕ) (j : ℕ) → beginAlike a i b j ≡ true → kind a i ≡ kind b j
+unfolding beginAlike
+begin-kinds a i b j e =
+    heads-kinds a i b j (and-both (sameHead a i b j) (cond (eqb (kind a i) 4) (sameHead a (i + 1) b (j + 1)) true) e .0)
+
 module _ {how : Tree → ℕ} {a : List ℕ} {i : ℕ} {b : List ℕ} {j : ℕ} {t u : Tree} (h : Told how a i t) (g : Told how b j u) where
   pub begins-differ : beginAlike a i b j ≡ false → equal t u ≡ false
   unfolding beginAlike
@@ -63,7 +67,7 @@ module _ {how : Tree → ℕ} {a : List ℕ} {i : ℕ} {b : List ℕ} {j : ℕ} 
       by false e k f z = heads-differ h g e
       by true e true f z =
           let k = heads-kinds a i b j e in
-          powers-differ h g k (eqb-true _ _ f) Different (λ v w x y. is-different _ (heads-differ x y z)) refl
+          powers-differ h g k (eqb-true _ _ f) (λ v w x y. heads-differ x y z)
       by true e false f z = absurd (true-not-false refl z)
 
   -- leaves that begin alike are equal, and have one record
@@ -83,6 +87,10 @@ module _ {how : Tree → ℕ} {a : List ℕ} {i : ℕ} {b : List ℕ} {j : ℕ} 
 pub candidate-free : (a : List ℕ) (i : ℕ) (b : List ℕ) (j : ℕ) (us : List ℕ) (k : ℕ) → isCandidate a i b j us k ≡ true → getD us k 0 ≡ 0
 unfolding isCandidate
 candidate-free a i b j us k e = eqb-true _ _ (and-both (eqb (getD us k 0) 0) (beginAlike a i b j) e .0)
+
+pub candidate-begins : (a : List ℕ) (i : ℕ) (b : List ℕ) (j : ℕ) (us : List ℕ) (k : ℕ) → isCandidate a i b j us k ≡ true → beginAlike a i b j ≡ true
+unfolding isCandidate
+candidate-begins a i b j us k e = and-both (eqb (getD us k 0) 0) (beginAlike a i b j) e .1
 
 -- ---- rests
 -- a tree that is neither an integer nor a product is whole

@@ -2,6 +2,7 @@ pub mod SameLaws
 pub mod TwoLaws
 pub mod HeadLaws
 pub mod TickLaws
+pub mod MemberLaws
 pub mod MatchLaws
 pub mod AnswerLaws
 pub mod TickOutLaws

@@ -8,7 +8,7 @@ use mathlib.Core.Option.{none, some}
 use native.Mathlib.Omega.{arith}
 use borrow.Author.Tests.{ltb-true, ltb-false}
 use lib.ListN.{length, getD}
-use Rattle.paper.specs.Record.{kind, countIn}
+use Rattle.paper.specs.Record.{kind}
 use Rattle.paper.specs.Tree.{Tree, Forest, nil, cons, records, recordses, toList}
 use Rattle.paper.specs.Equal.{removeFirst, goOn, isEmpty, sameBag, equal}
 use Rattle.paper.proofs.Bags.{First, removeFirst-first}
@@ -20,10 +20,12 @@ use Rattle.paper.proofs.WFLaws.{count-list}
 use Rattle.split.specs.Standing.{Told, ToldTrees}
 use Rattle.split.proofs.SplitLaws.{no-integer}
 use Rattle.note.proofs.ToldLaws.{seen, FirstOf, first-of, none-of}
-use Rattle.equal.specs.Matching.{matchOf, isPassed, without, unticked, Takeable, Matchable}
-use Rattle.equal.proofs.SameLaws.{taken-length, Nodes}
+use Rattle.note.specs.Plain.{partsOf}
+use Rattle.equal.specs.Head.{membersIn}
+use Rattle.equal.specs.Matching.{isPassed, without, unticked, Takeable}
+use Rattle.equal.proofs.SameLaws.{taken-length}
+use Rattle.equal.proofs.MemberLaws.{members-there, members-few, sameMembers}
 use Rattle.equal.proofs.TickLaws.{unticked-all}
-use Rattle.equal.specs.declared.Match.{Match}
 
 -- ---- the trees of a row, one by one: an integer that is passed over, and any other
 module _ (skip : Bool) {how : Tree → ℕ} {s : List ℕ} {i : ℕ} {t : Tree} (h : Told how s i t) (f : Forest) where
@@ -42,6 +44,11 @@ module _ (skip : Bool) {how : Tree → ℕ} {s : List ℕ} {i : ℕ} {t : Tree} 
       by : (b : Bool) → isPassed b s i ≡ false → without b (cons t f) ≡ t ∷ without b f
       by true e = rw (no-integer h (omega (arith, ltb-false (kind s i) 1 e))) refl
       by false e = refl
+
+-- where none is passed over, this one is not
+pub none-passed : (s : List ℕ) (i : ℕ) → isPassed false s i ≡ false
+unfolding isPassed
+none-passed s i = refl
 
 without-none : (skip : Bool) → without skip nil ≡ []
 unfolding without othersOf toList
@@ -95,7 +102,7 @@ module _ {how : Tree → ℕ} {a : List ℕ} {i : ℕ} {skip : Bool} {f g : Fore
       pub matched-tree : (t : Tree) × Told how a at t
       matched-tree = (next .tree, next .there)
 
-      pub matched-takeable : {b : List ℕ} {j m : ℕ} (room : ℕ) → ToldTrees how b j m g → recordses g < room → Takeable a at b j m room
+      pub matched-takeable : {b : List ℕ} {j m : ℕ} (room : ℕ) → ToldTrees how b j m g → recordses g ≤ room → Takeable a at b j m room
       matched-takeable room o r =
           record { how = how; one = next .tree; others = g; one-there = next .there; others-there = o; enough = r }
 
@@ -150,49 +157,29 @@ module _ {how : Tree → ℕ} {a : List ℕ} {i : ℕ} {skip : Bool} {f g : Fore
                   ∙ h .same;
             })
 
--- ---- two sums, or two products, none of their members left out and none ticked
-module _ {how : Tree → ℕ} {a : List ℕ} {i : ℕ} {b : List ℕ} {j : ℕ} {t u : Tree} (q : Nodes how a i b j t u)
-    (n : ℕ) (one : n ≡ countIn a i) (other : n ≡ countIn b j) where
-  ones-there : ToldTrees how a (i + 1) n (q .ones)
-  ones-there = subst (λ k. ToldTrees how a (i + 1) k (q .ones)) (sym one) (q .ones-there)
+-- ---- the members of two trees, none of them left out and none ticked
+module _ {how : Tree → ℕ} {a : List ℕ} {i : ℕ} {b : List ℕ} {j : ℕ} {t u : Tree} (h : Told how a i t) (g : Told how b j u)
+    (n : ℕ) (one : n ≡ membersIn a i) (other : n ≡ membersIn b j) where
+  ones-there : ToldTrees how a (i + 1) n (partsOf t)
+  ones-there = members-there h n one
 
-  others-there : ToldTrees how b (j + 1) n (q .others)
-  others-there = subst (λ k. ToldTrees how b (j + 1) k (q .others)) (sym other) (q .others-there)
+  others-there : ToldTrees how b (j + 1) n (partsOf u)
+  others-there = members-there g n other
 
   -- there is room for the ticks
-  pub nodes-room : (room : ℕ) → records u ≤ room → n ≤ room
-  nodes-room room l = omega (arith, q .other-size, others-there .counted, count-records (q .others))
+  pub members-room : (room : ℕ) → records u ≤ 1 + room → n ≤ room
+  members-room room l = omega (arith, members-few u, others-there .counted, count-records (partsOf u))
 
   module _ (us : List ℕ) (zero-ticks : (k : ℕ) → k < n → getD us k 0 ≡ 0) where
-    all-ones : without false (q .ones) ≡ toList (q .ones)
+    all-others : unticked us 0 (partsOf u) ≡ toList (partsOf u)
+    all-others = unticked-all us 0 n (partsOf u) (λ k p l. zero-ticks k l) (omega (arith, others-there .counted))
+
+    pub all-members : sameBag equal (without false (partsOf t)) (unticked us 0 (partsOf u)) ≡ sameMembers t u
     unfolding without
-    all-ones = refl
+    all-members = ap (sameBag equal (toList (partsOf t))) all-others
 
-    all-others : unticked us 0 (q .others) ≡ toList (q .others)
-    all-others = unticked-all us 0 n (q .others) (λ k p l. zero-ticks k l) (omega (arith, others-there .counted))
-
-    as-many : length (without false (q .ones)) ≡ length (unticked us 0 (q .others))
-    as-many =
-        omega
-        (arith, ap length all-ones, ap length all-others, count-list (q .ones), count-list (q .others), ones-there .counted, others-there .counted)
-
-    pub nodes-matchable : records u ≤ length us → Matchable a (i + 1) n false b (j + 1) n us
-    nodes-matchable l =
-        record {
-          how = how;
-          ones = q .ones;
-          others = q .others;
-          ones-there = ones-there;
-          others-there = others-there;
-          enough = omega (arith, q .other-size);
-          as-many = as-many;
-        }
-
-    -- what the comparison of the members answers is what that of the trees does
-    pub nodes-same : (r : Match)
-        → ((f g : Forest) → ToldTrees how a (i + 1) n f → ToldTrees how b (j + 1) n g → length (without false f) ≡ length (unticked us 0 g)
-        → r ≡ matchOf (sameBag equal (without false f) (unticked us 0 g)) (i + 1 + recordses f))
-        → r ≡ matchOf (equal t u) (i + records t)
-    nodes-same r told =
-        let e : i + 1 + recordses (q .ones) ≡ i + records t = omega (arith, q .size) in
-        told (q .ones) (q .others) ones-there others-there as-many ∙ rw (all-ones, all-others, q .same, e) refl
+    pub members-start : Matched how a (i + 1) false us us (partsOf t) (partsOf u) (i + 1) n
+    unfolding without
+    members-start =
+        matched-start us ones-there
+        (omega (arith, ap length all-others, count-list (partsOf t), count-list (partsOf u), ones-there .counted, others-there .counted))

@@ -1,6 +1,6 @@
 -- Two trees that stand in tables, compared by their first records: of different kinds they are not equal; leaves are equal where
--- their numbers are, powers where bases and exponents are, sums and products where their members are the same multiset. By the
--- evidence of equality, and by cases on the tree that a record tells. Assumes nothing.
+-- their numbers are, powers where bases and exponents are. By the evidence of equality, and by cases on the tree that a record tells.
+-- Assumes nothing.
 use Prim.Native.Nat.{ℕ, _+_, _-_, _*_, _≤_, _<_}
 use mathlib.Core.Path.{_≡_, refl, sym, ap, _∙_, subst}
 use mathlib.Core.Bool.{Bool, true, false, _&&_}
@@ -11,22 +11,21 @@ use lib.ListN.{length}
 use lib.Dec.{eqb}
 use lib.IntN.{ℤ}
 use Rattle.paper.specs.Bytes.{word, signed}
-use Rattle.paper.specs.Record.{kind, countIn, bits}
+use Rattle.paper.specs.Record.{kind, bits}
 use Rattle.note.specs.Noted.{bitsBy}
-use Rattle.paper.specs.Tree.{Tree, Forest, integer, symbol, sum, product, power, count, records, recordses, toList}
+use Rattle.paper.specs.Tree.{Tree, Forest, integer, symbol, sum, product, power, count, records, toList}
 use Rattle.paper.specs.WellFormed.{InRange}
-use Rattle.paper.specs.Equal.{eqZ, equal, sameBag, onInteger, onSymbol, onSum, onProduct, onPower}
+use Rattle.paper.specs.Equal.{eqZ, equal, sameBag, onInteger, onSymbol, onPower}
 use Rattle.paper.proofs.Tests.{not-so, eqZ-self}
 use Rattle.paper.proofs.EncodeLaws.{signed-word}
 use Rattle.paper.proofs.EqualView.{Same, Sames, Taken, here, there, s-integer, s-symbol, s-sum, s-product, s-power, s-nil, s-cons}
 use Rattle.paper.proofs.EqualView.{same-view, matched-view, same-records}
 use Rattle.paper.proofs.Equality.{matched-bag}
-use Rattle.paper.proofs.WFLaws.{count-list}
-use Rattle.note.proofs.ToldLaws.{Seen, an-integer, a-symbol, a-sum, a-product, a-power, seen-sum, seen-product, seen-power}
+use Rattle.note.proofs.ToldLaws.{Seen, an-integer, a-symbol, a-sum, a-product, a-power, seen-power}
 use Rattle.paper.specs.Standing.{kindNumber}
-use Rattle.split.specs.Standing.{Told, ToldTrees}
-use Rattle.note.proofs.ToldLaws.{seen, kind-number, bits-number, tree-within, sum-trees, product-trees, power-tree}
-use Rattle.equal.specs.Matching.{matchOf, Comparable}
+use Rattle.split.specs.Standing.{Told}
+use Rattle.note.proofs.ToldLaws.{seen, kind-number, bits-number, tree-within, power-tree}
+use Rattle.equal.specs.Matching.{matchOf}
 use Rattle.equal.specs.declared.Match.{Match}
 use Rattle.equal.specs.declared.Match.the-variants.{Different, Ends}
 
@@ -54,7 +53,7 @@ unfolding bitsBy
 symbol-bits h l = bits-number h
 
 -- two powers, and what stands for their bases and exponents
-record Powers (how : Tree → ℕ) (a : List ℕ) (i : ℕ) (b : List ℕ) (j : ℕ) (t u : Tree) : Type 0 where
+pub record Powers (how : Tree → ℕ) (a : List ℕ) (i : ℕ) (b : List ℕ) (j : ℕ) (t u : Tree) : Type 0 where
   pub mark : ℕ
   pub base : Tree
   pub exponent-mark : ℕ
@@ -80,16 +79,6 @@ pub record PowersEnd (a : List ℕ) (i : ℕ) (b : List ℕ) (j : ℕ) (t u : Tr
   pub size : e + 1 ≡ i + records t
   pub yes-if : bits a e ≡ bits b (j + (e - i)) → equal t u ≡ true
   pub no-if : (bits a e ≡ bits b (j + (e - i)) → ⊥) → equal t u ≡ false
-
--- two sums, or two products, and their members
-pub record Nodes (how : Tree → ℕ) (a : List ℕ) (i : ℕ) (b : List ℕ) (j : ℕ) (t u : Tree) : Type 0 where
-  pub ones : Forest
-  pub others : Forest
-  pub ones-there : ToldTrees how a (i + 1) (countIn a i) ones
-  pub others-there : ToldTrees how b (j + 1) (countIn b j) others
-  pub same : equal t u ≡ sameBag equal (toList ones) (toList others)
-  pub size : records t ≡ 1 + recordses ones
-  pub other-size : records u ≡ 1 + recordses others
 
 -- what an answer tells of the test
 pub match-ends : (q : Bool) (x e : ℕ) → matchOf q x ≡ Ends e → (q ≡ true) × (e ≡ x)
@@ -163,7 +152,7 @@ module _ {how : Tree → ℕ} {a : List ℕ} {i : ℕ} {b : List ℕ} {j : ℕ} 
         by (s-power r) h g (a-power c w m o q d x y) s = absurd (omega arith)
 
   -- ---- powers
-  powers : kind a i ≡ kind b j → kind a i ≡ 4 → Powers how a i b j t u
+  pub powers : kind a i ≡ kind b j → kind a i ≡ 4 → Powers how a i b j t u
   unfolding records
   powers k l =
       let p = seen-power (seen h) l in
@@ -192,10 +181,10 @@ module _ {how : Tree → ℕ} {a : List ℕ} {i : ℕ} {b : List ℕ} {j : ℕ} 
     unfolding equal onPower
     powers-are = rw (p .whole, p .other-whole)
 
-    bases-differ : equal (p .base) (p .other-base) ≡ false → equal t u ≡ false
+    pub bases-differ : equal (p .base) (p .other-base) ≡ false → equal t u ≡ false
     bases-differ e = powers-are ∙ rw e
 
-    bases-equal : (e : ℕ) → equal (p .base) (p .other-base) ≡ true → e ≡ i + 1 + records (p .base) → PowersEnd a i b j t u e
+    pub bases-equal : (e : ℕ) → equal (p .base) (p .other-base) ≡ true → e ≡ i + 1 + records (p .base) → PowersEnd a i b j t u e
     bases-equal e q x =
         let r : records (p .base) ≡ records (p .other-base) = same-records (same-view (p .base) (p .other-base) q) in
         let y : j + (e - i) ≡ j + 1 + records (p .other-base) = omega arith in
@@ -210,70 +199,6 @@ module _ {how : Tree → ℕ} {a : List ℕ} {i : ℕ} {b : List ℕ} {j : ℕ} 
           no-if = λ z. powers-are ∙ rw (q, ne-eqb (p .exponent) (p .other-exponent) (λ w. z (m ∙ w ∙ sym n)));
         }
 
-  -- by what the comparison of the bases answers
-  module _ (k : kind a i ≡ kind b j) (l : kind a i ≡ 4) where
-    pub powers-pair : (room : ℕ) → records u ≤ room → Comparable a (i + 1) b (j + 1) room
-    powers-pair room r =
-        let p = powers k l in
-        record {
-          how = how;
-          one = p .base;
-          other = p .other-base;
-          one-there = p .there;
-          other-there = p .other-there;
-          enough = omega (arith, p .other-size);
-        }
-
-    module _ (r : Match) (told : (v w : Tree) → Told how a (i + 1) v → Told how b (j + 1) w → r ≡ matchOf (equal v w) (i + 1 + records v)) where
-      answered : r ≡ matchOf (equal (powers k l .base) (powers k l .other-base)) (i + 1 + records (powers k l .base))
-      answered = let p = powers k l in told (p .base) (p .other-base) (p .there) (p .other-there)
-
-      pub powers-differ : r ≡ Different → equal t u ≡ false
-      powers-differ e =
-          let p = powers k l in
-          bases-differ p (match-differs (equal (p .base) (p .other-base)) (i + 1 + records (p .base)) (sym answered ∙ e))
-
-      pub powers-end : (e : ℕ) → r ≡ Ends e → PowersEnd a i b j t u e
-      powers-end e q =
-          let p = powers k l in
-          let m = match-ends (equal (p .base) (p .other-base)) (i + 1 + records (p .base)) e (sym answered ∙ q) in
-          bases-equal p e (m .0) (m .1)
-
-  -- ---- sums and products
-  pub nodes : kind a i ≡ kind b j → 2 ≤ kind a i → (kind a i ≡ 4 → ⊥) → Nodes how a i b j t u
-  unfolding equal onSum onProduct records
-  nodes k l n = by t h (seen h)
-    where
-      by : (t : Tree) → Told how a i t → Seen how a i t → Nodes how a i b j t u
-      by (integer μ z) h (an-integer c d v) = absurd (omega arith)
-      by (symbol μ z) h (a-symbol c d v) = absurd (omega arith)
-      by (sum μ f) h (a-sum c d o w m) =
-          let q = seen-sum (seen g) (sym k ∙ c) in
-          record {
-            ones = f;
-            others = q .1;
-            ones-there = sum-trees h;
-            others-there = sum-trees (subst (Told how b j) (q .2) g);
-            same = ap (equal (sum μ f)) (q .2) ∙ matched-bag f (toList (q .1));
-            size = refl;
-            other-size = ap records (q .2);
-          }
-      by (product μ f) h (a-product c d o w m) =
-          let q = seen-product (seen g) (sym k ∙ c) in
-          record {
-            ones = f;
-            others = q .1;
-            ones-there = product-trees h;
-            others-there = product-trees (subst (Told how b j) (q .2) g);
-            same = ap (equal (product μ f)) (q .2) ∙ matched-bag f (toList (q .1));
-            size = refl;
-            other-size = ap records (q .2);
-          }
-      by (power μ z ξ x) h (a-power c w m o q d y v) = absurd (n c)
-
-  pub counts-differ : Nodes how a i b j t u → (countIn a i ≡ countIn b j → ⊥) → equal t u ≡ false
-  counts-differ q n =
-      not-so (equal t u)
-      (λ e. n
-      (sym (q .ones-there .counted) ∙ bag-lengths (q .ones) (toList (q .others)) (sym (q .same) ∙ e) ∙ count-list (q .others)
-      ∙ q .others-there .counted))
+  pub powers-differ : kind a i ≡ kind b j → kind a i ≡ 4 → ((v w : Tree) → Told how a (i + 1) v → Told how b (j + 1) w → equal v w ≡ false)
+      → equal t u ≡ false
+  powers-differ k l apart = let p = powers k l in bases-differ p (apart (p .base) (p .other-base) (p .there) (p .other-there))

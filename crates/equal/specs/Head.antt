@@ -1,10 +1,12 @@
--- How two trees begin: their first records, and those of the bases of powers. Equal trees begin alike (proofs/HeadLaws).
-use Prim.Native.Nat.{ℕ, _+_}
+-- How two trees begin: their first records, and those of the bases of powers. Equal trees begin alike (proofs/HeadLaws). And what these
+-- records say of where the trees end.
+use Prim.Native.Nat.{ℕ, _+_, _-_}
 use mathlib.Core.Bool.{Bool, true, cond, not, _&&_}
 use mathlib.Core.List.{List}
 use lib.Dec.{eqb, ltb}
 use lib.ListN.{getD}
 use Rattle.paper.specs.Record.{kind, countIn, bits}
+use Rattle.note.specs.Plain.{partsIn}
 
 unfoldable pub sameHead : List ℕ → ℕ → List ℕ → ℕ → Bool
 sameHead a i b j = eqb (bits a i) (bits b j) && eqb (kind a i) (kind b j)
@@ -15,6 +17,15 @@ beginAlike a i b j = sameHead a i b j && cond (eqb (kind a i) 4) (sameHead a (i 
 -- the tree at record j of b has no tick, and begins as the tree at record i of a does
 unfoldable pub isCandidate : List ℕ → ℕ → List ℕ → ℕ → List ℕ → ℕ → Bool
 isCandidate a i b j us k = eqb (getD us k 0) 0 && beginAlike a i b j
+
+-- how many members of the tree at record i are matched: of a power the base, of a leaf none
+unfoldable pub membersIn : List ℕ → ℕ → ℕ
+membersIn s i = partsIn s i (kind s i)
+
+-- where the tree at record i of a ends, its matched members, equal to those of the tree at record j of b, ending before record e: of powers
+-- the exponents follow, and 0 says that they differ
+unfoldable pub pastExponent : List ℕ → ℕ → List ℕ → ℕ → ℕ → ℕ
+pastExponent a i b j e = cond (ltb (kind a i) 4) e (cond (eqb (bits a e) (bits b (j + (e - i)))) (e + 1) 0)
 
 -- the tree at record i is its own rest: neither an integer nor a product
 unfoldable pub isWhole : List ℕ → ℕ → Bool

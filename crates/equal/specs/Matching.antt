@@ -1,6 +1,6 @@
 -- What matching compares and answers: the trees of a row with or without its integers, those that are not ticked, and what the code asks
 -- for.
-use Prim.Native.Nat.{ℕ, _+_, _≤_, _<_}
+use Prim.Native.Nat.{ℕ, zero, suc, _+_, _-_, _*_, _≤_}
 use mathlib.Core.Path.{_≡_}
 use mathlib.Core.Bool.{Bool, true, false, cond, _&&_}
 use mathlib.Core.List.{List, [], _∷_}
@@ -13,6 +13,7 @@ use Rattle.paper.specs.Rules.{othersOf}
 use Rattle.paper.specs.Standing.{TreeIn}
 use Rattle.paper.specs.Equal.{removeFirst, equal}
 use Rattle.split.specs.Standing.{Told, ToldTrees}
+use Rattle.equal.specs.Head.{beginAlike}
 use Rattle.equal.specs.declared.Match.{Match}
 use Rattle.equal.specs.declared.Match.the-variants.{Different, Ends}
 
@@ -20,6 +21,11 @@ use Rattle.equal.specs.declared.Match.the-variants.{Different, Ends}
 abbrev pub matchOf : Bool → ℕ → Match
 matchOf true e = Ends e
 matchOf false e = Different
+
+-- the same as a number: the record before which the first tree ends, or 0, before which no tree does
+abbrev pub endOf : Bool → ℕ → ℕ
+endOf true e = e
+endOf false e = 0
 
 -- the trees of f, without its integers where they are passed over
 unfoldable pub without : Bool → Forest → List Tree
@@ -44,6 +50,23 @@ pub record Comparable (a : List ℕ) (i : ℕ) (b : List ℕ) (j room : ℕ) : T
   pub other-there : Told how b j other
   pub enough : records other ≤ room
 
+-- two trees that begin alike stand in the tables, and there is room for the ticks: a byte for each record behind the second's first
+pub record Alike (a : List ℕ) (i : ℕ) (b : List ℕ) (j room : ℕ) : Type 0 where
+  pub how : Tree → ℕ
+  pub one : Tree
+  pub other : Tree
+  pub one-there : Told how a i one
+  pub other-there : Told how b j other
+  pub begin : beginAlike a i b j ≡ true
+  pub enough : records other ≤ 1 + room
+
+-- a record stands at i of the table a; where it is a power's, so do its exponent at e, and that of the power at j of the table b as far on
+pub record Passable (a : List ℕ) (i : ℕ) (b : List ℕ) (j e : ℕ) : Type 0 where
+  pub within : i * 16 + 16 ≤ length a
+  pub ahead : i ≤ e
+  pub exponent-within : 4 ≤ kind a i → e * 16 + 16 ≤ length a
+  pub other-within : 4 ≤ kind a i → (j + (e - i)) * 16 + 16 ≤ length b
+
 -- two tables hold trees that weigh no more than the limit
 pub record Weighed (a b : List ℕ) (limit : ℕ) : Type 0 where
   pub one : Tree
@@ -53,19 +76,19 @@ pub record Weighed (a b : List ℕ) (limit : ℕ) : Type 0 where
   pub one-light : weight one ≤ limit
   pub other-light : weight other ≤ limit
 
--- a tree stands in the one table, m trees in the other
+-- a tree stands in the one table, m trees in the other, and there is room for the ticks: a byte for each record of these
 pub record Takeable (a : List ℕ) (i : ℕ) (b : List ℕ) (j m room : ℕ) : Type 0 where
   pub how : Tree → ℕ
   pub one : Tree
   pub others : Forest
   pub one-there : Told how a i one
   pub others-there : ToldTrees how b j m others
-  pub enough : recordses others < room
+  pub enough : recordses others ≤ room
 
--- what taking the first unticked tree of g that equals t answers: that there is none, or that it is ticked now
-abbrev pub Took : Tree → Forest → List ℕ → List ℕ → ℕ → Match → Type 0
-Took t g us us′ e Different = removeFirst (equal t) (unticked us 0 g) ≡ none
-Took t g us us′ e (Ends x) = (x ≡ e) × (removeFirst (equal t) (unticked us 0 g) ≡ some (unticked us′ 0 g))
+-- what taking the first unticked tree of g that equals t, which ends before record e, answers: 0, there being none; or e, it being ticked
+abbrev pub Took : Tree → Forest → List ℕ → List ℕ → ℕ → ℕ → Type 0
+Took t g us us′ e zero = removeFirst (equal t) (unticked us 0 g) ≡ none
+Took t g us us′ e (suc x) = (suc x ≡ e) × (removeFirst (equal t) (unticked us 0 g) ≡ some (unticked us′ 0 g))
 
 -- n trees stand in the one table, m in the other; without those passed over, and without the ticked ones, there are as many
 pub record Matchable (a : List ℕ) (i n : ℕ) (skip : Bool) (b : List ℕ) (j m : ℕ) (us : List ℕ) : Type 0 where
@@ -74,5 +97,5 @@ pub record Matchable (a : List ℕ) (i n : ℕ) (skip : Bool) (b : List ℕ) (j 
   pub others : Forest
   pub ones-there : ToldTrees how a i n ones
   pub others-there : ToldTrees how b j m others
-  pub enough : recordses others < length us
+  pub enough : recordses others ≤ length us
   pub as-many : length (without skip ones) ≡ length (unticked us 0 others)

@@ -9,7 +9,7 @@ use lib.ListN.{length, length-append}
 use lib.IntN.{pos}
 use Rattle.paper.specs.Limits.{modulus}
 use Rattle.paper.specs.Bytes.{word}
-use Rattle.paper.specs.Tree.{Tree, Forest, integer, symbol, sum, product, power, toList, ofList, records}
+use Rattle.paper.specs.Tree.{Tree, Forest, integer, symbol, sum, product, power, toList, ofList, count, records}
 use Rattle.paper.specs.Record.{kind}
 use Rattle.paper.specs.Standing.{kindNumber}
 use Rattle.paper.specs.Rules.{asInteger, withInteger, integersOf, withOther, othersOf, productOf, term, productTerm, termOf}
@@ -17,9 +17,9 @@ use Rattle.paper.proofs.Congruence.{agree-refl, agree-of, agree-trans, agree-mo
 use Rattle.paper.proofs.WFLaws.{of-to-list}
 use Rattle.note.specs.Note.{note, leafNote}
 use Rattle.note.specs.Part.{termKey}
-use Rattle.note.specs.Noted.{TreeBy, TreesBy, Known}
-use Rattle.note.proofs.KeyLaws.{integer-note}
-use Rattle.note.proofs.NotedLaws.{kind-of, FirstBy, first-by, none-by}
+use Rattle.note.specs.Noted.{countOf, inner, TreeBy, TreesBy, Known}
+use Rattle.note.proofs.KeyLaws.{integer-note, note-lt}
+use Rattle.note.proofs.NotedLaws.{kind-of, count-of, members-by, FirstBy, first-by, none-by}
 use Rattle.note.proofs.RestLaws.{summed, rest-note, rest-two, rest-single, rest-none}
 
 -- one member more
@@ -78,25 +78,22 @@ module _ {s : List ℕ} {μ : ℕ} {f : Forest} {at left kept last out : ℕ} (a
   resting-first p = first-by (a .rest) (a .there) p
 
   -- the member at record `at`, of kind k and of z records
-  module _ (p : 0 < left) (k z : ℕ) (e : k ≡ kind s at) (h : (u : Tree) → TreeBy note s at u → k ≡ kindNumber u → z ≡ records u) where
+  module _ (p : 0 < left) (k z : ℕ) (e : k ≡ kind s at) (h : z ≡ records (resting-first p .tree)) where
     abbrev here : FirstBy note s at left (a .rest)
     here = resting-first p
 
     after : TreesBy note s (at + z) (left - 1) (here .others)
-    after =
-        let size : z ≡ records (here .tree) = h (here .tree) (here .there) (e ∙ kind-of (here .there)) in
-        subst (λ c. TreesBy note s (at + c) (left - 1) (here .others)) (sym size) (here .after)
+    after = subst (λ c. TreesBy note s (at + c) (left - 1) (here .others)) (sym h) (here .after)
 
     longer : toList f ≡ (a .l ++ (here .tree ∷ [])) ++ toList (here .others)
     unfolding toList
     longer = a .whole ∙ ap (λ g. a .l ++ toList g) (here .whole) ∙ sym (append-assoc (a .l) (here .tree ∷ []) (toList (here .others)))
 
-    resting-integer : k < 1 → (n next : ℕ) → ((u : Tree) → TreeBy note s at u → n ≡ note u) → next ≡ (out + n) % modulus
+    resting-integer : k < 1 → (n next : ℕ) → n ≡ note (here .tree) → next ≡ (out + n) % modulus
         → Resting s μ f (at + z) (left - 1) kept last next
-    resting-integer w n next g m =
+    resting-integer w n next x m =
         let u = here .tree in
         let r = integer-added (a .l) u (omega (arith, e, kind-of (here .there), w)) in
-        let x : n ≡ note u = g u (here .there) in
         record {
           l = a .l ++ (u ∷ []);
           rest = here .others;
@@ -135,7 +132,7 @@ module _ {s : List ℕ} {μ : ℕ} {f : Forest} {at left kept last out : ℕ} (a
         only (t ∷ o) u q = absurd (omega arith)
 
     -- by the arm that a turn took
-    pub turn-integer : k < 1 → (n out' kept' last' : ℕ) → ((u : Tree) → TreeBy note s at u → n ≡ note u) → out' ≡ (out + n) % modulus
+    pub turn-integer : k < 1 → (n out' kept' last' : ℕ) → n ≡ note (here .tree) → out' ≡ (out + n) % modulus
         → kept' ≡ kept → last' ≡ last → Resting s μ f (at + z) (left - 1) kept' last' out'
     turn-integer w n out' kept' last' g x y q = rw (y, q) (resting-integer w n out' g x)
 
@@ -169,6 +166,58 @@ module _ {s : List ℕ} {μ : ℕ} {f : Forest} {at left kept last out : ℕ} (a
         rest-note μ (a .l) v out b (a .added) (e ∙ ap (λ g. note (product μ g)) (sym m))
         ∙ sym (rest-two μ (othersOf (a .l)) (omega (arith, a .counted)))
         ∙ sym the-rest
+
+-- ---- a product of two members: the first is of kind k and of z records, the second, at record i + 1 + z, of kind j
+module _ {s : List ℕ} {i n μ : ℕ} {f : Forest} (q : Known s i 3 n (product μ f)) (two : count f ≡ 2) where
+  pub pair-start : Resting s μ f (i + 1) 2 0 i 0
+  unfolding inner kindNumber countOf
+  pair-start = resting-start (i + 1) 2 i (members-by (product μ f) (q .there) (omega arith) (omega arith) 2 (sym two ∙ sym (count-of (q .there))))
+
+  pub two-left : 0 < 2
+  two-left = omega arith
+
+  abbrev pub pair-first : FirstBy note s (i + 1) 2 (pair-start .rest)
+  pair-first = resting-first pair-start two-left
+
+  module _ (k z : ℕ) (e : k ≡ kind s (i + 1)) (h : z ≡ records (pair-first .tree)) where
+    one-left : 0 < 1
+    one-left = omega arith
+
+    integer-first : k < 1 → Resting s μ f (i + 1 + z) 1 0 i ((0 + note (pair-first .tree)) % modulus)
+    integer-first w = turn-integer pair-start two-left k z e h w _ _ _ _ refl refl refl refl
+
+    other-first : 1 ≤ k → Resting s μ f (i + 1 + z) 1 1 (i + 1) 0
+    other-first w = turn-other pair-start two-left k z e h w _ _ _ refl refl refl
+
+    pub pair-second : FirstBy note s (i + 1 + z) 1 (pair-first .others)
+    pair-second =
+        first-by (pair-first .others) (subst (λ c. TreesBy note s (i + 1 + c) 1 (pair-first .others)) (sym h) (pair-first .after)) one-left
+
+    module _ (j : ℕ) (g : j ≡ kind s (i + 1 + z)) where
+      pub both-integers : k < 1 → j < 1 → leafNote 0 1 ≡ termKey (termOf (product μ f))
+      both-integers w v =
+          resting-none (turn-integer (integer-first w) (omega arith) j _ g refl v _ _ _ _ refl refl refl refl) refl (omega arith)
+
+      pub second-alone : k < 1 → 1 ≤ j → (v : ℕ) → ((u : Tree) → TreeBy note s (i + 1 + z) u → v ≡ note u) → v ≡ termKey (termOf (product μ f))
+      second-alone w x v found =
+          let r = turn-other (integer-first w) one-left j _ g refl x _ 1 _ refl refl refl in
+          let o = r .single refl in
+          found (o .tree) (o .there) ∙ resting-one r refl refl
+
+      pub first-alone : 1 ≤ k → j < 1 → (v : ℕ) → ((u : Tree) → TreeBy note s (i + 1) u → v ≡ note u) → v ≡ termKey (termOf (product μ f))
+      first-alone w x v found =
+          let r = turn-integer (other-first w) one-left j _ g refl x _ _ 1 _ refl refl refl refl in
+          let o = r .single refl in
+          found (o .tree) (o .there) ∙ resting-one r refl refl
+
+      pub neither-integer : 1 ≤ k → 1 ≤ j → n ≡ termKey (termOf (product μ f))
+      neither-integer w v =
+          let below : n < modulus = subst (λ m. m < modulus) (sym (q .note-known)) (note-lt (product μ f)) in
+          resting-many (turn-other (other-first w) (omega arith) j _ g refl v _ _ _ refl refl refl) refl (omega arith) n below
+          (ap (λ m. m % modulus) (omega arith) ∙ small n below ∙ q .note-known)
+        where
+          small : (m : ℕ) → m < modulus → m % modulus ≡ m
+          small m b = omega (arith, b)
 
 -- ---- which rest it is, by the kind
 pub integer-rest : (t : Tree) → kindNumber t < 1 → leafNote 0 1 ≡ termKey (termOf t)

@@ -57,7 +57,10 @@ begins-up lengths i n h =
 module _ (symbols lengths definitions : List ℕ) where
   pub lists-differ : ¬ (length lengths ≡ 8 * length symbols) → true ≡ misses symbols lengths definitions
   unfolding misses
-  lists-differ n = sym (or-left (not (eqb (length lengths) (8 * length symbols))) (not (eqb (beginning lengths (length symbols)) (length definitions))) (rw (ne-eqb (length lengths) (8 * length symbols) n)))
+  lists-differ n =
+      let eight = 8 * length symbols in
+      let end = beginning lengths (length symbols) in
+      sym (or-left (not (eqb (length lengths) eight)) (not (eqb end (length definitions))) (rw (ne-eqb (length lengths) eight n)))
 
   pub lengths-over : (i : ℕ) → i < length symbols → length definitions < beginning lengths i + lengthAt lengths i → true ≡ misses symbols lengths definitions
   unfolding misses
@@ -65,7 +68,8 @@ module _ (symbols lengths definitions : List ℕ) where
       let a = begins-next lengths i in
       let b = begins-up lengths (i + 1) (length symbols) (omega arith) in
       let n : ¬ (beginning lengths (length symbols) ≡ length definitions) = (λ e. absurd (omega (arith, a, b, h, e))) in
-      sym (or-right (not (eqb (length lengths) (8 * length symbols))) (not (eqb (beginning lengths (length symbols)) (length definitions))) (rw (ne-eqb (beginning lengths (length symbols)) (length definitions) n)))
+      let end = beginning lengths (length symbols) in
+      sym (or-right (not (eqb (length lengths) (8 * length symbols))) (not (eqb end (length definitions))) (rw (ne-eqb end (length definitions) n)))
 
   pub lengths-end : (rest : ℕ) → length lengths ≡ 8 * length symbols → rest + beginning lengths (length symbols) ≡ length definitions
       → ltb 0 rest ≡ misses symbols lengths definitions

@@ -221,7 +221,8 @@ module _ {lim : ℕ} {h : Handed} {which from : List ℕ} (p : Prepared lim h wh
     unfolding isAccepted
     is-fine = rw (p .fine)
 
-    plan : (r : Plan) → r .number ≡ 0 → r .weight ≡ w → r .which ≡ which → r .from ≡ from → (v : Tree) → openedOf h ≡ some v → w ≡ weight v → weight v ≤ lim → Ready lim h v r
+    plan : (r : Plan) → r .number ≡ 0 → r .weight ≡ w → r .which ≡ which → r .from ≡ from
+        → (v : Tree) → openedOf h ≡ some v → w ≡ weight v → weight v ≤ lim → Ready lim h v r
     plan r n e x y v i q l = record {
       number = n;
       weighs = e ∙ q;

@@ -107,7 +107,8 @@ module _ (s : List ℕ) (k : ℕ) where
       let d = length-drop e s in
       sym (sym (levels-exactly k s) ∙ rw (bared-bare (readSum (readCut k) s) (h .tree) (drop e s) (h .read), lt-ltb 0 (length (drop e s)) (omega (arith, d, l))))
 
-  pub by-blocks : {L : Tree → Type 0} (r e w : ℕ) (b : Bool) → Stands s 0 (bared (readSum (readCut k) (drop 0 s))) bare L r e w → length s ≤ e → b ≡ blocks k k s → b ≡ formed (readText s)
+  pub by-blocks : {L : Tree → Type 0} (r e w : ℕ) (b : Bool) → Stands s 0 (bared (readSum (readCut k) (drop 0 s))) bare L r e w
+      → length s ≤ e → b ≡ blocks k k s → b ≡ formed (readText s)
   unfolding isForm readCut ended
   by-blocks r e w b h l q =
       let d = length-drop e s in

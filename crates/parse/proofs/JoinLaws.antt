@@ -184,7 +184,8 @@ module _ {r : List ℕ → Reading Item} {p : Place} {sign k : ℕ} {node : Fore
   fuel-left : (s : List ℕ) (e fuel : ℕ) → length s ≤ e + fuel → begins sign (drop e s) ≡ true → fuel ≡ suc (fuel - 1)
   fuel-left s e fuel h b = let i = sign-inside s e sign b in omega (arith, i, h)
 
-  pub member-misfit : (s : List ℕ) (A : List Tree → Type 0) (at e w m : ℕ) → Joining s A at e w → begins sign (drop e s) ≡ true → Told (Misfit p s m) (r (drop (e + 1) s)) → whole (drop at s) ≡ none
+  pub member-misfit : (s : List ℕ) (A : List Tree → Type 0) (at e w m : ℕ) → Joining s A at e w → begins sign (drop e s) ≡ true
+      → Told (Misfit p s m) (r (drop (e + 1) s)) → whole (drop at s) ≡ none
   unfolding then
   member-misfit s A at e w m j b h =
       j .rest ∙ ap (λ (f : ℕ). then (readOthers r sign f (drop e s)) (λ l z. finish (j .first ∷ j .more) l z)) (fuel-left s e (j .fuel) (j .enough) b)

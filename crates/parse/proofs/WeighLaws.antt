@@ -92,10 +92,12 @@ module _ (s : List ℕ) (limit k : ℕ) (shallows : shallow k s ≡ true) where
       sym (shallow-exactly k s shallows) ∙ ap whole (bared-bare (readSum (readCut k) s) (h .tree) (drop e s) (h .read))
       ∙ rw (le-ltb 0 (length (drop e s)) (omega (arith, d, l)))
 
-  pub reads-heavy : {L : Tree → Type 0} (r e w : ℕ) → Stands s 0 (bared (readSum (readCut k) (drop 0 s))) bare L r e w → length s ≤ e → limit < w → its.Heavy ≡ weighed limit (readText s)
+  pub reads-heavy : {L : Tree → Type 0} (r e w : ℕ) → Stands s 0 (bared (readSum (readCut k) (drop 0 s))) bare L r e w
+      → length s ≤ e → limit < w → its.Heavy ≡ weighed limit (readText s)
   reads-heavy r e w h l g = let y = h .weighs in sym (ap (weighed limit) (reads-tree r e w h l) ∙ rw (lt-ltb limit (weight (h .tree)) (omega (arith, y, g))))
 
-  pub reads-light : {old new : List ℕ} {q : ℕ} (r e w : ℕ) → Stands s 0 (bared (readSum (readCut k) (drop 0 s))) bare (Laid old 0 new q) r e w → length s ≤ e → w ≤ limit → its.Is q ≡ weighed limit (readText s)
+  pub reads-light : {old new : List ℕ} {q : ℕ} (r e w : ℕ) → Stands s 0 (bared (readSum (readCut k) (drop 0 s))) bare (Laid old 0 new q) r e w
+      → length s ≤ e → w ≤ limit → its.Is q ≡ weighed limit (readText s)
   reads-light {old} {new} {q} r e w h l g =
       let y = h .weighs in
       sym (ap (weighed limit) (reads-tree r e w h l) ∙ rw (le-ltb limit (weight (h .tree)) (omega (arith, y, g))) (ap its.Is (let x = h .laid .next in omega (arith, x))))
@@ -142,7 +144,8 @@ deep-heavy s limit k (some u) g t h f =
     let l = nested-weighs k u (t .0) (ap (shallow k) (t .1) ∙ h) in
     sym (rw (lt-ltb limit (weight u) (omega (arith, l, g))))
 
-pub too-heavy : (s : List ℕ) (limit k : ℕ) (a b : Bool) → limit ≤ 2 * k + 2 → a ≡ shallow k s → a ≡ false → b ≡ formed (readText s) → b ≡ true → its.Heavy ≡ weighed limit (readText s)
+pub too-heavy : (s : List ℕ) (limit k : ℕ) (a b : Bool) → limit ≤ 2 * k + 2 → a ≡ shallow k s → a ≡ false
+    → b ≡ formed (readText s) → b ≡ true → its.Heavy ≡ weighed limit (readText s)
 too-heavy s limit k a b g p h q f = deep-heavy s limit k (readText s) g (read-text s) (sym p ∙ h) (sym q ∙ f)
 
 pub no-text : (s : List ℕ) (limit : ℕ) (b : Bool) → b ≡ formed (readText s) → b ≡ false → its.Not ≡ weighed limit (readText s)

@@ -11,21 +11,22 @@ use native.Mathlib.Omega.{arith}
 use borrow.Author.Tests.{eqb-true, ne-eqb}
 use lib.Dec.{eqb}
 use lib.ListN.{length, take, drop, getD}
-use Rattle.paper.specs.Tree.{Tree}
+use Rattle.paper.specs.Tree.{Tree, toList}
 use Rattle.paper.specs.Record.{kind}
 use Rattle.paper.specs.Rules as paper
 use Rattle.paper.specs.Rules.{editionOne, editionTwo, rulesOf, onSumMembers, onProductMembers, onPowerParts}
 use Rattle.paper.specs.Rules.{addZero, combineLikeTerms, multiplyZero, multiplyOne, combineLikeFactors, powerOne, powerConstant, powerPower}
 use Rattle.paper.specs.Driver.{Asked, no-rule, step, out-of-range, ask}
-use Rattle.paper.proofs.Tests.{never}
+use Rattle.paper.proofs.Tests.{never, or-neither}
 use Rattle.note.proofs.ToldLaws.{Seen, an-integer, a-symbol, a-sum, a-product, a-power}
 use Rattle.note.specs.Note.{note}
-use Rattle.rules.specs.Alike.{numbered, ruleOf, firstFor, endFor}
+use Rattle.part.specs.Like.{nodeKind}
+use Rattle.rules.specs.Alike.{numbered, ruleOf, firstFor, endFor, combineLike, stepOf, anyEarlier}
 use Rattle.rules.specs.Asked.{Ready, AskedIs}
 use Rattle.rules.specs.Tried.{Answers}
 use Rattle.rules.specs.declared.Asked.the-variants.{Nothing, Step}
 use Rattle.rules.specs.declared.Tried.the-variants as tried
-use Rattle.rules.proofs.RuleLaws.{ready-seen, ready-again}
+use Rattle.rules.proofs.RuleLaws.{ready-seen, ready-again, IsNode, drops, zeroes, looks-elsewhere, combine-other, finds-none}
 
 -- the i-th step of the paper's order, and its rule; how many rules an edition has
 abbrev pub stepAt : ℕ → ℕ
@@ -167,3 +168,39 @@ module _ {ed : ℕ} {t : Tree} {rest o : List ℕ} {d p i : ℕ} {o₁ w₁ : Li
 
     pub steps : (q : ℕ) → Answers (ruleOf (stepAt i) t) rest o₁ o₂ w₁ w₂ d p (tried.Applied q) → AskedIs (rulesOf ed) t rest o o₂ w₂ d p (Step (stepAt i) q)
     steps q x = (x .0, answered (paper.applies (x .0)) (x .1), x .2, x .3 ∙ g .done)
+
+-- ---- step 2 at a sum, step 6 at a product, where no rule before it applies
+passes : (r : paper.Rule) (rs : List paper.Rule) (t : Tree) → r .try t ≡ paper.does-not-apply → ask (r ∷ rs) t ≡ ask rs t
+unfolding ask
+passes r rs t e = rw e refl
+
+takes : (r : paper.Rule) (rs : List paper.Rule) (t u : Tree) → r .try t ≡ paper.applies u → ask (r ∷ rs) t ≡ step (r .number) u
+unfolding ask
+takes r rs t u e = rw e refl
+
+module _ (ed : ℕ) (t u : Tree) where
+  second : addZero t ≡ paper.does-not-apply → combineLikeTerms t ≡ paper.applies u → ask (rulesOf ed) t ≡ step 2 u
+  unfolding rulesOf editionOne editionTwo
+  second a c = go (eqb ed 2)
+    where
+      go : (x : Bool) → ask (chosenBy x) t ≡ step 2 u
+      go true = passes _ _ t a ∙ takes _ _ t u c
+      go false = passes _ _ t a ∙ takes _ _ t u c
+
+  fifth : addZero t ≡ paper.does-not-apply → combineLikeTerms t ≡ paper.does-not-apply → multiplyZero t ≡ paper.does-not-apply
+      → multiplyOne t ≡ paper.does-not-apply → combineLikeFactors t ≡ paper.applies u → ask (rulesOf ed) t ≡ step 6 u
+  unfolding rulesOf editionOne editionTwo
+  fifth a b c d e = go (eqb ed 2)
+    where
+      go : (x : Bool) → ask (chosenBy x) t ≡ step 6 u
+      go true = passes _ _ t a ∙ passes _ _ t b ∙ passes _ _ t c ∙ passes _ _ t d ∙ takes _ _ t u e
+      go false = passes _ _ t a ∙ passes _ _ t b ∙ passes _ _ t c ∙ passes _ _ t d ∙ takes _ _ t u e
+
+pub combine-asked : (ed : ℕ) (b : Bool) {o w : List ℕ} {d p : ℕ} {t : Tree} {rest : List ℕ} → Ready o w d p t rest → kind w p ≡ nodeKind b
+    → (s : IsNode b o w d p t rest) → anyEarlier b (toList (s .members)) ≡ false → (u : Tree) → combineLike b t ≡ paper.applies u
+    → ask (rulesOf ed) t ≡ step (stepOf b) u
+combine-asked ed true {t = t} h k s e u c = second ed t u (finds-none s (drops true) e) c
+combine-asked ed false {w = w} {p = p} {t = t} h k s e u c =
+    let none = or-neither _ _ e in
+    let other : kind w p ≡ 2 → ⊥ = λ z. omega (arith, k, z) in
+    fifth ed t u (looks-elsewhere h (drops true) other) (combine-other h true other) (finds-none s zeroes (none .0)) (finds-none s (drops false) (none .1)) c

@@ -31,7 +31,7 @@ use Rattle.note.proofs.ToldLaws.{FirstOf, first-of, none-of, some-told}
 use Rattle.rules.proofs.Nodes.{after-first, members-in}
 
 -- ---- what is left of the members weighs no more than they do, and the node of it can be closed
-dropped-weight : (p : Tree → Bool) (l : List Tree) → total weight (dropAll p l) ≤ total weight l
+pub dropped-weight : (p : Tree → Bool) (l : List Tree) → total weight (dropAll p l) ≤ total weight l
 unfolding total dropAll unless
 dropped-weight p [] = omega arith
 dropped-weight p (t ∷ l) = go (p t) (dropped-weight p l)
@@ -40,7 +40,7 @@ dropped-weight p (t ∷ l) = go (p t) (dropped-weight p l)
     go true h = omega arith
     go false h = omega arith
 
-node-light : (b : Bool) (μ : ℕ) (l : List Tree) → Mark μ → WFl l → 1 + total weight l < 65536 → Light (nodeOf b μ l)
+pub node-light : (b : Bool) (μ : ℕ) (l : List Tree) → Mark μ → WFl l → 1 + total weight l < 65536 → Light (nodeOf b μ l)
 node-light true μ l m w h = (sumOf-wf μ m l w, omega (arith, sumOf-weight μ l))
 node-light false μ l m w h = (productOf-wf μ m l w, omega (arith, productOf-weight μ l))
 

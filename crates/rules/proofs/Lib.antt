@@ -3,6 +3,11 @@ pub mod Puts
 pub mod Dropping
 pub mod RuleLaws
 pub mod CombineLaws
+pub mod Counting
+pub mod Around
+pub mod Finished
+pub mod Emerging
 pub mod PowerLaws
 pub mod AskLaws
+pub mod Gathering
 pub mod Unique

@@ -1,7 +1,7 @@
 -- The rules at the tree that is pending, sums and products by one flag, true for a sum. The kind of its record tells what it is: of
 -- another kind, a rule does not apply; of the rule's kind, the tree is a node whose members stand behind its record, and the rule is what
 -- it does to those. And where a rule does not apply, all is ready for the next. Assumes nothing.
-use Prim.Native.Nat.{ℕ, _+_, _-_, _*_, _≤_}
+use Prim.Native.Nat.{ℕ, _+_, _-_, _*_, _<_, _≤_}
 use mathlib.Core.Path.{_≡_, refl, sym, ap, _∙_, subst}
 use mathlib.Core.Bool.{Bool, true, false}
 use mathlib.Core.List.{List, _++_, append-assoc}
@@ -38,7 +38,7 @@ use Rattle.rules.specs.Asked.{Ready}
 use Rattle.rules.specs.Tried.{Held}
 
 -- ---- a sum or a product, and a rule on its members
-abbrev node : Bool → ℕ → Forest → Tree
+abbrev pub node : Bool → ℕ → Forest → Tree
 node true μ f = sum μ f
 node false μ f = product μ f
 
@@ -104,6 +104,10 @@ module _ {o w : List ℕ} {d p : ℕ} {t : Tree} {rest : List ℕ} (h : Ready o 
   pub rule-light : (r : Rule) → Good r → (u : Tree) → r .try t ≡ paper.applies u → Light u
   rule-light r g u e = let a = subst (GoodAnswer t) e (g .good t (h .wf)) in (a .0, omega (arith, a .1 .lighter, h .light))
 
+  pub combine-lighter : (b : Bool) (u : Tree) → combineLike b t ≡ paper.applies u → weight u < weight t
+  combine-lighter true u e = let a = subst (GoodAnswer t) e (like-terms-good .good t (h .wf)) in omega (arith, a .1 .lighter)
+  combine-lighter false u e = let a = subst (GoodAnswer t) e (like-factors-good .good t (h .wf)) in omega (arith, a .1 .lighter)
+
   pub combine-light : (b : Bool) (u : Tree) → combineLike b t ≡ paper.applies u → Light u
   combine-light true = rule-light _ like-terms-good
   combine-light false = rule-light _ like-factors-good
@@ -146,6 +150,8 @@ module _ {o w : List ℕ} {d p : ℕ} {t : Tree} {rest : List ℕ} (h : Ready o 
 -- ---- the tree is a node of the rule's kind: its members are held, and a rule on them is what it does to them
 pub record IsNode (b : Bool) (o w : List ℕ) (d p : ℕ) (t : Tree) (rest : List ℕ) : Type 0 where
   pub members : Forest
+  pub mark : ℕ
+  pub is : t ≡ node b mark members
   pub held : Held o w d p members rest
   pub on : (k : ℕ → List Tree → paper.Tried) → onMembers b k t ≡ k (markIn w p) (toList members)
 
@@ -206,6 +212,8 @@ module _ {o w : List ℕ} {d p : ℕ} {t : Tree} {rest : List ℕ} (h : Ready o 
       let stands = h .stands ∙ ap (λ x. x ++ rest) (ap (encodeBy note) (q .2) ∙ node-encode b μ f) in
       record {
         members = f;
+        mark = μ;
+        is = q .2;
         held = record {
           wf = s .wf;
           two = s .two;

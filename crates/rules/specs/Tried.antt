@@ -1,11 +1,12 @@
 -- What a rule answers at a node of the pending records, by the paper's definition of that rule.
 use Prim.Native.Nat.{ℕ, _+_, _*_, _≤_, _<_}
 use mathlib.Core.Path.{_≡_}
-use mathlib.Core.Bool.{Bool}
+use mathlib.Core.Bool.{Bool, cond}
 use mathlib.Core.List.{List, _++_}
+use lib.IntN.{pos}
 use lib.ListN.{length, take, drop}
-use Rattle.paper.specs.Tree.{Tree, Forest, weights, count, records, recordses, ofList}
-use Rattle.paper.specs.WellFormed.{WFs}
+use Rattle.paper.specs.Tree.{Tree, Forest, nil, cons, weights, count, records, recordses, ofList}
+use Rattle.paper.specs.WellFormed.{WFs, WFl}
 use Rattle.paper.specs.Record.{countIn}
 use Rattle.paper.specs.Standing.{Stands}
 use Rattle.paper.specs.Rules as paper
@@ -39,6 +40,28 @@ pub record Held (out work : List ℕ) (d p : ℕ) (f : Forest) (rest : List ℕ)
 pub record MembersIn (s : List ℕ) (p : ℕ) (f : Forest) : Type 0 where
   pub seen : ToldMembers note s p f
   pub few : recordses f < 65536
+
+-- the record of the last of the trees f that is not the integer z, the first of them standing at record i; `last` where all are
+unfoldable pub lastKept : ℕ → (i last : ℕ) → Forest → ℕ
+lastKept z i last nil = last
+lastKept z i last (cons t f) = lastKept z (i + records t) (cond (paper.isThe (pos z) t) last i) f
+
+-- the record of the last of them that is; `last` where none is
+unfoldable pub lastDropped : ℕ → (i last : ℕ) → Forest → ℕ
+lastDropped z i last nil = last
+lastDropped z i last (cons t f) = lastDropped z (i + records t) (cond (paper.isThe (pos z) t) i last) f
+
+-- the members a, a member of one record, x, and the members b stand behind the node's record p of `work`, `rest` after them; without that
+-- one, two or more are left
+pub record Around (work : List ℕ) (p x : ℕ) (a b : List Tree) (rest : List ℕ) : Type 0 where
+  pub it : Tree
+  pub one : records it ≡ 1
+  pub wf : WFl (a ++ b)
+  pub more : 2 ≤ length (a ++ b)
+  pub light : 1 + weights (ofList (a ++ b)) < 65536
+  pub counted : countIn work p ≡ length (a ++ b) + 1
+  pub stand : drop ((p + 1) * 16) work ≡ encodesBy note (ofList a) ++ (encodeBy note it ++ (encodesBy note (ofList b) ++ rest))
+  pub place : x ≡ p + 1 + recordses (ofList a)
 
 -- the members l stand in `out` behind record d, left free, up to record e
 pub record Built (out : List ℕ) (d e : ℕ) (l : List Tree) : Type 0 where

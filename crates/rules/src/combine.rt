@@ -24,7 +24,7 @@ pub fn combine(out: &mut [u8], work: &mut [u8], d: usize, p: usize, terms: bool)
     match walked {
         walk::Walked::Idle => Tried::Idle,
         walk::Walked::Over => Tried::Over,
-        walk::Walked::Done(count, e) => Tried::Applied(members::put_back(
+        walk::Walked::Done(count, e, _) => Tried::Applied(members::put_back(
             out,
             work,
             d,

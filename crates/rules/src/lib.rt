@@ -6,11 +6,12 @@ ghost use Prim.Native.Nat.{ℕ};
 ghost use Rattle.paper.specs.Tree.{Tree};
 ghost use Rattle.paper.specs.Rules.{rulesOf};
 ghost use Rattle.rules.specs.Alike.{ruleOf, firstFor, endFor};
-ghost use Rattle.rules.specs.Asked.{Ready, AskedIs};
+ghost use Rattle.rules.specs.Asked.{Ready, AskedIs, CombinedIs};
 ghost use Rattle.rules.specs.Tried.{Answers};
 
 mod add;
 mod combine;
+mod gathered;
 mod members;
 mod multiply;
 mod power;
@@ -27,6 +28,14 @@ pub enum Tried {
     Idle,
     Applied(usize),
     Over,
+}
+
+// What became of a gathered node: nothing, and the rules are to be asked; the step that applies, and the record that its result is pending
+// from; the step that applies, its result standing finished in out, up to a record.
+pub enum Combined {
+    No,
+    Pending(u8, usize),
+    Quiet(u8, usize),
 }
 
 // The steps, in the paper's order: those for a sum, after them those for a product, and those for a power, which edition two adds.
@@ -104,4 +113,32 @@ pub fn ask(out: &mut [u8], work: &mut [u8], d: usize, p: usize, edition: usize) 
         i += 1;
     }
     Asked::Nothing
+}
+
+// Combines the like members of the gathered node at record p of work, whose members are finished: step 2 or 6, where no rule before it
+// applies. Nothing is said of a node at which another rule applies, or none, or the range is left. The result is built in out, from record d
+// on.
+pub fn combine_gathered(
+    out: &mut [u8],
+    work: &mut [u8],
+    d: usize,
+    p: usize,
+    edition: usize,
+) -> Combined
+    requires { ⌜ ((t : Tree) × (rest : List ℕ) × Ready (now out) (now work) d p t rest) ⌝ }
+    ensures { λ r. ⌜ ((t : Tree) (rest : List ℕ) → Ready (now (out .entry)) (now (work .entry)) d p t rest
+        → CombinedIs (rulesOf edition) t rest (now (out .entry)) (now (out .exit)) (now (work .exit)) d p r) ⌝ }
+{
+    let k = record::kind(work, p);
+    if k < 2 {
+        return Combined::No;
+    }
+    if 3 < k {
+        return Combined::No;
+    }
+    let terms = k < 3;
+    if gathered::any_earlier(work, p, terms) {
+        return Combined::No;
+    }
+    gathered::combine_members(out, work, d, p, terms, edition)
 }

@@ -2,7 +2,7 @@
 -- the result, and clearing leaves the result, the steps, and zeros after them; after a refusal, zeros alone. Assumes nothing.
 use Prim.Native.Nat.{ℕ, _+_, _-_, _*_, _/_, _%_, _<_, _≤_}
 use mathlib.Core.Path.{_≡_, refl, sym, ap, _∙_, subst}
-use mathlib.Core.List.{List, [], _++_, append-nil}
+use mathlib.Core.List.{List, [], _∷_, _++_, append-nil}
 use mathlib.Core.Option.{Option, some}
 use native.Mathlib.Omega.{arith}
 use lib.ListN.{length, take, drop, replicate, length-replicate, drop-of-length-le, take-append-drop}
@@ -22,6 +22,8 @@ use Rattle.record.specs.declared.Flaw.the-variants.{Sound}
 use Rattle.simplify.specs.declared.Answer.{Answer}
 use Rattle.simplify.specs.Answer.{says, filled, Lending, Leaves}
 use Rattle.driver.specs.Driven.{Set, Drove}
+use Rattle.driver.specs.Paused.{standOf, call, Called}
+use Rattle.driver.proofs.Counting.{cost-small}
 use Rattle.driver.proofs.Places.{put-there}
 use Rattle.driver.proofs.Runs.{drives, drives-kept, run-lighter}
 
@@ -39,6 +41,11 @@ clear-end d xs a e l h =
 
 pub clear-all : (d : List ℕ) → put d 0 (replicate (length d) 0) ≡ filled (length d) []
 clear-all d = let z : length d - 0 ≡ length d = omega arith in ap (λ i. put d 0 (replicate i 0)) (sym z) ∙ clear-end d [] 0 refl refl (omega arith)
+
+-- the driver is called with no record done, no step noted, and no opening and no try so far
+pub called-on : (ed : ℕ) {out work steps : List ℕ} {p : ℕ} {t : Tree} {rest : List ℕ} → Set out work steps 0 p 0 t rest
+    → Called (call out work steps (standOf (ed ∷ p ∷ 0 ∷ 0 ∷ 0 ∷ 0 ∷ 0 ∷ 0 ∷ 0 ∷ 0 ∷ [])) t rest)
+called-on ed {t = t} h = record { set = h; few = omega (arith, h .ready .light); few-tries = omega (arith, cost-small (weight t) (h .ready .light)) }
 
 -- two trees of one table are one
 pub lending-once : {table out steps work : List ℕ} {w : ℕ} {t u : Tree} → Lending table out steps work w t → Lending table out steps work w u → t ≡ u
@@ -158,19 +165,21 @@ module _ {table out steps work : List ℕ} {w : ℕ} {t : Tree} (h : Lending tab
           clear-end out₁ (encode (a .to)) (e * 16) stripped (omega (arith, encode-length (a .to), a .end)) (omega (arith, done-fits .0))
           ∙ ap (λ i. filled i (encode (a .to))) (l₁ ∙ lo)
 
-      pub left-done : (out'' steps'' work'' : List ℕ) (x : ℕ)
+      pub left-done : (out'' steps'' work'' : List ℕ) (x o' τ' : ℕ)
           → out'' ≡ put out₁ (e * 16) (replicate (length out₁ - e * 16) 0) → steps'' ≡ put steps' n (replicate (length steps' - n) 0)
-          → work'' ≡ put work' 0 (replicate (length work') 0) → x ≡ note (a .to) / 65536 % 65536
+          → work'' ≡ put work' 0 (replicate (length work') 0) → x ≡ note (a .to) / 65536 % 65536 → o' ≡ 0 + o → τ' ≡ 0 + τ
           → Leaves (drives ed t) w
-          (record { number = 0; place = 0; flaw = Sound; records = e; steps = n; openings = o; «weight_in» = w; «weight_out» = x; tries = τ })
+          (record { number = 0; place = 0; flaw = Sound; records = e; steps = n; openings = o'; «weight_in» = w; «weight_out» = x; tries = τ' })
           out out'' steps steps'' work work''
       unfolding paper.ranAnswer paper.written paper.noted
-      left-done out'' steps'' work'' x co cz cw cx =
+      left-done out'' steps'' work'' x o' τ' co cz cw cx eo et =
           let z : e ≡ records (a .to) = omega (arith, a .end) in
           let k : n ≡ length (a .ks) = omega (arith, a .noted-end) in
+          let i : o' ≡ o = omega arith in
+          let j : τ' ≡ τ = omega arith in
           let g : x ≡ weight (a .to) = cx ∙ note-weight (a .to) (whole-result .there .light) in
           record {
-            answer = rw (z, k, g, a .ran) refl;
+            answer = rw (z, k, g, i, j, a .ran) refl;
             out-is = co ∙ out-cleared ∙ ap (λ r. filled (length out) (paper.written r)) (sym (a .ran));
             steps-is =
                 cz ∙ clear-end steps' (a .ks) n (a .noted) (sym k) (done-fits .1) ∙ ap (λ i. filled i (a .ks)) lz

@@ -1,7 +1,7 @@
 -- The members' entries at the front of `work`: an entry that is written is read back, the others stay, and what stands from the node's
 -- record on stays too; so where the last entry moves into the place of a removed one, the entries from there on are those of the last
 -- member and of the others in order. By induction on the members. Assumes nothing.
-use Prim.Native.Nat.{ℕ, zero, suc, _+_, _-_, _*_, _<_, _≤_}
+use Prim.Native.Nat.{ℕ, zero, suc, _+_, _-_, _*_, _%_, _<_, _≤_}
 use mathlib.Core.Path.{_≡_, refl, sym, ap, _∙_, subst}
 use mathlib.Core.Bool.{Bool}
 use mathlib.Core.List.{List, [], _∷_, _++_, append-nil, append-assoc}
@@ -26,7 +26,7 @@ use Rattle.stretch.proofs.Laws.{length-part, drop-put, drop-put-at, put-put, pu
 use Rattle.split.specs.Standing.{Told, ToldTrees}
 use Rattle.note.proofs.ToldLaws.{FirstOf, first-of, none-of}
 use Rattle.write.proofs.Encoded.{recordses-snoc}
-use Rattle.walk.specs.Listed.{shortKey, entryOf, entriesOf, Entry, Entries, Listable, ListedIs}
+use Rattle.walk.specs.Listed.{shortKey, bitsOf, entryOf, entriesOf, Entry, Entries, Listable, ListedIs}
 
 -- ---- what stands from record p on
 module _ (w w' : List ℕ) (p : ℕ) (same : drop (p * 16) w' ≡ drop (p * 16) w) where
@@ -51,10 +51,10 @@ module _ (w w' : List ℕ) (p : ℕ) (same : drop (p * 16) w' ≡ drop (p * 16) 
 
   -- ---- entries that stay
   abbrev Kept : ℕ → Type 0
-  Kept j = (le2 w' (j * 4) ≡ le2 w (j * 4)) × (le2 w' (j * 4 + 2) ≡ le2 w (j * 4 + 2))
+  Kept j = (le2 w' (j * 4) ≡ le2 w (j * 4)) × (bitsOf w' j ≡ bitsOf w j)
 
   -- an entry that is copied from entry j to entry k
-  moved : (b : Bool) (j k : ℕ) (t : Tree) → le2 w' (k * 4) ≡ le2 w (j * 4) → le2 w' (k * 4 + 2) ≡ le2 w (j * 4 + 2)
+  moved : (b : Bool) (j k : ℕ) (t : Tree) → le2 w' (k * 4) ≡ le2 w (j * 4) → bitsOf w' k ≡ bitsOf w j
       → Entry b w p j t → Entry b w' p k t
   moved b j k t start key h =
       record {
@@ -90,15 +90,15 @@ module _ (w x : List ℕ) (a : ℕ) (four : length x ≡ 4) (room : a * 4 + 4 �
       rw (first, second) refl
 
   pub put-other : (j : ℕ) → (j ≡ a → ⊥)
-      → (le2 (put w (a * 4) x) (j * 4) ≡ le2 w (j * 4)) × (le2 (put w (a * 4) x) (j * 4 + 2) ≡ le2 w (j * 4 + 2))
+      → (le2 (put w (a * 4) x) (j * 4) ≡ le2 w (j * 4)) × (bitsOf (put w (a * 4) x) j ≡ bitsOf w j)
   put-other j h = go (decLt j a)
     where
-      go : Dec (j < a) → (le2 (put w (a * 4) x) (j * 4) ≡ le2 w (j * 4)) × (le2 (put w (a * 4) x) (j * 4 + 2) ≡ le2 w (j * 4 + 2))
-      go (yes l) = (rw add-zero at (before j 0 l (omega arith)), before j 2 l (omega arith))
+      go : Dec (j < a) → (le2 (put w (a * 4) x) (j * 4) ≡ le2 w (j * 4)) × (bitsOf (put w (a * 4) x) j ≡ bitsOf w j)
+      go (yes l) = (rw add-zero at (before j 0 l (omega arith)), ap (λ x. x % 32768) (before j 2 l (omega arith)))
       go (no l) = by (decLt a j)
         where
-          by : Dec (a < j) → (le2 (put w (a * 4) x) (j * 4) ≡ le2 w (j * 4)) × (le2 (put w (a * 4) x) (j * 4 + 2) ≡ le2 w (j * 4 + 2))
-          by (yes g) = (rw add-zero at (past j 0 g), past j 2 g)
+          by : Dec (a < j) → (le2 (put w (a * 4) x) (j * 4) ≡ le2 w (j * 4)) × (bitsOf (put w (a * 4) x) j ≡ bitsOf w j)
+          by (yes g) = (rw add-zero at (past j 0 g), ap (λ x. x % 32768) (past j 2 g))
           by (no g) = absurd (h (omega arith))
 
   pub put-here : (b : ℕ) → b + 2 ≤ 4 → le2 (put w (a * 4) x) (a * 4 + b) ≡ le2 x b
@@ -123,7 +123,7 @@ entry-key : (a b : ℕ) → b < 65536 → le2 (entryOf a b) 2 ≡ b
 unfolding entryOf bytes le2
 entry-key a b h = le-bytes 2 b h
 
-short-lt : (key : ℕ) → shortKey key < 65536
+short-lt : (key : ℕ) → shortKey key < 32768
 unfolding shortKey
 short-lt key = omega arith
 
@@ -166,7 +166,7 @@ module _ (w w' : List ℕ) (p j n : ℕ) (x : Tree) (l : List Tree) (many : n �
   pub swap-pending : drop (p * 16) w' ≡ drop (p * 16) w
   swap-pending = ap (drop (p * 16)) swap ∙ pending-still w (part w (n * 4) 4) j four (omega arith) p (omega arith)
 
-  stays : (i : ℕ) → (i ≡ j → ⊥) → (le2 w' (i * 4) ≡ le2 w (i * 4)) × (le2 w' (i * 4 + 2) ≡ le2 w (i * 4 + 2))
+  stays : (i : ℕ) → (i ≡ j → ⊥) → (le2 w' (i * 4) ≡ le2 w (i * 4)) × (bitsOf w' i ≡ bitsOf w i)
   stays i h = rw swap (put-other w (part w (n * 4) 4) j four (omega arith) i h)
 
   arrives : (b : ℕ) → b + 2 ≤ 4 → le2 w' (j * 4 + b) ≡ le2 w (n * 4 + b)
@@ -184,7 +184,7 @@ module _ (w w' : List ℕ) (p j n : ℕ) (x : Tree) (l : List Tree) (many : n �
       go (a ∷ l) m h =
           let r = entries-last b w p (j + 1) n a l (m ∙ omega arith) h in
           let start = rw (add-zero (j * 4), add-zero (n * 4)) at (arrives 0 (omega arith)) in (
-            moved w w' p swap-pending b n j (lastOf a l) start (arrives 2 (omega arith)) (r .0),
+            moved w w' p swap-pending b n j (lastOf a l) start (ap (λ x. x % 32768) (arrives 2 (omega arith))) (r .0),
             entries-still w w' p swap-pending b (j + 1) (initOf a l) (λ i g u. stays i (λ q. omega arith)) (r .1),
           )
 
@@ -277,7 +277,7 @@ module _ {b : Bool} {w₀ w : List ℕ} {p n : ℕ} {f : Forest} {at k : ℕ} (v
       (λ j g u. rw q (put-other w x k (entry-length a c) (omega arith) j (λ m. omega (arith, v .many)))) (v .entries) in
       let entry : Entry b w' p k t = record {
         there = subst (λ i. Told note w' i t) (sym here) (tree-still w w' p still at t (omega (arith, v .past)) (head .there));
-        key = key ∙ key-is;
+        key = omega (arith, key, key-is, short-lt (partKey b t));
       } in
       record {
         done = v .done ++ (t ∷ []);

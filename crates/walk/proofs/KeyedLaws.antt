@@ -1,5 +1,5 @@
 -- The keys of parts in the walk: a member's key is that of its part, a part that takes up another keeps its key, and one takes up another
--- only where 16 bits of their keys are the same. By the law of keys where one part takes up another (`part-key`). Assumes nothing.
+-- only where 15 bits of their keys are the same. By the law of keys where one part takes up another (`part-key`). Assumes nothing.
 use Prim.Native.Nat.{ℕ}
 use mathlib.Core.Path.{_≡_, refl, ap, _∙_, sym}
 use mathlib.Core.Bool.{Bool, true, false}
@@ -16,7 +16,7 @@ unfolding partKey
 member-key true t = refl
 member-key false t = refl
 
-one-key : (b : Bool) (c x d : Like b) → merge b c x ≡ some d → OneKey (keyOf b c) (keyOf b x) (keyOf b d)
+pub one-key : (b : Bool) (c x d : Like b) → merge b c x ≡ some d → OneKey (keyOf b c) (keyOf b x) (keyOf b d)
 one-key true c x d m = part-key .0 c x d m
 one-key false c x d m = part-key .1 c x d m
 

@@ -1,7 +1,12 @@
 pub mod TurnLaws
 pub mod RoomLaws
 pub mod EntryLaws
+pub mod LoneLaws
 pub mod KeyedLaws
+pub mod StaysLaws
+pub mod SeenStays
+pub mod NewLaws
+pub mod KeptLaws
 pub mod States
 pub mod Steps
 pub mod Unique

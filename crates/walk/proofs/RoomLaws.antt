@@ -28,6 +28,12 @@ use Rattle.part.specs.Like.{Like, split, merge, join}
 use Rattle.part.specs.Part.{inRange}
 use Rattle.part.proofs.PartLaws.{and-bad}
 
+-- ---- each member weighs something
+pub each-weighs : (l : List Tree) → length l ≤ total weight l
+unfolding total
+each-weighs [] = omega arith
+each-weighs (t ∷ l) = omega (arith, weight-pos t, each-weighs l)
+
 -- ---- out of range
 added-bad : (c x : Term) → c .inRange ≡ false → added c x .inRange ≡ false
 unfolding added

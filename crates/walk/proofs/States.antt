@@ -85,7 +85,7 @@ all-good b (x ∷ done) c e f = go (join b x .1) e (λ h. all-good b done c h f)
     go true h f = f h
     go false h f = h
 
-outs-snoc : (b : Bool) (done : List (Like b)) (c : Like b) → outs b (done ++ (c ∷ [])) ≡ outs b done ++ (join b c .0 ∷ [])
+pub outs-snoc : (b : Bool) (done : List (Like b)) (c : Like b) → outs b (done ++ (c ∷ [])) ≡ outs b done ++ (join b c .0 ∷ [])
 outs-snoc b [] c = refl
 outs-snoc b (x ∷ done) c = ap (λ m. join b x .0 ∷ m) (outs-snoc b done c)
 

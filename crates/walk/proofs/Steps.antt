@@ -2,12 +2,13 @@
 -- that are left. Within a turn also the current part and the members that were passed by. Assumes nothing.
 use Prim.Native.Nat.{ℕ, _+_, _-_, _*_, _<_, _≤_}
 use mathlib.Core.Path.{_≡_, refl, sym, ap, _∙_, subst}
-use mathlib.Core.Bool.{Bool, true, false}
+use mathlib.Core.Bool.{Bool, true, false, cond}
 use mathlib.Core.List.{List, [], _∷_, _++_, map, append-nil}
 use mathlib.Core.Option.{none, some}
 use native.Mathlib.Omega.{arith}
-use lib.ListN.{length, take, drop, length-append}
-use Rattle.paper.specs.Bytes.{le2}
+use lib.ListN.{length, take, drop, getD, length-append}
+use lib.Dec.{leb, eqb}
+use borrow.Author.Tests.{eqb-true, leb-true, leb-false}
 use Rattle.paper.specs.Tree.{Tree, ofList, weight, records, recordses}
 use Rattle.paper.specs.Walk.{WalkEnd, thenWalk, turn, walk, lastFirst}
 use Rattle.paper.specs.Rules as paper
@@ -22,16 +23,22 @@ use Rattle.stretch.specs.Put.{put, part}
 use Rattle.part.specs.Like.{Like, nodeOf, split, merge, join}
 use Rattle.part.specs.Part.{Shows, From, inRange}
 use Rattle.part.specs.declared.Part.{Part}
-use Rattle.walk.specs.Listed.{shortKey, Entry, Entries}
-use Rattle.walk.specs.Walked.{Walkable, combined, cameOut, CameOut, keyOf}
+use Rattle.walk.specs.Listed.{shortKey, bitsOf, Entry, Entries}
+use Rattle.walk.specs.Walked.{Walkable, combined, cameOut, CameOut, OneOf, AllOf, OneNew, Says, answerOf, keyOf}
+use Rattle.walk.specs.declared.Walked.the-variants.{Idle, Over, Done}
+use Rattle.paper.proofs.Tests.{true-not-false}
 use Rattle.paper.proofs.WalkFuel.{lastFirst-length, map-length}
 use Rattle.walk.proofs.TurnLaws.{map-lastFirst, map-append, resumed, resumed-none, after, turn-begins}
-use Rattle.walk.proofs.TurnLaws.{passes-by, takes-up, turn-ends, walk-ends, turn-keeps}
+use Rattle.walk.proofs.TurnLaws.{passes-by, takes-up, turn-ends, turn-over, walk-ends, turn-keeps}
 use Rattle.part.proofs.PartLaws.{joins-bad}
 use Rattle.walk.proofs.RoomLaws.{stays-bad, join-first, join-grows}
-use Rattle.walk.proofs.KeyedLaws.{member-key, key-stays}
-use Rattle.walk.proofs.EntryLaws.{entries-snoc, swap-pending, swap-before, swap-after}
-use Rattle.walk.proofs.States.{walked, outs, idle-outcome, over-outcome, done-outcome, all-snoc, outs-many, Came, Common}
+use Rattle.walk.proofs.KeyedLaws.{member-key, one-key, key-stays}
+use Rattle.walk.proofs.LoneLaws.{AfterTelling, Lonely}
+use Rattle.walk.proofs.KeptLaws.{lone-free}
+use Rattle.note.proofs.ApartLaws.{turn-apart}
+use Rattle.walk.proofs.EntryLaws.{entries-still, entries-snoc, swap-pending, swap-before, swap-after}
+use Rattle.walk.proofs.NewLaws.{all-of-snoc, all-own, all-lastFirst, News, news-kept, news-new}
+use Rattle.walk.proofs.States.{walked, outs, idle-outcome, over-outcome, done-outcome, all-snoc, outs-snoc, outs-many, Came, Common}
 use Rattle.walk.proofs.States.{common-ticks, common-written, common-late, common-done, shows-still}
 
 abbrev pub parts : (b : Bool) → List Tree → List (Like b)
@@ -45,7 +52,7 @@ abbrev pub rest-of-turn : (b : Bool) → List (Like b) → ℕ → Like b → Li
 rest-of-turn b done r c passed left =
     resumed done r (after (merge b) (turn (merge b) (length (parts b left)) c (parts b passed) (parts b left)))
 
-pub record Outer (b : Bool) (l : List Tree) (o₀ w₀ : List ℕ) (d p count : ℕ) (o w : List ℕ) (n i e : ℕ) (late : Bool) : Type 0 where
+pub record Outer (b : Bool) (l : List Tree) (o₀ w₀ : List ℕ) (d p count : ℕ) (o w : List ℕ) (n i e : ℕ) (late : Bool) (new f : ℕ) : Type 0 where
   pub done : List (Like b)
   pub removed : ℕ
   pub left : List Tree
@@ -55,9 +62,12 @@ pub record Outer (b : Bool) (l : List Tree) (o₀ w₀ : List ℕ) (d p count : 
   pub entries : Entries b w p i left
   pub room : e + total weight left ≤ d + (1 + total weight l)
   pub common : Common b o₀ w₀ d p o w i e late done
+  pub left-of : AllOf l left
+  pub news : late ≡ false → News l (outs b done) d new f
 
-pub record Inner (b : Bool) (l : List Tree) (o₀ w₀ : List ℕ) (d p count : ℕ) (o w : List ℕ) (n i e : ℕ) (late : Bool) (c : Part)
-    (key j : ℕ) : Type 0 where
+-- the member whose turn it is stands at entry i, and is its own part as long as there are as many members as it `had` before it
+pub record Inner (b : Bool) (l : List Tree) (o₀ w₀ : List ℕ) (d p count : ℕ) (o w : List ℕ) (n i e : ℕ) (late : Bool) (new f : ℕ) (c : Part)
+    (key had j : ℕ) : Type 0 where
   pub done : List (Like b)
   pub removed : ℕ
   pub current : Like b
@@ -74,6 +84,14 @@ pub record Inner (b : Bool) (l : List Tree) (o₀ w₀ : List ℕ) (d p count : 
   pub entries : Entries b w p j left
   pub room : e + (weight (join b current .0) + (total weight passed + total weight left)) ≤ d + (1 + total weight l)
   pub common : Common b o₀ w₀ d p o w i e late done
+  pub member : Tree
+  pub own-entry : Entry b w p i member
+  pub own : n ≡ had → current ≡ split b member
+  pub fewer : n ≤ had
+  pub member-of : OneOf member l
+  pub passed-of : AllOf l passed
+  pub left-of : AllOf l left
+  pub news : late ≡ false → News l (outs b done) d new f
 
 -- ---- the first of the members that are left
 pub record Head (b : Bool) (w : List ℕ) (p i : ℕ) (left : List Tree) : Type 0 where
@@ -92,9 +110,12 @@ none-left [] e = refl
 none-left (t ∷ l) e = absurd (omega arith)
 
 module _ {b : Bool} {l : List Tree} {o₀ w₀ : List ℕ} {d p count : ℕ} where
-  pub outer-begins : Walkable b o₀ w₀ d p count l → Outer b l o₀ w₀ d p count o₀ w₀ count 0 (d + 1) false
+  -- the members that are alone with their keys are told, or not
+  pub outer-begins : {o w : List ℕ} {told : Bool} → Walkable b o₀ w₀ d p count l → AfterTelling o₀ o w₀ w d count told
+      → Outer b l o₀ w₀ d p count o w count 0 (d + 1) false 0 0
   unfolding allInRange ofList records encodeBy
-  outer-begins h =
+  outer-begins {o} {w} h t =
+      let still = t .behind (p * 16) (h .listed .low) in
       record {
         done = [];
         removed = 0;
@@ -102,30 +123,33 @@ module _ {b : Bool} {l : List Tree} {o₀ w₀ : List ℕ} {d p count : ℕ} whe
         whole = ap (λ n. walk (merge b) n (parts b l)) (sym (map-length (split b) l)) ∙ sym (resumed-none _);
         gone = omega arith;
         many = omega (arith, h .listed .many);
-        entries = h .listed .entries;
+        entries = entries-still w₀ w p still b 0 l (λ j g u. (t .starts j, t .bits j)) (h .listed .entries);
         room = omega arith;
         common = record {
           many = refl;
-          pending = refl;
+          pending = still;
           low = omega arith;
-          front = refl;
-          came = (refl, sym (append-nil (take ((d + 1) * 16) o₀)), omega arith);
+          front = t .front;
+          came = (refl, t .front ∙ sym (append-nil (take ((d + 1) * 16) o₀)), omega arith);
         };
+        left-of = all-own l;
+        news = λ q. tt;
       }
 
-  module _ {o w : List ℕ} {n i e : ℕ} {late : Bool} (v : Outer b l o₀ w₀ d p count o w n i e late) where
+  module _ {o w : List ℕ} {n i e : ℕ} {late : Bool} {new f : ℕ} (v : Outer b l o₀ w₀ d p count o w n i e late new f) where
     module _ (less : i < n) where
       abbrev pub first : Head b w p i (v .left)
       first = head-of b w p i (v .left) (v .entries) (omega (arith, v .many))
 
-      pub inner-begins : (c : Part) (key : ℕ) → Shows b w c (split b (first .tree)) → From p c → key ≡ le2 w (i * 4 + 2)
-          → Inner b l o₀ w₀ d p count o w n i e late c key (i + 1)
+      pub inner-begins : (c : Part) (key : ℕ) → Shows b w c (split b (first .tree)) → From p c → key ≡ bitsOf w i
+          → Inner b l o₀ w₀ d p count o w n i e late new f c key n (i + 1)
       unfolding total
-      inner-begins c key s f k =
+      inner-begins c key s from k =
           let t = first .tree in
           let m = first .others in
           let size = ap length (first .is) in
           let heavy = ap (total weight) (first .is) in
+          let all = subst (AllOf l) (first .is) (v .left-of) in
           record {
             done = v .done;
             removed = v .removed;
@@ -134,7 +158,7 @@ module _ {b : Bool} {l : List Tree} {o₀ w₀ : List ℕ} {d p count : ℕ} whe
             left = m;
             shown = s;
             keyed = k ∙ first .entry .key ∙ ap shortKey (member-key b t);
-            place = f;
+            place = from;
             whole =
                 v .whole
                 ∙ ap (rest-of-walk b (v .done) (v .removed)) (first .is)
@@ -146,6 +170,53 @@ module _ {b : Bool} {l : List Tree} {o₀ w₀ : List ℕ} {d p count : ℕ} whe
             entries = first .rest;
             room = omega (arith, v .room, join-first b t);
             common = v .common;
+            member = t;
+            own-entry = first .entry;
+            own = λ q. refl;
+            fewer = omega arith;
+            member-of = all .0;
+            passed-of = tt;
+            left-of = all .1;
+            news = v .news;
+          }
+
+      -- a member that is alone with its key passes all later ones by, and comes out as it stands
+      pub outer-lone : (o' : List ℕ) (x : ℕ) → e * 16 ≤ length o → Lonely w n → 128 ≤ getD w (i * 4 + 3) 0
+          → join b (split b (first .tree)) ≡ (first .tree, true) → x ≡ e + records (first .tree) → o' ≡ put o (e * 16) (encodeBy note (first .tree))
+          → Outer b l o₀ w₀ d p count o' w n (i + 1) x late new f
+      unfolding total
+      outer-lone o' x r lonely bit itself q s =
+          let t = first .tree in
+          let m = first .others in
+          let c = split b t in
+          let size = ap length (first .is) in
+          let heavy = ap (total weight) (first .is) in
+          let all = subst (AllOf l) (first .is) (v .left-of) in
+          let tree : join b c .0 ≡ t = ap (λ (y : Tree × Bool). y .0) itself in
+          let free = lone-free b w p i n (keyOf b c) m (i + 1) (first .entry .key ∙ ap shortKey (member-key b t)) (first .rest) (omega (arith, v .many))
+          (λ y g u. lonely i y less u (λ same. omega (arith, same, g)) bit) in
+          let turned = turn-apart (merge b) (keyOf b) (λ y z u k. one-key b y z u k .same) c (parts b m) free in
+          record {
+            done = v .done ++ (c ∷ []);
+            removed = v .removed;
+            left = m;
+            whole =
+                v .whole
+                ∙ ap (rest-of-walk b (v .done) (v .removed)) (first .is)
+                ∙ turn-begins (merge b) (v .done) (v .removed) c (parts b m)
+                ∙ ap (λ z. resumed (v .done) (v .removed) (after (merge b) z)) turned
+                ∙ turn-over (merge b) (v .done) (v .removed) c (parts b m);
+            gone = v .gone;
+            many = omega (arith, v .many);
+            entries = first .rest;
+            room = omega (arith, v .room, records-weight t);
+            common =
+                common-written (v .common) o' c x r (ap (λ (y : Tree × Bool). y .1) itself) (q ∙ ap (λ u. e + records u) (sym tree))
+                (s ∙ ap (λ u. put o (e * 16) (encodeBy note u)) (sym tree));
+            left-of = all .1;
+            news = λ k.
+                subst (λ y. News l y d new f) (sym (outs-snoc b (v .done) c))
+                (news-kept l (outs b (v .done)) d new f (join b c .0) (v .news k) (subst (λ u. OneOf u l) (sym tree) (all .0)));
           }
 
     module _ (over : n ≤ i) where
@@ -156,14 +227,14 @@ module _ {b : Bool} {l : List Tree} {o₀ w₀ : List ℕ} {d p count : ℕ} whe
           ∙ ap (rest-of-walk b (v .done) (v .removed)) no-more
           ∙ walk-ends (merge b) (v .done) (v .removed)
 
-      pub says-idle : count ≤ n → (μ : ℕ) → combined b μ l ≡ paper.does-not-apply
+      says-idle : count ≤ n → (μ : ℕ) → combined b μ l ≡ paper.does-not-apply
       says-idle h μ = idle-outcome b l (v .done) (v .removed) all-out μ (omega (arith, v .gone))
 
-      pub says-late : n < count → late ≡ true → (μ : ℕ) → combined b μ l ≡ paper.range-exceeded
+      says-late : n < count → late ≡ true → (μ : ℕ) → combined b μ l ≡ paper.range-exceeded
       says-late h q μ =
           over-outcome b l (v .done) (v .removed) all-out μ (omega (arith, v .gone)) (subst (Came b d o₀ o e (v .done)) q (v .common .came))
 
-      pub says-done : n < count → late ≡ false → CameOut b l o₀ o d i e
+      says-done : n < count → late ≡ false → CameOut b l o₀ o d n e
       says-done h q =
           let came = subst (Came b d o₀ o e (v .done)) q (v .common .came) in
           let these : cameOut b l ≡ outs b (v .done) = ap (λ w. outs b (w .parts)) all-out in
@@ -171,14 +242,37 @@ module _ {b : Bool} {l : List Tree} {o₀ w₀ : List ℕ} {d p count : ℕ} whe
             applies =
                 λ μ. done-outcome b l (v .done) (v .removed) all-out μ (omega (arith, v .gone)) (came .0)
                 ∙ ap (λ m. paper.applies (nodeOf b μ m)) (sym these);
-            many = ap length these ∙ outs-many b (v .done) ∙ v .common .many;
+            many = ap length these ∙ outs-many b (v .done) ∙ v .common .many ∙ omega (arith, v .many);
             built = came .1 ∙ ap (λ m. take ((d + 1) * 16) o₀ ++ encodesBy note (ofList m)) (sym these);
             end = came .2 ∙ ap (λ m. d + 1 + recordses (ofList m)) (sym these);
             small = omega (arith, v .room, list-weights l);
           }
 
-  module _ {o w : List ℕ} {n i e : ℕ} {late : Bool} {c : Part} {key j : ℕ}
-      (v : Inner b l o₀ w₀ d p count o w n i e late c key j) where
+      -- where one of them is new, it stands at record f
+      says-new : late ≡ false → new ≡ 1 → OneNew l (cameOut b l) d f
+      says-new q one =
+          let these : cameOut b l ≡ outs b (v .done) = ap (λ w. outs b (w .parts)) all-out in
+          subst (λ m. OneNew l m d f) (sym these) (subst (λ k. News l (outs b (v .done)) d k f) one (v .news q))
+
+      -- the answer, by its tests
+      says-which : n < count → late ≡ false → (one : Bool) → eqb new 1 ≡ one → Says b l o₀ o d (Done n e (cond one f 0))
+      says-which h q true one = (says-done h q, λ z. says-new q (eqb-true new 1 one))
+      says-which h q false one = (says-done h q, λ z. absurd (omega (arith, z)))
+
+      says-judged : n < count → (judged : Bool) → late ≡ judged → Says b l o₀ o d (cond judged Over (Done n e (cond (eqb new 1) f 0)))
+      says-judged h true q = says-late h q
+      says-judged h false q = says-which h q (eqb new 1) refl
+
+      pub says-answer : Says b l o₀ o d (answerOf count n e late new f)
+      unfolding answerOf
+      says-answer = go (leb count n) refl
+        where
+          go : (all : Bool) → leb count n ≡ all → Says b l o₀ o d (cond all Idle (cond late Over (Done n e (cond (eqb new 1) f 0))))
+          go true h = says-idle (leb-true count n h)
+          go false h = says-judged (leb-false count n h) late refl
+
+  module _ {o w : List ℕ} {n i e : ℕ} {late : Bool} {new f : ℕ} {c : Part} {key had j : ℕ}
+      (v : Inner b l o₀ w₀ d p count o w n i e late new f c key had j) where
     module _ (less : j < n) where
       abbrev pub next : Head b w p j (v .left)
       next = head-of b w p j (v .left) (v .entries) (omega (arith, v .many))
@@ -192,13 +286,14 @@ module _ {b : Bool} {l : List Tree} {o₀ w₀ : List ℕ} {d p count : ℕ} whe
 
       -- it is passed by
       pub inner-apart : (o' : List ℕ) → take (e * 16) o' ≡ take (e * 16) o → merge b (v .current) (split b (next .tree)) ≡ none
-          → Inner b l o₀ w₀ d p count o' w n i e late c key (j + 1)
+          → Inner b l o₀ w₀ d p count o' w n i e late new f c key had (j + 1)
       unfolding total
       inner-apart o' s q =
           let x = next .tree in
           let m = next .others in
           let size = ap length (next .is) in
           let heavy = ap (total weight) (next .is) in
+          let all = subst (AllOf l) (next .is) (v .left-of) in
           record {
             done = v .done;
             removed = v .removed;
@@ -220,14 +315,22 @@ module _ {b : Bool} {l : List Tree} {o₀ w₀ : List ℕ} {d p count : ℕ} whe
             entries = next .rest;
             room = omega (arith, v .room, total-append weight (v .passed) (x ∷ []));
             common = common-ticks (v .common) o' w s refl;
+            member = v .member;
+            own-entry = v .own-entry;
+            own = v .own;
+            fewer = v .fewer;
+            member-of = v .member-of;
+            passed-of = all-of-snoc l (v .passed) x (v .passed-of) (all .0);
+            left-of = all .1;
+            news = v .news;
           }
 
       -- it is taken up, and the last member moves into its place
       pub inner-into : (o' w' : List ℕ) (c' : Part) (x : Like b) → take (e * 16) o' ≡ take (e * 16) o
           → merge b (v .current) (split b (next .tree)) ≡ some x → Shows b w c' x → From p c' → n * 4 ≤ p * 16 → p * 16 ≤ length w
-          → w' ≡ put w (j * 4) (part w ((n - 1) * 4) 4) → Inner b l o₀ w₀ d p count o' w' (n - 1) i e late c' key j
+          → w' ≡ put w (j * 4) (part w ((n - 1) * 4) 4) → Inner b l o₀ w₀ d p count o' w' (n - 1) i e late new f c' key had j
       unfolding total
-      inner-into o' w' c' x s q h f low within k =
+      inner-into o' w' c' x s q h from low within k =
           let t = next .tree in
           let m = next .others in
           let size = ap length (next .is) in
@@ -236,6 +339,8 @@ module _ {b : Bool} {l : List Tree} {o₀ w₀ : List ℕ} {d p count : ℕ} whe
           let still = swap-pending w w' p j (n - 1) t m rest (omega arith) within k in
           let same = total-fold weight (lastFirst m) ∙ fold-lastFirst plus-laws weight m ∙ sym (total-fold weight m) in
           let grown = join-grows b (v .current) x t (next .entry .there .wf) q in
+          let all = subst (AllOf l) (next .is) (v .left-of) in
+          let its = swap-before w w' p j (n - 1) t m rest (omega arith) within k b i (v .member ∷ []) (omega (arith, v .behind)) (v .own-entry, tt) in
           let fuel : length (parts b m) ≡ length (parts b (lastFirst m)) =
           map-length (split b) m ∙ sym (lastFirst-length m) ∙ sym (map-length (split b) (lastFirst m)) in
           record {
@@ -244,9 +349,9 @@ module _ {b : Bool} {l : List Tree} {o₀ w₀ : List ℕ} {d p count : ℕ} whe
             current = x;
             passed = v .passed;
             left = lastFirst m;
-            shown = shows-still b w w' p c' x still f h;
+            shown = shows-still b w w' p c' x still from h;
             keyed = v .keyed ∙ ap shortKey (sym (key-stays b (v .current) (split b t) x q));
-            place = f;
+            place = from;
             whole =
                 faced
                 ∙ takes-up (merge b) (v .done) (v .removed) (length (parts b m)) (v .current) (split b t) x (parts b (v .passed)) (parts b m) q
@@ -261,6 +366,14 @@ module _ {b : Bool} {l : List Tree} {o₀ w₀ : List ℕ} {d p count : ℕ} whe
             entries = swap-after w w' p j (n - 1) t m rest (omega arith) within k b (subst (Entries b w p j) (next .is) (v .entries));
             room = omega (arith, v .room);
             common = common-ticks (v .common) o' w' s still;
+            member = v .member;
+            own-entry = its .0;
+            own = λ same. absurd (omega (arith, same, v .fewer, less));
+            fewer = omega (arith, v .fewer);
+            member-of = v .member-of;
+            passed-of = v .passed-of;
+            left-of = all-lastFirst l m (all .1);
+            news = v .news;
           }
 
       -- it is taken up, and the range is left
@@ -292,8 +405,9 @@ module _ {b : Bool} {l : List Tree} {o₀ w₀ : List ℕ} {d p count : ℕ} whe
           ∙ turn-ends (merge b) (v .done) (v .removed) (v .current) (parts b (v .passed))
 
       pub outer-written : (o' : List ℕ) (x : ℕ) → e * 16 ≤ length o → join b (v .current) .1 ≡ true → x ≡ e + records (join b (v .current) .0)
-          → o' ≡ put o (e * 16) (encodeBy note (join b (v .current) .0)) → Outer b l o₀ w₀ d p count o' w n (i + 1) x late
-      outer-written o' x r g q s =
+          → o' ≡ put o (e * 16) (encodeBy note (join b (v .current) .0)) → (new' f' : ℕ)
+          → (late ≡ false → News l (outs b (v .done ++ (v .current ∷ []))) d new' f') → Outer b l o₀ w₀ d p count o' w n (i + 1) x late new' f'
+      outer-written o' x r g q s new' f' told =
           let size = ap length no-later in
           record {
             done = v .done ++ (v .current ∷ []);
@@ -305,9 +419,25 @@ module _ {b : Bool} {l : List Tree} {o₀ w₀ : List ℕ} {d p count : ℕ} whe
             entries = v .passed-entries;
             room = omega (arith, v .room, records-weight (join b (v .current) .0));
             common = common-written (v .common) o' (v .current) x r g q s;
+            left-of = v .passed-of;
+            news = told;
           }
 
-      pub outer-late : (o' : List ℕ) → join b (v .current) .1 ≡ false → o' ≡ o → Outer b l o₀ w₀ d p count o' w n (i + 1) e true
+      -- it is the member whose turn it was; or a new one, and stands at record e
+      as-before : (k : ℕ) (g : ℕ) → News l (outs b (v .done) ++ (join b (v .current) .0 ∷ [])) d k g → News l (outs b (v .done ++ (v .current ∷ []))) d k g
+      as-before k g = subst (λ m. News l m d k g) (sym (outs-snoc b (v .done) (v .current)))
+
+      pub kept-news : join b (v .current) .0 ≡ v .member → late ≡ false → News l (outs b (v .done ++ (v .current ∷ []))) d new f
+      kept-news is q =
+          as-before new f
+          (news-kept l (outs b (v .done)) d new f (join b (v .current) .0) (v .news q) (subst (λ t. OneOf t l) (sym is) (v .member-of)))
+
+      pub new-news : late ≡ false → News l (outs b (v .done ++ (v .current ∷ []))) d (new + 1) e
+      new-news q =
+          let came = subst (Came b d o₀ o e (v .done)) q (v .common .came) in
+          as-before (new + 1) e (news-new l (outs b (v .done)) d new f e (join b (v .current) .0) (v .news q) (came .2))
+
+      pub outer-late : (o' : List ℕ) → join b (v .current) .1 ≡ false → o' ≡ o → Outer b l o₀ w₀ d p count o' w n (i + 1) e true new f
       outer-late o' g s =
           let size = ap length no-later in
           record {
@@ -320,6 +450,8 @@ module _ {b : Bool} {l : List Tree} {o₀ w₀ : List ℕ} {d p count : ℕ} whe
             entries = v .passed-entries;
             room = omega (arith, v .room);
             common = common-late (v .common) o' (v .current) g s;
+            left-of = v .passed-of;
+            news = λ q. absurd (true-not-false refl q);
           }
 
     -- where the walk is left, what is pending and what is done stay

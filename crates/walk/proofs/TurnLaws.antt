@@ -9,6 +9,7 @@ use native.Mathlib.Omega.{arith}
 use lib.ListN.{length}
 use Rattle.paper.specs.Walk.{lastOf, initOf, lastFirst, Turn, WalkEnd, oneRemoved, thenWalk, turn, walk}
 use Rattle.paper.proofs.WalkFuel.{turn-later, walk-fuel}
+use Rattle.note.proofs.ApartLaws.{unturned}
 
 module _ {A B : Type 0} (f : A → B) where
   map-last : (a : A) (l : List A) → map f (initOf a l) ≡ initOf (f a) (map f l)
@@ -86,6 +87,14 @@ module _ {P : Type 0} (merge : P → P → Option P) where
         ap (λ (l : List P). record { parts = done ++ (c ∷ walk merge (length l) l .parts); removed = r + (0 + walk merge (length l) l .removed) })
         (append-nil passed)
         ∙ ap (λ (l : List P). record { parts = l; removed = r + (0 + w .removed) }) (sym (append-assoc done (c ∷ []) (w .parts)))
+        ∙ ap (λ k. record { parts = (done ++ (c ∷ [])) ++ w .parts; removed = k }) (omega arith)
+
+    -- a turn that removed nothing
+    pub turn-over : (c : P) (l : List P) → resumed done r (after (unturned c l)) ≡ resumed (done ++ (c ∷ [])) r (walk merge (length l) l)
+    unfolding after thenWalk resumed
+    turn-over c l =
+        let w = walk merge (length l) l in
+        ap (λ (m : List P). record { parts = m; removed = r + (0 + w .removed) }) (sym (append-assoc done (c ∷ []) (w .parts)))
         ∙ ap (λ k. record { parts = (done ++ (c ∷ [])) ++ w .parts; removed = k }) (omega arith)
 
     pub walk-ends : resumed done r (walk merge 0 []) ≡ record { parts = done; removed = r }

@@ -1,5 +1,5 @@
--- Two answers of `list_members`, and of `walk`, that meet their contracts as the check reads them from the source, are the same; so are the
--- entries, and what is pending, done and built. Of the other bytes of `out`, and of the entries after a walk, nothing is said.
+-- Two answers of `list_members`, and of `walk`, that meet their contracts as the check reads them from the source, are the same, but for the record that
+-- `Done` may name, which is a hint; so are the entries, and what is pending, done and built. Of the other bytes of `out`, and of the entries after a walk, nothing is said.
 -- Assumes nothing.
 use Prim.Native.Nat.{ℕ, _*_}
 use mathlib.Core.Path.{_≡_, refl, sym, ap, _∙_}
@@ -30,22 +30,34 @@ list-members-once κs a v v' x x' q p p' =
 abbrev BuiltAlike : (o o' : List ℕ) → Walked → Type 0
 BuiltAlike o o' Idle = Unit {0}
 BuiltAlike o o' Over = Unit {0}
-BuiltAlike o o' (Done n e) = take (e * 16) o ≡ take (e * 16) o'
+BuiltAlike o o' (Done n e f) = take (e * 16) o ≡ take (e * 16) o'
+
+-- two answers, whatever record is named
+abbrev Alike : Walked → Walked → Type 0
+Alike Idle Idle = Unit {0}
+Alike Over Over = Unit {0}
+Alike (Done n e f) (Done n' e' f') = (n ≡ n') × (e ≡ e')
+Alike Idle Over = ⊥
+Alike Idle (Done n e f) = ⊥
+Alike Over Idle = ⊥
+Alike Over (Done n e f) = ⊥
+Alike (Done n e f) Idle = ⊥
+Alike (Done n e f) Over = ⊥
 
 module _ (b : Bool) (l : List Tree) (s o o' : List ℕ) (d : ℕ) where
-  says-once : (r r' : Walked) → Says b l s o d r → Says b l s o' d r' → (r ≡ r') × BuiltAlike o o' r
-  says-once Idle Idle h h' = (refl, tt)
+  says-once : (r r' : Walked) → Says b l s o d r → Says b l s o' d r' → Alike r r' × BuiltAlike o o' r
+  says-once Idle Idle h h' = (tt, tt)
   says-once Idle Over h h' = let a = h 0 in let c = h' 0 in absurd (let z : _≡_ {A = ℕ} 0 1 = cc in omega arith)
-  says-once Idle (Done n e) h h' = let a = h' .applies 0 in let c = h 0 in absurd (let z : _≡_ {A = ℕ} 0 1 = cc in omega arith)
+  says-once Idle (Done n e f) h h' = let a = h' .0 .applies 0 in let c = h 0 in absurd (let z : _≡_ {A = ℕ} 0 1 = cc in omega arith)
   says-once Over Idle h h' = let a = h 0 in let c = h' 0 in absurd (let z : _≡_ {A = ℕ} 0 1 = cc in omega arith)
-  says-once Over Over h h' = (refl, tt)
-  says-once Over (Done n e) h h' = let a = h' .applies 0 in let c = h 0 in absurd (let z : _≡_ {A = ℕ} 0 1 = cc in omega arith)
-  says-once (Done n e) Idle h h' = let a = h .applies 0 in let c = h' 0 in absurd (let z : _≡_ {A = ℕ} 0 1 = cc in omega arith)
-  says-once (Done n e) Over h h' = let a = h .applies 0 in let c = h' 0 in absurd (let z : _≡_ {A = ℕ} 0 1 = cc in omega arith)
-  says-once (Done n e) (Done n' e') h h' =
-      let many : n ≡ n' = sym (h .many) ∙ h' .many in
-      let end : e ≡ e' = h .end ∙ sym (h' .end) in
-      (cc, h .built ∙ sym (h' .built) ∙ ap (λ k. take (k * 16) o') (sym end))
+  says-once Over Over h h' = (tt, tt)
+  says-once Over (Done n e f) h h' = let a = h' .0 .applies 0 in let c = h 0 in absurd (let z : _≡_ {A = ℕ} 0 1 = cc in omega arith)
+  says-once (Done n e f) Idle h h' = let a = h .0 .applies 0 in let c = h' 0 in absurd (let z : _≡_ {A = ℕ} 0 1 = cc in omega arith)
+  says-once (Done n e f) Over h h' = let a = h .0 .applies 0 in let c = h' 0 in absurd (let z : _≡_ {A = ℕ} 0 1 = cc in omega arith)
+  says-once (Done n e f) (Done n' e' f') h h' =
+      let many : n ≡ n' = sym (h .0 .many) ∙ h' .0 .many in
+      let end : e ≡ e' = h .0 .end ∙ sym (h' .0 .end) in
+      ((many, end), h .0 .built ∙ sym (h' .0 .built) ∙ ap (λ k. take (k * 16) o') (sym end))
 
 pub walk-once : (κs : Lfts 2) (a : Dens κs kinds.ps) (l : List Tree) (r r' : Walked) (x x' : AtExit (endedOf 2 kinds.ps kinds.r) κs)
     → let out = a .0 .now in
@@ -55,7 +67,7 @@ pub walk-once : (κs : Lfts 2) (a : Dens κs kinds.ps) (l : List Tree) (r r' : W
     let count = a .1 .1 .1 .1 .0 in
     let terms = a .1 .1 .1 .1 .1 .0 in
     Walkable terms out work d p count l → reads.Post κs a r x → reads.Post κs a r' x'
-    → ((r ≡ r') × BuiltAlike (x .0 .now) (x' .0 .now) r)
+    → (Alike r r' × BuiltAlike (x .0 .now) (x' .0 .now) r)
     × (drop (p * 16) (x .1 .0 .now) ≡ drop (p * 16) (x' .1 .0 .now))
     × (take (d * 16) (x .0 .now) ≡ take (d * 16) (x' .0 .now))
 walk-once κs a l r r' x x' h p p' =

@@ -1,2 +1,4 @@
 pub mod Listed
+pub mod Stays
 pub mod Walked
+pub mod Lone

@@ -1,5 +1,5 @@
 -- The members' places in `work`: four bytes a member at the front of `work`, its first record counted from the node's own record p, and
--- 16 bits of the key of its part. Its number of records is in its note.
+-- 15 bits of the key of its part, below a bit that may be set. Its number of records is in its note.
 use Prim.Native.Nat.{ℕ, _+_, _*_, _/_, _%_, _≤_, _<_}
 use mathlib.Core.Path.{_≡_}
 use mathlib.Core.Bool.{Bool}
@@ -13,9 +13,9 @@ use Rattle.note.specs.Part.{partKey}
 use Rattle.stretch.specs.Put.{put}
 use Rattle.split.specs.Standing.{Told, ToldTrees}
 
--- 16 bits of a key, from its upper half: the lower one is a number of records and a weight
+-- 15 bits of a key, from its upper half: the lower one is a number of records and a weight
 unfoldable pub shortKey : ℕ → ℕ
-shortKey key = key / 4294967296 % 65536
+shortKey key = key / 4294967296 % 32768
 
 -- the four bytes of an entry
 unfoldable pub entryOf : ℕ → ℕ → List ℕ
@@ -26,10 +26,14 @@ unfoldable pub entriesOf : Bool → ℕ → List Tree → List ℕ
 entriesOf b i [] = []
 entriesOf b i (t ∷ l) = entryOf i (shortKey (partKey b t)) ++ entriesOf b (i + records t) l
 
+-- the 15 bits of entry k
+abbrev pub bitsOf : List ℕ → ℕ → ℕ
+bitsOf w k = le2 w (k * 4 + 2) % 32768
+
 -- entry k is that of the tree t
 pub record Entry (b : Bool) (w : List ℕ) (p k : ℕ) (t : Tree) : Type 0 where
   pub there : Told note w (p + le2 w (k * 4)) t
-  pub key : le2 w (k * 4 + 2) ≡ shortKey (partKey b t)
+  pub key : bitsOf w k ≡ shortKey (partKey b t)
 
 -- the entries from k on are those of the trees l
 abbrev pub Entries : Bool → List ℕ → ℕ → ℕ → List Tree → Type 0

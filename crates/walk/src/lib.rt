@@ -1,27 +1,41 @@
 // The walk of steps 2 and 6 over the members of one node: each current member against each later one; where one takes up another, the
-// last member moves into its place and is looked at next. The members' starts and 16 bits of their parts' keys stand at the front of
-// `work`, the members that come out in `out`. A part takes up another only where their keys are the same, so one whose 16 bits are
-// others is passed by without a comparison.
+// last member moves into its place and is looked at next. The members' starts and 15 bits of their parts' keys stand at the front of
+// `work`, the members that come out in `out`. A part takes up another only where their keys are the same, so one whose 15 bits are
+// others is passed by without a comparison; a member that is alone with its 15 bits, and stays, is copied at once (`lone`).
 ghost use mathlib.Core.Path.{_≡_};
-ghost use mathlib.Core.Bool.{Bool};
+ghost use mathlib.Core.Bool.{Bool, _&&_};
 ghost use mathlib.Core.List.{List};
-ghost use Prim.Native.Nat.{_+_, _*_, _≤_, _<_};
+ghost use Prim.Native.Nat.{ℕ, _+_, _*_, _≤_, _<_};
 ghost use lib.ListN.{length};
-ghost use Rattle.paper.specs.Tree.{Tree, Forest};
+ghost use lib.Dec.{ltb};
+ghost use Rattle.paper.specs.Tree.{Tree, Forest, product, toList};
 ghost use Rattle.stretch.specs.Put.{part, put};
-ghost use Rattle.part.specs.Like.{Like, split};
+ghost use Rattle.split.specs.Standing.{Told, SomeTold, SomeProduct};
+ghost use Rattle.part.specs.Like.{Like, split, join};
 ghost use Rattle.part.specs.Part.{Shows, From, MergedIs, IntoFrom};
 ghost use Rattle.walk.specs.Listed.{shortKey, entryOf, Entry, Listable, ListedIs};
-ghost use Rattle.walk.specs.Walked.{keyOf, Meeting, Walkable, WalkedIs};
+ghost use Rattle.walk.specs.Lone.{isLone};
+ghost use Rattle.walk.specs.Stays.{isCoefficient, lastStays, productStays, stays};
+ghost use Rattle.walk.specs.Walked.{keyOf, Meeting, Keepable, KeptIs, Turned, Finishing, FinishedIs, answerOf, Walkable, WalkedIs};
 
-// What the walk answers: nothing was removed; the range is left; how many members came out, and where they end.
+mod lone;
+
+// What the walk answers: nothing was removed; the range is left; how many members came out, where they end, and the record of the
+// only one of them that was no member before, or 0.
 pub enum Walked {
     Idle,
     Over,
-    Done(usize, usize),
+    Done(usize, usize, usize),
 }
 
-// Entry k: the member's first record, counted from the node's, and 16 bits of its part's key.
+// The turn of a member is done: it stays, up to a record; it is new, up to a record; it is out of range.
+enum Finished {
+    Kept(usize),
+    New(usize),
+    Over,
+}
+
+// Entry k: the member's first record, counted from the node's, and 15 bits of its part's key.
 fn write_entry(work: &mut [u8], k: usize, start: usize, key: u64)
     requires { ⌜ k * 4 + 4 ≤ length (now work) ⌝ }
     ensures { λ _. ⌜ now (work .exit) ≡ put (now (work .entry)) (k * 4) (entryOf start key) ⌝ }
@@ -45,7 +59,7 @@ pub fn list_members(work: &mut [u8], p: usize, terms: bool) -> usize
     while k < n {
         let v = note::note_at(work, at);
         let key = note::part_key(work, at, record::kind(work, at), v, terms);
-        write_entry(work, k, at - p, key / 0x1_0000_0000 % 0x1_0000);
+        write_entry(work, k, at - p, key / 0x1_0000_0000 % 0x8000);
         at += (v % 0x1_0000) as usize;
         k += 1;
     }
@@ -62,14 +76,14 @@ fn current(s: &[u8], p: usize, i: usize, terms: bool) -> part::Part
     part::part_of(s, start, split::skip_tree(s, start) - start, terms)
 }
 
-// The current part, with 16 bits of its key, where it meets the member of entry j.
+// The current part, with 15 bits of its key, where it meets the member of entry j.
 fn meet(s: &[u8], c: part::Part, key: usize, p: usize, j: usize, ticks: &mut [u8]) -> part::Merged
     requires { ⌜ Meeting (now s) c key p j (length (now ticks)) ⌝ }
     ensures { λ r. ⌜ ((b : Bool) (x : Like b) (t : Tree) → Shows b (now (s .entry)) c x → key ≡ shortKey (keyOf b x)
         → Entry b (now (s .entry)) p j t → MergedIs b (now (s .entry)) x (split b t) r) ⌝ }
     ensures place { λ r. ⌜ (From p c → IntoFrom p r) ⌝ }
 {
-    if number::read2(s, j * 4 + 2) != key {
+    if number::read2(s, j * 4 + 2) % 0x8000 != key {
         return part::Merged::Apart;
     }
     let start = p + number::read2(s, j * 4);
@@ -85,6 +99,188 @@ fn remove(work: &mut [u8], j: usize, n: usize) -> usize
     j
 }
 
+// An integer stands at record i that is written as a coefficient: it is not 1, and has the mark.
+fn is_coefficient(s: &[u8], i: usize, mark: usize) -> bool
+    requires { ⌜ SomeTold (now s) i ⌝ }
+    ensures { λ r. ⌜ ((how : Tree → ℕ) (t : Tree) → Told how (now (s .entry)) i t → r ≡ isCoefficient mark t) ⌝ }
+{
+    if 0 < record::kind(s, i) {
+        return false;
+    }
+    if record::bits(s, i) == 1 {
+        return false;
+    }
+    record::mark(s, i) == mark
+}
+
+// No member of the product at record i is an integer, but for a coefficient after two others or more.
+fn last_stays(s: &[u8], i: usize) -> bool
+    requires { ⌜ SomeProduct (now s) i ⌝ }
+    ensures { λ r. ⌜ ((how : Tree → ℕ) (μ : ℕ) (f : Forest) → Told how (now (s .entry)) i (product μ f)
+        → r ≡ lastStays (ltb 2 (length (toList f))) μ (toList f)) ⌝ }
+{
+    let n = record::count(s, i);
+    let mut at = i + 1;
+    let mut left = n;
+    while 1 < left {
+        if record::kind(s, at) < 1 {
+            return false;
+        }
+        at = split::skip_tree(s, at);
+        left -= 1;
+    }
+    if 0 < record::kind(s, at) {
+        return true;
+    }
+    if n < 3 {
+        return false;
+    }
+    is_coefficient(s, at, record::mark(s, i))
+}
+
+// The product at record i is what its coefficient and its rest become: where it begins with an integer, a coefficient and a rest that is
+// no product; else as above.
+fn product_stays(s: &[u8], i: usize) -> bool
+    requires { ⌜ SomeProduct (now s) i ⌝ }
+    ensures { λ r. ⌜ ((how : Tree → ℕ) (μ : ℕ) (f : Forest) → Told how (now (s .entry)) i (product μ f) → r ≡ productStays μ (toList f)) ⌝ }
+{
+    if 0 < record::kind(s, i + 1) {
+        return last_stays(s, i);
+    }
+    if 2 < record::count(s, i) {
+        return false;
+    }
+    let k = record::kind(s, i + 2);
+    if k < 1 {
+        return false;
+    }
+    if k == 3 {
+        return false;
+    }
+    is_coefficient(s, i + 1, record::mark(s, i))
+}
+
+// The member at record i, of a sum (terms) or of a product, is what its own part becomes.
+fn stays(s: &[u8], i: usize, terms: bool) -> bool
+    requires { ⌜ SomeTold (now s) i ⌝ }
+    ensures { λ r. ⌜ ((how : Tree → ℕ) (t : Tree) → Told how (now (s .entry)) i t → r ≡ stays terms t) ⌝ }
+{
+    let k = record::kind(s, i);
+    if terms {
+        if k == 3 {
+            return product_stays(s, i);
+        }
+        return true;
+    }
+    if k != 4 {
+        return true;
+    }
+    let e = split::skip_tree(s, i + 1);
+    if record::bits(s, e) == 1 {
+        return false;
+    }
+    record::mark(s, e) == record::mark(s, i)
+}
+
+// The member of entry i comes out as it stands: it took up no other, and stays.
+fn is_kept(s: &[u8], p: usize, i: usize, alone: bool, terms: bool) -> bool
+    requires { ⌜ ((t : Tree) × Entry terms (now s) p i t × (i * 4 + 4 ≤ length (now s))) ⌝ }
+    ensures { λ r. ⌜ ((t : Tree) → Entry terms (now (s .entry)) p i t → r ≡ (alone && stays terms t)) ⌝ }
+{
+    if alone {
+        let start = p + number::read2(s, i * 4);
+        return stays(s, start, terms);
+    }
+    false
+}
+
+// Copies the member of entry i whole where it comes out as it stands; answers the record after it, or 0.
+fn keep(
+    out: &mut [u8],
+    e: usize,
+    work: &[u8],
+    p: usize,
+    i: usize,
+    alone: bool,
+    terms: bool,
+) -> usize
+    requires { ⌜ Keepable terms (now out) e (now work) p i alone ⌝ }
+    ensures { λ r. ⌜ ((t : Tree) → Entry terms (now (work .entry)) p i t
+        → KeptIs (alone && stays terms t) t (now (out .entry)) (now (out .exit)) e r) ⌝ }
+{
+    if is_kept(work, p, i, alone, terms) {
+        let start = p + number::read2(work, i * 4);
+        let k = split::skip_tree(work, start) - start;
+        stretch::copy_bytes(out, e * 16, work, start * 16, k * 16);
+        return e + k;
+    }
+    0
+}
+
+// The same where the bits are told, and an entry with this high byte of its key is alone with it.
+fn keep_lone(
+    out: &mut [u8],
+    e: usize,
+    work: &[u8],
+    p: usize,
+    i: usize,
+    high: u8,
+    told: bool,
+    terms: bool,
+) -> usize
+    requires { ⌜ Keepable terms (now out) e (now work) p i (isLone high told) ⌝ }
+    ensures { λ r. ⌜ ((t : Tree) → Entry terms (now (work .entry)) p i t
+        → KeptIs (isLone high told && stays terms t) t (now (out .entry)) (now (out .exit)) e r) ⌝ }
+{
+    if lone::is_lone(high, told) {
+        return keep(out, e, work, p, i, true, terms);
+    }
+    0
+}
+
+// The turn of the member of entry i is done: where it comes out as it stands it is copied whole, else what its part became is written.
+fn finish(
+    out: &mut [u8],
+    e: usize,
+    work: &[u8],
+    p: usize,
+    i: usize,
+    c: part::Part,
+    alone: bool,
+    terms: bool,
+) -> Finished
+    requires { ⌜ Finishing terms (now out) e (now work) p i c alone ⌝ }
+    ensures { λ r. ⌜ ((x : Like terms) (t : Tree) → Turned terms (now (work .entry)) p i c alone x t
+        → FinishedIs (alone && stays terms t) (join terms x) t (now (out .entry)) (now (out .exit)) e r) ⌝ }
+{
+    let kept = keep(out, e, work, p, i, alone, terms);
+    if 0 < kept {
+        return Finished::Kept(kept);
+    }
+    let w = write::write_part(out, e, work, c);
+    match w {
+        write::Written::To(x) => Finished::New(x),
+        write::Written::Over => Finished::Over,
+    }
+}
+
+// The answer where n of `count` members came out, up to record e: `late`, one of them is out of range; `new` of them are new, the last at
+// record f.
+fn answer(count: usize, n: usize, e: usize, late: bool, new: usize, f: usize) -> Walked
+    ensures { λ r. ⌜ r ≡ answerOf count n e late new f ⌝ }
+{
+    if count <= n {
+        return Walked::Idle;
+    }
+    if late {
+        return Walked::Over;
+    }
+    if new == 1 {
+        return Walked::Done(n, e, f);
+    }
+    Walked::Done(n, e, 0)
+}
+
 // The walk over the `count` members that are listed. A member that is rebuilt out of range counts only if something is removed.
 pub fn walk(
     out: &mut [u8],
@@ -98,14 +294,25 @@ pub fn walk(
     ensures { λ r. ⌜ ((l : List Tree) → Walkable terms (now (out .entry)) (now (work .entry)) d p count l
         → WalkedIs terms l (now (out .entry)) (now (out .exit)) (now (work .entry)) (now (work .exit)) d p r) ⌝ }
 {
+    let told = lone::tell_lone(out, work, d, count);
     let mut n = count;
     let mut i = 0;
     let mut e = d + 1;
     let mut late = false;
     let mut over = false;
+    let mut new: usize = 0;
+    let mut f = 0;
     'walk: while i < n {
+        let high = work[i * 4 + 3];
+        let x = keep_lone(out, e, work, p, i, high, told, terms);
+        if 0 < x {
+            e = x;
+            i += 1;
+            continue;
+        }
         let mut c = current(work, p, i, terms);
-        let key = number::read2(work, i * 4 + 2);
+        let key = number::read2(work, i * 4 + 2) % 0x8000;
+        let had = n;
         let mut j = i + 1;
         while j < n {
             let a = e * 16;
@@ -123,21 +330,20 @@ pub fn walk(
                 }
             }
         }
-        let w = write::write_part(out, e, work, c);
+        let w = finish(out, e, work, p, i, c, n == had, terms);
         match w {
-            write::Written::To(x) => e = x,
-            write::Written::Over => late = true,
+            Finished::Kept(x) => e = x,
+            Finished::New(x) => {
+                new += 1;
+                f = e;
+                e = x;
+            }
+            Finished::Over => late = true,
         }
         i += 1;
     }
     if over {
         return Walked::Over;
     }
-    if count <= n {
-        return Walked::Idle;
-    }
-    if late {
-        return Walked::Over;
-    }
-    Walked::Done(i, e)
+    answer(count, n, e, late, new, f)
 }

@@ -1,32 +1,31 @@
 -- `driver::take_up` meets its contract: each need is one law of Taking, for the node that `requires` says is gathered. Assumes nothing.
-use Prim.Native.Nat.{ℕ, _+_, _-_, _*_}
+use Prim.Native.Nat.{_+_, _-_, _*_}
 use mathlib.Core.Path.{_≡_, refl, sym, ap, _∙_, subst}
 use mathlib.Core.Bool.{true}
-use mathlib.Core.List.{List}
+use lib.ListN.{drop}
 use native.Mathlib.Omega.{arith}
-use Rattle.paper.specs.Tree.{Tree, weight}
+use Rattle.paper.specs.Tree.{weight}
 use Rattle.paper.specs.Rules.{rulesOf}
 use Rattle.paper.specs.Driver.{ask}
 use Rattle.note.specs.Still.{stillBy}
 use Rattle.note.specs.Keys.{Scratched}
 use Rattle.note.proofs.StillLaws.{still-no-rule, still-by}
-use Rattle.driver.specs.declared.Settled.{Settled}
+use Rattle.driver.specs.declared.Eased.{Eased}
 use Rattle.driver.specs.declared.Taken.the-variants as taken
-use Rattle.driver.specs.Driven.{withNotes, Set, Back, Burst, SettledIs, TakenIs}
-use Rattle.driver.proofs.Taking.{tree-done, scratch-room, size-fits, left-alone, place-kept, set-back, same-tree, same-steps, ends-there, left-there, done-again, back-for-every}
-use borrow.Author.Needs.{needs}
+use Rattle.driver.specs.Driven.{Set, Burst, EasedIs, TakenIs}
+use Rattle.driver.proofs.Taking.{tree-done, ends-quiet, scratch-room, size-fits, left-alone, place-kept, set-back, same-tree, same-steps, ends-there, left-there, done-again, back-for-every}
 use borrow.Author.Needs.{needs}
 use Rattle.driver.proofs.take_up.Statement.{statement}
 use Rattle.driver.proofs.take_up.Tie as tie
 use Rattle.driver.proofs.take_up.Reads as reads
 use Rattle.driver.proofs.take_up.Lts as lts
-use Rattle.driver.proofs.settle.Reads as settle-reads
+use Rattle.driver.proofs.ease.Reads as ease-reads
 use Rattle.note.proofs.still.Reads as still-reads
 use Rattle.stretch.proofs.copy_bytes.Reads as copy-bytes-reads
 
--- places on the way through the code, and from each the one before it: the entry, after the test, after the node went back, after it was settled
+-- places on the way through the code, and from each the one before it: the entry, after the test, after the node went back, after it was eased
 abbrev claims : lts.Claims
-claims = (still-reads.Asked, still-reads.Learnt, copy-bytes-reads.Asked, copy-bytes-reads.Learnt, settle-reads.Asked, settle-reads.Learnt)
+claims = (still-reads.Asked, still-reads.Learnt, copy-bytes-reads.Asked, copy-bytes-reads.Learnt, ease-reads.Asked, ease-reads.Learnt)
 
 abbrev Entry : Type 0
 Entry = lts.Start claims reads.Pre reads.Post
@@ -38,7 +37,7 @@ abbrev Copied : Type 0
 Copied = lts.After-copy-bytes claims reads.Pre reads.Post
 
 abbrev Called : Type 0
-Called = lts.After-settle claims reads.Pre reads.Post
+Called = lts.After-ease claims reads.Pre reads.Post
 
 abbrev entry-of : Tested → Entry
 entry-of c = c .before .before .before .before .before .before
@@ -63,35 +62,31 @@ set-again c =
     set-back (entry-of tested .pre .2) (scratched tested) (copied .last .0) (copied .ensures) (copied .kept .0)
 
 -- what the answer x says
-answer : (c : Called) (x : Settled)
+answer : (c : Called) (x : Eased)
     → let copied = copied-of c in
     let entry = entry-of (tested-of copied) in
-    let g = entry .args in let r = c .settle in
-    r .result ≡ x → SettledIs (rulesOf (g .edition)) (entry .pre .0) (entry .pre .1) (g .out .now) (r .last .0) (r .last .1 .0) (g .steps .now) (r .last .1 .1 .0) (g .d) (g .s) x
+    let g = entry .args in let r = c .ease in
+    r .result ≡ x → EasedIs (rulesOf (g .edition)) (entry .pre .0) (entry .pre .1) (g .out .now) (r .last .0) (r .last .1 .0) (g .steps .now) (r .last .1 .1 .0) (g .d) (g .q - (g .e - g .d)) (g .s) x
 answer c x e =
     let copied = copied-of c in
     let entry = entry-of (tested-of copied) in
     let g = entry .args in
-    let r = c .settle in
-    subst (SettledIs (rulesOf (g .edition)) (entry .pre .0) (entry .pre .1) (g .out .now) (r .last .0) (r .last .1 .0) (g .steps .now) (r .last .1 .1 .0) (g .d) (g .s)) e
+    let r = c .ease in
+    subst (EasedIs (rulesOf (g .edition)) (entry .pre .0) (entry .pre .1) (g .out .now) (r .last .0) (r .last .1 .0) (g .steps .now) (r .last .1 .1 .0) (g .d) (g .q - (g .e - g .d)) (g .s)) e
     (r .ensures (entry .pre .0) (entry .pre .1) (set-again copied))
 
--- src/lib.rt:121:8
 still-requires : tie.Need-still-requires
 still-requires c κs =
     let entry = c .before .before .before .before .before in
     let b = entry .pre .2 in
     (entry .pre .0, tree-done b, scratch-room b)
 
--- src/lib.rt:122:9
 same-length : tie.Need-same-length
 same-length c = search needs
 
--- src/lib.rt:122:9
 same-length-2 : tie.Need-same-length-2
 same-length-2 c = search needs
 
--- src/lib.rt:122:9
 returns : tie.Need-returns
 returns c =
     let tested = c .before .before .before in
@@ -103,31 +98,25 @@ returns c =
     (λ t r. TakenIs (rulesOf (g .edition)) t r (g .out .now) (g .out .now) (tested .still .last .1 .1 .0) (g .steps .now) (g .steps .now) (g .d) (g .e) (g .s) (taken.Finished (g .q)))
     (still-no-rule (g .edition) (entry .pre .0) (still-by (g .edition) (entry .pre .0) true-of), refl, left-alone b (scratched tested), place-kept b (scratched tested), refl)
 
--- src/lib.rt:124:16
 sub-size : tie.Need-sub-size
 sub-size c = search needs
 
--- src/lib.rt:125:14
 sub-at : tie.Need-sub-at
 sub-at c =
     let fits = size-fits (c .before .before .before .before .before .before .before .before .before .pre .2) in
     omega (arith, fits)
 
--- src/lib.rt:126:31
 mul-copy-bytes : tie.Need-mul-copy-bytes
 mul-copy-bytes c = search needs
 
--- src/lib.rt:126:45
 mul-copy-bytes-2 : tie.Need-mul-copy-bytes-2
 mul-copy-bytes-2 c = search needs
 
--- src/lib.rt:126:53
 mul-copy-bytes-3 : tie.Need-mul-copy-bytes-3
 mul-copy-bytes-3 c =
     let entry = c .before .before .before .before .before .before .before .before .before .before .before in
     omega (arith, size-fits (entry .pre .2), entry .good)
 
--- src/lib.rt:126:5
 copy-bytes-requires : tie.Need-copy-bytes-requires
 copy-bytes-requires c κs =
     let entry = c .before .before .before .before .before .before .before .before .before .before .before in
@@ -135,126 +124,143 @@ copy-bytes-requires c κs =
     let fits = size-fits (entry .pre .2) in
     (omega (arith, fits, k), omega (arith, fits, k))
 
--- src/lib.rt:127:9
-settle-requires : tie.Need-settle-requires
-settle-requires c κs =
+ease-requires : tie.Need-ease-requires
+ease-requires c κs =
     let copied = c .before .before .before .before .before in
     let entry = entry-of (tested-of copied) in
     (entry .pre .0, entry .pre .1, set-again copied)
 
--- src/lib.rt:129:23
 enum-known-g : tie.Need-enum-known-g
 enum-known-g c = search needs
 
--- src/lib.rt:130:21
 enum-known-g-2 : tie.Need-enum-known-g-2
 enum-known-g-2 c = search needs
 
--- src/lib.rt:132:17
+enum-known-g-3 : tie.Need-enum-known-g-3
+enum-known-g-3 c = search needs
+
 same-length-3 : tie.Need-same-length-3
 same-length-3 c = search needs
 
--- src/lib.rt:132:17
 same-length-4 : tie.Need-same-length-4
 same-length-4 c = search needs
 
--- src/lib.rt:132:17
 same-length-5 : tie.Need-same-length-5
 same-length-5 c = search needs
 
--- src/lib.rt:132:17
 returns-2 : tie.Need-returns-2
 returns-2 c =
     let called = c .before .before .before .before .before .before .before .before .before .before in
     let entry = entry-of (tested-of (copied-of called)) in
     let g = entry .args in
-    let n = c .before .before .g2 .given in
-    let r = called .settle in
+    let n = c .before .before .g3 .given in
+    let r = called .ease in
     let a = answer called _ (n .1) in
     back-for-every (entry .pre .2)
     (λ t x. TakenIs (rulesOf (g .edition)) t x (g .out .now) (r .last .0) (r .last .1 .0) (g .steps .now) (r .last .1 .1 .0) (g .d) (g .e) (g .s) (taken.Stepped (n .0 .0) (n .0 .1 .0)))
     (a .0, a .1, c .if2 .taken, a .2)
 
--- src/lib.rt:134:38
 mul-copy-bytes-4 : tie.Need-mul-copy-bytes-4
 mul-copy-bytes-4 c = search needs
 
--- src/lib.rt:134:52
 mul-copy-bytes-5 : tie.Need-mul-copy-bytes-5
 mul-copy-bytes-5 c =
     let called = c .before .before .before .before .before .before .before .before .before .before .before .before in
     let entry = entry-of (tested-of (copied-of called)) in
-    let a = answer called _ (c .before .before .before .before .g2 .given .1) in
-    let r = called .settle in
+    let a = answer called _ (c .before .before .before .before .g3 .given .1) in
+    let r = called .ease in
     omega (arith, ends-there (entry .pre .2) _ (a .1) (r .kept .0) (c .before .before .if2 .left), r .kept, copied-of called .copy-bytes .kept, tested-of (copied-of called) .still .kept, entry .good)
 
--- src/lib.rt:134:60
 mul-copy-bytes-6 : tie.Need-mul-copy-bytes-6
 mul-copy-bytes-6 c =
-    let entry = c .before .before .before .before .before .before .before .before .before .before .before .before .before .before .before .before .before .before .before .before .before .before .before .before .before .before .before .before .before .before in
+    let entry = entry-of (tested-of (copied-of (c .before .before .before .before .before .before .before .before .before .before .before .before))) in
     omega (arith, size-fits (entry .pre .2), entry .good)
 
--- src/lib.rt:134:13
 copy-bytes-requires-2 : tie.Need-copy-bytes-requires-2
 copy-bytes-requires-2 c κs =
     let called = c .before .before .before .before .before .before .before .before .before .before .before .before in
     let copied = copied-of called in
     let entry = entry-of (tested-of copied) in
-    let a = answer called _ (c .before .before .before .before .g2 .given .1) in
-    let r = called .settle in
+    let a = answer called _ (c .before .before .before .before .g3 .given .1) in
+    let r = called .ease in
     let fits = size-fits (entry .pre .2) in
     let ends = ends-there (entry .pre .2) _ (a .1) (r .kept .0) (c .before .before .if2 .left) in
     (omega (arith, fits, r .kept), omega (arith, ends, fits))
 
--- src/lib.rt:135:29
-add-t39 : tie.Need-add-t39
-add-t39 c =
+add-t40 : tie.Need-add-t40
+add-t40 c =
     let called = c .before .before .before .before .before .before .before .before .before .before .before .before .before .before .before in
     let entry = entry-of (tested-of (copied-of called)) in
-    let a = answer called _ (c .before .before .before .before .before .before .before .g2 .given .1) in
-    let r = called .settle in
+    let a = answer called _ (c .before .before .before .before .before .before .before .g3 .given .1) in
+    let r = called .ease in
     omega (arith, ends-there (entry .pre .2) _ (a .1) (r .kept .0) (c .before .before .before .before .before .if2 .left), r .kept, copied-of called .copy-bytes .kept, tested-of (copied-of called) .still .kept, entry .good)
 
--- src/lib.rt:106:1
 same-length-6 : tie.Need-same-length-6
 same-length-6 c = search needs
 
--- src/lib.rt:106:1
 same-length-7 : tie.Need-same-length-7
 same-length-7 c = search needs
 
--- src/lib.rt:106:1
 same-length-8 : tie.Need-same-length-8
 same-length-8 c = search needs
 
--- src/lib.rt:106:1
 returns-3 : tie.Need-returns-3
 returns-3 c =
     let called = c .before .before .before .before .before .before .before .before .before in
     let entry = entry-of (tested-of (copied-of called)) in
     back-for-every (entry .pre .2) (λ t x. Burst (rulesOf (entry .args .edition)) t (entry .args .s) (c .before .g .given .0 .0)) (answer called _ (c .before .g .given .1))
 
--- src/lib.rt:106:1
 same-length-9 : tie.Need-same-length-9
 same-length-9 c = search needs
 
--- src/lib.rt:106:1
 same-length-10 : tie.Need-same-length-10
 same-length-10 c = search needs
 
--- src/lib.rt:106:1
 same-length-11 : tie.Need-same-length-11
 same-length-11 c = search needs
 
--- src/lib.rt:106:1
 returns-4 : tie.Need-returns-4
 returns-4 c =
+    let called = c .before .before .before .before .before .before .before .before .before in
+    let copied = copied-of called in
+    let tested = tested-of copied in
+    let entry = entry-of tested in
+    let g = entry .args in
+    let b = entry .pre .2 in
+    let told = c .before .g2 .given in
+    let r = called .ease in
+    let a = answer called _ (told .1) in
+    let ends = ends-quiet b in
+    back-for-every b
+    (λ t x. TakenIs (rulesOf (g .edition)) t x (g .out .now) (r .last .0) (r .last .1 .0) (g .steps .now) (r .last .1 .1 .0) (g .d) (g .e) (g .s) (taken.Quiet (told .0 .0) (g .q))) (
+      a .0,
+      a .1,
+      a .2,
+      a .3,
+      a .4,
+      ap (λ i. drop (i * 16) (r .last .1 .0)) (sym ends) ∙ a .5,
+      b .place ∙ sym (r .kept .1 .0 ∙ copied .copy-bytes .kept .0 ∙ tested .still .kept .1 .1 .0),
+      a .6,
+      a .7,
+    )
+
+same-length-12 : tie.Need-same-length-12
+same-length-12 c = search needs
+
+same-length-13 : tie.Need-same-length-13
+same-length-13 c = search needs
+
+same-length-14 : tie.Need-same-length-14
+same-length-14 c = search needs
+
+returns-5 : tie.Need-returns-5
+returns-5 c =
     let called = c .before .before .before .before .before .before .before .before .before .before .before .before .before .before .before in
     let entry = entry-of (tested-of (copied-of called)) in
     let g = entry .args in
     let b = entry .pre .2 in
-    let n = c .before .before .before .before .before .before .before .g2 .given in
-    let r = called .settle in
+    let n = c .before .before .before .before .before .before .before .g3 .given in
+    let r = called .ease in
     let a = answer called _ (n .1) in
     let none = c .before .before .before .before .before .if2 .left in
     let moved = c .before .before .copy-bytes2 in
@@ -281,9 +287,10 @@ take-up-spec =
     mul-copy-bytes-2
     mul-copy-bytes-3
     copy-bytes-requires
-    settle-requires
+    ease-requires
     enum-known-g
     enum-known-g-2
+    enum-known-g-3
     same-length-3
     same-length-4
     same-length-5
@@ -292,7 +299,7 @@ take-up-spec =
     mul-copy-bytes-5
     mul-copy-bytes-6
     copy-bytes-requires-2
-    add-t39
+    add-t40
     same-length-6
     same-length-7
     same-length-8
@@ -300,4 +307,8 @@ take-up-spec =
     same-length-9
     same-length-10
     same-length-11
-    returns-4)
+    returns-4
+    same-length-12
+    same-length-13
+    same-length-14
+    returns-5)

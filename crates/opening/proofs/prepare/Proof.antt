@@ -263,8 +263,10 @@ returns-9 c =
     let p = prepared f in
     let at = start-of (of-filled f) in
     let k = w .before .before .before .rounds in
+    let which = f .before .before .before .which-of .result in
+    let from = f .before .before .from-of .result in
     ready p (k .result) (k .ensures .0 (definitionsOf (asked at)) (index-of p)) (w .weigh .result) (w .weigh .ensures .0) (omega arith) (omega arith)
-    (record { number = 0; place = 0; flaw = flaws.Sound; weight = w .weigh .result; which = f .before .before .before .which-of .result; from = f .before .before .from-of .result }) refl refl refl refl
+    (record { number = 0; place = 0; flaw = flaws.Sound; weight = w .weigh .result; which = which; from = from }) refl refl refl refl
 
 pub prepare-spec : {M : Type 1} → statement M
 prepare-spec =

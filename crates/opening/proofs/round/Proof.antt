@@ -17,8 +17,12 @@ use Rattle.opening.proofs.WeighLaws.{piece-short, next-turn, next-bound
 use Rattle.opening.proofs.round.Statement.{statement}
 use Rattle.opening.proofs.round.Tie as tie
 
+-- the first j weights are written, and none is over the most that is counted
 abbrev Inv-loop : tie.InvT-loop
-Inv-loop limit definitions which from n weights next₀ j₀ next j = (j ≤ n) × (length next ≡ 16) × ((k : ℕ) → k < j → getD next k 0 ≡ weighs limit which weights (pieceAt definitions from k)) × ((k : ℕ) → k < 16 → getD next k 0 ≤ mostCounted)
+Inv-loop limit definitions which from n weights next₀ j₀ next j =
+    (j ≤ n) × (length next ≡ 16)
+    × ((k : ℕ) → k < j → getD next k 0 ≡ weighs limit which weights (pieceAt definitions from k))
+    × ((k : ℕ) → k < 16 → getD next k 0 ≤ mostCounted)
 
 abbrev μ-loop : tie.MeasureT-loop
 μ-loop limit definitions which from n weights next₀ j₀ next j = n - j
@@ -76,10 +80,11 @@ loop-again c =
     let s = c .before .before .before .before .before .before .before in
     let a = s .args in
     let l = c .before .before .before .before .before .loop in
-    let w = c .weigh in (
+    let w = c .weigh in
+    let its-weight : ℕ → ℕ = λ k. weighs (a .limit) (a .which .now) (a .weights .now) (pieceAt (a .definitions .now) (a .from .now) k) in (
       omega arith,
       length-set (l .next) (l .j) (w .result) ∙ l .inv .1,
-      next-turn (l .next) (λ k. weighs (a .limit) (a .which .now) (a .weights .now) (pieceAt (a .definitions .now) (a .from .now) k)) (l .j) (w .result) (l .inv .1) (omega arith) (w .ensures .0) (l .inv .2),
+      next-turn (l .next) its-weight (l .j) (w .result) (l .inv .1) (omega arith) (w .ensures .0) (l .inv .2),
       next-bound (l .next) (l .j) (w .result) (l .inv .1) (omega arith) (w .ensures .1) (l .inv .3),
     )
 

@@ -19,21 +19,27 @@ use Rattle.opening.proofs.WeighLaws.{knows-none, knows-next, which-few}
 use Rattle.opening.proofs.rounds.Statement.{statement}
 use Rattle.opening.proofs.rounds.Tie as tie
 
+-- the weights are those of the definitions, opened r deep, and none is over the most that is counted
 abbrev Inv-loop : tie.InvT-loop
-Inv-loop limit definitions which from n weights₀ r₀ weights r = (r ≤ n) × ((ds : List Definition) → Index ds definitions which from n → Knows limit ds which weights r) × ((j : ℕ) → j < 16 → getD weights j 0 ≤ mostCounted)
+Inv-loop limit definitions which from n weights₀ r₀ weights r =
+    (r ≤ n) × ((ds : List Definition) → Index ds definitions which from n → Knows limit ds which weights r)
+    × ((j : ℕ) → j < 16 → getD weights j 0 ≤ mostCounted)
 
 abbrev μ-loop : tie.MeasureT-loop
 μ-loop limit definitions which from n weights₀ r₀ weights r = n - r
 
 loop-holds : tie.Need-loop-holds Inv-loop μ-loop
-loop-holds c = (omega arith, (λ ds h. knows-none (c .before .args .limit) ds (c .before .args .which .now) (replicate 16 0) (zeros 16)), λ j l. (let z = zeros 16 j in omega (arith, z)))
+loop-holds c =
+    let a = c .before .args in
+    (omega arith, (λ ds h. knows-none (a .limit) ds (a .which .now) (replicate 16 0) (zeros 16)), λ j l. (let z = zeros 16 j in omega (arith, z)))
 
 round-requires : tie.Need-round-requires Inv-loop μ-loop
 round-requires c κs =
     let s = c .before .before .before .before in
     let a = s .args in
     let index = s .pre .2 .1 in
-    (s .pre .0, s .pre .1, index .lies, which-few (s .pre .2 .0) (a .definitions .now) (a .which .now) (a .from .now) (a .n) index (s .pre .1), c .before .before .loop .inv .2)
+    let few = which-few (s .pre .2 .0) (a .definitions .now) (a .which .now) (a .from .now) (a .n) index (s .pre .1) in
+    (s .pre .0, s .pre .1, index .lies, few, c .before .before .loop .inv .2)
 
 add-r : tie.Need-add-r Inv-loop μ-loop
 add-r c = omega arith

@@ -49,7 +49,9 @@ loop-again c =
     let a = c .before .before .before .before .before .before .before .args in
     let s = a .text .now in
     let l = c .before .before .before .before .before .loop in
-    judge-on s (a .k) (l .left) (l .i) (c .before .l .given .0 .0) (c .before .before .before .before .loop-test .taken) (l .inv) (rw (c .before .l .given .1) at (c .before .before .before .turn .ensures))
+    let known = c .before .l .given in
+    let turned = rw (known .1) at (c .before .before .before .turn .ensures) in
+    judge-on s (a .k) (l .left) (l .i) (known .0 .0) (c .before .before .before .before .loop-test .taken) (l .inv) turned
 
 returns-2 : tie.Need-returns-2 Inv-loop μ-loop
 returns-2 c =

@@ -29,40 +29,50 @@ passed-requires c κs =
 
 raised-requires : tie.Need-raised-requires
 raised-requires c κs =
-    let a = c .before .before .before .before .before .before .before .before .before .args in
+    let entry = c .before .before .before .before .before .before .before .before .before in
+    let a = entry .args in
     let s = a .text .now in
-    sized s (a .at) (then (skim (drop (a .at + 1) s)) closed) (a .out .now) _ (a .d) (c .before .before .before .before .before .before .before .before .before .pre) (c .before .before .before .passed .result) (c .before .before .before .passed .ensures)
+    let passed = c .before .before .before .passed in
+    sized s (a .at) (then (skim (drop (a .at + 1) s)) closed) (a .out .now) _ (a .d) (entry .pre) (passed .result) (passed .ensures)
 
 same-length : tie.Need-same-length
 same-length c = search needs
 
 returns : tie.Need-returns
 returns c =
-    let a = c .before .before .before .before .before .before .before .before .before .before .before .before .args in
+    let test = c .before .before .before .before .before .before .before .before in
+    let a = test .before .before .before .before .args in
     let s = a .text .now in
-    subst (λ o. ItemIs s (a .at) o (Laid (a .out .now) (a .d) (c .before .before .raised .last .1 .1 .0)) (c .before .before .raised .result))
-    (sym (group-passed s (a .at) (sym (c .before .before .before .before .before .before .before .before .before .sign-at .ensures) ∙ c .before .before .before .before .before .before .before .before .if1 .taken)))
-    (c .before .before .raised .ensures (a .at) (then (skim (drop (a .at + 1) s)) closed) (a .out .now) (c .before .before .before .before .before .before .passed .ensures))
+    let raised = c .before .before .raised in
+    let opened = sym (test .before .sign-at .ensures) ∙ test .if1 .taken in
+    subst (λ o. ItemIs s (a .at) o (Laid (a .out .now) (a .d) (raised .last .1 .1 .0)) (raised .result))
+    (sym (group-passed s (a .at) opened))
+    (raised .ensures (a .at) (then (skim (drop (a .at + 1) s)) closed) (a .out .now) (c .before .before .before .before .before .before .passed .ensures))
 
 leaf-requires : tie.Need-leaf-requires
 leaf-requires c κs = search needs
 
 raised-requires-2 : tie.Need-raised-requires-2
 raised-requires-2 c κs =
-    let a = c .before .before .before .before .before .before .before .before .before .args in
+    let entry = c .before .before .before .before .before .before .before .before .before in
+    let a = entry .args in
     let s = a .text .now in
-    sized s (a .at) (bared (readLeaf (drop (a .at) s))) (a .out .now) _ (a .d) (c .before .before .before .before .before .before .before .before .before .pre) (c .before .before .before .leaf .result) (c .before .before .before .leaf .ensures)
+    let leaf = c .before .before .before .leaf in
+    sized s (a .at) (bared (readLeaf (drop (a .at) s))) (a .out .now) _ (a .d) (entry .pre) (leaf .result) (leaf .ensures)
 
 same-length-2 : tie.Need-same-length-2
 same-length-2 c = search needs
 
 returns-2 : tie.Need-returns-2
 returns-2 c =
-    let a = c .before .before .before .before .before .before .before .before .before .before .before .before .args in
+    let test = c .before .before .before .before .before .before .before .before in
+    let a = test .before .before .before .before .args in
     let s = a .text .now in
-    subst (λ o. ItemIs s (a .at) o (Laid (a .out .now) (a .d) (c .before .before .raised2 .last .1 .1 .0)) (c .before .before .raised2 .result))
-    (sym (power-leaf (readCut 0) s (a .at) (sym (c .before .before .before .before .before .before .before .before .before .sign-at .ensures) ∙ c .before .before .before .before .before .before .before .before .if1 .left)))
-    (c .before .before .raised2 .ensures (a .at) (bared (readLeaf (drop (a .at) s))) (a .out .now) (c .before .before .before .before .before .before .leaf .ensures))
+    let raised = c .before .before .raised2 in
+    let no-opening = sym (test .before .sign-at .ensures) ∙ test .if1 .left in
+    subst (λ o. ItemIs s (a .at) o (Laid (a .out .now) (a .d) (raised .last .1 .1 .0)) (raised .result))
+    (sym (power-leaf (readCut 0) s (a .at) no-opening))
+    (raised .ensures (a .at) (bared (readLeaf (drop (a .at) s))) (a .out .now) (c .before .before .before .before .before .before .leaf .ensures))
 
 pub flat-spec : {M : Type 1} → statement M
 flat-spec =

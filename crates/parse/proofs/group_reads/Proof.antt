@@ -36,8 +36,9 @@ returns c =
 returns-2 : tie.Need-returns-2
 returns-2 c =
     let a = c .before .before .before .before .before .before .before .before .args in
-    let s = a .text .now in
-    c .sign-at .ensures ∙ closing-there s (a .at) (a .k) (c .before .before .e .given .0 .0) (c .before .before .e .given .0 .1 .0) (c .before .before .e .given .0 .1 .1 .0) (rw (c .before .before .e .given .1) at (c .before .before .before .before .before .sum .ensures))
+    let known = c .before .before .e .given in
+    let read = rw (known .1) at (c .before .before .before .before .before .sum .ensures) in
+    c .sign-at .ensures ∙ closing-there (a .text .now) (a .at) (a .k) (known .0 .0) (known .0 .1 .0) (known .0 .1 .1 .0) read
 
 returns-3 : tie.Need-returns-3
 returns-3 c =

@@ -42,7 +42,9 @@ returns-3 : tie.Need-returns-3
 returns-3 c =
     let a = c .before .before .before .before .before .before .before .before .before .args in
     let s = a .text .now in
-    by-blocks s (a .k) _ _ _ (c .blocks-read .result) (rw (c .before .before .before .e .given .1) at (c .before .before .before .before .before .before .sum .ensures)) (c .before .if1 .left) (c .blocks-read .ensures)
+    let blocks = c .blocks-read in
+    let read = rw (c .before .before .before .e .given .1) at (c .before .before .before .before .before .before .sum .ensures) in
+    by-blocks s (a .k) _ _ _ (blocks .result) read (c .before .if1 .left) (blocks .ensures)
 
 returns-4 : tie.Need-returns-4
 returns-4 c =

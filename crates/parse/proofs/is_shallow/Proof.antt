@@ -41,7 +41,8 @@ returns c =
     let a = c .before .before .before .before .before .before .before .args in
     let s = a .text .now in
     let l = c .before .before .before .before .before .loop in
-    dived-deep s (a .k) (l .left) (l .i) (c .before .before .before .before .loop-test .taken) (l .inv) (rw (c .enum-told .given .1) at (c .before .before .dive .ensures))
+    let deep = rw (c .enum-told .given .1) at (c .before .before .dive .ensures) in
+    dived-deep s (a .k) (l .left) (l .i) (c .before .before .before .before .loop-test .taken) (l .inv) deep
 
 add-i : tie.Need-add-i Inv-loop μ-loop
 add-i c = search needs
@@ -55,7 +56,9 @@ loop-again c =
     let a = c .before .before .before .before .before .before .before .before .args in
     let s = a .text .now in
     let l = c .before .before .before .before .before .before .loop in
-    dive-on s (a .k) (l .left) (l .i) (c .before .l .given .0 .0) (c .before .before .before .before .before .loop-test .taken) (l .inv) (rw (c .before .l .given .1) at (c .before .before .before .dive .ensures))
+    let known = c .before .l .given in
+    let dived = rw (known .1) at (c .before .before .before .dive .ensures) in
+    dive-on s (a .k) (l .left) (l .i) (known .0 .0) (c .before .before .before .before .before .loop-test .taken) (l .inv) dived
 
 returns-2 : tie.Need-returns-2 Inv-loop μ-loop
 returns-2 c =

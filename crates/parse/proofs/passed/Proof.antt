@@ -47,7 +47,12 @@ add-t18 : tie.Need-add-t18 Inv-loop μ-loop
 add-t18 c = search needs
 
 add-t19 : tie.Need-add-t19 Inv-loop μ-loop
-add-t19 c = let low = c .before .before .before .before .before .before .before .before .before .before .before .before .pre .1 in let p = c .before .before .before .before .before .before .before .before .before .loop .inv .passing in let x = p .from in let y = p .within in search (needs, low, x, y)
+add-t19 c =
+    let low = c .before .before .before .before .before .before .before .before .before .before .before .before .pre .1 in
+    let p = c .before .before .before .before .before .before .before .before .before .loop .inv .passing in
+    let x = p .from in
+    let y = p .within in
+    search (needs, low, x, y)
 
 same-length : tie.Need-same-length Inv-loop μ-loop
 same-length c = search needs
@@ -56,9 +61,11 @@ returns : tie.Need-returns Inv-loop μ-loop
 returns c =
     let a = c .before .before .before .before .before .before .before .before .before .before .before .before .args in
     let l = c .before .before .before .before .before .before .before .before .before .loop in
-    let put-there = c .before .before .put-stand-in .ensures in
-    passed-out (a .text .now) (a .at) (l .k) (l .deep) (l .e) (c .before .before .before .before .before .before .before .before .loop-test .taken) (l .inv .passing) (rw (c .before .before .before .before .enum-told .given .1) at (c .before .before .before .before .before .before .step .ensures))
-    (subst (λ old. Written (encode (standIn (l .k))) old (a .d) (c .before .before .put-stand-in .last .0)) (l .inv .same) put-there)
+    let put = c .before .before .put-stand-in in
+    let inside = c .before .before .before .before .before .before .before .before .loop-test .taken in
+    let out = rw (c .before .before .before .before .enum-told .given .1) at (c .before .before .before .before .before .before .step .ensures) in
+    passed-out (a .text .now) (a .at) (l .k) (l .deep) (l .e) inside (l .inv .passing) out
+    (subst (λ old. Written (encode (standIn (l .k))) old (a .d) (put .last .0)) (l .inv .same) (put .ensures))
 
 add-e-2 : tie.Need-add-e-2 Inv-loop μ-loop
 add-e-2 c = search needs
@@ -70,7 +77,11 @@ loop-again : tie.Need-loop-again Inv-loop μ-loop
 loop-again c =
     let a = c .before .before .before .before .before .before .before .before .before .args in
     let l = c .before .before .before .before .before .before .loop in
-    record { passing = pass-on (a .text .now) (a .at) (l .k) (l .deep) (l .e) _ _ (c .before .before .before .before .before .loop-test .taken) (l .inv .passing) (rw (c .before .d1 .given .1) at (c .before .before .before .step .ensures)); same = l .inv .same }
+    let goes = rw (c .before .d1 .given .1) at (c .before .before .before .step .ensures) in
+    record {
+      passing = pass-on (a .text .now) (a .at) (l .k) (l .deep) (l .e) _ _ (c .before .before .before .before .before .loop-test .taken) (l .inv .passing) goes;
+      same = l .inv .same;
+    }
 
 same-length-2 : tie.Need-same-length-2 Inv-loop μ-loop
 same-length-2 c = search needs

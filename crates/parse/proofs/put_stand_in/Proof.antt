@@ -24,7 +24,9 @@ same-length-2 : tie.Need-same-length-2
 same-length-2 c = search needs
 
 returns-2 : tie.Need-returns-2
-returns-2 c = stand-minus (c .before .before .before .before .before .before .before .args .k) (omega arith) (omega arith) (c .before .before .put-record2 .ensures)
+returns-2 c =
+    let k = c .before .before .before .before .before .before .before .args .k in
+    stand-minus k (omega arith) (omega arith) (c .before .before .put-record2 .ensures)
 
 put-record-requires-3 : tie.Need-put-record-requires-3
 put-record-requires-3 c κs = search needs
@@ -33,7 +35,9 @@ same-length-3 : tie.Need-same-length-3
 same-length-3 c = search needs
 
 returns-3 : tie.Need-returns-3
-returns-3 c = stand-product (c .before .before .before .before .before .before .before .before .args .k) (omega arith) (omega arith) (c .before .before .put-record3 .ensures)
+returns-3 c =
+    let k = c .before .before .before .before .before .before .before .before .args .k in
+    stand-product k (omega arith) (omega arith) (c .before .before .put-record3 .ensures)
 
 put-record-requires-4 : tie.Need-put-record-requires-4
 put-record-requires-4 c κs = search needs
@@ -42,7 +46,10 @@ same-length-4 : tie.Need-same-length-4
 same-length-4 c = search needs
 
 returns-4 : tie.Need-returns-4
-returns-4 c = let h = c .before .before .before .before .before .before .before .before .pre in stand-sum (c .before .before .before .before .before .before .before .before .args .k) (omega arith) h (c .before .before .put-record4 .ensures)
+returns-4 c =
+    let entry = c .before .before .before .before .before .before .before .before in
+    let h = entry .pre in
+    stand-sum (entry .args .k) (omega arith) h (c .before .before .put-record4 .ensures)
 
 pub put-stand-in-spec : {M : Type 1} → statement M
 put-stand-in-spec =

@@ -17,19 +17,34 @@ returns-2 : tie.Need-returns-2
 returns-2 c = let a = c .before .before .before .args in ends (a .c) (a .d) (a .k) (c .before .before .if1 .left) (c .before .if2 .taken) (c .if3 .taken)
 
 returns-3 : tie.Need-returns-3
-returns-3 c = let a = c .before .before .before .args in closes-one (a .c) (a .d) (a .k) (c .before .before .if1 .left) (c .before .if2 .taken) (c .if3 .left) (c .before .before .before .pre .1)
+returns-3 c =
+    let entry = c .before .before .before in
+    let a = entry .args in
+    closes-one (a .c) (a .d) (a .k) (c .before .before .if1 .left) (c .before .if2 .taken) (c .if3 .left) (entry .pre .1)
 
 returns-4 : tie.Need-returns-4
-returns-4 c = let a = c .before .before .before .args in deeper (a .c) (a .d) (a .k) (c .before .before .if1 .left) (c .before .if2 .left) (c .if4 .taken) (c .before .before .before .pre .1)
+returns-4 c =
+    let entry = c .before .before .before in
+    let a = entry .args in
+    deeper (a .c) (a .d) (a .k) (c .before .before .if1 .left) (c .before .if2 .left) (c .if4 .taken) (entry .pre .1)
 
 sign-rank-requires : tie.Need-sign-rank-requires
 sign-rank-requires c κs = search needs
 
 returns-5 : tie.Need-returns-5
-returns-5 c = let a = c .before .before .before .before .before .args in let r = c .before .sign-rank in raises (a .c) (a .d) (a .k) (r .result) (c .before .before .before .before .if1 .left) (c .before .before .before .if2 .left) (c .before .before .if4 .left) (r .ensures .0) (r .ensures .1) (c .if5 .taken)
+returns-5 c =
+    let a = c .before .before .before .before .before .args in
+    let r = c .before .sign-rank in
+    raises (a .c) (a .d) (a .k) (r .result) (c .before .before .before .before .if1 .left) (c .before .before .before .if2 .left) (c .before .before .if4 .left)
+    (r .ensures .0) (r .ensures .1) (c .if5 .taken)
 
 returns-6 : tie.Need-returns-6
-returns-6 c = let a = c .before .before .before .before .before .args in let r = c .before .sign-rank in stays (a .c) (a .d) (a .k) (r .result) (c .before .before .before .before .if1 .left) (c .before .before .before .if2 .left) (c .before .before .if4 .left) (r .ensures .0) (c .before .before .before .before .before .pre .1) (c .if5 .left)
+returns-6 c =
+    let entry = c .before .before .before .before .before in
+    let a = entry .args in
+    let r = c .before .sign-rank in
+    stays (a .c) (a .d) (a .k) (r .result) (c .before .before .before .before .if1 .left) (c .before .before .before .if2 .left) (c .before .before .if4 .left)
+    (r .ensures .0) (entry .pre .1) (c .if5 .left)
 
 pub step-spec : {M : Type 1} → statement M
 step-spec =

@@ -31,14 +31,18 @@ returns-2 c =
     let a = c .before .before .before .before .before .before .args in
     let s = a .text .now in
     let q = c .before .before .before .before .before .before .pre in
-    block-read s (a .i) (a .left) (a .k) (q .0) (c .before .group-reads .result) (c .before .before .before .if1 .taken) (c .before .before .if2 .left) (c .before .group-reads .ensures) (c .if3 .taken)
+    let group = c .before .group-reads in
+    let opened = c .before .before .before .if1 .taken in
+    block-read s (a .i) (a .left) (a .k) (q .0) (group .result) opened (c .before .before .if2 .left) (group .ensures) (c .if3 .taken)
 
 returns-3 : tie.Need-returns-3
 returns-3 c =
     let a = c .before .before .before .before .before .before .args in
     let s = a .text .now in
     let q = c .before .before .before .before .before .before .pre in
-    block-bad s (a .i) (a .left) (a .k) (q .0) (c .before .group-reads .result) (c .before .before .before .if1 .taken) (c .before .before .if2 .left) (c .before .group-reads .ensures) (c .if3 .left)
+    let group = c .before .group-reads in
+    let opened = c .before .before .before .if1 .taken in
+    block-bad s (a .i) (a .left) (a .k) (q .0) (group .result) opened (c .before .before .if2 .left) (group .ensures) (c .if3 .left)
 
 add-t14 : tie.Need-add-t14
 add-t14 c = search needs

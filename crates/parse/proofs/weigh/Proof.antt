@@ -15,8 +15,7 @@ is-shallow-requires : tie.Need-is-shallow-requires
 is-shallow-requires c κs = search needs
 
 weigh-shallow-requires : tie.Need-weigh-shallow-requires
-weigh-shallow-requires c κs =
-    sym (c .before .is-shallow .ensures) ∙ c .if1 .taken
+weigh-shallow-requires c κs = sym (c .before .is-shallow .ensures) ∙ c .if1 .taken
 
 returns : tie.Need-returns
 returns c = search needs
@@ -27,12 +26,16 @@ is-form-requires c κs = search needs
 returns-2 : tie.Need-returns-2
 returns-2 c =
     let a = c .before .before .before .before .before .args in
-    too-heavy (a .text .now) (a .limit) _ (c .before .before .before .is-shallow .result) (c .before .is-form .result) (omega arith) (c .before .before .before .is-shallow .ensures) (c .before .before .if1 .left) (c .before .is-form .ensures) (c .if2 .taken)
+    let shallow = c .before .before .before .is-shallow in
+    let form = c .before .is-form in
+    too-heavy (a .text .now) (a .limit) _ (shallow .result) (form .result) (omega arith) (shallow .ensures) (c .before .before .if1 .left)
+    (form .ensures) (c .if2 .taken)
 
 returns-3 : tie.Need-returns-3
 returns-3 c =
     let a = c .before .before .before .before .before .args in
-    no-text (a .text .now) (a .limit) (c .before .is-form .result) (c .before .is-form .ensures) (c .if2 .left)
+    let form = c .before .is-form in
+    no-text (a .text .now) (a .limit) (form .result) (form .ensures) (c .if2 .left)
 
 pub weigh-spec : {M : Type 1} → statement M
 weigh-spec =

@@ -1,20 +1,19 @@
 -- `simplify::run` meets its contract: each need is one law of Running, for the tree that the table holds. That places fit where the run
 -- is done follows from `done-bounds`. Assumes nothing.
 use Prim.Native.Nat.{_-_, _*_, _/_, _%_, _<_, _≤_}
-use mathlib.Core.Path.{_≡_, ap, _∙_, subst}
-use mathlib.Core.List.{[]}
+use mathlib.Core.Path.{refl, ap, _∙_}
+use mathlib.Core.List.{[], _∷_}
 use native.Mathlib.Omega.{arith}
-use lib.ListN.{length}
+use lib.ListN.{length, getD}
 use borrow.Author.Needs.{needs}
 use Rattle.record.specs.declared.Flaw.the-variants.{Sound}
-use Rattle.driver.specs.declared.Driven.{Driven as Answer}
-use Rattle.driver.specs.declared.Driven.the-variants as driven-as
 use Rattle.simplify.specs.Answer.{Leaves}
 use Rattle.note.specs.Note.{note}
 use Rattle.note.specs.Noted.{Whole}
-use Rattle.driver.specs.Driven.{Set, DrivenIs, Drove}
+use Rattle.driver.specs.Driven.{Set}
+use Rattle.driver.specs.Paused.{standOf, Call, call, Called as Accepted, Reached, DrivenTo}
 use Rattle.driver.proofs.Runs.{drives}
-use Rattle.simplify.proofs.Running.{for-every, table-fits, whole-table, set-up, left-over, done-fits, whole-result, left-done}
+use Rattle.simplify.proofs.Running.{for-every, table-fits, whole-table, set-up, called-on, left-over, done-fits, whole-result, left-done}
 use Rattle.simplify.proofs.run.Statement.{statement}
 use Rattle.simplify.proofs.run.Tie as tie
 
@@ -32,14 +31,11 @@ Made = tie.After-note-all
 abbrev Called : Type 0
 Called = tie.After-drive
 
-abbrev Driven : Type 0
-Driven = tie.After-slice-known8
-
 abbrev Cleared : Type 0
 Cleared = tie.After-clear
 
 abbrev Finished : Type 0
-Finished = tie.After-known-told2
+Finished = tie.Else1
 
 abbrev Stripped : Type 0
 Stripped = tie.After-strip
@@ -51,16 +47,13 @@ abbrev moved-of : Made → Moved
 moved-of c = c .before .before .before .before
 
 abbrev made-of : Called → Made
-made-of c = c .before .before .before .before .before .before
+made-of c = c .before .before .before .before .before .before .before
 
-abbrev called-of : Driven → Called
-called-of c = c .before .before .before .before .before .before
-
-abbrev driven-of : Cleared → Driven
-driven-of c = c .before .before
+abbrev called-of : Cleared → Called
+called-of c = c .before .before .before .before .before .before .before .before
 
 abbrev cleared-of : Finished → Cleared
-cleared-of c = c .before .before .before .before .before
+cleared-of c = c .before .before .before
 
 abbrev finished-of : Stripped → Finished
 finished-of c = c .before .before .before .before
@@ -78,52 +71,46 @@ set c =
     let n = c .note-all in
     set-up h (m .ensures) (m .kept .0) (n .last .0) (n .ensures _ (whole-table h (m .ensures) (m .kept .0))) (n .kept .0)
 
--- what the driver's answer x says
-result : (c : Driven) (x : Answer)
-    → let called = called-of c in
-    let entry = entry-of (moved-of (made-of called)) in
+-- what the driver is called on
+abbrev this : Made → Call
+this c =
+    let entry = entry-of (moved-of c) in
     let g = entry .args in
-    let r = called .drive in
-    r .result ≡ x → DrivenIs (drives (entry .args .edition) (entry .pre .0)) [] (g .out .now) (r .last .0) (r .last .1 .0) (g .steps .now) (r .last .1 .1 .0) 0 0 x
-result c x e =
-    let called = called-of c in
-    let made = made-of called in
-    let entry = entry-of (moved-of made) in
-    let g = entry .args in
-    let r = called .drive in
-    subst (DrivenIs (drives (entry .args .edition) (entry .pre .0)) [] (g .out .now) (r .last .0) (r .last .1 .0) (g .steps .now) (r .last .1 .1 .0) 0 0) e
-    (r .ensures (entry .pre .0) [] (set made))
+    let p = length (g .work .now) / 16 - length (g .table .now) / 16 in
+    call (g .out .now) (c .note-all .last .0) (g .steps .now) (standOf (g .edition ∷ p ∷ 0 ∷ 0 ∷ 0 ∷ 0 ∷ 0 ∷ 0 ∷ 0 ∷ 0 ∷ [])) (entry .pre .0) []
 
-drove : (c : Finished)
-    → let called = called-of (driven-of (cleared-of c)) in
-    let entry = entry-of (moved-of (made-of called)) in
-    let g = entry .args in
+accepted : (c : Made) → Accepted (this c)
+accepted c = called-on (entry-of (moved-of c) .args .edition) (set c)
+
+-- what the driver's answer says
+result : (c : Called) → let r = c .drive in DrivenTo (this (made-of c)) (r .last .0) (r .last .1 .0) (r .last .1 .1 .0) (standOf (r .last .1 .1 .1 .0)) (r .result)
+result c = c .drive .ensures .1 _ [] (accepted (made-of c))
+
+reached : (c : Finished)
+    → let called = called-of (cleared-of c) in
     let r = called .drive in
-    let n = c .before .g2 .given .0 in
-    Drove (drives (entry .args .edition) (entry .pre .0)) [] (g .out .now) (r .last .0) (r .last .1 .0) (g .steps .now) (r .last .1 .1 .0) 0 0
-    (n .0) (n .1 .0) (n .1 .1 .0) (n .1 .1 .1 .0) (n .1 .1 .1 .1 .0)
-drove c = result (driven-of (cleared-of c)) _ (c .before .g2 .given .1)
+    Reached (this (made-of called)) (r .last .0) (r .last .1 .0) (r .last .1 .1 .0) (standOf (r .last .1 .1 .1 .0)) (r .result)
+reached c = result (called-of (cleared-of c)) .reached (c .if1 .left)
 
 -- the result and its steps end within the areas, and the result has few records
 done-bounds : (c : Finished)
-    → let r = called-of (driven-of (cleared-of c)) .drive in
-    let n = c .before .g2 .given .0 in
-    (n .0 * 16 ≤ length (r .last .0)) × (n .1 .1 .0 ≤ length (r .last .1 .1 .0)) × (n .0 < 65536)
+    → let r = called-of (cleared-of c) .drive in
+    (r .result * 16 ≤ length (r .last .0)) × (getD (r .last .1 .1 .1 .0) 2 0 ≤ length (r .last .1 .1 .0)) × (r .result < 65536)
 done-bounds c =
-    let called = called-of (driven-of (cleared-of c)) in
+    let called = called-of (cleared-of c) in
     let made = made-of called in
     let moved = moved-of made in
     let k = called .drive .kept in
-    done-fits (entry-of moved .pre .1) (entry-of moved .args .edition) (drove c) (k .0) (k .1 .1 .0) (k .1 .0 ∙ made .note-all .kept .0 ∙ moved .copy-bytes .kept .0)
+    done-fits (entry-of moved .pre .1) (entry-of moved .args .edition) (reached c .drove) (k .0) (k .1 .1 .0) (k .1 .0 ∙ made .note-all .kept .0 ∙ moved .copy-bytes .kept .0)
 
 -- the notes are taken out
-result-whole : (c : Finished) → let r = called-of (driven-of (cleared-of c)) .drive in let n = c .before .g2 .given .0 in Whole note (r .last .0) 0 (n .0) (drove c .to)
+result-whole : (c : Finished) → let r = called-of (cleared-of c) .drive in Whole note (r .last .0) 0 (r .result) (reached c .drove .to)
 result-whole c =
-    let called = called-of (driven-of (cleared-of c)) in
+    let called = called-of (cleared-of c) in
     let made = made-of called in
     let moved = moved-of made in
     let k = called .drive .kept in
-    whole-result (entry-of moved .pre .1) (entry-of moved .args .edition) (drove c) (k .0) (k .1 .1 .0) (k .1 .0 ∙ made .note-all .kept .0 ∙ moved .copy-bytes .kept .0)
+    whole-result (entry-of moved .pre .1) (entry-of moved .args .edition) (reached c .drove) (k .0) (k .1 .1 .0) (k .1 .0 ∙ made .note-all .kept .0 ∙ moved .copy-bytes .kept .0)
 
 sub-p : tie.Need-sub-p
 sub-p c =
@@ -131,10 +118,7 @@ sub-p c =
     table-fits (entry .pre .1) .0
 
 mul-copy-bytes : tie.Need-mul-copy-bytes
-mul-copy-bytes c =
-    let entry = c .before .before .before .before .before in
-    let fits = table-fits (entry .pre .1) .1 in
-    omega arith
+mul-copy-bytes c = search needs
 
 copy-bytes-requires : tie.Need-copy-bytes-requires
 copy-bytes-requires c κs =
@@ -151,15 +135,14 @@ note-all-requires c κs =
 
 drive-requires : tie.Need-drive-requires
 drive-requires c κs =
-    let made = c .before .before .before .before .before in
-    let entry = entry-of (moved-of made) in
-    (entry .pre .0, [], set made)
+    let made = c .before .before .before .before .before .before in
+    (refl, (entry-of (moved-of made) .pre .0, [], accepted made))
 
 clear-requires : tie.Need-clear-requires
 clear-requires c κs = search needs
 
-enum-known-g : tie.Need-enum-known-g
-enum-known-g c = search needs
+array-read-n : tie.Need-array-read-n
+array-read-n c = search needs
 
 clear-requires-2 : tie.Need-clear-requires-2
 clear-requires-2 c κs = search needs
@@ -170,33 +153,6 @@ clear-requires-3 c κs = search needs
 refusal-requires : tie.Need-refusal-requires
 refusal-requires c κs = search needs
 
-enum-known-g-2 : tie.Need-enum-known-g-2
-enum-known-g-2 c = search needs
-
-note-at-requires : tie.Need-note-at-requires
-note-at-requires c κs = (_, result-whole (c .before) .there)
-
-strip-requires : tie.Need-strip-requires
-strip-requires c κs = (_, result-whole (c .before .before .before))
-
-mul-clear : tie.Need-mul-clear
-mul-clear c = omega (arith, done-bounds (c .before .before .before .before .before .before .before))
-
-mul-clear-2 : tie.Need-mul-clear-2
-mul-clear-2 c = omega (arith, done-bounds (c .before .before .before .before .before .before .before))
-
-sub-clear : tie.Need-sub-clear
-sub-clear c = omega (arith, done-bounds (c .before .before .before .before .before .before .before), c .before .before .before .strip .kept .0)
-
-clear-requires-4 : tie.Need-clear-requires-4
-clear-requires-4 c κs = omega (arith, done-bounds (c .before .before .before .before .before .before .before), c .before .before .before .strip .kept .0)
-
-sub-clear-2 : tie.Need-sub-clear-2
-sub-clear-2 c = omega (arith, done-bounds (c .before .before .before .before .before .before .before .before .before .before .before))
-
-clear-requires-5 : tie.Need-clear-requires-5
-clear-requires-5 c κs = omega (arith, done-bounds (c .before .before .before .before .before .before .before .before .before .before .before))
-
 same-length : tie.Need-same-length
 same-length c = search needs
 
@@ -205,31 +161,67 @@ same-length-2 c = search needs
 
 same-length-3 : tie.Need-same-length-3
 same-length-3 c =
-    let cleared = c .before .before .before .before .before .before .before .before .before .before .before .before .before .before in
-    let called = called-of (driven-of cleared) in
+    let cleared = c .before .before .before .before .before .before .before .before .before .before .before .before in
+    let called = called-of cleared in
     let made = made-of called in
     cleared .clear .kept .0 ∙ called .drive .kept .1 .0 ∙ made .note-all .kept .0 ∙ moved-of made .copy-bytes .kept .0
 
 returns : tie.Need-returns
 returns c =
-    let cleared = c .before .before .before .before .before .before .before .before .before .before .before .before .before .before in
-    let driven = driven-of cleared in
-    let called = called-of driven in
+    let cleared = c .before .before .before .before .before .before .before .before .before .before .before .before in
+    let called = called-of cleared in
     let made = made-of called in
     let moved = moved-of made in
     let entry = entry-of moved in
     let r = called .drive in
     let long = r .kept .1 .0 ∙ made .note-all .kept .0 ∙ moved .copy-bytes .kept .0 in
     let g = entry .args in
-    let told = c .before .before .before .before .before .before .before .before .before .before .g .given in
     let out = c .before .before .before .before .before .before .before .clear2 in
     let steps = c .before .before .before .clear3 in
     let work = cleared .clear in
     for-every (entry .pre .1)
     (λ u. Leaves (drives (entry .args .edition) u) (g .w) (c .refusal .result) (g .out .now) (out .last .0) (g .steps .now) (steps .last .0) (g .work .now) (work .last .0))
-    (left-over (entry .pre .1) (entry .args .edition) (c .refusal .result) (told .0 .0) (r .last .0) (r .last .1 .1 .0) (r .last .1 .0)
-    (result driven (driven-as.Over (told .0 .0)) (told .1))
+    (left-over (entry .pre .1) (entry .args .edition) (c .refusal .result) (getD (r .last .1 .1 .1 .0) 2 0) (r .last .0) (r .last .1 .1 .0) (r .last .1 .0)
+    (result called .refused (c .before .before .before .before .before .before .before .before .before .if1 .taken))
     (c .refusal .ensures) (out .ensures) (steps .ensures) (work .ensures) (r .kept .0) (r .kept .1 .1 .0) long)
+
+note-at-requires : tie.Need-note-at-requires
+note-at-requires c κs =
+    (_, result-whole (c .before) .there)
+
+strip-requires : tie.Need-strip-requires
+strip-requires c κs =
+    (_, result-whole (c .before .before .before))
+
+mul-clear : tie.Need-mul-clear
+mul-clear c =
+    omega (arith, done-bounds (c .before .before .before .before .before .before .before))
+
+mul-clear-2 : tie.Need-mul-clear-2
+mul-clear-2 c =
+    omega (arith, done-bounds (c .before .before .before .before .before .before .before))
+
+sub-clear : tie.Need-sub-clear
+sub-clear c =
+    omega (arith, done-bounds (c .before .before .before .before .before .before .before), c .before .before .before .strip .kept .0)
+
+clear-requires-4 : tie.Need-clear-requires-4
+clear-requires-4 c κs =
+    omega (arith, done-bounds (c .before .before .before .before .before .before .before), c .before .before .before .strip .kept .0)
+
+sub-clear-2 : tie.Need-sub-clear-2
+sub-clear-2 c =
+    omega (arith, done-bounds (c .before .before .before .before .before .before .before .before .before .before .before))
+
+clear-requires-5 : tie.Need-clear-requires-5
+clear-requires-5 c κs =
+    omega (arith, done-bounds (c .before .before .before .before .before .before .before .before .before .before .before))
+
+array-read-t13 : tie.Need-array-read-t13
+array-read-t13 c = search needs
+
+array-read-t12 : tie.Need-array-read-t12
+array-read-t12 c = search needs
 
 same-length-4 : tie.Need-same-length-4
 same-length-4 c = search needs
@@ -239,8 +231,8 @@ same-length-5 c = search needs
 
 same-length-6 : tie.Need-same-length-6
 same-length-6 c =
-    let cleared = c .before .before .before .before .before .before .before .before .before .before .before .before .before .before .before .before .before .before .before in
-    let called = called-of (driven-of cleared) in
+    let cleared = c .before .before .before .before .before .before .before .before .before .before .before .before .before .before .before .before .before in
+    let called = called-of cleared in
     let made = made-of called in
     cleared .clear .kept .0 ∙ called .drive .kept .1 .0 ∙ made .note-all .kept .0 ∙ moved-of made .copy-bytes .kept .0
 
@@ -249,14 +241,15 @@ returns-2 c =
     let stripped = c .before .before .before .before .before .before .before .before .before .before in
     let finished = finished-of stripped in
     let cleared = cleared-of finished in
-    let called = called-of (driven-of cleared) in
+    let called = called-of cleared in
     let made = made-of called in
     let moved = moved-of made in
     let entry = entry-of moved in
     let r = called .drive in
     let long = r .kept .1 .0 ∙ made .note-all .kept .0 ∙ moved .copy-bytes .kept .0 in
     let g = entry .args in
-    let n = finished .before .g2 .given .0 in
+    let done = reached finished in
+    let st = r .last .1 .1 .1 .0 in
     let out = c .before .before .before .before .before .before .clear4 in
     let steps = c .before .before .clear5 in
     let work = cleared .clear in
@@ -268,17 +261,17 @@ returns-2 c =
       number = 0;
       place = 0;
       flaw = Sound;
-      records = n .0;
-      steps = n .1 .1 .0;
-      openings = n .1 .1 .1 .0;
+      records = r .result;
+      steps = getD st 2 0;
+      openings = getD st 3 0;
       «weight_in» = g .w;
       «weight_out» = x;
-      tries = n .1 .1 .1 .1 .0;
+      tries = getD st 4 0;
     })
     (g .out .now) (out .last .0) (g .steps .now) (steps .last .0) (g .work .now) (work .last .0))
-    (left-done (entry .pre .1) (entry .args .edition) (drove finished) (r .kept .0) (r .kept .1 .1 .0) long
-    (stripped .strip .ensures _ (result-whole finished)) (stripped .strip .kept .0) (out .last .0) (steps .last .0) (work .last .0) x
-    (out .ensures) (steps .ensures) (work .ensures) (ap (λ v. v / 65536 % 65536) (noted .ensures _ (result-whole finished .there))))
+    (left-done (entry .pre .1) (entry .args .edition) (done .drove) (r .kept .0) (r .kept .1 .1 .0) long
+    (stripped .strip .ensures _ (result-whole finished)) (stripped .strip .kept .0) (out .last .0) (steps .last .0) (work .last .0) x (getD st 3 0) (getD st 4 0)
+    (out .ensures) (steps .ensures) (work .ensures) (ap (λ v. v / 65536 % 65536) (noted .ensures _ (result-whole finished .there))) (done .openings-are) (done .tries-are))
 
 pub run-spec : {M : Type 1} → statement M
 run-spec =
@@ -290,11 +283,14 @@ run-spec =
     note-all-requires
     drive-requires
     clear-requires
-    enum-known-g
+    array-read-n
     clear-requires-2
     clear-requires-3
     refusal-requires
-    enum-known-g-2
+    same-length
+    same-length-2
+    same-length-3
+    returns
     note-at-requires
     strip-requires
     mul-clear
@@ -303,10 +299,8 @@ run-spec =
     clear-requires-4
     sub-clear-2
     clear-requires-5
-    same-length
-    same-length-2
-    same-length-3
-    returns
+    array-read-t13
+    array-read-t12
     same-length-4
     same-length-5
     same-length-6

@@ -1,7 +1,7 @@
 -- `spell::spell`, `member_at` and `joined_at`, which call each other, meet their contracts. They end because the records left fall: a
 -- node's members begin behind it. A tree's text is put by the law of its kind; the loop keeps that what is put, with the signs and
 -- members left, is the text of all. Assumes nothing.
-use Prim.Native.Nat.{_+_, _-_, _*_, _≤_}
+use Prim.Native.Nat.{_+_, _-_, _*_, _^_, _≤_}
 use mathlib.Core.Path.{_≡_, refl, sym, subst}
 use native.Mathlib.Omega.{arith}
 use borrow.Author.Needs.{needs}
@@ -10,6 +10,8 @@ use Rattle.paper_text.specs.Text.{in-sum, in-product, as-base}
 use Rattle.paper.specs.Verdict.{recordsIn}
 use Rattle.spell.proofs.MemberLaws.{Joining, first-there, others-there, first-ahead, first-room, joined-put, begins, member-there, goes-on, ends}
 use Rattle.spell.specs.Spelt.{Roomy, leastRank}
+use Rattle.paper.specs.Standing.{SomeTrees}
+use lib.ListN.{length}
 use Rattle.spell.proofs.LongLaws.{closing-room}
 use Rattle.spell.proofs.RankLaws.{bare-there, grouped-there}
 use Rattle.spell.proofs.TreeLaws.{inside, last-kind, behind, integer-put, symbol-put, sum-there, sum-put, product-there, product-put}
@@ -101,6 +103,20 @@ joined-inv s i n least sign out₀ at j₀ e₀ left₀ out j e left = Joining l
 abbrev joined-left : joined-at-lts.MeasureT-loop
 joined-left s i n least sign out₀ at j₀ e₀ left₀ out j e left = left
 
+-- before a turn of the loop, and from there the entry
+abbrev joined-Turn : ℕ → Type 0
+joined-Turn t = joined-at-lts.At-loop (joined-rs t) (joined-here t) joined-at.Post joined-inv joined-left
+
+abbrev joined-entry-of : {t : ℕ} → joined-Turn t → joined-at-lts.Start (joined-rs t) (joined-here t) joined-at.Post joined-inv joined-left
+joined-entry-of c = c .before .before .before .before .before .before .before
+
+-- the trees behind the first member
+joined-others : {t : ℕ} (c : joined-Turn t)
+    → let a = joined-entry-of c .args in SomeTrees (a .s .now) (c .before .before .before .member-at .result .next) (a .n - 1)
+joined-others c =
+    let p = joined-entry-of c .pre .1 in
+    others-there (p .1) (c .before .before .before .member-at .ensures) (p .0) (p .2)
+
 joined-at-member-at-requires : (t : ℕ) → joined-at-lts.Need-member-at-requires (joined-rs t) (joined-here t) joined-at.Post joined-inv joined-left
 joined-at-member-at-requires t c κs =
     let a = c .before .before .before in
@@ -120,12 +136,15 @@ joined-at-put-sign-requires t c κs = let f = c .before .before .loop .inv .room
 
 joined-at-member-at-requires-2 : (t : ℕ) → joined-at-lts.Need-member-at-requires-2 (joined-rs t) (joined-here t) joined-at.Post joined-inv joined-left
 joined-at-member-at-requires-2 t c κs =
-    let a = c .before .before .before .before .before .before .before .before .before .before .before .before .before in
-    let first = c .before .before .before .before .before .before .before .before .before .member-at in
-    let l = c .before .before .before .before .before .before .loop .inv in
-    let x = first-ahead (a .pre .1 .1) (first .ensures) (a .pre .1 .0) (a .pre .1 .2) in
+    let turn = c .before .before .before .before .before .before in
+    let entry = joined-entry-of turn in
+    let p = entry .pre .1 in
+    let l = turn .loop .inv in
+    let x = first-ahead (p .1) (turn .before .before .before .member-at .ensures) (p .0) (p .2) in
     let y = l .ahead in
-    (omega (arith, x, y), (member-there l (others-there (a .pre .1 .1) (first .ensures) (a .pre .1 .0) (a .pre .1 .2)) (a .pre .1 .2) (omega arith), (a .pre .1 .2), subst (Roomy (a .args .s .now) (c .before .before .before .before .before .before .loop .j)) (sym (c .before .before .before .put-sign .ensures .end)) (l .roomy)))
+    let m = entry .pre .0 in
+    let room = subst (Roomy (entry .args .s .now) (turn .loop .j)) (sym (c .before .before .before .put-sign .ensures .end)) (l .roomy) in
+    (omega (arith, x, y, m), (member-there l (joined-others turn) (p .2) (omega arith), p .2, room))
 
 joined-at-sub-left-2 : (t : ℕ) → joined-at-lts.Need-sub-left-2 (joined-rs t) (joined-here t) joined-at.Post joined-inv joined-left
 joined-at-sub-left-2 t c = omega arith
@@ -135,9 +154,12 @@ joined-at-loop-less t c = omega arith
 
 joined-at-loop-again : (t : ℕ) → joined-at-lts.Need-loop-again (joined-rs t) (joined-here t) joined-at.Post joined-inv joined-left
 joined-at-loop-again t c =
-    let a = c .before .before .before .before .before .before .before .before .before .before .before .before .before .before .before .before in
-    let first = c .before .before .before .before .before .before .before .before .before .before .before .before .member-at in
-    goes-on (c .before .before .before .before .before .before .before .before .before .loop .inv) (omega arith) (c .before .before .before .before .before .before .put-sign .ensures) (c .before .before .member-at2 .result) (c .before .before .member-at2 .ensures) (others-there (a .pre .1 .1) (first .ensures) (a .pre .1 .0) (a .pre .1 .2)) (a .pre .1 .2) (search needs)
+    let turn = c .before .before .before .before .before .before .before .before .before in
+    let left = c .before .before .before .before .before .before .before .before .loop-test .taken in
+    let sign = c .before .before .before .before .before .before .put-sign in
+    let member = c .before .before .member-at2 in
+    let place = joined-entry-of turn .pre .1 .2 in
+    goes-on (turn .loop .inv) left (sign .ensures) (member .result) (member .ensures) (joined-others turn) place (search needs)
 
 joined-at-same-length : (t : ℕ) → joined-at-lts.Need-same-length (joined-rs t) (joined-here t) joined-at.Post joined-inv joined-left
 joined-at-same-length t c = let l = c .before .loop .inv .long in search (needs, l)
@@ -164,7 +186,9 @@ member-at-returns : (t : ℕ) → member-at-lts.Need-returns (member-rs t) (memb
 member-at-returns t c =
     let a = c .before .before .before .before .before .before .before .before .args in
     let rank = c .before .before .before .before .before .rank-at in
-    λ p t e h. bare-put p t (bare-there p t (rank .result) (a .least) (rank .ensures t h) e (c .before .before .before .before .if1 .taken)) (c .before .before .spell .ensures t h)
+    let low = c .before .before .before .before .if1 .taken in
+    let text = c .before .before .spell in
+    λ p t e h. bare-put p t (bare-there p t (rank .result) (a .least) (rank .ensures t h) e low) (text .ensures t h)
 
 member-at-put-sign-requires : (t : ℕ) → member-at-lts.Need-put-sign-requires (member-rs t) (member-here t) member-at.Post
 member-at-put-sign-requires t c κs = let f = c .before .before .before .before .before .pre .1 .2 .fits in omega (arith, f)
@@ -189,9 +213,14 @@ member-at-same-length-2 t c = search needs
 
 member-at-returns-2 : (t : ℕ) → member-at-lts.Need-returns-2 (member-rs t) (member-here t) member-at.Post
 member-at-returns-2 t c =
-    let a = c .before .before .before .before .before .before .before .before .before .before .before .before .before .before .before .before .args in
-    let rank = c .before .before .before .before .before .before .before .before .before .before .before .before .before .rank-at in
-    λ p t e h. grouped-put p t (grouped-there p t (rank .result) (a .least) (rank .ensures t h) e (c .before .before .before .before .before .before .before .before .before .before .before .before .if1 .left)) (c .before .before .before .before .before .before .before .before .before .before .put-sign .ensures) (c .before .before .before .before .before .before .spell2 .ensures t h) (c .before .before .put-sign2 .ensures)
+    let opened = c .before .before .before .before .before .before .before .before .before .before in
+    let a = opened .before .before .before .before .before .before .args in
+    let rank = opened .before .before .before .rank-at in
+    let high = opened .before .before .if1 .left in
+    let text = c .before .before .before .before .before .before .spell2 in
+    let closed = c .before .before .put-sign2 in
+    λ p t e h. grouped-put p t (grouped-there p t (rank .result) (a .least) (rank .ensures t h) e high)
+    (opened .put-sign .ensures) (text .ensures t h) (closed .ensures)
 
 spell-kind-requires : (t : ℕ) → spell-lts.Need-kind-requires (spell-rs t) (spell-here t) spell.Post
 spell-kind-requires t c κs = inside (c .before .before .pre .1 .0)
@@ -225,20 +254,27 @@ spell-cast-spell-number : (t : ℕ) → spell-lts.Need-cast-spell-number (spell-
 spell-cast-spell-number t c = search needs
 
 spell-spell-number-requires : (t : ℕ) → spell-lts.Need-spell-number-requires (spell-rs t) (spell-here t) spell.Post
-spell-spell-number-requires t c κs = let e = c .before .before .before .before .put-sign .ensures .end in let f = c .before .before .before .before .before .before .before .before .before .before .before .pre .1 .1 .fits in omega (arith, e, f)
+spell-spell-number-requires t c κs =
+    let e = c .before .before .before .before .put-sign .ensures .end in
+    let f = c .before .before .before .before .before .before .before .before .before .before .before .pre .1 .1 .fits in
+    omega (arith, e, f)
 
 spell-add-t24 : (t : ℕ) → spell-lts.Need-add-t24 (spell-rs t) (spell-here t) spell.Post
-spell-add-t24 t c = let w = inside (c .before .before .before .before .before .before .before .before .before .before .before .before .before .before .pre .1 .0) in omega (arith, w)
+spell-add-t24 t c =
+    let p = c .before .before .before .before .before .before .before .before .before .before .before .before .before .before .pre .1 in
+    let w = inside (p .0) in
+    omega (arith, w)
 
 spell-same-length-2 : (t : ℕ) → spell-lts.Need-same-length-2 (spell-rs t) (spell-here t) spell.Post
 spell-same-length-2 t c = search needs
 
 spell-returns-2 : (t : ℕ) → spell-lts.Need-returns-2 (spell-rs t) (spell-here t) spell.Post
 spell-returns-2 t c =
-    let a = c .before .before .before .before .before .before .before .before .before .before .before .before .before .before .args in
-    let e = c .before .before .before .before .before .before .before .before .before .before .before .kind .ensures in
+    let sign = c .before .before .before .before .before .before .before in
+    let a = sign .before .before .before .before .before .before .before .args in
+    let e = sign .before .before .before .before .kind .ensures in
     let k : kind (a .s .now) (a .i) ≡ 1 = omega (arith, e) in
-    λ t h. symbol-put t h k (c .before .before .before .before .symbol .ensures) (c .before .before .before .before .before .before .before .put-sign .ensures) (c .before .before .spell-number .ensures)
+    λ t h. symbol-put t h k (c .before .before .before .before .symbol .ensures) (sign .put-sign .ensures) (c .before .before .spell-number .ensures)
 
 spell-add-joined-at : (t : ℕ) → spell-lts.Need-add-joined-at (spell-rs t) (spell-here t) spell.Post
 spell-add-joined-at t c = let w = inside (c .before .before .before .before .before .before .pre .1 .0) in omega (arith, w)
@@ -249,12 +285,14 @@ spell-count-requires t c κs = inside (c .before .before .before .before .before
 spell-joined-at-requires : (t : ℕ) → spell-lts.Need-joined-at-requires (spell-rs t) (spell-here t) spell.Post
 unfolding recordsIn leastRank
 spell-joined-at-requires t c κs =
-    let a = c .before .before .before .before .before .before .before .before .args in
+    let entry = c .before .before .before .before .before .before .before .before in
+    let a = entry .args in
+    let p = entry .pre .1 in
     let e = c .before .before .before .before .before .kind .ensures in
     let k : kind (a .s .now) (a .i) ≡ 2 = omega (arith, e) in
-    let w = inside (c .before .before .before .before .before .before .before .before .pre .1 .0) in
-    let m = sum-there (c .before .count .ensures .0) (c .before .before .before .before .before .before .before .before .pre .1 .0) k in
-    (omega (arith, w), (m .0, m .1, (in-sum, refl), behind (c .before .before .before .before .before .before .before .before .pre .1 .0) (c .before .before .before .before .before .before .before .before .pre .1 .1)))
+    let w = inside (p .0) in
+    let m = sum-there (c .before .count .ensures .0) (p .0) k in
+    (omega (arith, w), (m .0, m .1, (in-sum, refl), behind (p .0) (p .1)))
 
 spell-same-length-3 : (t : ℕ) → spell-lts.Need-same-length-3 (spell-rs t) (spell-here t) spell.Post
 spell-same-length-3 t c = search needs
@@ -275,12 +313,14 @@ spell-count-requires-2 t c κs = inside (c .before .before .before .before .befo
 spell-joined-at-requires-2 : (t : ℕ) → spell-lts.Need-joined-at-requires-2 (spell-rs t) (spell-here t) spell.Post
 unfolding recordsIn leastRank
 spell-joined-at-requires-2 t c κs =
-    let a = c .before .before .before .before .before .before .before .before .before .args in
+    let entry = c .before .before .before .before .before .before .before .before .before in
+    let a = entry .args in
+    let p = entry .pre .1 in
     let e = c .before .before .before .before .before .before .kind .ensures in
     let k : kind (a .s .now) (a .i) ≡ 3 = omega (arith, e) in
-    let w = inside (c .before .before .before .before .before .before .before .before .before .pre .1 .0) in
-    let m = product-there (c .before .count2 .ensures .0) (c .before .before .before .before .before .before .before .before .before .pre .1 .0) k in
-    (omega (arith, w), (m .0, m .1, (in-product, refl), behind (c .before .before .before .before .before .before .before .before .before .pre .1 .0) (c .before .before .before .before .before .before .before .before .before .pre .1 .1)))
+    let w = inside (p .0) in
+    let m = product-there (c .before .count2 .ensures .0) (p .0) k in
+    (omega (arith, w), (m .0, m .1, (in-product, refl), behind (p .0) (p .1)))
 
 spell-same-length-4 : (t : ℕ) → spell-lts.Need-same-length-4 (spell-rs t) (spell-here t) spell.Post
 spell-same-length-4 t c = search needs
@@ -298,42 +338,49 @@ spell-add-member-at t c = let w = inside (c .before .before .before .before .bef
 spell-member-at-requires : (t : ℕ) → spell-lts.Need-member-at-requires (spell-rs t) (spell-here t) spell.Post
 unfolding recordsIn leastRank
 spell-member-at-requires t c κs =
-    let a = c .before .before .before .before .before .before .before .before .args in
+    let p = c .before .before .before .before .before .before .before .before .pre .1 in
     let e = c .before .before .before .before .before .kind .ensures in
-    let k = last-kind (c .before .before .before .before .before .before .before .before .pre .1 .0) (omega (arith, e)) in
-    let w = inside (c .before .before .before .before .before .before .before .before .pre .1 .0) in
-    (omega (arith, w), (base-there (c .before .before .before .before .before .before .before .before .pre .1 .0) k, (as-base, refl), behind (c .before .before .before .before .before .before .before .before .pre .1 .0) (c .before .before .before .before .before .before .before .before .pre .1 .1)))
+    let k = last-kind (p .0) (omega (arith, e)) in
+    let w = inside (p .0) in
+    (omega (arith, w), (base-there (p .0) k, (as-base, refl), behind (p .0) (p .1)))
+
+-- after the base of a power was put, and from there the entry
+abbrev spell-Base : ℕ → Type 0
+spell-Base t = spell-lts.After-member-at (spell-rs t) (spell-here t) spell.Post
+
+abbrev spell-entry-of : {t : ℕ} → spell-Base t → spell-lts.Start (spell-rs t) (spell-here t) spell.Post
+spell-entry-of c = c .before .before .before .before .before .before .before .before .before
+
+-- the tree is a power
+spell-power : {t : ℕ} (c : spell-Base t) → let a = spell-entry-of c .args in kind (a .s .now) (a .i) ≡ 4
+spell-power c = let e = c .before .before .before .before .before .before .kind .ensures in last-kind (spell-entry-of c .pre .1 .0) (omega (arith, e))
+
+-- there is room for the sign behind the base
+spell-sign-room : {t : ℕ} (c : spell-Base t) → c .member-at .result .end + 1 ≤ 2 ^ 62
+spell-sign-room c =
+    let p = spell-entry-of c .pre .1 in
+    sign-room (spell-power c) (c .member-at .ensures) (p .0) (behind (p .0) (p .1))
+
+-- the exponent's record stands behind the base
+spell-exponent : {t : ℕ} (c : spell-Base t) → c .member-at .result .next * 16 + 16 ≤ length (spell-entry-of c .args .s .now)
+spell-exponent c = exponent-inside (spell-power c) (c .member-at .ensures) (spell-entry-of c .pre .1 .0)
 
 spell-put-sign-requires-2 : (t : ℕ) → spell-lts.Need-put-sign-requires-2 (spell-rs t) (spell-here t) spell.Post
-spell-put-sign-requires-2 t c κs =
-    let a = c .before .before .before .before .before .before .before .before .before .before .before .before .args in
-    let e = c .before .before .before .before .before .before .before .before .before .kind .ensures in
-    let k = last-kind (c .before .before .before .before .before .before .before .before .before .before .before .before .pre .1 .0) (omega (arith, e)) in
-    let r = sign-room k (c .before .before .before .member-at .ensures) (c .before .before .before .before .before .before .before .before .before .before .before .before .pre .1 .0) (behind (c .before .before .before .before .before .before .before .before .before .before .before .before .pre .1 .0) (c .before .before .before .before .before .before .before .before .before .before .before .before .pre .1 .1)) in
-    omega (arith, r)
+spell-put-sign-requires-2 t c κs = let r = spell-sign-room (c .before .before .before) in omega (arith, r)
 
 spell-bits-requires-2 : (t : ℕ) → spell-lts.Need-bits-requires-2 (spell-rs t) (spell-here t) spell.Post
-spell-bits-requires-2 t c κs =
-    let a = c .before .before .before .before .before .before .before .before .before .before .before .before .before .before .before .args in
-    let e = c .before .before .before .before .before .before .before .before .before .before .before .before .kind .ensures in
-    let k = last-kind (c .before .before .before .before .before .before .before .before .before .before .before .before .before .before .before .pre .1 .0) (omega (arith, e)) in
-    exponent-inside k (c .before .before .before .before .before .before .member-at .ensures) (c .before .before .before .before .before .before .before .before .before .before .before .before .before .before .before .pre .1 .0)
+spell-bits-requires-2 t c κs = spell-exponent (c .before .before .before .before .before .before)
 
 spell-spell-number-requires-2 : (t : ℕ) → spell-lts.Need-spell-number-requires-2 (spell-rs t) (spell-here t) spell.Post
 spell-spell-number-requires-2 t c κs =
-    let a = c .before .before .before .before .before .before .before .before .before .before .before .before .before .before .before .before .before .args in
-    let e = c .before .before .before .before .before .before .before .before .before .before .before .before .before .before .kind .ensures in
-    let k = last-kind (c .before .before .before .before .before .before .before .before .before .before .before .before .before .before .before .before .before .pre .1 .0) (omega (arith, e)) in
-    let r = sign-room k (c .before .before .before .before .before .before .before .before .member-at .ensures) (c .before .before .before .before .before .before .before .before .before .before .before .before .before .before .before .before .before .pre .1 .0) (behind (c .before .before .before .before .before .before .before .before .before .before .before .before .before .before .before .before .before .pre .1 .0) (c .before .before .before .before .before .before .before .before .before .before .before .before .before .before .before .before .before .pre .1 .1)) in
+    let r = spell-sign-room (c .before .before .before .before .before .before .before .before) in
     let m = c .before .before .before .before .put-sign2 .ensures .end in
     omega (arith, r, m)
 
 spell-add-t33 : (t : ℕ) → spell-lts.Need-add-t33 (spell-rs t) (spell-here t) spell.Post
 spell-add-t33 t c =
-    let a = c .before .before .before .before .before .before .before .before .before .before .before .before .before .before .before .before .before .before .before .before .before .args in
-    let e = c .before .before .before .before .before .before .before .before .before .before .before .before .before .before .before .before .before .before .kind .ensures in
-    let k = last-kind (c .before .before .before .before .before .before .before .before .before .before .before .before .before .before .before .before .before .before .before .before .before .pre .1 .0) (omega (arith, e)) in
-    let w = exponent-inside k (c .before .before .before .before .before .before .before .before .before .before .before .before .member-at .ensures) (c .before .before .before .before .before .before .before .before .before .before .before .before .before .before .before .before .before .before .before .before .before .pre .1 .0) in
+    let base = c .before .before .before .before .before .before .before .before .before .before .before .before in
+    let w = spell-exponent base in
     omega (arith, w)
 
 spell-same-length-5 : (t : ℕ) → spell-lts.Need-same-length-5 (spell-rs t) (spell-here t) spell.Post
@@ -341,13 +388,15 @@ spell-same-length-5 t c = search needs
 
 spell-returns-5 : (t : ℕ) → spell-lts.Need-returns-5 (spell-rs t) (spell-here t) spell.Post
 spell-returns-5 t c =
-    let a = c .before .before .before .before .before .before .before .before .before .before .before .before .before .before .before .before .before .before .before .before .before .args in
-    let e = c .before .before .before .before .before .before .before .before .before .before .before .before .before .before .before .before .before .before .kind .ensures in
-    let k = last-kind (c .before .before .before .before .before .before .before .before .before .before .before .before .before .before .before .before .before .before .before .before .before .pre .1 .0) (omega (arith, e)) in
-    λ t h. power-put k (c .before .before .before .before .before .before .before .before .before .before .before .before .member-at .ensures) t h (c .before .before .before .before .before .before .before .before .put-sign2 .ensures) (c .before .before .before .before .before .bits2 .ensures) (c .before .before .before .spell-number2 .ensures)
+    let base = c .before .before .before .before .before .before .before .before .before .before .before .before in
+    let sign = c .before .before .before .before .before .before .before .before .put-sign2 .ensures in
+    let exponent = c .before .before .before .before .before .bits2 .ensures in
+    λ t h. power-put (spell-power base) (base .member-at .ensures) t h sign exponent (c .before .before .before .spell-number2 .ensures)
 
 pub +joined-at+member-at+spell-spec : {M : Type 1} → statement M
-+joined-at+member-at+spell-spec = close μ-joined-at μ-member-at μ-spell (λ t. joined-at-lts.spec (joined-rs t) (joined-here t) joined-at.Post joined-inv joined-left
++joined-at+member-at+spell-spec =
+    close μ-joined-at μ-member-at μ-spell
+    (λ t. joined-at-lts.spec (joined-rs t) (joined-here t) joined-at.Post joined-inv joined-left
     (joined-at-member-at-requires t)
     (joined-at-sub-left t)
     (joined-at-loop-holds t)

@@ -127,10 +127,10 @@ known c h =
       note-known = noted .note-at .ensures (t .tree) (there passing h);
     }
 
--- and the 16 bits of its part's key
+-- and the 15 bits of its part's key
 key-is : (c : Keyed) {f : Forest} (h : Members (around c) f)
     → let terms = entry-of (counted-of (around c .before)) .args .terms in
-    c .part-key .result / 4294967296 % 65536 ≡ shortKey (partKey terms (next (around c) h .tree))
+    c .part-key .result / 4294967296 % 32768 ≡ shortKey (partKey terms (next (around c) h .tree))
 unfolding shortKey
 key-is c h = ap shortKey (c .part-key .ensures (next (around c) h .tree) (known (kinded-of c) h))
 

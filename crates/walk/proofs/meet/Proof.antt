@@ -1,7 +1,8 @@
--- `walk::meet` meets its contract: where the entry's 16 bits are others than those of the current part's key, the part does not take up the
+-- `walk::meet` meets its contract: where the entry's 15 bits are others than those of the current part's key, the part does not take up the
 -- member's (`apart-by-key`); else the member stands where its entry's start says (`entry-there`), and merging with it there is what was
 -- asked for. Assumes nothing.
-use mathlib.Core.Path.{sym, _∙_}
+use Prim.Native.Nat.{_%_}
+use mathlib.Core.Path.{sym, ap, _∙_}
 use native.Mathlib.Omega.{arith}
 use borrow.Author.Needs.{needs}
 use Rattle.note.proofs.ToldLaws.{record-within}
@@ -45,7 +46,7 @@ read2-requires c κs = search needs
 returns : tie.Need-returns
 returns c =
     let key = c .before .read2 in
-    (λ b x t h keyed entry. apart-by-key b x t (λ e. c .if1 .taken (key .ensures .0 ∙ entry .key ∙ e ∙ sym keyed)), λ h. tt)
+    (λ b x t h keyed entry. apart-by-key b x t (λ e. c .if1 .taken (ap (λ x. x % 32768) (key .ensures .0) ∙ entry .key ∙ e ∙ sym keyed)), λ h. tt)
 
 mul-read2-2 : tie.Need-mul-read2-2
 mul-read2-2 c = search needs

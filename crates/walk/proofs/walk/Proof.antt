@@ -21,8 +21,16 @@ walk-spec =
     μ-loop
     Inv-walk
     μ-walk
+    Outer.tell-lone-requires
     Outer.add-e
     Outer.walk-holds
+    Outer.mul-high
+    Outer.add-high
+    Outer.slice-read-high
+    Outer.keep-lone-requires
+    Outer.add-i
+    Outer.walk-less
+    Outer.walk-again
     Outer.current-requires
     Outer.mul-read2
     Outer.add-read2
@@ -44,21 +52,18 @@ walk-spec =
     Inner.loop-less-2
     Inner.loop-again-2
     Inner.enum-told-2
-    Outer.write-part-requires
+    Outer.finish-requires
     Outer.enum-known-w
+    Outer.enum-known-w-2
+    Outer.add-new
     Outer.enum-told-3
-    Outer.add-i
-    Outer.walk-less
-    Outer.walk-again
+    Outer.add-i-2
+    Outer.walk-less-2
+    Outer.walk-again-2
     Returns.same-length
     Returns.same-length-2
     Returns.returns
+    Returns.answer-requires
     Returns.same-length-3
     Returns.same-length-4
-    Returns.returns-2
-    Returns.same-length-5
-    Returns.same-length-6
-    Returns.returns-3
-    Returns.same-length-7
-    Returns.same-length-8
-    Returns.returns-4)
+    Returns.returns-2)

@@ -100,7 +100,7 @@ came : (c : Came) {t : Tree} {rest : List ℕ} (h : Pending (entry-of (kind-of (
     let l = toList (node (kind-of list) h .members) in
     let given = c .walked .given .0 in
     CameOut (g .terms) l (g .out .now) (walk .walk .last .0) (g .d) (given .0) (given .1 .0)
-came c h = says (walked-of (answered-of c)) h _ (c .walked .given .1)
+came c h = says (walked-of (answered-of c)) h _ (c .walked .given .1) .0
 
 -- the node that is made of it can be closed
 light : (c : Came) {t : Tree} {rest : List ℕ} (h : Pending (entry-of (kind-of (listed-of (walked-of (answered-of c))))) t rest)

@@ -1,0 +1,51 @@
+-- `driver::begin` meets its contract: by those of what it calls. Assumes nothing.
+use mathlib.Core.Path.{_≡_, ap}
+use Rattle.paper.specs.Record.{arity}
+use Rattle.driver.specs.Paused.{begunAt}
+use borrow.Author.Needs.{needs}
+use Rattle.driver.proofs.begin.Statement.{statement}
+use Rattle.driver.proofs.begin.Tie as tie
+
+mul-copy-bytes : tie.Need-mul-copy-bytes
+mul-copy-bytes c = search needs
+
+mul-copy-bytes-2 : tie.Need-mul-copy-bytes-2
+mul-copy-bytes-2 c = search needs
+
+copy-bytes-requires : tie.Need-copy-bytes-requires
+copy-bytes-requires c κs = search needs
+
+arity-requires : tie.Need-arity-requires
+arity-requires c κs = search needs
+
+add-t12 : tie.Need-add-t12
+add-t12 c = search needs
+
+add-t13 : tie.Need-add-t13
+add-t13 c = search needs
+
+add-t14 : tie.Need-add-t14
+add-t14 c = search needs
+
+same-length : tie.Need-same-length
+same-length c = search needs
+
+returns : tie.Need-returns
+returns c =
+    let g = c .before .before .before .before .before .before .before .before .args in
+    let members : c .before .arity .result ≡ arity (g .work .now) (g .q) = c .before .arity .ensures .0 in
+    (ap (begunAt (g .s) (g .q) (g .n) (g .tries)) members, c .before .before .before .before .copy-bytes .ensures)
+
+pub begin-spec : {M : Type 1} → statement M
+begin-spec =
+    tie.close
+    (tie.spec
+    mul-copy-bytes
+    mul-copy-bytes-2
+    copy-bytes-requires
+    arity-requires
+    add-t12
+    add-t13
+    add-t14
+    same-length
+    returns)
