@@ -9,25 +9,15 @@
    A file of zeros is one of free slots: head -c 640 /dev/zero >FILE makes room for twenty settings. The file is read whole into memory, the
    library changes that copy, and only what was accepted is written back: first to FILE.new, which then takes the file's place. What goes wrong
    goes to standard error in words; the exit code is then 1. */
-#include "../include/simmergate.h"
-#include <errno.h>
-#include <stdio.h>
-#include <stdlib.h>
-#include <string.h>
+#define PROGRAM "settings"
+#include "common.h"
 
-#define SLOT 32
-#define MOST_BYTES (SLOT * 65536) /* a slot for each key that there is */
+#define SLOT SIMMERGATE_SLOT_BYTES
+#define MOST_AREA (SLOT * 65536) /* a slot for each key that there is */
 
-static uint8_t area[MOST_BYTES + 1]; /* one byte more, to see that a file is too long */
+static uint8_t area[MOST_AREA + 1]; /* one byte more, to see that a file is too long */
 static size_t length;
 static const char *file;
-
-/* Number i of an answer, or of a record in parts of 8 bytes. */
-static uint64_t number(const uint8_t *bytes, int i) {
-    uint64_t x = 0;
-    for (int k = 7; k >= 0; k--) x = x << 8 | bytes[8 * i + k];
-    return x;
-}
 
 /* ---- Words for a person ---- */
 
@@ -36,12 +26,7 @@ static int usage(void) {
     return 2;
 }
 
-static int complain(const char *of, const char *what) {
-    fprintf(stderr, "settings: %s: %s\n", of, what);
-    return 1;
-}
-
-static int refused(uint32_t why, unsigned key) {
+static int turned_down(uint32_t why, unsigned key) {
     fprintf(stderr, "settings: %s: refused %u: ", file, why);
     switch (why) {
     case 6: fprintf(stderr, "the answer that this program lends is too small\n"); break;
@@ -67,23 +52,10 @@ static void show(unsigned key, uint64_t setting, uint64_t unit) {
 
 /* Reads the file into `area`; 0 after a message. */
 static int read_area(void) {
-    FILE *f = fopen(file, "rb");
-    if (f == NULL) return complain(file, strerror(errno)), 0;
-    long whole = fseek(f, 0, SEEK_END) == 0 ? ftell(f) : -1;
-    if (whole >= 0) fseek(f, 0, SEEK_SET);
-    length = fread(area, 1, sizeof area, f);
-    if (ferror(f)) {
-        complain(file, strerror(errno));
-        fclose(f);
-        return 0;
-    }
-    fclose(f);
-    if (length > MOST_BYTES) return complain(file, "it has more slots than there are keys"), 0;
-    if (whole > (long)length) {
-        fprintf(stderr, "settings: %s: short read: it has %ld bytes, and %zu came\n", file, whole, length);
-        return 0;
-    }
-    return 1;
+    long n = read_file(file, area, sizeof area);
+    if (n > MOST_AREA) return complain(file, "it has more slots than there are keys"), 0;
+    length = (size_t)n;
+    return n >= 0;
 }
 
 /* Writes the area beside the file, and puts it in the file's place when it is written whole. */
@@ -104,37 +76,37 @@ static int write_area(void) {
 /* ---- The commands ---- */
 
 static int fetch(unsigned key) {
-    uint8_t answer[32];
+    uint8_t answer[SIMMERGATE_SETTINGS_FETCH_BYTES];
     uint32_t why = simmergate_settings_fetch(area, length, (uint16_t)key, answer, sizeof answer);
-    if (why != 0) return refused(why, key);
+    if (why != 0) return turned_down(why, key);
     show(key, number(answer, 2), number(answer, 3));
     return 0;
 }
 
 static int fetch_1(unsigned key) {
-    uint8_t answer[24];
+    uint8_t answer[SIMMERGATE_SETTINGS_FETCH_1_BYTES];
     uint32_t why = simmergate_settings_fetch_1(area, length, (uint16_t)key, answer, sizeof answer);
-    if (why != 0) return refused(why, key);
+    if (why != 0) return turned_down(why, key);
     show(key, number(answer, 2), 0);
     return 0;
 }
 
 static int store(unsigned key, uint64_t setting, unsigned unit) {
     uint32_t why = simmergate_settings_store(area, length, (uint16_t)key, setting, (uint16_t)unit);
-    return why != 0 ? refused(why, key) : write_area();
+    return why != 0 ? turned_down(why, key) : write_area();
 }
 
 static int take_out(unsigned key) {
     uint32_t why = simmergate_settings_remove(area, length, (uint16_t)key);
-    return why != 0 ? refused(why, key) : write_area();
+    return why != 0 ? turned_down(why, key) : write_area();
 }
 
 /* One fetch judges the area; where it is in order, its records are read as they stand, up to the first free slot. */
 static int list(void) {
-    uint8_t answer[32];
+    uint8_t answer[SIMMERGATE_SETTINGS_FETCH_BYTES];
     uint32_t why = simmergate_settings_fetch(area, length, 0, answer, sizeof answer);
     size_t i = 0;
-    if (why != 0 && why != 12) return refused(why, 0);
+    if (why != 0 && why != 12) return turned_down(why, 0);
     for (; i < length / SLOT && area[SLOT * i] != 0; i++) {
         const uint8_t *slot = area + SLOT * i;
         show(slot[2] + 256u * slot[3], number(slot, 1), slot[4] + 256u * slot[5]);

@@ -8,12 +8,14 @@
 #include "own.h"
 #include "text.h"
 #include "tables.h"
+#include "trees.h"
+#include "damage.h"
 
 enum { ANSWER = SIMMERGATE_DIFFER_BYTES, ROOM = RECORD * (HIGHER + 4) };
 
 static struct lent lent_first = {.name = "first"}, lent_second = {.name = "second"}, lent_list = {.name = "list"}, lent_answer = {.name = "answer"};
-static uint8_t first[ROOM], second[ROOM], listed[ROOM];
-static size_t first_bytes, second_bytes, pairs, limit = LOWER;
+static uint8_t first[ROOM], second[ROOM];
+static size_t first_bytes, second_bytes, limit = LOWER;
 static unsigned long calls, refused, with_pairs, without, heavy;
 static const char *now;
 
@@ -43,12 +45,6 @@ static void no_limit(size_t room) {
     limit = own_no_limit(calls);
     call(room, ANSWER, nineteen);
     limit = known;
-}
-
-static void pair(uint64_t i, uint64_t j) {
-    own_bytes(listed + 16 * pairs, i);
-    own_bytes(listed + 16 * pairs + 8, j);
-    pairs++;
 }
 
 /* ---- stored answers */
@@ -88,37 +84,6 @@ static void stored(void) {
     uint8_t answer[SIMMERGATE_EQUAL_BYTES];
     simmergate_equal(limit, first, first_bytes, second, second_bytes, answer, sizeof answer);
     if (strcmp(part[6], own_number(answer) != 0 ? "-" : own_number(answer + 24) ? "equal" : "not equal") != 0) fail("equality");
-}
-
-/* ---- the plain walk: the trees at records i and j; where they end is left in them */
-static uint64_t members(const uint8_t *r) { return r[0] < 2 ? 0 : r[0] == 4 ? 2 : (uint64_t)r[2] + 256 * (uint64_t)r[3]; }
-
-static void pass(const uint8_t *t, uint64_t *i) {
-    uint64_t n = members(t + 16 * *i);
-    for (++*i; n > 0; n--) pass(t, i);
-}
-
-static void walk(uint64_t *i, uint64_t *j) {
-    const uint8_t *r = first + 16 * *i, *q = second + 16 * *j;
-    uint64_t n = members(r);
-    if (r[0] != q[0] || n != members(q) || r[4] != q[4] || r[5] != q[5] || (r[0] < 2 && own_number(r + 8) != own_number(q + 8))) {
-        pair(*i, *j);
-        pass(first, i);
-        pass(second, j);
-        return;
-    }
-    for (++*i, ++*j; n > 0; n--) walk(i, j);
-}
-
-/* A few records of the table given others of the same shape. */
-static void change(uint8_t *t, size_t records) {
-    for (uint64_t n = below(4); n > 0; n--) {
-        uint8_t *r = t + 16 * below(records);
-        if (chance(4)) r[4 + below(2)] ^= (uint8_t)(1 << below(8));
-        else if (r[0] == 0) r[8 + below(8)] ^= (uint8_t)(1 << below(8));
-        else if (r[0] == 1) r[8] ^= (uint8_t)(1 << below(8));
-        else if (r[0] < 4 && chance(2)) r[0] ^= 1;
-    }
 }
 
 /* A sum of small random tables that weighs over 3,072 and at most 16,384. */
@@ -165,7 +130,7 @@ static void tried(uint64_t seed, uint64_t at) {
         return;
     }
     uint64_t i = 0, j = 0;
-    walk(&i, &j);
+    walk(first, &i, second, &j);
     if (16 * i != first_bytes || 16 * j != second_bytes) fail("the plain walk does not end where the tables do");
     uint64_t told[6] = {0, 0, 0, pairs, 0, 0}, six[6] = {6, 0, 0, 0, 0, 0};
     size_t shorter = first_bytes < second_bytes ? first_bytes : second_bytes;

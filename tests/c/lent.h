@@ -29,12 +29,15 @@ static inline uint8_t *lend(struct lent *area, size_t length) {
     return area->store + GUARD;
 }
 
+/* Whether the `length` bytes at `at` are `bytes`, then zeros up to `stretch`, and past that and around it, `behind` bytes after it, what they were when they were lent. */
+static inline int held_at(const uint8_t *at, size_t length, size_t behind, const uint8_t *bytes, size_t count, size_t stretch) {
+    return memcmp(at - GUARD, lent_pattern, GUARD) == 0 && memcmp(at, bytes, count) == 0 && memcmp(at + count, lent_zeros, stretch - count) == 0 &&
+           memcmp(at + stretch, lent_pattern + GUARD + stretch, length - stretch + behind) == 0;
+}
+
 /* Whether the area holds `bytes`, then zeros up to `stretch`, and past that and around it what it held when it was lent. */
 static inline int holds(const struct lent *area, const uint8_t *bytes, size_t count, size_t stretch) {
-    const uint8_t *at = area->store + GUARD;
-    return memcmp(area->store, lent_pattern, GUARD) == 0 && memcmp(at, bytes, count) == 0 &&
-           memcmp(at + count, lent_zeros, stretch - count) == 0 &&
-           memcmp(at + stretch, lent_pattern + GUARD + stretch, area->length - stretch + GUARD) == 0;
+    return held_at(area->store + GUARD, area->length, GUARD, bytes, count, stretch);
 }
 
 /* Whether nothing of it changed. */

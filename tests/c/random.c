@@ -11,8 +11,10 @@
 #include "rules.h"
 #include "text.h"
 #include "tables.h"
+#include "trees.h"
+#include "damage.h"
 
-/* ---- Judged by the plain readings of own.c and rules.c, and equality in plain C. ---- */
+/* ---- Judged by the plain readings of own.c and rules.c, and equality in plain C (trees.h). ---- */
 
 struct judged { uint64_t number, place, what, byte, weight; };
 
@@ -23,45 +25,7 @@ static struct judged judge(const uint8_t *t, size_t bytes) {
     return (struct judged){v.number, v.place, v.what, v.byte, v.number == 0 ? own_weight(t, bytes) : 0};
 }
 
-/* How many members a record has. */
-static uint64_t members(const uint8_t *r) { return r[0] < 2 ? 0 : r[0] == 4 ? 2 : (uint64_t)r[2] + 256 * (uint64_t)r[3]; }
-
-/* Equality by sorting: two trees with all members of sums and products in order are equal when they are the same. */
-struct tree { uint8_t kind; uint64_t content; size_t count; struct tree **members; };
-static struct tree trees[2 * HIGHER], *links[2 * HIGHER];
-static size_t trees_used, links_used;
-
-#include "order.h"
-
-static struct tree *sorted(const uint8_t **t) {
-    const uint8_t *r = *t;
-    struct tree *x = &trees[trees_used++];
-    x->kind = r[0];
-    x->content = r[0] < 2 ? own_number(r + 8) : 0;
-    x->count = (size_t)members(r);
-    x->members = &links[links_used];
-    links_used += x->count;
-    *t += 16;
-    for (size_t i = 0; i < x->count; i++) x->members[i] = sorted(t);
-    if (x->kind == 2 || x->kind == 3) qsort(x->members, x->count, sizeof x->members[0], order_links);
-    return x;
-}
-
-static int equal_trees(const uint8_t *a, const uint8_t *b) {
-    trees_used = links_used = 0;
-    struct tree *x = sorted(&a), *y = sorted(&b);
-    return order(x, y) == 0;
-}
-
 /* ---- Tables to try. ---- */
-
-/* The records without their marks; whether there was one. */
-static int erase(uint8_t *t, const uint8_t *from, size_t n) {
-    int any_mark = 0;
-    memcpy(t, from, n);
-    for (size_t i = 0; i + 16 <= n; i += 16) any_mark |= t[i + 4] | t[i + 5], t[i + 4] = t[i + 5] = 0;
-    return any_mark != 0;
-}
 
 static uint8_t table[RECORD * (HIGHER + 4)], other[RECORD * (HIGHER + 4)];
 static size_t length, other_length;
@@ -73,56 +37,6 @@ static void fail(const char *what) {
     if (length <= RECORD * HIGHER) put_hex(table, length);
     printf("\n");
     exit(1);
-}
-
-/* Copies the tree at *from to *to with the members of its sums and products in a random order. */
-static void shuffled(const uint8_t **from, uint8_t **to) {
-    const uint8_t *r = *from;
-    size_t n = (size_t)members(r);
-    memcpy(*to, r, 16);
-    *from += 16;
-    *to += 16;
-    if (r[0] < 2) return;
-    uint8_t *first = *to;
-    for (size_t i = 0; i < n; i++) {
-        uint8_t *start = *to;
-        shuffled(from, to);
-        /* the new member trades places with all that is before it, or with nothing */
-        if (r[0] != 4 && i > 0 && chance(2)) {
-            static uint8_t held[RECORD * HIGHER];
-            size_t before = (size_t)(start - first), mine = (size_t)(*to - start);
-            memcpy(held, start, mine);
-            memmove(first + mine, first, before);
-            memcpy(first, held, mine);
-        }
-    }
-}
-
-/* The lower limit, or, seldom, since tables and areas are longer there, the higher. */
-static size_t some_limit(void) { return chance(10) ? HIGHER : LOWER; }
-
-/* One damage, of those that a wire, a disk or a wrong program do. */
-static void damage(uint8_t *t, size_t *n) {
-    size_t records = *n / 16;
-    uint8_t *r = t + 16 * below(records);
-    switch (below(12)) {
-    case 0: t[below(*n)] ^= (uint8_t)(1 << below(8)); break;
-    case 1: t[below(*n)] = (uint8_t)any(); break;
-    case 2: *n = below(*n + 1); break;
-    case 3: *n = 16 * below(records + 1); break;
-    case 4: memmove(r + 16, r, (size_t)(t + *n - r)); *n += 16; break;
-    case 5: memmove(r, r + 16, (size_t)(t + *n - r - 16)); *n -= 16; break;
-    case 6: r[0] = (uint8_t)below(6); break;
-    case 7: r[2] = (uint8_t)below(4); break;
-    case 8: if (r[0] == 0) { memset(r + 8, 0, 8); if (chance(2)) r[15] = 0x80; } break;
-    case 9: memset(r, 0, 16); r[0] = 4; break;
-    case 10: memset(r, 0, 16); r[0] = 1; r[8] = (uint8_t)any(); break;
-    default: /* longer than any table, or heavier */
-        if (chance(8)) { *n = 16 * some_limit() + below(40); memset(t, 0, *n); }
-        else if (chance(4)) { *n = 16 * (1 + below(some_limit())); memset(t, 0, *n); for (size_t i = 0; i < *n; i += 16) t[i] = 1; }
-        else if (chance(4)) { *n = 16 * some_limit() - 16 * below(2); memset(t, 0, *n); for (size_t i = 0; i < *n; i += 16) t[i] = 4; }
-        else r[1 + below(15)] = 1;
-    }
 }
 
 /* ---- The calls. ---- */

@@ -4,9 +4,11 @@
    and every lent byte. */
 #include "../../include/simmergate.h"
 #include "lent.h"
+#include "own.h"
 #include "text.h"
 #include "tables.h"
 #include "plain_text.h"
+#include "damage.h"
 
 static struct lent area = {.name = "area"}, answer = {.name = "answer"};
 static uint8_t table[16 * TABLE_RECORDS], wanted[16 * 16384], texts[LENT_ROOM];
@@ -63,22 +65,6 @@ static size_t writes(size_t records) {
     return n;
 }
 
-/* One character put in, taken out or changed, or parentheses round a part; the new length. */
-static size_t damage(size_t n) {
-    static const char set[] = "s0123456789+-*^()";
-    size_t i = below(n + 1), j = i + below(n - i + 1);
-    uint8_t ch = chance(30) ? (uint8_t)any() : (uint8_t)set[below(sizeof set - 1)];
-    switch (below(4)) {
-    case 0: memmove(texts + i + 1, texts + i, n - i), texts[i] = ch; return n + 1;
-    case 1: if (i < n) { memmove(texts + i, texts + i + 1, n - i - 1); return n - 1; } return n;
-    case 2: if (i < n) texts[i] = ch; return n;
-    default:
-        memmove(texts + j + 2, texts + j, n - j), memmove(texts + i + 1, texts + i, j - i);
-        texts[i] = '(', texts[j + 1] = ')';
-        return n + 2;
-    }
-}
-
 int main(int argc, char **argv) {
     if (argc < 3) { printf("usage: text_random SEED COUNT [FROM]\n"); return 2; }
     uint64_t seed = decimal(argv[1]), count = decimal(argv[2]), from = argc > 3 ? decimal(argv[3]) : 0;
@@ -92,7 +78,7 @@ int main(int argc, char **argv) {
         put_marks(table, 16 * records); /* which the writer passes by */
         size_t n = writes(records);
         reads(texts, n, (long)below(40) - (chance(4) ? 40 : 0));
-        for (uint64_t times = 1 + below(4); times > 0; times--) n = damage(n), reads(texts, n, (long)below(20));
+        for (uint64_t times = 1 + below(4); times > 0; times--) n = damage_text(texts, n), reads(texts, n, (long)below(20));
     }
     printf("texts: %ld small ones, then %llu random tables of seed %llu written, read, damaged and read: %ld calls beside plain C, %ld texts accepted, all bytes equal\n", small,
            (unsigned long long)count, (unsigned long long)seed, calls, accepted);
