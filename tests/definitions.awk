@@ -1,6 +1,4 @@
 # Turns lines of the stored answers into antt statements, 50 to a module; counts what they reach.
-function hex(c) { return index("0123456789abcdef", c) - 1 }
-function bytes(h,    i, r) { r = ""; for (i = 1; i < length(h); i += 2) r = r (hex(substr(h, i, 1)) * 16 + hex(substr(h, i + 1, 1))) " ∷ "; return r "[]" }
 function digits(d,    i, r) { r = ""; for (i = 1; i <= length(d); i++) r = r substr(d, i, 1) " ∷ "; return r "[]" }
 # a number of 64 bits given in hexadecimal, as an antt numeral
 function numeral(h) { return "0x" h }

@@ -1,25 +1,11 @@
 # Turns the lines of differ.tsv into antt statements, 20 to a module; counts what they reach.
-function hex(c) { return index("0123456789abcdef", c) - 1 }
-function fail(what) { print "tests/definitions_differ: line " NR ": " what; failed = 1; exit 1 }
-# bytes spelt as pieces joined by `+`, each hexadecimal digits or digits*TIMES, `-` being none: how many, and the list
+# how many records the bytes are that are spelt so (tests/spelt.awk)
 function records(text,    n, i, part, half, r) {
     r = 0
     if (text == "-") return 0
     n = split(text, part, "+")
     for (i = 1; i <= n; i++) r += length(part[i]) == 0 ? 0 : (split(part[i], half, "*") == 2 ? half[2] : 1) * length(half[1]) / 32
     return r
-}
-function spelt(text,    n, i, j, k, part, half, times, r) {
-    r = ""
-    if (text == "-") return "[]"
-    n = split(text, part, "+")
-    for (i = 1; i <= n; i++) {
-        times = split(part[i], half, "*") == 2 ? half[2] : 1
-        if (half[1] !~ /^([0-9a-f][0-9a-f])+$/ || times !~ /^[1-9][0-9]*$/) fail("not the bytes of a table: " part[i])
-        for (k = 0; k < times; k++)
-            for (j = 1; j < length(half[1]); j += 2) r = r (hex(substr(half[1], j, 1)) * 16 + hex(substr(half[1], j + 1, 1))) " ∷ "
-    }
-    return r "[]"
 }
 # the numbers of the pairs, one after the other
 function pairs(text,    w, n, i, half, r) {

@@ -1,6 +1,4 @@
 # Turns lines `NOTE TABLE` into one antt statement: the definitions' notes of the tables are these.
-function hex(c) { return index("0123456789abcdef", c) - 1 }
-function bytes(h,    i, r) { r = ""; for (i = 1; i < length(h); i += 2) r = r (hex(substr(h, i, 1)) * 16 + hex(substr(h, i + 1, 1))) " ∷ "; return r "[]" }
 length($2) > 32 * most { next }
 {
     tables = tables (lines ? "    ∷ " : "    ") "(" bytes($2) ")\n"

@@ -1,19 +1,4 @@
 # Turns the lines of settings.tsv into antt statements, 40 to a module; counts what they reach.
-function hex(c) { return index("0123456789abcdef", c) - 1 }
-function fail(what) { print "tests/definitions_settings: line " NR ": " what; failed = 1; exit 1 }
-# bytes spelt as pieces joined by `+`, each hexadecimal digits or digits*TIMES; `-` is none
-function spelt(text,    n, i, j, k, part, half, times, r) {
-    r = ""
-    if (text == "-") return "[]"
-    n = split(text, part, "+")
-    for (i = 1; i <= n; i++) {
-        times = split(part[i], half, "*") == 2 ? half[2] : 1
-        if (half[1] !~ /^([0-9a-f][0-9a-f])+$/ || times !~ /^[1-9][0-9]*$/) fail("not the bytes of an area: " part[i])
-        for (k = 0; k < times; k++)
-            for (j = 1; j < length(half[1]); j += 2) r = r (hex(substr(half[1], j, 1)) * 16 + hex(substr(half[1], j + 1, 1))) " ∷ "
-    }
-    return r "[]"
-}
 function asked(op,    w, n) {
     n = split(op, w, " ")
     kinds[w[1]]++

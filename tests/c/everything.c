@@ -1,5 +1,6 @@
 /* everything SEED COUNT: the whole library at once, on random sites until COUNT formulas were made; a site is 1 to 40 formulas at one limit by one edition, some damaged, some
-   wild, some marked, a few near the limits. A formula is a table, or read from a text, or written and read again, or opened by definitions; all come in pieces, and what was kept goes through
+   wild, some marked, a few near the limits. A formula is a table, or read from a text, or written and read again, or opened by definitions, its result then once more with
+   the same definitions; all come in pieces, and what was kept goes through
    one batch, in another order through another, and each through the simplifier alone. Each accepted result is weighed, evaluated, compared with a copy in another order, differed
    with its formula and with the result before, written and read again, and simplified again, alone and in a batch of the results. Compared with plain C that shares nothing with the port: every
    number of every answer, every byte of every lent area and around it. Areas end in guard bytes or at a page that nothing may touch. */
@@ -29,7 +30,8 @@ static uint8_t made[RECORD * (HIGHER + 64)], text_read[RECORD * HIGHER], texts[L
 static struct edge lent_table, lent_other, lent_registers, lent_out, lent_steps, lent_work, lent_answer, lent_text, lent_lengths, lent_symbols, lent_definitions,
     lent_opened, lent_receiver, lent_area, lent_piece, lent_settings;
 static uint64_t round_seed, calls, rounds, formulas, judged, marked, refused[NUMBERS], accepted[2][2], each_step[10], steps_seen, openings_seen, tries_seen, opened_seen, texts_read,
-    texts_written, pieces_seen, equal_seen, unequal_seen, differed, pairs_seen, same_seen, batches, settings_calls, above_lower, near_limit;
+    texts_written, pieces_seen, equal_seen, unequal_seen, differed, pairs_seen, same_seen, batches, settings_calls, above_lower, near_limit,
+    shared_again;
 
 /* What is being tried, and on which table. */
 static const char *now = "";
@@ -365,6 +367,22 @@ static void try_shared(const struct item *x, int shorter) {
     refused[6] += (uint64_t)shorter;
 }
 
+/* The result of a formula, as a table of its own: simplified again it is itself. */
+static struct item result_of(const struct item *x) {
+    uint64_t records = x->said[2], w = own_weight(x->out, RECORD * records);
+    return (struct item){x->out, x->out, NULL, RECORD * records, (size_t)w, {0, 0, records, 0, 0, w, w, 0, 0, records}};
+}
+
+/* The result with the same definitions again: nothing is left to open, and nothing to shorten. */
+static void try_shared_again(const struct item *x) {
+    struct item y = result_of(x);
+    memcpy(site.table, y.table, y.bytes);
+    site.table_bytes = y.bytes;
+    try_open((struct opened){.records = y.said[2], .weight = y.weight}, y.table);
+    try_shared(&y, 0);
+    shared_again++;
+}
+
 /* A formula with definitions, opened into `made` where it can be; else itself. Its bytes. */
 static size_t from_definitions(uint64_t s, uint64_t i) {
     memset(site.symbols, 0, sizeof site.symbols), memset(site.lengths, 0, sizeof site.lengths);
@@ -378,6 +396,7 @@ static size_t from_definitions(uint64_t s, uint64_t i) {
     try_open(o, made);
     try_shared(&x, 0);
     if (is_good(&x) && chance(15)) try_shared(&x, 1);
+    if (x.said[0] == 0) try_shared_again(&x);
     pool_used = before;
     refused[o.number] += o.number > 7, opened_seen += o.number == 0;
     if (o.number == 0) return RECORD * o.records;
@@ -590,12 +609,6 @@ static void make_site(void) {
 
 /* ---- Results ---- */
 
-/* The result of a formula, as a table of its own: simplified again it is itself. */
-static struct item result_of(const struct item *x) {
-    uint64_t records = x->said[2], w = own_weight(x->out, RECORD * records);
-    return (struct item){x->out, x->out, NULL, RECORD * records, (size_t)w, {0, 0, records, 0, 0, w, w, 0, 0, records}};
-}
-
 static void try_result(const struct item *x, const struct item *y, const struct item *before) {
     static uint8_t other[RECORD * HIGHER], bytes[8 * REGISTERS];
     uint64_t registers[REGISTERS];
@@ -682,9 +695,9 @@ static int missing(void) {
 
 static void report(uint64_t seed, uint64_t seconds) {
     typedef unsigned long long n;
-    printf("everything at once: %llu sites (seed %llu), %llu formulas (%llu marked, %llu opened), %llu tables judged, %llu calls, %llu batches, %llu pieces; texts read %llu, written %llu; "
+    printf("everything at once: %llu sites (seed %llu), %llu formulas (%llu marked, %llu opened, %llu of them simplified and opened again), %llu tables judged, %llu calls, %llu batches, %llu pieces; texts read %llu, written %llu; "
            "accepted at 3,072 by edition one %llu, two %llu, at 16,384 %llu, %llu (heavier than 3,072 %llu, within 40 of the limit %llu; %llu steps, %llu openings, %llu tries); refused",
-           (n)rounds, (n)seed, (n)formulas, (n)marked, (n)opened_seen, (n)judged, (n)calls, (n)batches, (n)pieces_seen, (n)texts_read, (n)texts_written, (n)accepted[0][0],
+           (n)rounds, (n)seed, (n)formulas, (n)marked, (n)opened_seen, (n)shared_again, (n)judged, (n)calls, (n)batches, (n)pieces_seen, (n)texts_read, (n)texts_written, (n)accepted[0][0],
            (n)accepted[0][1], (n)accepted[1][0], (n)accepted[1][1], (n)above_lower, (n)near_limit, (n)steps_seen, (n)openings_seen, (n)tries_seen);
     for (int i = 1; i < NUMBERS; i++)
         if (i != 11) printf(" %d: %llu", i, (n)refused[i]);

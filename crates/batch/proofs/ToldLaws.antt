@@ -41,7 +41,7 @@ in-place (x ∷ xs) rest (suc i) d h =
     let tail = in-place xs rest i d (omega arith) in
     (tail .0, ap (λ (n : ℕ). drop n (e ++ numbers-from xs rest)) k ∙ drop-append-add e (numbers-from xs rest) (80 * i) ∙ tail .1)
 
-count : (f : Simplifier) (ns s : List ℕ) (l : Lent) → length (inTurn f ns s l .answers) ≡ length ns
+pub count : (f : Simplifier) (ns s : List ℕ) (l : Lent) → length (inTurn f ns s l .answers) ≡ length ns
 unfolding inTurn
 count f [] s l = refl
 count f (n ∷ ns) s l = ap suc (count f ns (drop n s) (handedOn f n s l))
@@ -67,7 +67,7 @@ module _ (lim ed : ℕ) (tables lengths : List ℕ) (l : Lent) (answers : List �
       let here = in-place (site .answers) rest i d (omega (arith, count (simplified lim ed) (lengthsIn lengths) tables l)) in
       (here .0, ap (λ (x : SiteCall). drop (80 * i) (x .answers)) carried ∙ ap (drop (80 * i)) (all-from (site .answers) rest) ∙ here .1)
 
-  out-left : inTurn (simplified lim ed) (lengthsIn lengths) tables l .lent .out ≡ c .lent .out
+  pub out-left : inTurn (simplified lim ed) (lengthsIn lengths) tables l .lent .out ≡ c .lent .out
   unfolding carriedOut
   out-left = sym (ap (λ (x : SiteCall). x .lent .out) carried)
 

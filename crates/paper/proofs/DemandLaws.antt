@@ -116,6 +116,7 @@ pub record Done (lim ed : ℕ) (s : List ℕ) (l : Lent) : Type 0 where
   pub steps : List ℕ
   pub opened : ℕ
   pub tries : ℕ
+  pub runs : simplify (rulesOf ed) (holds .tree) ≡ done tree-out steps opened tries
   pub finished : Finished (rulesOf ed) (holds .tree) tree-out steps opened tries
   pub accepts : judgement lim ed s l ≡ accepted
   pub answer : simplified lim ed s l .answer ≡ ranAnswer (weight (holds .tree)) (done tree-out steps opened tries)
@@ -143,6 +144,7 @@ call-done lim ed s b l e = go (call lim ed (simplify (rulesOf ed)) s l b)
           steps = ks;
           opened = o;
           tries = n;
+          runs = h;
           finished = f;
           accepts = r .accepts;
           answer = a;

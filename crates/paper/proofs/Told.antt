@@ -160,7 +160,7 @@ first-eight n rest h =
     le8-append (bytes 8 n) rest 0 (rw length-bytes (omega arith)) ∙ unfold le8 bytes in (le-bytes 8 n h)
 
 -- the number at place i of a slice that begins with numbers
-number-at : (ns rest : List ℕ) (i : ℕ) → i < length ns → FitEight ns → le8 (eights ns ++ rest) (8 * i) ≡ getD ns i 0
+pub number-at : (ns rest : List ℕ) (i : ℕ) → i < length ns → FitEight ns → le8 (eights ns ++ rest) (8 * i) ≡ getD ns i 0
 unfolding eights
 number-at [] rest i h f = absurd (omega arith)
 number-at (n ∷ ns) rest zero h f = ap (λ x. le8 x 0) (append-assoc (bytes 8 n) (eights ns) rest) ∙ first-eight n (eights ns ++ rest) (f .0)

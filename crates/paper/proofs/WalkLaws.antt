@@ -143,7 +143,7 @@ All Q [] = Unit {0}
 All Q (a ∷ l) = Q a × All Q l
 
 module _ {P : Type 0} (Q : P → Type 0) where
-  all-append : (s t : List P) → All Q s → All Q t → All Q (s ++ t)
+  pub all-append : (s t : List P) → All Q s → All Q t → All Q (s ++ t)
   all-append [] t p q = q
   all-append (a ∷ s) t p q = (p .0, all-append s t (p .1) q)
 

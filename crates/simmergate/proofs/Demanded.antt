@@ -79,7 +79,7 @@ call-returns c b room =
     ∙ sym (ap (λ g. g .answer .number) (call-gives c b room))
 
 -- the same where the limit is known to be lim, and the edition ed
-gives-in : (lim ed : ℕ) (c : CCall) → limit c ≡ lim → edition c ≡ ed → Bytes (table c) → simplifyBytes ≤ length (slice c) → given c ≡ simplified lim ed (table c) (areas c)
+pub gives-in : (lim ed : ℕ) (c : CCall) → limit c ≡ lim → edition c ≡ ed → Bytes (table c) → simplifyBytes ≤ length (slice c) → given c ≡ simplified lim ed (table c) (areas c)
 gives-in lim ed c n e b room = call-gives c b room ∙ ap₂ (λ i k. simplified i k (table c) (areas c)) n e
 
 -- references, at any place, to what is handed in and to what is left

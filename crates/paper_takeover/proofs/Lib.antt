@@ -1,0 +1,5 @@
+pub mod SymbolLaws
+pub mod TextTaken
+pub mod SiteTaken
+pub mod SharedTaken
+pub mod Computed

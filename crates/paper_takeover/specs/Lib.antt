@@ -1,0 +1,3 @@
+-- What is stated: TakenOver. Small examples of it, computed: Examples.
+pub mod TakenOver
+pub mod Examples
