@@ -1,20 +1,19 @@
 -- Trees that stand one after the other. Their records, and what they weigh, are those of the forest of them, so the paper's laws of
 -- forests hold of them; a node is its first record and its members; and bytes hold one tree, and one list of trees of a given length,
--- at the most, since reading gives back what was written. Assumes nothing.
+-- at the most, since no two trees stand at one record. Assumes nothing.
 use Prim.Native.Nat.{ℕ, _+_, _*_, _^_, _<_, _≤_}
 use mathlib.Core.Path.{_≡_, refl, sym, ap, _∙_, subst}
 use mathlib.Core.List.{List, [], _∷_, _++_, append-assoc, append-nil}
-use mathlib.Core.Option.{Option, some}
 use native.Mathlib.Omega.{arith}
 use native.Mathlib.Nat.{mod-eq-of-lt}
-use lib.ListN.{length, take}
-use lib.Seq.{length-take-le}
+use lib.ListN.{length, take, drop}
+use lib.Seq.{length-take-le, drop-at}
 use lib.IntN.{pos}
 use Rattle.paper.specs.Limits.{modulus}
 use Rattle.paper.specs.Bytes.{word}
-use Rattle.paper.specs.Tree.{Tree, integer, symbol, sum, product, power, ofList, count, markOf, records, recordses, weight}
-use Rattle.paper.specs.WellFormed.{Mark, WF, WFl}
-use Rattle.paper.specs.Table.{recordOf, readTree}
+use Rattle.paper.specs.Tree.{Tree, integer, symbol, sum, product, power, ofList, count, records, recordses, weight}
+use Rattle.paper.specs.WellFormed.{WF, WFl}
+use Rattle.paper.specs.Table.{recordOf}
 use Rattle.paper.specs.Driver.{members}
 use Rattle.paper.proofs.EncodeLaws.{record-length, records-weight, recordses-weights, count-records}
 use Rattle.paper.proofs.WFLaws.{list-count, of-to-list}
@@ -22,7 +21,8 @@ use Rattle.paper.proofs.Value.{list-weights}
 use Rattle.paper.proofs.Fuel.{members-lighter}
 use Rattle.note.specs.Note.{note}
 use Rattle.note.specs.Noted.{encodeBy, encodesBy}
-use Rattle.note.proofs.ReadByLaws.{read-by}
+use Rattle.note.specs.Told.{Told}
+use Rattle.note.proofs.ToldLaws.{note-tells, one-tree}
 use Rattle.driver.specs.Driven.{withNotes, encodeAll, recordsAll, weightAll, firstRecord, Set, SetAll}
 
 -- ---- lists of trees
@@ -44,15 +44,7 @@ weight-both (t ∷ l) m = omega (arith, weight-both l m)
 pub all-many : (l : List Tree) → length l ≤ recordsAll l
 all-many l = omega (arith, count-records (ofList l), list-count l)
 
--- ---- a node: its mark, its first record, and its members
-pub wf-mark : (t : Tree) → WF t → Mark (markOf t)
-unfolding markOf
-wf-mark (integer μ z) w = w .1
-wf-mark (symbol μ s) w = w .1
-wf-mark (sum μ f) w = w .2
-wf-mark (product μ f) w = w .2
-wf-mark (power μ b ξ e) w = w .3
-
+-- ---- a node: its first record, and its members
 pub first-length : (t : Tree) → length (firstRecord t) ≡ 16
 unfolding firstRecord
 first-length (integer μ z) = record-length 0 0 μ (word z)
@@ -98,12 +90,11 @@ few-records t l = omega (arith, records-weight t)
 pub tree-once : (t u : Tree) (r q : List ℕ) → WF t → WF u → records t < 65536 → records u < 65536 → withNotes t ++ r ≡ withNotes u ++ q
     → (t ≡ u) × (r ≡ q)
 tree-once t u r q v w h k e =
-    let n : ℕ = records t + records u in
-    let a : readTree n (withNotes t ++ r) ≡ some (t, r) = read-by note t n r v h (omega arith) in
-    let b : readTree n (withNotes u ++ q) ≡ some (u, q) = read-by note u n q w k (omega arith) in
-    let c : _≡_ {A = Option (Tree × List ℕ)} (some (t, r)) (some (u, q)) = sym a ∙ ap (readTree n) e ∙ b in
-    let d : _≡_ {A = Tree × List ℕ} (t, r) (u, q) = cc in
-    (ap (λ (x : Tree × List ℕ). x .0) d, ap (λ (x : Tree × List ℕ). x .1) d)
+    let a : Told note (withNotes t ++ r) 0 t = record { tells = note-tells; wf = v; few = h; stands = record { after = r; there = refl } } in
+    let b : Told note (withNotes t ++ r) 0 u = record { tells = note-tells; wf = w; few = k; stands = record { after = q; there = e } } in
+    let same : t ≡ u = one-tree a b in
+    let n : length (withNotes u) ≡ length (withNotes t) = ap (λ x. length (withNotes x)) (sym same) in
+    (same, sym (drop-at (withNotes t) r (length (withNotes t)) refl) ∙ ap (drop (length (withNotes t))) e ∙ drop-at (withNotes u) q (length (withNotes t)) n)
 
 pub set-once : {out work steps : List ℕ} {d p s : ℕ} {t u : Tree} {r q : List ℕ}
     → Set out work steps d p s t r → Set out work steps d p s u q → (t ≡ u) × (r ≡ q)

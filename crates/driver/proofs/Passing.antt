@@ -12,7 +12,7 @@ use Rattle.paper.specs.Record.{kind, arity}
 use Rattle.paper.specs.Verdict.{tableWeight}
 use Rattle.paper.specs.Driver.{done, over, overs, each, members, baseFrom}
 use Rattle.paper.proofs.EncodeLaws.{records-pos, records-weight}
-use Rattle.note.proofs.NotedLaws.{encodeBy-length, encodesBy-length}
+use Rattle.note.proofs.NotedLaws.{wf-mark, encodeBy-length, encodesBy-length}
 use Rattle.paper.proofs.GatherLaws.{members-wf}
 use Rattle.paper.proofs.WFLaws.{of-to-list}
 use Rattle.note.specs.Note.{note}
@@ -20,7 +20,7 @@ use Rattle.stretch.specs.Put.{part, put}
 use Rattle.stretch.proofs.Laws.{take-put-end}
 use Rattle.driver.specs.Driven.{withNotes, encodeAll, recordsAll, weightAll, kindNumber, firstRecord, inside, openedRuns, passed, closedOver}
 use Rattle.driver.specs.Driven.{Set, SetAll, Drove, Gave, Gathers, Closed}
-use Rattle.driver.proofs.Forests.{wf-mark, front-long, few-records, encode-first, records-first, first-length, members-weigh}
+use Rattle.driver.proofs.Forests.{front-long, few-records, encode-first, records-first, first-length, members-weigh}
 use Rattle.driver.proofs.Weighs.{weighs-tree, weighs-all}
 use Rattle.driver.proofs.Places.{advance, part-there, ends-after, front-of, front-fits}
 use Rattle.driver.proofs.Runs.{drives, closedRuns, pass-closed, pass-kept, run-lighter, members-still}

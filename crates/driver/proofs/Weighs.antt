@@ -11,7 +11,7 @@ use Rattle.paper.specs.Record.{kind, weightFrom}
 use Rattle.paper.specs.Verdict.{recordsIn, tableWeight}
 use Rattle.note.proofs.NotedLaws.{encodeBy-length}
 use Rattle.paper.proofs.TableLaws.{weight-both}
-use Rattle.note.proofs.ReadByLaws.{weight-by}
+use Rattle.note.proofs.WeightLaws.{weight-by}
 use Rattle.note.specs.Note.{note}
 use Rattle.note.specs.Noted.{encodeBy}
 use Rattle.driver.specs.Driven.{withNotes, encodeAll, weightAll}

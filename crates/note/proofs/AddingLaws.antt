@@ -8,39 +8,22 @@ use native.Mathlib.Omega.{arith}
 use lib.ListN.{length}
 use lib.IntN.{pos}
 use Rattle.paper.specs.Limits.{modulus}
-use Rattle.paper.specs.Tree.{Tree, integer, symbol, sum, product, power, nil, cons, count, markOf, records, recordses, weight}
+use Rattle.paper.specs.Tree.{Tree, integer, symbol, sum, product, power, nil, cons, count, records, recordses, weight}
 use Rattle.paper.specs.Record.{kind, countIn, bits}
-use Rattle.paper.specs.Standing.{Stands}
 use Rattle.paper.proofs.Congruence.{agree-refl, agree-of, agree-trans, agree-mod, agree-add}
-use Rattle.paper.proofs.EncodeLaws.{kind-there, count-there}
-use Rattle.paper.proofs.Stands.{stands-first, stands-next}
+use Rattle.paper.proofs.EncodeLaws.{records-weight}
 use Rattle.paper.specs.Standing.{kindNumber}
 use Rattle.note.specs.Note.{keys, noteOf, note, added, addedExponent}
-use Rattle.note.specs.Noted.{encodesBy, countOf, inner, bitsBy, TreeBy, TreesBy, Unnoted}
+use Rattle.note.specs.Noted.{countOf, inner, bitsBy, TreeBy, Unnoted}
+use Rattle.note.specs.Told.{Told, ToldTrees}
 use Rattle.note.proofs.KeyLaws.{adds, note-lt, note-records, note-added, sum-adds, product-adds, power-adds}
-use Rattle.note.proofs.NotedLaws.{own, own-length, count-few, bytes-within, record-within, kind-of, bits-of, exponent-word}
-use Rattle.note.proofs.NotedLaws.{first-tree, other-trees}
+use Rattle.note.proofs.NotedLaws.{Headed, own-kind, own-count, own-behind, exponent-word}
+use Rattle.note.proofs.ToldLaws.{note-tells, noted-told, told-noted, record-within, kind-number, bits-number, first-tree, other-trees}
 use Rattle.note.proofs.SumLaws.{Summing, summing-end}
 
--- ---- a node that is not noted itself
-module _ {s : List ℕ} {i : ℕ} {t : Tree} (q : Unnoted s i t) where
-  abbrev record-old : List ℕ
-  record-old = own t (q .old)
-
-  own-there : Stands s i record-old
-  own-there = stands-first record-old (encodesBy note (inner t)) (q .stands)
-
-  pub own-within : i * 16 + 16 ≤ length s
-  own-within = omega (arith, bytes-within s i 1 record-old own-there (own-length t (q .old)) (omega arith))
-
-  pub own-kind : kind s i ≡ kindNumber t
-  own-kind = kind-there s i (kindNumber t) (countOf t) (markOf t) (q .old) (own-there .after) (own-there .there)
-
-  own-count : countIn s i ≡ countOf t
-  own-count = count-there s i (kindNumber t) (countOf t) (markOf t) (q .old) (own-there .after) (own-there .there) (count-few t (q .light))
-
-  own-inner : Stands s (i + 1) (encodesBy note (inner t))
-  own-inner = stands-next record-old (encodesBy note (inner t)) (q .stands) 1 (own-length t (q .old))
+-- a node that is not noted itself: its record holds another number
+pub headed : {s : List ℕ} {i : ℕ} {t : Tree} (q : Unnoted s i t) → Headed note s i t (q .old)
+headed q = record { stands = q .stands }
 
 -- ---- the members of the node t at record i added up to its note: from record `at` on `left` are to come, and acc is added
 abbrev pub Adding : List ℕ → ℕ → Tree → ℕ → ℕ → ℕ → Type 0
@@ -53,15 +36,17 @@ adding-members (integer μ z) q l = absurd (omega (arith, q .node))
 adding-members (symbol μ v) q l = absurd (omega (arith, q .node))
 adding-members (sum μ f) q l =
     record {
+      tells = note-tells;
       rest = f;
-      there = record { counted = refl; wf = q .wf .1; light = omega (arith, q .light); stand = own-inner q };
+      there = record { counted = refl; wf = q .wf .1; light = omega (arith, q .light); stand = own-behind (headed q) };
       total = sum-adds μ f;
       place = refl;
     }
 adding-members (product μ f) q l =
     record {
+      tells = note-tells;
       rest = f;
-      there = record { counted = refl; wf = q .wf .1; light = omega (arith, q .light); stand = own-inner q };
+      there = record { counted = refl; wf = q .wf .1; light = omega (arith, q .light); stand = own-behind (headed q) };
       total = product-adds μ f;
       place = refl;
     }
@@ -71,8 +56,8 @@ pub adding-start : {s : List ℕ} {i : ℕ} {t : Tree} → Unnoted s i t → kin
     → Adding s i t (i + 1) n (65537 + k * keys)
 unfolding noteOf
 adding-start {s} {i} {t} q l k n e c =
-    let x : n ≡ countOf t = c ∙ own-count q in
-    let y : 65537 + k * keys ≡ noteOf 1 1 (kindNumber t) = omega (arith, e, own-kind q) in
+    let x : n ≡ countOf t = c ∙ own-count (headed q) (omega (arith, q .light, records-weight t)) in
+    let y : 65537 + k * keys ≡ noteOf 1 1 (kindNumber t) = omega (arith, e, own-kind (headed q)) in
     rw (x, y) (adding-members t q l)
 
 -- none to come
@@ -91,24 +76,30 @@ pub record Raised (s : List ℕ) (i : ℕ) (t : Tree) : Type 0 where
   pub bits-there : bits s (i + 1 + records base) ≡ exponent
 
 pub raised : {s : List ℕ} {i : ℕ} (t : Tree) → Unnoted s i t → 4 ≤ kindNumber t → Raised s i t
-unfolding kindNumber inner weight count bitsBy
+unfolding kindNumber inner weight records count bitsBy
 raised (integer μ z) q l = absurd (omega arith)
 raised (symbol μ v) q l = absurd (omega arith)
 raised (sum μ f) q l = absurd (omega arith)
 raised (product μ f) q l = absurd (omega arith)
 raised {s} {i} (power μ b ξ e) q l =
-    let m : TreesBy note s (i + 1) 2 (cons b (cons (integer ξ (pos e)) nil)) =
-    record { counted = refl; wf = (q .wf .0, ((q .wf .2, q .wf .4), tt)); light = omega (arith, q .light); stand = own-inner q } in
-    let x : TreeBy note s (i + 1 + records b) (integer ξ (pos e)) = first-tree (other-trees m) in
+    let m : ToldTrees note s (i + 1) 2 (cons b (cons (integer ξ (pos e)) nil)) =
+    record {
+      tells = note-tells;
+      counted = refl;
+      wf = (q .wf .0, ((q .wf .2, q .wf .4), tt));
+      few = omega (arith, q .light, records-weight b);
+      stand = own-behind (headed q);
+    } in
+    let x : Told note s (i + 1 + records b) (integer ξ (pos e)) = first-tree (other-trees m) in
     record {
       mark = μ;
       base = b;
       exponent-mark = ξ;
       exponent = e;
       whole = refl;
-      there = first-tree m;
+      there = told-noted (first-tree m) (omega (arith, q .light));
       within = record-within x;
-      bits-there = bits-of x ∙ exponent-word e (q .wf .2);
+      bits-there = bits-number x ∙ exponent-word e (q .wf .2);
     }
 
 module _ {s : List ℕ} {i : ℕ} {t : Tree} (r : Raised s i t) (k n e : ℕ) (x : k ≡ kind s (i + 1)) (y : n ≡ note (r .base)) where
@@ -119,7 +110,7 @@ module _ {s : List ℕ} {i : ℕ} {t : Tree} (r : Raised s i t) (k n e : ℕ) (x
       → v ≡ ((17179934721 + b) % modulus + p) % modulus → v ≡ note t
   unfolding noteOf
   raised-note b p v h g d c =
-      let w : k ≡ kindNumber (r .base) = x ∙ kind-of (r .there) in
+      let w : k ≡ kindNumber (r .base) = x ∙ kind-number (noted-told (r .there)) in
       let more : b ≡ adds (r .base) = h ∙ rw (w, y) (note-added (r .base) (r .there .light)) in
       let last : p ≡ addedExponent (r .exponent) = d ∙ ap addedExponent g in
       let whole : 17179934721 + b + p ≡ noteOf 1 1 4 + (adds (r .base) + addedExponent (r .exponent)) = omega (arith, more, last) in

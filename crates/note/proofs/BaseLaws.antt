@@ -10,7 +10,8 @@ use Rattle.paper.specs.Rules.{factor, factorOf}
 use Rattle.note.specs.Note.{note}
 use Rattle.note.specs.Part.{baseKey, factorKey}
 use Rattle.note.specs.Noted.{TreeBy}
-use Rattle.note.proofs.NotedLaws.{power-base}
+use Rattle.note.proofs.ToldLaws.{note-tells}
+use Rattle.note.proofs.LightLaws.{power-base}
 
 -- the key of a base
 pub integer-base : (b : Tree) → kindNumber b < 1 → 1 ≡ baseKey b
@@ -50,4 +51,4 @@ base-behind (integer μ z) h l = absurd (omega arith)
 base-behind (symbol μ v) h l = absurd (omega arith)
 base-behind (sum μ f) h l = absurd (omega arith)
 base-behind (product μ f) h l = absurd (omega arith)
-base-behind (power μ b ξ e) h l = record { base = b; there = power-base μ b ξ e h; its = refl }
+base-behind (power μ b ξ e) h l = record { base = b; there = power-base note-tells h; its = refl }

@@ -14,8 +14,8 @@ use Rattle.stretch.specs.Put.{put}
 use Rattle.stretch.proofs.Laws.{take-put, drop-put-at}
 use Rattle.note.specs.Note.{note}
 use Rattle.note.specs.Noted.{encodeBy, encodesBy, countOf, inner, bitsBy, Unnoted}
-use Rattle.note.proofs.NotedLaws.{own, own-length, head-inner, encodeBy-length}
-use Rattle.note.proofs.RelabelLaws.{put-number, node-bits}
+use Rattle.note.proofs.NotedLaws.{own, own-length, head-inner, encodeBy-length, node-bits}
+use Rattle.note.proofs.RelabelLaws.{put-number}
 
 -- the records of a node, its own with its note first
 closed : (t : Tree) → WF t → 2 ≤ kindNumber t → encodeBy note t ≡ own t (note t) ++ encodesBy note (inner t)

@@ -22,7 +22,8 @@ use Rattle.note.specs.Noted.{TreeBy, TreesBy, Known}
 use Rattle.note.specs.Still.{among, sought, apart}
 use Rattle.note.specs.Keys.{flagOf, Kept, KeptIn, keeping, Scratched}
 use Rattle.note.proofs.KeyLaws.{note-records}
-use Rattle.note.proofs.NotedLaws.{kind-of, FirstBy, first-by, none-by}
+use Rattle.note.proofs.ToldLaws.{note-tells, noted-told, kind-number, none-of}
+use Rattle.note.proofs.LightLaws.{told-all, FirstBy, first-by}
 use Rattle.note.proofs.KeysLaws.{flag-lt, keeping-kept}
 
 -- ---- what lies around scratch stays
@@ -117,11 +118,11 @@ module _ {s : List ℕ} {f : Forest} {terms : Bool} {d : List ℕ} {o n at m : �
   -- no member to come
   pub testing-end : n ≤ m → true ≡ apart terms [] (toList f)
   unfolding apart toList
-  testing-end l = ap (λ g. apart terms (a .before) (toList g)) (sym (none-by (a .rest) (a .there) (omega arith))) ∙ a .left
+  testing-end l = ap (λ g. apart terms (a .before) (toList g)) (sym (none-of (a .rest) (told-all note-tells (a .there)) (omega arith))) ∙ a .left
 
   module _ (p : m < n) where
     pub testing-first : FirstBy note s at (n - m) (a .rest)
-    testing-first = first-by (a .rest) (a .there) (omega arith)
+    testing-first = first-by (a .rest) note-tells (a .there) (omega arith)
 
     abbrev u : Tree
     u = testing-first .tree
@@ -133,7 +134,7 @@ module _ {s : List ℕ} {f : Forest} {terms : Bool} {d : List ℕ} {o n at m : �
     -- it is known by its record's kind and its note
     pub testing-known : (k v : ℕ) → k ≡ kind s at → ((w : Tree) → TreeBy note s at w → v ≡ note w) → Known s at k v u
     testing-known k v e h =
-        let there = testing-first .there in record { there = there; kind-known = e ∙ kind-of there; note-known = h u there }
+        let there = testing-first .there in record { there = there; kind-known = e ∙ kind-number (noted-told there); note-known = h u there }
 
     pub testing-kept : n < 65536 → o + n * 40 ≤ length d → KeptIn d o n m (a .before)
     testing-kept few room = record { kept = a .kept; many = a .many; place = p; few = few; room = room }

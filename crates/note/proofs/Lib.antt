@@ -5,6 +5,8 @@ pub mod ApartLaws
 pub mod StillLaws
 pub mod LeafLaws
 pub mod NotedLaws
+pub mod ToldLaws
+pub mod LightLaws
 pub mod SumLaws
 pub mod AddingLaws
 pub mod TreeLaws
@@ -13,9 +15,8 @@ pub mod RelabelLaws
 pub mod RestingLaws
 pub mod BaseLaws
 pub mod KeysLaws
-pub mod ReadByLaws
+pub mod WeightLaws
 pub mod SoughtLaws
 pub mod KeepLaws
-pub mod ToldLaws
 pub mod CloseLaws
 pub mod Unique

@@ -19,7 +19,7 @@ use Rattle.stretch.specs.Put.{put}
 use Rattle.paper.specs.Standing.{kindNumber}
 use Rattle.note.specs.Note.{note}
 use Rattle.note.specs.Noted.{encodeBy, encodesBy, countOf, inner, bitsBy, Unnoted, Whole}
-use Rattle.note.proofs.NotedLaws.{own, own-length, encodeBy-length, head-inner, tree-within}
+use Rattle.note.proofs.NotedLaws.{own, own-length, encodeBy-length, head-inner, node-bits, stands-within}
 
 -- ---- the trees that stand from a record on
 joined : Forest → Forest → Forest
@@ -144,14 +144,6 @@ leaf-bits g h (sum μ f) l = absurd (omega arith)
 leaf-bits g h (product μ f) l = absurd (omega arith)
 leaf-bits g h (power μ b ξ e) l = absurd (omega arith)
 
-pub node-bits : (h : Tree → ℕ) (t : Tree) → 2 ≤ kindNumber t → bitsBy h t ≡ h t
-unfolding kindNumber bitsBy
-node-bits h (integer μ z) l = absurd (omega arith)
-node-bits h (symbol μ s) l = absurd (omega arith)
-node-bits h (sum μ f) l = refl
-node-bits h (product μ f) l = refl
-node-bits h (power μ b ξ e) l = refl
-
 -- another number in a record's bytes 8-15
 front-half : ℕ → ℕ → ℕ → List ℕ
 front-half k c m = k ∷ 0 ∷ (bytes 2 c ++ (bytes 2 m ++ (0 ∷ 0 ∷ [])))
@@ -244,7 +236,7 @@ module _ {g : Tree → ℕ} {s₀ : List ℕ} {i n : ℕ} {t : Tree} (q : Whole 
       ∙ take-at (own u (bitsBy g u)) (encodesBy g (trees (suc j)) ++ rest) 16 (own-length u (bitsBy g u)))
 
   turn-within : (j : ℕ) → j < n → (i + j) * 16 + 16 ≤ length s₀
-  turn-within j l = omega (arith, tree-within (q .there), q .size)
+  turn-within j l = omega (arith, stands-within g t (q .there .stands), q .size)
 
   module _ (h : Tree → ℕ) where
     pub half-start : Half h s₀ s₀ i n t rest

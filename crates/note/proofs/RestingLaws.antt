@@ -19,7 +19,8 @@ use Rattle.note.specs.Note.{note, leafNote}
 use Rattle.note.specs.Part.{termKey}
 use Rattle.note.specs.Noted.{countOf, inner, TreeBy, TreesBy, Known}
 use Rattle.note.proofs.KeyLaws.{integer-note, note-lt}
-use Rattle.note.proofs.NotedLaws.{kind-of, count-of, members-by, FirstBy, first-by, none-by}
+use Rattle.note.proofs.ToldLaws.{note-tells, noted-told, kind-number, count-number, none-of}
+use Rattle.note.proofs.LightLaws.{told-all, FirstBy, first-by, members-by}
 use Rattle.note.proofs.RestLaws.{summed, rest-note, rest-two, rest-single, rest-none}
 
 -- one member more
@@ -75,7 +76,7 @@ resting-start {s} {μ} {f} at left last h =
 
 module _ {s : List ℕ} {μ : ℕ} {f : Forest} {at left kept last out : ℕ} (a : Resting s μ f at left kept last out) where
   pub resting-first : 0 < left → FirstBy note s at left (a .rest)
-  resting-first p = first-by (a .rest) (a .there) p
+  resting-first p = first-by (a .rest) note-tells (a .there) p
 
   -- the member at record `at`, of kind k and of z records
   module _ (p : 0 < left) (k z : ℕ) (e : k ≡ kind s at) (h : z ≡ records (resting-first p .tree)) where
@@ -93,7 +94,7 @@ module _ {s : List ℕ} {μ : ℕ} {f : Forest} {at left kept last out : ℕ} (a
         → Resting s μ f (at + z) (left - 1) kept last next
     resting-integer w n next x m =
         let u = here .tree in
-        let r = integer-added (a .l) u (omega (arith, e, kind-of (here .there), w)) in
+        let r = integer-added (a .l) u (omega (arith, e, kind-number (noted-told (here .there)), w)) in
         record {
           l = a .l ++ (u ∷ []);
           rest = here .others;
@@ -114,7 +115,7 @@ module _ {s : List ℕ} {μ : ℕ} {f : Forest} {at left kept last out : ℕ} (a
     resting-other : 1 ≤ k → (c : ℕ) → c ≡ kept + 1 → Resting s μ f (at + z) (left - 1) c at out
     resting-other w c m =
         let u = here .tree in
-        let r = other-added (a .l) u (omega (arith, e, kind-of (here .there), w)) in
+        let r = other-added (a .l) u (omega (arith, e, kind-number (noted-told (here .there)), w)) in
         record {
           l = a .l ++ (u ∷ []);
           rest = here .others;
@@ -144,7 +145,7 @@ module _ {s : List ℕ} {μ : ℕ} {f : Forest} {at left kept last out : ℕ} (a
   module _ (z : left ≡ 0) where
     all-passed : toList f ≡ a .l
     unfolding toList
-    all-passed = a .whole ∙ ap (λ g. a .l ++ toList g) (none-by (a .rest) (a .there) z) ∙ append-nil (a .l)
+    all-passed = a .whole ∙ ap (λ g. a .l ++ toList g) (none-of (a .rest) (told-all note-tells (a .there)) z) ∙ append-nil (a .l)
 
     the-rest : termKey (termOf (product μ f)) ≡ note (productOf μ (othersOf (a .l)))
     unfolding termKey termOf productTerm
@@ -171,7 +172,7 @@ module _ {s : List ℕ} {μ : ℕ} {f : Forest} {at left kept last out : ℕ} (a
 module _ {s : List ℕ} {i n μ : ℕ} {f : Forest} (q : Known s i 3 n (product μ f)) (two : count f ≡ 2) where
   pub pair-start : Resting s μ f (i + 1) 2 0 i 0
   unfolding inner kindNumber countOf
-  pair-start = resting-start (i + 1) 2 i (members-by (product μ f) (q .there) (omega arith) (omega arith) 2 (sym two ∙ sym (count-of (q .there))))
+  pair-start = resting-start (i + 1) 2 i (members-by (product μ f) note-tells (q .there) (omega arith) (omega arith) 2 (sym two ∙ sym (count-number (noted-told (q .there)))))
 
   pub two-left : 0 < 2
   two-left = omega arith
@@ -191,7 +192,7 @@ module _ {s : List ℕ} {i n μ : ℕ} {f : Forest} (q : Known s i 3 n (product 
 
     pub pair-second : FirstBy note s (i + 1 + z) 1 (pair-first .others)
     pair-second =
-        first-by (pair-first .others) (subst (λ c. TreesBy note s (i + 1 + c) 1 (pair-first .others)) (sym h) (pair-first .after)) one-left
+        first-by (pair-first .others) note-tells (subst (λ c. TreesBy note s (i + 1 + c) 1 (pair-first .others)) (sym h) (pair-first .after)) one-left
 
     module _ (j : ℕ) (g : j ≡ kind s (i + 1 + z)) where
       pub both-integers : k < 1 → j < 1 → leafNote 0 1 ≡ termKey (termOf (product μ f))

@@ -11,17 +11,18 @@ use lib.IntN.{ℤ, pos, negsuc}
 use lib.ListN.{length}
 use Rattle.paper.specs.Limits.{modulus}
 use Rattle.paper.specs.Bytes.{word}
-use Rattle.paper.specs.Tree.{Tree, integer, symbol, sum, product, power, nil, cons, count, toList, records, weight}
+use Rattle.paper.specs.Tree.{Tree, integer, symbol, sum, product, power, toList, records, weight}
 use Rattle.paper.specs.WellFormed.{InRange}
 use Rattle.paper.specs.Record.{countIn, bits}
 use Rattle.paper.specs.Standing.{kindNumber}
 use Rattle.paper.specs.Equal.{eqZ}
 use Rattle.paper.specs.Rules.{asInteger, isThe}
 use Rattle.note.specs.Note.{note}
-use Rattle.note.specs.Noted.{countOf, inner, bitsBy, TreeBy, TreesBy}
+use Rattle.note.specs.Noted.{countOf, inner, bitsBy, TreeBy}
 use Rattle.note.specs.Still.{sought, apart, stillPower, still, enough, stillBy}
 use Rattle.note.proofs.KeyLaws.{note-records, note-weight}
-use Rattle.note.proofs.NotedLaws.{kind-of, count-of, bits-of, behind, first-tree, other-trees, record-within, exponent-word, note-of-node}
+use Rattle.note.proofs.ToldLaws.{note-tells, noted-told, record-within, kind-number, count-number, bits-number, exponent-tree, power-parts}
+use Rattle.note.proofs.LightLaws.{power-base, note-of-node}
 
 -- ---- the integers that are looked for
 under-one : (n : ℕ) → ltb n 1 ≡ eqb n 0
@@ -65,7 +66,7 @@ no-integer false (power μ b ξ e) l = refl
 module _ {s : List ℕ} {i : ℕ} where
   pub sought-term : (t : Tree) → TreeBy note s i t → kindNumber t ≤ 0 → ltb (bits s i) 1 ≡ sought true t
   unfolding sought isThe asInteger kindNumber bitsBy
-  sought-term (integer μ z) h l = ap (λ n. ltb n 1) (bits-of h) ∙ zero-bits z (h .wf .0)
+  sought-term (integer μ z) h l = ap (λ n. ltb n 1) (bits-number (noted-told h)) ∙ zero-bits z (h .wf .0)
   sought-term (symbol μ v) h l = absurd (omega arith)
   sought-term (sum μ f) h l = absurd (omega arith)
   sought-term (product μ f) h l = absurd (omega arith)
@@ -73,7 +74,7 @@ module _ {s : List ℕ} {i : ℕ} where
 
   pub sought-factor : (t : Tree) → TreeBy note s i t → kindNumber t ≤ 0 → ltb (bits s i) 2 ≡ sought false t
   unfolding sought isThe asInteger kindNumber bitsBy
-  sought-factor (integer μ z) h l = ap (λ n. ltb n 2) (bits-of h) ∙ small-bits z (h .wf .0)
+  sought-factor (integer μ z) h l = ap (λ n. ltb n 2) (bits-number (noted-told h)) ∙ small-bits z (h .wf .0)
   sought-factor (symbol μ v) h l = absurd (omega arith)
   sought-factor (sum μ f) h l = absurd (omega arith)
   sought-factor (product μ f) h l = absurd (omega arith)
@@ -90,23 +91,20 @@ pub record PowerAt (s : List ℕ) (i : ℕ) (t : Tree) : Type 0 where
   pub tells : stillBy 2 t ≡ stillPower base exponent
 
 pub power-at : {s : List ℕ} {i : ℕ} (t : Tree) → TreeBy note s i t → kindNumber t ≡ 4 → PowerAt s i t
-unfolding kindNumber inner weight count bitsBy records stillBy still
+unfolding kindNumber bitsBy records stillBy still
 power-at (integer μ z) h e = absurd (omega arith)
 power-at (symbol μ v) h e = absurd (omega arith)
 power-at (sum μ f) h e = absurd (omega arith)
 power-at (product μ f) h e = absurd (omega arith)
 power-at {s} {i} (power μ b ξ x) h e =
-    let t = power μ b ξ x in
-    let m : TreesBy note s (i + 1) 2 (cons b (cons (integer ξ (pos x)) nil)) =
-    record { counted = refl; wf = (h .wf .0, ((h .wf .2, h .wf .4), tt)); light = omega (arith, h .light); stand = behind h } in
-    let last : TreeBy note s (i + 1 + records b) (integer ξ (pos x)) = first-tree (other-trees m) in
+    let q = noted-told h in
     record {
       base = b;
       exponent = x;
-      there = first-tree m;
-      size = ap (λ n. n % 65536) (bits-of h) ∙ note-records t (h .light);
-      within = record-within last;
-      exponent-there = bits-of last ∙ exponent-word x (h .wf .2);
+      there = power-base note-tells h;
+      size = ap (λ n. n % 65536) (bits-number q) ∙ note-records (power μ b ξ x) (h .light);
+      within = record-within (exponent-tree q);
+      exponent-there = power-parts q .exponent-bits;
       tells = refl;
     }
 
@@ -137,11 +135,11 @@ members-tell edition (power μ b ξ e) l k = absurd (omega arith)
 module _ {s : List ℕ} {i : ℕ} {t : Tree} (q : TreeBy note s i t) (l : 2 ≤ kindNumber t) (h : kindNumber t < 4) (n v : ℕ) (c : n ≡ countIn s i)
     (b : v ≡ bits s i) where
   counted : n ≡ countOf t
-  counted = c ∙ count-of q
+  counted = c ∙ count-number (noted-told q)
 
   weighs : v / 65536 % 65536 ≡ weight t
   weighs =
-      let e : v ≡ note t = note-of-node q (kindNumber t) v (sym (kind-of q)) b l in
+      let e : v ≡ note t = note-of-node q (kindNumber t) v (sym (kind-number (noted-told q))) b l in
       ap (λ m. m / 65536 % 65536) e ∙ note-weight t (q .light)
 
   -- where there is not enough

@@ -7,17 +7,20 @@ use mathlib.Core.List.{List}
 use native.Mathlib.Nat.{mod-eq-of-lt}
 use native.Mathlib.Omega.{arith}
 use Rattle.paper.specs.Limits.{modulus}
-use Rattle.paper.specs.Tree.{Tree, Forest, records, recordses, weight}
+use Rattle.paper.specs.Tree.{Tree, Forest, nil, records, recordses, weight}
 use Rattle.paper.specs.Record.{kind}
 use Rattle.paper.specs.Standing.{kindNumber}
 use Rattle.paper.proofs.Congruence.{Agree, agree-refl, agree-of, agree-trans, agree-mod, agree-add}
 use Rattle.note.specs.Note.{shares, noteOf, note, added}
 use Rattle.note.specs.Noted.{TreeBy, TreesBy}
+use Rattle.note.specs.Told.{Telling}
 use Rattle.note.proofs.KeyLaws.{adds, addsAll, adds-cons, note-records, note-added}
-use Rattle.note.proofs.NotedLaws.{kind-of, FirstBy, first-by, none-by}
+use Rattle.note.proofs.ToldLaws.{told-by, kind-number, none-of}
+use Rattle.note.proofs.LightLaws.{told-all, FirstBy, first-by}
 
 -- from record `at` on `left` trees are to come, which end before record `last`; acc is added, and they make it `whole`
 pub record Summing (h : Tree → ℕ) (whole : ℕ) (s : List ℕ) (last at left acc : ℕ) : Type 0 where
+  pub tells : Telling h
   pub rest : Forest
   pub there : TreesBy h s at left rest
   pub total : Agree modulus (acc + addsAll rest) whole
@@ -25,7 +28,7 @@ pub record Summing (h : Tree → ℕ) (whole : ℕ) (s : List ℕ) (last at left
 
 module _ {h : Tree → ℕ} {whole : ℕ} {s : List ℕ} {last at left acc : ℕ} (a : Summing h whole s last at left acc) where
   pub summing-first : 0 < left → FirstBy h s at left (a .rest)
-  summing-first l = first-by (a .rest) (a .there) l
+  summing-first l = first-by (a .rest) (a .tells) (a .there) l
 
   -- one tree more
   pub summing-step : 0 < left → (k n : ℕ) → k ≡ kind s at → ((u : Tree) → TreeBy h s at u → n ≡ note u) → (next : ℕ)
@@ -35,12 +38,13 @@ module _ {h : Tree → ℕ} {whole : ℕ} {s : List ℕ} {last at left acc : ℕ
       let f = summing-first l in
       let u = f .tree in
       let x : n ≡ note u = g u (f .there) in
-      let y : k ≡ kindNumber u = e ∙ kind-of (f .there) in
+      let y : k ≡ kindNumber u = e ∙ kind-number (told-by (a .tells) (f .there)) in
       let size : n % 65536 ≡ records u = ap (λ c. c % 65536) x ∙ note-records u (f .there .light) in
       let more : added k n ≡ adds u = rw (x, y) (note-added u (f .there .light)) in
       let all : acc + addsAll (a .rest) ≡ acc + added k n + addsAll (f .others) =
       ap (λ r. acc + addsAll r) (f .whole) ∙ omega (arith, adds-cons u (f .others), more) in
       record {
+        tells = a .tells;
         rest = f .others;
         there = subst (λ c. TreesBy h s (at + c) (left - 1) (f .others)) (sym size) (f .after);
         total =
@@ -50,12 +54,15 @@ module _ {h : Tree → ℕ} {whole : ℕ} {s : List ℕ} {last at left acc : ℕ
       }
 
   -- none to come
+  none : left ≡ 0 → a .rest ≡ nil
+  none l = none-of (a .rest) (told-all (a .tells) (a .there)) l
+
   pub summing-end : left ≡ 0 → acc < modulus → acc ≡ whole % modulus
   unfolding records weight shares noteOf
   summing-end l b =
-      let none : acc + addsAll (a .rest) ≡ acc = ap (λ r. acc + addsAll r) (none-by (a .rest) (a .there) l) ∙ omega arith in
-      sym (mod-eq-of-lt b) ∙ agree-trans (agree-of (sym none)) (a .total) .agree
+      let all : acc + addsAll (a .rest) ≡ acc = ap (λ r. acc + addsAll r) (none l) ∙ omega arith in
+      sym (mod-eq-of-lt b) ∙ agree-trans (agree-of (sym all)) (a .total) .agree
 
   pub summing-last : left ≡ 0 → at ≡ last
   unfolding records
-  summing-last l = omega (arith, a .place, ap recordses (none-by (a .rest) (a .there) l))
+  summing-last l = omega (arith, a .place, ap recordses (none l))

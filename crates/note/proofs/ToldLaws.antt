@@ -16,16 +16,14 @@ use Rattle.paper.specs.WellFormed.{WF, WFs, InRange}
 use Rattle.paper.specs.Record.{kind, countIn, markIn, bits, symbolIn}
 use Rattle.paper.specs.Standing.{Stands, TreeIn, kindNumber}
 use Rattle.paper.proofs.Congruence.{word-lt}
-use Rattle.paper.proofs.EncodeLaws.{records-pos, records-weight, count-records, signed-word}
-use Rattle.paper.proofs.EncodeLaws.{kind-there, count-there, mark-there, bits-there, symbol-there}
+use Rattle.paper.proofs.EncodeLaws.{records-weight, signed-word, symbol-there}
 use Rattle.paper.proofs.Stands.{stands-first, stands-next}
 use Rattle.note.specs.Note.{note}
 use Rattle.note.specs.Noted.{encodeBy, encodesBy, countOf, inner, bitsBy, TreeBy}
 use Rattle.note.specs.Told.{Telling, Told, ToldTrees, SomeTold, ToldMembers}
 use Rattle.note.proofs.KeyLaws.{note-lt, note-size, note-equal}
-use Rattle.note.proofs.NotedLaws.{exponent-word, plain-encode, own, own-length, encodeBy-length}
-use Rattle.note.proofs.NotedLaws.{head-inner, bytes-within}
-use Rattle.note.proofs.RelabelLaws as numbers
+use Rattle.note.proofs.NotedLaws.{exponent-word, plain-encode, encodeBy-length, head-inner, stands-within, node-bits as node-number}
+use Rattle.note.proofs.NotedLaws.{Headed, own-there, own-within, own-kind, own-count, own-mark, own-bits, own-behind}
 
 -- ---- plain trees and noted ones
 pub plain-tells : Telling (λ u. 0)
@@ -38,10 +36,15 @@ module _ {s : List ℕ} {i : ℕ} where
   pub plain-told : {t : Tree} → TreeIn s i t → Told (λ u. 0) s i t
   plain-told {t} q = record { tells = plain-tells; wf = q .wf; few = q .few; stands = subst (Stands s i) (sym (plain-encode t)) (q .stands) }
 
-  pub noted-told : {t : Tree} → TreeBy note s i t → Told note s i t
-  noted-told {t} q = record { tells = note-tells; wf = q .wf; few = omega (arith, q .light, records-weight t); stands = q .stands }
+  -- a light tree has few records
+  pub told-by : {h : Tree → ℕ} {t : Tree} → Telling h → TreeBy h s i t → Told h s i t
+  told-by {t = t} p q = record { tells = p; wf = q .wf; few = omega (arith, q .light, records-weight t); stands = q .stands }
 
-  pub told-noted : {t : Tree} → Told note s i t → weight t < 65536 → TreeBy note s i t
+  pub noted-told : {t : Tree} → TreeBy note s i t → Told note s i t
+  noted-told q = told-by note-tells q
+
+  -- the other way round
+  pub told-noted : {h : Tree → ℕ} {t : Tree} → Told h s i t → weight t < 65536 → TreeBy h s i t
   told-noted q l = record { wf = q .wf; light = l; stands = q .stands }
 
 pub some-told : {h : Tree → ℕ} {s : List ℕ} {i : ℕ} {t : Tree} → Told h s i t → SomeTold s i
@@ -57,53 +60,30 @@ bits-fit p (sum μ f) w = p .bound (sum μ f)
 bits-fit p (product μ f) w = p .bound (product μ f)
 bits-fit p (power μ b ξ e) w = p .bound (power μ b ξ e)
 
--- fewer members than records
-count-fits : (t : Tree) → records t < 65536 → countOf t < 65536
-unfolding countOf records
-count-fits (integer μ z) w = omega arith
-count-fits (symbol μ s) w = omega arith
-count-fits (sum μ f) w = omega (arith, count-records f)
-count-fits (product μ f) w = omega (arith, count-records f)
-count-fits (power μ b ξ e) w = omega arith
-
-mark-fits : (t : Tree) → WF t → markOf t < 65536
-unfolding markOf
-mark-fits (integer μ z) w = w .1
-mark-fits (symbol μ s) w = w .1
-mark-fits (sum μ f) w = w .2
-mark-fits (product μ f) w = w .2
-mark-fits (power μ b ξ e) w = w .3
-
 module _ {h : Tree → ℕ} {s : List ℕ} {i : ℕ} {t : Tree} (q : Told h s i t) where
-  both : Stands s i (own t (bitsBy h t) ++ encodesBy h (inner t))
-  both = subst (Stands s i) (head-inner h t (q .wf)) (q .stands)
-
-  first : Stands s i (own t (bitsBy h t))
-  first = stands-first (own t (bitsBy h t)) (encodesBy h (inner t)) both
+  headed : Headed h s i t (bitsBy h t)
+  headed = record { stands = subst (Stands s i) (head-inner h t (q .wf)) (q .stands) }
 
   pub tree-within : (i + records t) * 16 ≤ length s
-  tree-within = bytes-within s i (records t) (encodeBy h t) (q .stands) (encodeBy-length h t) (records-pos t)
+  tree-within = stands-within h t (q .stands)
 
   pub record-within : i * 16 + 16 ≤ length s
-  record-within = omega (arith, tree-within, records-pos t)
+  record-within = own-within headed
 
   pub kind-number : kind s i ≡ kindNumber t
-  kind-number = kind-there s i (kindNumber t) (countOf t) (markOf t) (bitsBy h t) (first .after) (first .there)
+  kind-number = own-kind headed
 
   pub count-number : countIn s i ≡ countOf t
-  count-number =
-      count-there s i (kindNumber t) (countOf t) (markOf t) (bitsBy h t) (first .after) (first .there) (count-fits t (q .few))
+  count-number = own-count headed (q .few)
 
   pub mark-number : markIn s i ≡ markOf t
-  mark-number =
-      mark-there s i (kindNumber t) (countOf t) (markOf t) (bitsBy h t) (first .after) (first .there) (mark-fits t (q .wf))
+  mark-number = own-mark headed (q .wf)
 
   pub bits-number : bits s i ≡ bitsBy h t
-  bits-number =
-      bits-there s i (kindNumber t) (countOf t) (markOf t) (bitsBy h t) (first .after) (first .there) (bits-fit (q .tells) t (q .wf))
+  bits-number = own-bits headed (bits-fit (q .tells) t (q .wf))
 
   behind : Stands s (i + 1) (encodesBy h (inner t))
-  behind = stands-next (own t (bitsBy h t)) (encodesBy h (inner t)) both 1 (own-length t (bitsBy h t))
+  behind = own-behind headed
 
 -- the base and the exponent of a power
 pub record SeenPower (h : Tree → ℕ) (s : List ℕ) (i : ℕ) (b : Tree) (ξ e : ℕ) : Type 0 where
@@ -187,7 +167,7 @@ module _ {h : Tree → ℕ} {s : List ℕ} {i : ℕ} where
   unfolding kindNumber countOf markOf bitsBy inner
   see (integer μ z) q = an-integer (kind-number q) (bits-number q) (q .wf .0)
   see (symbol μ v) q =
-      let r = first q in a-symbol (kind-number q) (symbol-there s i 1 0 μ v (r .after) (r .there) (q .wf .0)) (q .wf .0)
+      let r = own-there (headed q) in a-symbol (kind-number q) (symbol-there s i 1 0 μ v (r .after) (r .there) (q .wf .0)) (q .wf .0)
   see (sum μ f) q = a-sum (kind-number q) (count-number q) (q .wf .0) (q .wf .1) (behind q)
   see (product μ f) q = a-product (kind-number q) (count-number q) (q .wf .0) (q .wf .1) (behind q)
   see (power μ b ξ e) q =
@@ -330,7 +310,7 @@ one-product p q = let same = one-tree p q in cc
 -- ---- a node's record holds what h says of it: nothing, or its number of records
 module _ {h : Tree → ℕ} {s : List ℕ} {i : ℕ} where
   pub node-bits : {t : Tree} → Told h s i t → 2 ≤ kind s i → bits s i ≡ h t
-  node-bits {t} q l = bits-number q ∙ numbers.node-bits h t (omega (arith, kind-number q))
+  node-bits {t} q l = bits-number q ∙ node-number h t (omega (arith, kind-number q))
 
   pub node-size : {t : Tree} → Told h s i t → 2 ≤ kind s i → 0 < bits s i % 65536 → bits s i % 65536 ≡ records t
   node-size {t} q l p = by (q .tells .size t (q .few))

@@ -17,7 +17,9 @@ use Rattle.note.specs.Note.{keys, shares, noteOf, note, leafNote, added,
 use Rattle.note.specs.Noted.{encodeBy, inner, TreeBy, TreesBy}
 use Rattle.note.specs.Plain.{partsOf, partsIn}
 use Rattle.note.proofs.KeyLaws.{adds, addsAll, adds-cons, note-lt, sum-adds, product-adds, power-adds}
-use Rattle.note.proofs.NotedLaws.{plain-encode, kind-of, kind-lt, members-by, power-base, note-of-leaf}
+use Rattle.note.proofs.NotedLaws.{plain-encode, kind-lt}
+use Rattle.note.proofs.ToldLaws.{plain-tells, told-by, kind-number}
+use Rattle.note.proofs.LightLaws.{members-by, power-base, note-of-leaf}
 use Rattle.note.proofs.SumLaws.{Summing, summing-first, summing-step, summing-end, summing-last}
 
 -- no node holds anything
@@ -31,6 +33,9 @@ module _ {s : List ℕ} {i : ℕ} {t : Tree} where
   pub plain-in : TreeBy plain s i t → TreeIn s i t
   plain-in q = record { wf = q .wf; few = omega (arith, records-weight t, q .light); stands = subst (Stands s i) (plain-encode t) (q .stands) }
 
+  plain-kind : TreeBy plain s i t → kind s i ≡ kindNumber t
+  plain-kind q = kind-number (told-by plain-tells q)
+
 -- a tree that is not too heavy stands there
 abbrev pub Given : List ℕ → ℕ → Type 0
 Given s i = (t : Tree) × TreeIn s i t × (weight t < 65536)
@@ -42,7 +47,7 @@ pub inside : {s : List ℕ} {i : ℕ} → Given s i → i * 16 + 16 ≤ length s
 inside g = record-within (g .1)
 
 pub given-kind : {s : List ℕ} {i : ℕ} → Given s i → kind s i < 5
-given-kind g = omega (arith, kind-of (given-by g), kind-lt (g .0))
+given-kind g = omega (arith, plain-kind (given-by g), kind-lt (g .0))
 
 -- ---- a leaf: its record is that of a noted one
 leaf-noted : {s : List ℕ} {i : ℕ} (t : Tree) → TreeBy plain s i t → kindNumber t < 2 → TreeBy note s i t
@@ -55,7 +60,7 @@ leaf-noted (power μ b ξ e) q l = absurd (omega arith)
 
 pub leaf-told : {s : List ℕ} {i : ℕ} {t : Tree} → TreeBy plain s i t → (k v : ℕ) → k ≡ kind s i → v ≡ bits s i → k < 2
     → leafNote k v ≡ note t
-leaf-told {t = t} q k v e b l = note-of-leaf (leaf-noted t q (omega (arith, e, kind-of q))) k v e b l
+leaf-told {t = t} q k v e b l = note-of-leaf (leaf-noted t q (omega (arith, e, plain-kind q))) k v e b l
 
 -- ---- a node: what the trees behind its record make with it
 unfoldable pub summed : Tree → ℕ
@@ -66,10 +71,10 @@ parts-there : {s : List ℕ} {i : ℕ} (t : Tree) → TreeBy plain s i t → 2 �
 unfolding kindNumber partsOf partsIn weight count encodeBy inner
 parts-there (integer μ z) q l = absurd (omega arith)
 parts-there (symbol μ v) q l = absurd (omega arith)
-parts-there {s} {i} (sum μ f) q l = members-by (sum μ f) q l (omega arith) (countIn s i) refl
-parts-there {s} {i} (product μ f) q l = members-by (product μ f) q l (omega arith) (countIn s i) refl
+parts-there {s} {i} (sum μ f) q l = members-by (sum μ f) plain-tells q l (omega arith) (countIn s i) refl
+parts-there {s} {i} (product μ f) q l = members-by (product μ f) plain-tells q l (omega arith) (countIn s i) refl
 parts-there {s} {i} (power μ b ξ e) q l =
-    let p = power-base μ b ξ e q in
+    let p = power-base plain-tells q in
     record {
       counted = refl;
       wf = (p .wf, tt);
@@ -85,9 +90,10 @@ pub summing-start : {s : List ℕ} {i : ℕ} {t : Tree} → TreeBy plain s i t �
     → n ≡ partsIn s i k → Summing plain (summed t) s (behind i t) (i + 1) n (65537 + k * keys)
 unfolding noteOf summed
 summing-start {s} {i} {t} q k n e l c =
-    let x : k ≡ kindNumber t = e ∙ kind-of q in
+    let x : k ≡ kindNumber t = e ∙ plain-kind q in
     let y : n ≡ partsIn s i (kindNumber t) = c ∙ ap (partsIn s i) x in
     record {
+      tells = plain-tells;
       rest = partsOf t;
       there = rw y (parts-there t q (omega arith));
       total = agree-of (omega (arith, x));
@@ -105,7 +111,7 @@ members-told (power μ b ξ e) l m = absurd (omega arith)
 
 pub node-told : {s : List ℕ} {i : ℕ} {t : Tree} → TreeBy plain s i t → (k v : ℕ) → k ≡ kind s i → 2 ≤ k → k < 4 → v ≡ summed t % modulus
     → v ≡ note t
-node-told {t = t} q k v e l m d = d ∙ members-told t (omega (arith, e, kind-of q)) (omega (arith, e, kind-of q))
+node-told {t = t} q k v e l m d = d ∙ members-told t (omega (arith, e, plain-kind q)) (omega (arith, e, plain-kind q))
 
 -- a power: its exponent is, which stands behind them
 pub record Exponent (s : List ℕ) (i : ℕ) (t : Tree) : Type 0 where
@@ -136,7 +142,7 @@ power-exponent {s} {i} (power μ b ξ e) q l =
     }
 
 pub exponent-told : {s : List ℕ} {i : ℕ} {t : Tree} → TreeBy plain s i t → (k : ℕ) → k ≡ kind s i → 4 ≤ k → Exponent s i t
-exponent-told {t = t} q k e l = power-exponent t q (omega (arith, e, kind-of q))
+exponent-told {t = t} q k e l = power-exponent t q (omega (arith, e, plain-kind q))
 
 -- ---- what the loop over the trees behind record i keeps: `left` of them are to come from record `at` on, and acc is added
 pub record Summed (s : List ℕ) (i acc at left : ℕ) : Type 0 where

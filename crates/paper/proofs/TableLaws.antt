@@ -39,11 +39,11 @@ weight-both s i (suc a) b = rw (suc-add a b) (step (weight-both s (i + 1) a b))
         ≡ cond (eqb (kind s i) 1) 3 1 + weightFrom s (i + 1) a + weightFrom s (i + suc a) b
     step e = let q : i + suc a ≡ i + 1 + a = omega arith in rw q (omega arith)
 
-weight-none : (s : List ℕ) (i : ℕ) → weightFrom s i 0 ≡ 0
+pub weight-none : (s : List ℕ) (i : ℕ) → weightFrom s i 0 ≡ 0
 unfolding weightFrom
 weight-none s i = refl
 
-weight-one : (s : List ℕ) (i k c m v : ℕ) → Stands s i (recordOf k c m v) → weightFrom s i 1 ≡ cond (eqb k 1) 3 1
+pub weight-one : (s : List ℕ) (i k c m v : ℕ) → Stands s i (recordOf k c m v) → weightFrom s i 1 ≡ cond (eqb k 1) 3 1
 unfolding weightFrom
 weight-one s i k c m v h = rw (kind-there s i k c m v (h .after) (h .there)) (add-zero (cond (eqb k 1) 3 1))
 

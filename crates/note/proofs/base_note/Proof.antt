@@ -2,7 +2,7 @@
 -- nothing.
 use mathlib.Core.Path.{_∙_}
 use native.Mathlib.Omega.{arith}
-use Rattle.note.proofs.NotedLaws.{record-within}
+use Rattle.note.proofs.ToldLaws.{noted-told, record-within}
 use Rattle.note.proofs.BaseLaws.{integer-base, other-base, own-base, base-behind}
 use Rattle.note.proofs.base_note.Statement.{statement}
 use Rattle.note.proofs.base_note.Tie as tie
@@ -14,7 +14,7 @@ returns-2 : tie.Need-returns-2
 returns-2 c = λ t h. let k = h .kind-known in h .note-known ∙ other-base t (omega arith) ∙ own-base t (omega arith)
 
 add-base-key : tie.Need-add-base-key
-add-base-key c = omega (arith, record-within (c .before .before .before .pre .1 .there))
+add-base-key c = omega (arith, record-within (noted-told (c .before .before .before .pre .1 .there)))
 
 base-key-requires : tie.Need-base-key-requires
 base-key-requires c κs =

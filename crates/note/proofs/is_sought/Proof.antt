@@ -2,7 +2,7 @@
 use mathlib.Core.Path.{ap, _∙_}
 use native.Mathlib.Omega.{arith}
 use lib.Dec.{ltb}
-use Rattle.note.proofs.NotedLaws.{record-within}
+use Rattle.note.proofs.ToldLaws.{noted-told, record-within}
 use Rattle.note.proofs.SoughtLaws.{no-integer, sought-term, sought-factor}
 use Rattle.note.proofs.is_sought.Statement.{statement}
 use Rattle.note.proofs.is_sought.Tie as tie
@@ -11,7 +11,7 @@ returns : tie.Need-returns
 returns c = λ t h e. no-integer _ t (omega arith)
 
 bits-requires : tie.Need-bits-requires
-bits-requires c κs = record-within (c .before .before .pre .1)
+bits-requires c κs = record-within (noted-told (c .before .before .pre .1))
 
 returns-2 : tie.Need-returns-2
 returns-2 c = λ t h e. rw (c .if2 .taken) (ap (λ n. ltb n 1) (c .before .bits .ensures) ∙ sought-term t h (omega arith))

@@ -9,7 +9,7 @@ use Rattle.note.specs.Note.{note}
 use Rattle.note.specs.Noted.{TreesBy}
 use Rattle.note.specs.Still.{among}
 use Rattle.note.specs.Keys.{Scratched}
-use Rattle.note.proofs.NotedLaws.{record-within, kind-of}
+use Rattle.note.proofs.ToldLaws.{noted-told, record-within, kind-number}
 use Rattle.note.proofs.StillLaws.{not-true, not-false}
 use Rattle.note.proofs.KeepLaws.{scratched-none, scratched-both, keeping-scratched, Testing, members-few, testing-start, testing-end}
 use Rattle.note.proofs.KeepLaws.{testing-first, testing-known, testing-kept, testing-sought, testing-seen, testing-step}
@@ -30,7 +30,7 @@ kind-requires : tie.Need-kind-requires Inv-loop μ-loop
 kind-requires c κs =
     let head = c .before in
     let some = head .before .before .before .pre .0 in
-    record-within (testing-first (head .loop .inv .2 (some .0) (some .1)) (c .loop-test .taken) .there)
+    record-within (noted-told (testing-first (head .loop .inv .2 (some .0) (some .1)) (c .loop-test .taken) .there))
 
 is-sought-requires : tie.Need-is-sought-requires Inv-loop μ-loop
 is-sought-requires c κs =
@@ -39,7 +39,7 @@ is-sought-requires c κs =
     let some = head .before .before .before .pre .0 in
     let x = head .loop .inv .2 (some .0) (some .1) in
     let f = testing-first x (test .loop-test .taken) in
-    (f .tree, f .there, c .kind .ensures ∙ kind-of (f .there))
+    (f .tree, f .there, c .kind .ensures ∙ kind-number (noted-told (f .there)))
 
 same-length : tie.Need-same-length Inv-loop μ-loop
 same-length c = c .before .before .before .before .loop .inv .1 .long
@@ -52,7 +52,7 @@ returns c =
       λ g q.
           let x = loop .inv .2 g q in
           let f = testing-first x (test .loop-test .taken) in
-          let here = c .before .is-sought .ensures (f .tree) (f .there) (read .kind .ensures ∙ kind-of (f .there)) in
+          let here = c .before .is-sought .ensures (f .tree) (f .there) (read .kind .ensures ∙ kind-number (noted-told (f .there))) in
           testing-sought x (test .loop-test .taken) (sym here ∙ c .if1 .taken),
       loop .inv .1,
     )
@@ -125,7 +125,7 @@ add-at c =
     let test = c .before .before .before .before .before .before .before .before .before .before .before .before in
     let head = test .before in
     let some = head .before .before .before .pre .0 in
-    omega (arith, record-within (testing-first (head .loop .inv .2 (some .0) (some .1)) (test .loop-test .taken) .there))
+    omega (arith, record-within (noted-told (testing-first (head .loop .inv .2 (some .0) (some .1)) (test .loop-test .taken) .there)))
 
 add-m : tie.Need-add-m Inv-loop μ-loop
 add-m c = omega arith

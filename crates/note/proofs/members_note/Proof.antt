@@ -7,8 +7,9 @@ use Rattle.paper.specs.Limits.{modulus}
 use Rattle.paper.specs.Tree.{Tree}
 use Rattle.paper.specs.Standing.{kindNumber}
 use Rattle.note.specs.Noted.{Unnoted}
-use Rattle.note.proofs.NotedLaws.{record-within, kind-of, kind-lt}
-use Rattle.note.proofs.AddingLaws.{Adding, own-within, adding-start, adding-end}
+use Rattle.note.proofs.NotedLaws.{kind-lt, own-within}
+use Rattle.note.proofs.ToldLaws.{noted-told, record-within, kind-number}
+use Rattle.note.proofs.AddingLaws.{headed, Adding, adding-start, adding-end}
 use Rattle.note.proofs.SumLaws.{summing-first, summing-step}
 use borrow.Author.Needs.{needs}
 use Rattle.note.proofs.members_note.Statement.{statement}
@@ -21,7 +22,7 @@ abbrev μ-loop : tie.MeasureT-loop
 μ-loop s i sum₀ at₀ left₀ sum at left = left
 
 kind-requires : tie.Need-kind-requires Inv-loop μ-loop
-kind-requires c κs = own-within (c .before .pre .1)
+kind-requires c κs = own-within (headed (c .before .pre .1))
 
 cast-sum : tie.Need-cast-sum Inv-loop μ-loop
 cast-sum c = search needs
@@ -33,10 +34,10 @@ add-sum : tie.Need-add-sum Inv-loop μ-loop
 add-sum c = search needs
 
 add-at : tie.Need-add-at Inv-loop μ-loop
-add-at c = omega (arith, own-within (c .before .before .pre .1))
+add-at c = omega (arith, own-within (headed (c .before .before .pre .1)))
 
 count-requires : tie.Need-count-requires Inv-loop μ-loop
-count-requires c κs = own-within (c .before .before .pre .1)
+count-requires c κs = own-within (headed (c .before .before .pre .1))
 
 loop-holds : tie.Need-loop-holds Inv-loop μ-loop
 loop-holds c =
@@ -54,7 +55,7 @@ kind-requires-2 c κs =
     let test = c .before in
     let head = test .before in
     let some = head .before .before .before .before .pre in
-    record-within (summing-first (head .loop .inv .1 (some .0) (some .1) (some .2)) (test .loop-test .taken) .there)
+    record-within (noted-told (summing-first (head .loop .inv .1 (some .0) (some .1) (some .2)) (test .loop-test .taken) .there))
 
 added-requires : tie.Need-added-requires Inv-loop μ-loop
 added-requires c κs =
@@ -62,7 +63,7 @@ added-requires c κs =
     let head = test .before in
     let some = head .before .before .before .before .pre in
     let f = summing-first (head .loop .inv .1 (some .0) (some .1) (some .2)) (test .loop-test .taken) in
-    omega (arith, c .kind2 .ensures, kind-of (f .there), kind-lt (f .tree))
+    omega (arith, c .kind2 .ensures, kind-number (noted-told (f .there)), kind-lt (f .tree))
 
 wrapping-add-u64-requires : tie.Need-wrapping-add-u64-requires Inv-loop μ-loop
 wrapping-add-u64-requires c κs = search needs
@@ -72,7 +73,7 @@ add-at-2 c =
     let test = c .before .before .before .before in
     let head = test .before in
     let some = head .before .before .before .before .pre in
-    omega (arith, record-within (summing-first (head .loop .inv .1 (some .0) (some .1) (some .2)) (test .loop-test .taken) .there))
+    omega (arith, record-within (noted-told (summing-first (head .loop .inv .1 (some .0) (some .1) (some .2)) (test .loop-test .taken) .there)))
 
 sub-left : tie.Need-sub-left Inv-loop μ-loop
 sub-left c = omega arith

@@ -7,7 +7,8 @@ use native.Mathlib.Omega.{arith}
 use Rattle.paper.specs.Tree.{Forest, product}
 use Rattle.paper.specs.Standing.{kindNumber}
 use Rattle.note.specs.Noted.{inner, Known}
-use Rattle.note.proofs.NotedLaws.{tree-within, record-within, kind-of, members-by}
+use Rattle.note.proofs.ToldLaws.{note-tells, noted-told, tree-within, record-within, kind-number}
+use Rattle.note.proofs.LightLaws.{members-by}
 use Rattle.note.proofs.RestingLaws.{Resting, resting-start, resting-first, turn-integer, turn-other}
 use Rattle.note.proofs.RestingLaws.{resting-none, resting-one, resting-many}
 use borrow.Author.Needs.{needs}
@@ -22,10 +23,10 @@ abbrev μ-loop : tie.MeasureT-loop
 μ-loop s i n out₀ kept₀ last₀ at₀ left₀ out kept last at left = left
 
 add-at : tie.Need-add-at Inv-loop μ-loop
-add-at c = omega (arith, record-within (c .before .pre .2 .there))
+add-at c = omega (arith, record-within (noted-told (c .before .pre .2 .there)))
 
 count-requires : tie.Need-count-requires Inv-loop μ-loop
-count-requires c κs = record-within (c .before .pre .2 .there)
+count-requires c κs = record-within (noted-told (c .before .pre .2 .there))
 
 loop-holds : tie.Need-loop-holds Inv-loop μ-loop
 unfolding inner kindNumber
@@ -33,14 +34,14 @@ loop-holds c =
     let n = c .count in
     let i = c .before .before .args .i in (
       omega (arith, n .ensures .1),
-      λ μ f q. resting-start (i + 1) (n .result) i (members-by (product μ f) (q .there) (omega arith) (omega arith) (n .result) (n .ensures .0)),
+      λ μ f q. resting-start (i + 1) (n .result) i (members-by (product μ f) note-tells (q .there) (omega arith) (omega arith) (n .result) (n .ensures .0)),
     )
 
 kind-requires : tie.Need-kind-requires Inv-loop μ-loop
 kind-requires c κs =
     let head = c .before in
     let some = head .before .before .before .pre in
-    record-within (resting-first (head .loop .inv .1 (some .0) (some .1) (some .2)) (c .loop-test .taken) .there)
+    record-within (noted-told (resting-first (head .loop .inv .1 (some .0) (some .1) (some .2)) (c .loop-test .taken) .there))
 
 note-at-requires : tie.Need-note-at-requires Inv-loop μ-loop
 note-at-requires c κs =
@@ -63,7 +64,7 @@ size-at-requires c κs =
     let head = test .before in
     let some = head .before .before .before .pre in
     let f = resting-first (head .loop .inv .1 (some .0) (some .1) (some .2)) (test .loop-test .taken) in
-    (f .tree, f .there, read .kind .ensures ∙ kind-of (f .there))
+    (f .tree, f .there, read .kind .ensures ∙ kind-number (noted-told (f .there)))
 
 add-at-2 : tie.Need-add-at-2 Inv-loop μ-loop
 add-at-2 c =
@@ -72,8 +73,8 @@ add-at-2 c =
     let head = test .before in
     let some = head .before .before .before .pre in
     let f = resting-first (head .loop .inv .1 (some .0) (some .1) (some .2)) (test .loop-test .taken) in
-    let z = c .size-at .ensures (f .tree) (f .there) (read .kind .ensures ∙ kind-of (f .there)) in
-    omega (arith, z, tree-within (f .there))
+    let z = c .size-at .ensures (f .tree) (f .there) (read .kind .ensures ∙ kind-number (noted-told (f .there))) in
+    omega (arith, z, tree-within (noted-told (f .there)))
 
 sub-left : tie.Need-sub-left Inv-loop μ-loop
 sub-left c = omega arith
@@ -93,7 +94,7 @@ loop-again c =
       λ μ f q.
           let a = loop .inv .1 μ f q in
           let u = resting-first a t in
-          let size = z .ensures (u .tree) (u .there) (k .ensures ∙ kind-of (u .there)) in
+          let size = z .ensures (u .tree) (u .there) (k .ensures ∙ kind-number (noted-told (u .there))) in
           ⊎-elim
           (λ w. turn-integer a t (k .result) (z .result) (k .ensures) size (w .0 .taken) (w .1 .result) (i .out) (i .kept) (i .last)
           (w .1 .ensures (u .tree) (u .there)) (w .3 ∙ w .2 .ensures) (w .4) (w .5))

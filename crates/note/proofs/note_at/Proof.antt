@@ -1,15 +1,16 @@
 -- `note::note_at` meets its contract: a leaf's note is made from its record, a node's stands in it. Assumes nothing.
 use mathlib.Core.Path.{_∙_}
-use Rattle.note.proofs.NotedLaws.{record-within, note-of-leaf, note-of-node}
+use Rattle.note.proofs.ToldLaws.{noted-told, record-within}
+use Rattle.note.proofs.LightLaws.{note-of-leaf, note-of-node}
 use borrow.Author.Needs.{needs}
 use Rattle.note.proofs.note_at.Statement.{statement}
 use Rattle.note.proofs.note_at.Tie as tie
 
 kind-requires : tie.Need-kind-requires
-kind-requires c κs = record-within (c .before .pre .1)
+kind-requires c κs = record-within (noted-told (c .before .pre .1))
 
 bits-requires : tie.Need-bits-requires
-bits-requires c κs = record-within (c .before .before .pre .1)
+bits-requires c κs = record-within (noted-told (c .before .before .pre .1))
 
 leaf-note-requires : tie.Need-leaf-note-requires
 leaf-note-requires c κs = search needs

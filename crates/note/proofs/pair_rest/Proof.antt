@@ -6,7 +6,8 @@ use native.Mathlib.Omega.{arith}
 use Rattle.paper.specs.Tree.{Forest, product, count, records}
 use Rattle.note.specs.Note.{note}
 use Rattle.note.specs.Noted.{Known}
-use Rattle.note.proofs.NotedLaws.{tree-within, record-within, kind-of, FirstBy}
+use Rattle.note.proofs.ToldLaws.{noted-told, tree-within, record-within, kind-number}
+use Rattle.note.proofs.LightLaws.{FirstBy}
 use Rattle.note.proofs.RestingLaws.{pair-start, pair-first, pair-second, both-integers, second-alone, first-alone, neither-integer}
 use borrow.Author.Needs.{needs}
 use Rattle.note.proofs.pair_rest.Statement.{statement}
@@ -18,34 +19,34 @@ abbrev first-of : {s : List ℕ} {i n : ℕ} (p : (μ : ℕ) × (f : Forest) × 
 first-of p = pair-first (p .2) (p .3)
 
 add-kind : tie.Need-add-kind
-add-kind c = let p = c .before .pre in omega (arith, tree-within (first-of p .there))
+add-kind c = let p = c .before .pre in omega (arith, tree-within (noted-told (first-of p .there)))
 
 kind-requires : tie.Need-kind-requires
-kind-requires c κs = record-within (first-of (c .before .pre) .there)
+kind-requires c κs = record-within (noted-told (first-of (c .before .pre) .there))
 
 add-at : tie.Need-add-at
-add-at c = let p = c .before .before .pre in omega (arith, tree-within (first-of p .there))
+add-at c = let p = c .before .before .pre in omega (arith, tree-within (noted-told (first-of p .there)))
 
 add-size-at : tie.Need-add-size-at
-add-size-at c = let p = c .before .before .pre in omega (arith, tree-within (first-of p .there))
+add-size-at c = let p = c .before .before .pre in omega (arith, tree-within (noted-told (first-of p .there)))
 
 size-at-requires : tie.Need-size-at-requires
 size-at-requires c κs =
     let f = first-of (c .before .before .pre) in
-    (f .tree, f .there, c .kind .ensures ∙ kind-of (f .there))
+    (f .tree, f .there, c .kind .ensures ∙ kind-number (noted-told (f .there)))
 
 add-at-2 : tie.Need-add-at-2
 add-at-2 c =
     let f = first-of (c .before .before .before .pre) in
-    let z = c .size-at .ensures (f .tree) (f .there) (c .before .kind .ensures ∙ kind-of (f .there)) in
-    omega (arith, z, tree-within (f .there))
+    let z = c .size-at .ensures (f .tree) (f .there) (c .before .kind .ensures ∙ kind-number (noted-told (f .there))) in
+    omega (arith, z, tree-within (noted-told (f .there)))
 
 kind-requires-2 : tie.Need-kind-requires-2
 kind-requires-2 c κs =
     let p = c .before .before .before .pre in
     let f = first-of p in
-    let z = c .size-at .ensures (f .tree) (f .there) (c .before .kind .ensures ∙ kind-of (f .there)) in
-    record-within (pair-second (p .2) (p .3) _ _ (c .before .kind .ensures) z .there)
+    let z = c .size-at .ensures (f .tree) (f .there) (c .before .kind .ensures ∙ kind-number (noted-told (f .there))) in
+    record-within (noted-told (pair-second (p .2) (p .3) _ _ (c .before .kind .ensures) z .there))
 
 -- where both kinds are known: the first member's size is, and so is where the second one stands
 abbrev Read : Type 0
@@ -56,7 +57,7 @@ start-of c = c .before .before .before .before
 
 module _ (c : Read) {μ : ℕ} {f : Forest} (q : Known (start-of c .args .s .now) (start-of c .args .i) 3 (start-of c .args .n) (product μ f)) (two : count f ≡ 2) where
   sized : c .before .size-at .result ≡ records (pair-first q two .tree)
-  sized = let u = pair-first q two in c .before .size-at .ensures (u .tree) (u .there) (c .before .before .kind .ensures ∙ kind-of (u .there))
+  sized = let u = pair-first q two in c .before .size-at .ensures (u .tree) (u .there) (c .before .before .kind .ensures ∙ kind-number (noted-told (u .there)))
 
   abbrev second : FirstBy note (start-of c .args .s .now) (start-of c .args .i + 1 + c .before .size-at .result) 1 (pair-first q two .others)
   second = pair-second q two _ _ (c .before .before .kind .ensures) sized
@@ -86,7 +87,7 @@ returns-2 c = λ μ f q two.
 add-note-at : tie.Need-add-note-at
 add-note-at c =
     let p = start-of (c .before .before) .pre in
-    omega (arith, tree-within (first-of p .there))
+    omega (arith, tree-within (noted-told (first-of p .there)))
 
 note-at-requires-2 : tie.Need-note-at-requires-2
 note-at-requires-2 c κs =

@@ -5,14 +5,15 @@ use mathlib.Core.Path.{_≡_, ap, _∙_}
 use native.Mathlib.Omega.{arith}
 use Rattle.paper.specs.Limits.{modulus}
 use Rattle.paper.specs.Record.{bits}
-use Rattle.note.proofs.NotedLaws.{record-within, kind-of, kind-lt}
-use Rattle.note.proofs.AddingLaws.{own-within, raised, raised-size, raised-note}
+use Rattle.note.proofs.NotedLaws.{kind-lt, own-within}
+use Rattle.note.proofs.ToldLaws.{noted-told, record-within, kind-number}
+use Rattle.note.proofs.AddingLaws.{headed, raised, raised-size, raised-note}
 use borrow.Author.Needs.{needs}
 use Rattle.note.proofs.power_note.Statement.{statement}
 use Rattle.note.proofs.power_note.Tie as tie
 
 add-note-at : tie.Need-add-note-at
-add-note-at c = omega (arith, own-within (c .before .pre .1))
+add-note-at c = omega (arith, own-within (headed (c .before .pre .1)))
 
 note-at-requires : tie.Need-note-at-requires
 note-at-requires c κs =
@@ -21,25 +22,25 @@ note-at-requires c κs =
     (r .base, r .there)
 
 add-kind : tie.Need-add-kind
-add-kind c = omega (arith, own-within (c .before .before .pre .1))
+add-kind c = omega (arith, own-within (headed (c .before .before .pre .1)))
 
 kind-requires : tie.Need-kind-requires
 kind-requires c κs =
     let some = c .before .before .pre in
     let r = raised (some .0) (some .1) (some .2) in
-    record-within (r .there)
+    record-within (noted-told (r .there))
 
 added-requires : tie.Need-added-requires
 added-requires c κs =
     let some = c .before .before .before .pre in
     let r = raised (some .0) (some .1) (some .2) in
-    omega (arith, c .kind .ensures, kind-of (r .there), kind-lt (r .base))
+    omega (arith, c .kind .ensures, kind-number (noted-told (r .there)), kind-lt (r .base))
 
 add-bits : tie.Need-add-bits
-add-bits c = omega (arith, own-within (c .before .before .before .before .pre .1))
+add-bits c = omega (arith, own-within (headed (c .before .before .before .before .pre .1)))
 
 add-bits-2 : tie.Need-add-bits-2
-add-bits-2 c = omega (arith, own-within (c .before .before .before .before .pre .1))
+add-bits-2 c = omega (arith, own-within (headed (c .before .before .before .before .pre .1)))
 
 bits-requires : tie.Need-bits-requires
 bits-requires c κs =

@@ -1,6 +1,7 @@
 -- `note::size_at` meets its contract: a leaf is one record, and a node's note tells. Assumes nothing.
 use native.Mathlib.Omega.{arith}
-use Rattle.note.proofs.NotedLaws.{record-within, size-of-leaf, size-of-node}
+use Rattle.note.proofs.ToldLaws.{noted-told, record-within}
+use Rattle.note.proofs.LightLaws.{size-of-leaf, size-of-node}
 use Rattle.note.proofs.size_at.Statement.{statement}
 use Rattle.note.proofs.size_at.Tie as tie
 
@@ -8,7 +9,7 @@ returns : tie.Need-returns
 returns c = λ t h k. size-of-leaf t (omega arith)
 
 bits-requires : tie.Need-bits-requires
-bits-requires c κs = record-within (c .before .before .pre .1)
+bits-requires c κs = record-within (noted-told (c .before .before .pre .1))
 
 returns-2 : tie.Need-returns-2
 returns-2 c = λ t h k. size-of-node h (omega arith) (c .bits .result) (c .bits .ensures)

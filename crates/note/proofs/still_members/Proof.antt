@@ -8,7 +8,8 @@ use Rattle.paper.specs.Tree.{weight}
 use Rattle.paper.specs.Standing.{kindNumber}
 use Rattle.note.specs.Noted.{inner}
 use Rattle.note.specs.Keys.{Scratched}
-use Rattle.note.proofs.NotedLaws.{record-within, kind-of, members-by}
+use Rattle.note.proofs.ToldLaws.{note-tells, noted-told, record-within, kind-number}
+use Rattle.note.proofs.LightLaws.{members-by}
 use Rattle.note.proofs.SoughtLaws.{no-room, room-lies, with-room}
 use Rattle.note.proofs.KeepLaws.{scratched-none, scratched-both, scratched-more, scratched-put}
 use borrow.Author.Needs.{needs}
@@ -16,10 +17,10 @@ use Rattle.note.proofs.still_members.Statement.{statement}
 use Rattle.note.proofs.still_members.Tie as tie
 
 count-requires : tie.Need-count-requires
-count-requires c κs = record-within (c .before .before .pre .1 .1 .there)
+count-requires c κs = record-within (noted-told (c .before .before .pre .1 .1 .there))
 
 bits-requires : tie.Need-bits-requires
-bits-requires c κs = record-within (c .before .before .before .pre .1 .1 .there)
+bits-requires c κs = record-within (noted-told (c .before .before .before .pre .1 .1 .there))
 
 mul-if1 : tie.Need-mul-if1
 mul-if1 c = search needs
@@ -59,7 +60,7 @@ clear-requires c κs =
     omega (arith, r, h .scratch)
 
 add-members-apart : tie.Need-add-members-apart
-add-members-apart c = omega (arith, record-within (c .before .before .before .before .before .before .before .before .before .pre .1 .1 .there))
+add-members-apart c = omega (arith, record-within (noted-told (c .before .before .before .before .before .before .before .before .before .pre .1 .1 .there)))
 
 members-apart-requires : tie.Need-members-apart-requires
 members-apart-requires c κs =
@@ -72,7 +73,7 @@ members-apart-requires c κs =
     let v = c .before .before .before .before .before .before .bits in
     let r = room-lies (h .there) two four (n .result) (v .result) (n .ensures .0) (v .ensures) (c .before .before .before .before .before .if1 .left) in
     let e = c .before .before .before .clear .kept .0 in
-    ((inner t, members-by t (h .there) two four (n .result) (n .ensures .0)), omega (arith, r, h .scratch, e))
+    ((inner t, members-by t note-tells (h .there) two four (n .result) (n .ensures .0)), omega (arith, r, h .scratch, e))
 
 same-length : tie.Need-same-length
 same-length c = search needs
@@ -99,9 +100,9 @@ returns-2 c =
           let low : 2 ≤ kindNumber u = omega (arith, k, b .0) in
           let high : kindNumber u < 4 = omega (arith, k, b .1) in
           with-room q low high (n .result) (v .result) (n .ensures .0) (v .ensures) p (g .k) k (m .result)
-          (m .ensures .0 (inner u) (members-by u q low high (n .result) (n .ensures .0))) edition,
+          (m .ensures .0 (inner u) (members-by u note-tells q low high (n .result) (n .ensures .0))) edition,
       λ u q.
-          let same : kindNumber u ≡ kindNumber t = sym (kind-of q) ∙ kind-of (h .there) in
+          let same : kindNumber u ≡ kindNumber t = sym (kind-number (noted-told q)) ∙ kind-number (noted-told (h .there)) in
           let lies = room-lies q (omega (arith, same, two)) (omega (arith, same, four)) (n .result) (v .result) (n .ensures .0) (v .ensures) p in
           scratched-more (16 * weight u) lies (scratched-both cleared (m .ensures .1)),
     )

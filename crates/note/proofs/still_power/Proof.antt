@@ -7,45 +7,45 @@ use native.Mathlib.Omega.{arith}
 use lib.Dec.{eqb}
 use Rattle.paper.specs.Record.{bits}
 use Rattle.paper.specs.Tree.{records}
-use Rattle.note.proofs.NotedLaws.{record-within, kind-of}
+use Rattle.note.proofs.ToldLaws.{noted-told, record-within, kind-number}
 use Rattle.note.proofs.SoughtLaws.{power-at, power-of-power, power-of-sought, power-by-exponent}
 use Rattle.note.proofs.still_power.Statement.{statement}
 use Rattle.note.proofs.still_power.Tie as tie
 
 add-kind : tie.Need-add-kind
-add-kind c = omega (arith, record-within (c .before .pre .1))
+add-kind c = omega (arith, record-within (noted-told (c .before .pre .1)))
 
 kind-requires : tie.Need-kind-requires
 kind-requires c κs =
     let some = c .before .pre in
-    record-within (power-at (some .0) (some .1) (some .2) .there)
+    record-within (noted-told (power-at (some .0) (some .1) (some .2) .there))
 
 returns : tie.Need-returns
 returns c = λ t h e.
     let p = power-at t h e in
-    power-of-power (p .base) (p .exponent) (omega (arith, c .before .kind .ensures, kind-of (p .there))) ∙ sym (p .tells)
+    power-of-power (p .base) (p .exponent) (omega (arith, c .before .kind .ensures, kind-number (noted-told (p .there)))) ∙ sym (p .tells)
 
 add-is-sought : tie.Need-add-is-sought
-add-is-sought c = omega (arith, record-within (c .before .before .before .pre .1))
+add-is-sought c = omega (arith, record-within (noted-told (c .before .before .before .pre .1)))
 
 is-sought-requires : tie.Need-is-sought-requires
 is-sought-requires c κs =
     let some = c .before .before .before .pre in
     let p = power-at (some .0) (some .1) (some .2) in
-    (p .base, p .there, c .before .kind .ensures ∙ kind-of (p .there))
+    (p .base, p .there, c .before .kind .ensures ∙ kind-number (noted-told (p .there)))
 
 returns-2 : tie.Need-returns-2
 returns-2 c = λ t h e.
     let p = power-at t h e in
-    let k = c .before .before .before .kind .ensures ∙ kind-of (p .there) in
+    let k = c .before .before .before .kind .ensures ∙ kind-number (noted-told (p .there)) in
     power-of-sought (p .base) (p .exponent) (omega (arith, k)) (sym (c .before .is-sought .ensures (p .base) (p .there) k) ∙ c .if2 .taken)
     ∙ sym (p .tells)
 
 bits-requires : tie.Need-bits-requires
-bits-requires c κs = record-within (c .before .before .before .before .before .pre .1)
+bits-requires c κs = record-within (noted-told (c .before .before .before .before .before .pre .1))
 
 add-bits : tie.Need-add-bits
-add-bits c = omega (arith, record-within (c .before .before .before .before .before .before .pre .1))
+add-bits c = omega (arith, record-within (noted-told (c .before .before .before .before .before .before .pre .1)))
 
 sub-bits : tie.Need-sub-bits
 sub-bits c =
@@ -63,7 +63,7 @@ returns-3 c = λ t h e.
     let a = c .before .before .before .before .before .before .before .args in
     let p = power-at t h e in
     let size = c .before .bits in
-    let k = c .before .before .before .before .before .kind .ensures ∙ kind-of (p .there) in
+    let k = c .before .before .before .before .before .kind .ensures ∙ kind-number (noted-told (p .there)) in
     let base = sym (c .before .before .before .is-sought .ensures (p .base) (p .there) k) ∙ c .before .before .if2 .left in
     let place : a .i + size .result % 65536 - 1 ≡ a .i + 1 + records (p .base) = omega (arith, size .ensures, p .size) in
     ap (λ n. not (eqb n 1)) (c .bits2 .ensures ∙ ap (bits (a .s .now)) place ∙ p .exponent-there)
