@@ -23,8 +23,10 @@
    simmergate_simplify_shared say, and a finish with 1 to 5 empties its receiver. Bytes past what a call is said to
    write never change, of `answer` or of any other slice.
 
-   The slices of one call must not overlap; a pointer may be anything where its length is 0, and needs no alignment.
-   Nothing is allocated, nothing is kept between calls, and calls on different areas may run at the same time.
+   A slice that is lent to be written overlaps no other slice of the same call; const ones may be the same bytes. A
+   pointer may be anything where its length is 0, and needs no alignment. Nothing is allocated, nothing is kept between
+   calls, and calls on different areas may run at the same time. Of the C library memcpy, memmove and memset are
+   called, and nothing else.
 
    ---- Tables ----
 
@@ -44,16 +46,38 @@
    of records, and 2 more for each symbol record.
 
    At L = 16,384 a table has up to 262,144 bytes, at 3,072 up to 49,152; a table up to the lower limit has the same
-   answers and the same bytes at both. Both machines of a takeover take the same limit, or a heavy result is refused
-   with 1 or 3 by the one that has the lower, never misread.
+   answers and the same bytes at both, where `work` is as long as the limit asks for. Both machines of a pair take the
+   same limit, or a heavy result is refused with 1 or 3 by the one that has the lower, never misread.
+
+   ---- What simplifying does ----
+
+   At a node the steps are tried in the order of their numbers, and after one that applies again from the first on;
+   where none does, the same is done with each member, and what is nested is opened; this until nothing is left to do.
+   Simplifying a result gives the same bytes, with no step and no opening: that is what the second machine of a pair
+   does when it takes over.
+
+     1   add-zero         a member 0 of a sum is dropped                          s0+0 is s0
+     2   like-terms       terms that differ in their coefficient alone add up     s0+2*s0 is 3*s0
+     3   multiply-zero    a product with a member 0 is 0                          s0*0 is 0
+     4   multiply-one     a member 1 of a product is dropped                      s0*1 is s0
+     6   like-factors     exponents of one base add up; integers under one        s0*s0^2 is s0^3
+                          exponent multiply                                       2^3*5^3 is 10^3
+     7   power-one        edition two: exponent 1 gives the base                  s0^1 is s0
+     8   power-constant   edition two: base 0 gives 0, base 1 gives 1             1^9 is 1
+     9   power-power      edition two: a power of a power                         (s0^2)^3 is s0^6
+
+   An opening: a sum among the members of a sum, or a product among those of a product, gives way to its members;
+   s0+(s1+s2) is s0+s1+s2. In steps 2 and 6 each member has its turn, from the first to the last, and takes up each
+   later one that is like it; the last member moves into the place of one that was taken up, so that s0+s0+s1+s2 is
+   2*s0+s2+s1. A coefficient stands before what it multiplies, but is the last member of a product of two or more
+   others: s0*s1+s1*s0 is s0*s1*2.
 
    A line mark says which line of the sheet a record comes from, 0 for none. Weight, value and equality ignore marks,
-   and no rule looks at them; simplifying carries them along. In steps 2 and 6 every member that comes out has the
-   mark that the current member had when its turn began, and so have its coefficient, its exponent and a multiplied
-   base; what is below keeps its own. A 0 or a 1 that stands for a node takes that node's mark; a single member that
-   is left, and the base in step 7, keep theirs; step 9 keeps the outer power's mark and its exponent's. The mark of
-   an opened node, and of a symbol that its definition replaces, is lost. A release before marks refuses a marked
-   record with 2.
+   and no step looks at them; simplifying carries them along. In steps 2 and 6 every member that comes out has the
+   mark that it had when its turn began, and so have its coefficient, its exponent and a base that was multiplied; what
+   is below keeps its own. A 0 or a 1 that stands for a node takes that node's mark; a single member that is left, and
+   the base in step 7, keep theirs; step 9 keeps the outer power's mark and its exponent's. The mark of an opened node,
+   and of a symbol that its definition replaces, is lost. A release before marks refuses a marked record with 2.
 
    ---- Refusals ----
 
@@ -143,7 +167,8 @@ extern "C" {
 
    Bytes of stack that a call needs at the most, counted from the call on, at the limit 3,072 and at 16,384. The
    deepest tables that are accepted, 1,535 nodes one inside the other at the one and 8,191 at the other, also by way
-   of 16 definitions, were measured to need what stands here (tests/c/deep.c).
+   of 16 definitions, were measured to need what stands here on x86-64 (tests/c/deep.c); a loader that binds memcpy and
+   its like at their first call may take some 2,000 bytes more, which the names below have room for.
 
      simmergate_check                2,248        2,248   whatever the depth
      simmergate_weight               2,264        2,264   whatever the depth
@@ -237,14 +262,13 @@ uint32_t simmergate_differ(size_t limit, const uint8_t *a, size_t a_bytes, const
 /* ---- Simplifying ---- */
 
 /* Simplifies a table by the rules of an edition; edition two has those of edition one and besides them the steps 7, 8
-   and 9, on powers. A result of edition one may be unfinished in edition two: both machines of a takeover must take
-   the same. Where nothing is refused, the result's records go to `out` and the numbers of its steps, one byte each,
+   and 9, on powers. A result of edition one may be unfinished in edition two: both machines of a pair must take the
+   same. Where nothing is refused, the result's records go to `out` and the numbers of its steps, one byte each,
    to `steps`, with zeros up to 16 x W and W bytes; after 7 these two stretches are zeros throughout; in both cases
-   the first SIMMERGATE_WORK_BYTES(L) bytes of `work` are zero. Bytes past the stretches never change. Steps: 1
-   add-zero, 2 like-terms, 3 multiply-zero, 4 multiply-one, 6 like-factors, 7 power-one, 8 power-constant, 9
-   power-power. The answer: refusal number, place, records written, steps, openings, weight of the table, weight of
-   the result, WHAT, BYTE, tries. A try is one asking, at one node, whether any rule applies; there are at most as
-   many as the cube of the table's weight. */
+   the first SIMMERGATE_WORK_BYTES(L) bytes of `work` are zero. Bytes past the stretches never change. The answer:
+   refusal number, place, records written, steps, openings, weight of the table, weight of the result, WHAT, BYTE,
+   tries. A try is one asking, at one node, whether any step applies; there are at most as many as the cube of the
+   table's weight. */
 uint32_t simmergate_simplify(size_t limit, size_t edition, const uint8_t *table, size_t table_bytes, uint8_t *out,
                              size_t out_bytes, uint8_t *steps, size_t steps_bytes, uint8_t *work, size_t work_bytes,
                              uint8_t *answer, size_t answer_bytes);
@@ -258,9 +282,11 @@ uint32_t simmergate_simplify(size_t limit, size_t edition, const uint8_t *table,
    Each item is handed what remains of `out` and `steps`, and all of `work`. An item with 0 or 7 in its place uses up
    16 x W bytes of `out` and W of `steps`, and any other none; so what item i left begins in `out` at 16 times, and in
    `steps` at, the sum of the W of the items before it that have 0 or 7. After 0, W is the sixth number of the item's
-   place; after 7 it is not there, and simmergate_weight tells it. An item with 6 found too little left; the next one
-   is tried all the same, and may have the room. With `out` of 16 x W and `steps` of W bytes for all items together,
-   and `work` of SIMMERGATE_WORK_BYTES(L), each item answers as it would alone. */
+   place; after 7 it is not there, and simmergate_weight tells it. An item with 6 found too little left, or too little
+   `work`; the next one is tried all the same, and may have the room. Of `work` the first SIMMERGATE_WORK_BYTES(L)
+   bytes are zero afterwards if any item has 0 or 7 in its place; else it is as it was. With `out` of 16 x W and
+   `steps` of W bytes for all items together, and `work` of SIMMERGATE_WORK_BYTES(L), each item answers as it would
+   alone. */
 uint32_t simmergate_batch(size_t limit, size_t edition, const uint8_t *tables, size_t tables_bytes,
                           const uint8_t *lengths, size_t lengths_bytes, uint8_t *out, size_t out_bytes, uint8_t *steps,
                           size_t steps_bytes, uint8_t *work, size_t work_bytes, uint8_t *answers,
@@ -286,9 +312,10 @@ uint32_t simmergate_batch(size_t limit, size_t edition, const uint8_t *tables, s
    table. A record whose count is over SIMMERGATE_TABLE_BYTES(L) is past the limit, too, and so is any second number
    that is not 0. Such a record stays as it is until the finish.
 
-   After 6 and 19 the same call can be made again with what it asks for. After these a piece is always taken, and the
-   finish gives 0 or 1 to 5. Every finish but one with 6 or 19 empties the receiver, an accepted one as well as a
-   refused one: 16 zero bytes, ready for the next table. The area's bytes stay. */
+   After 6 and 19 the same call can be made again with what it asks for. Otherwise simmergate_receive returns 0, also
+   for a piece of which nothing is kept, since it is past the limit; and the finish gives 0 or 1 to 5. Every finish but
+   one with 6 or 19 empties the receiver, an accepted one as well as a refused one: 16 zero bytes, ready for the next
+   table. The area's bytes stay. */
 
 /* Takes a piece. The number that it returns is 0, 6 or 19. */
 uint32_t simmergate_receive(size_t limit, uint8_t *receiver, size_t receiver_bytes, uint8_t *area, size_t area_bytes,
@@ -307,10 +334,11 @@ uint32_t simmergate_receive_finish(size_t limit, uint8_t *receiver, size_t recei
    the tables end to end, in that order. They are judged at the same limit. Of a definition that is refused, by 15, no
    more is told: hand it to simmergate_check.
 
-   Opening replaces and does nothing else: a sum put inside a sum stands there nested. A formula may become lighter by
-   it (a symbol weighs 3, an integer 1); W is always the opened weight. Symbols that are replaced are not read any
-   more: their registers are free. The value of the opened table is that of the formula under registers in which each
-   defined symbol has the value of its definition. */
+   To open a formula is to replace its symbols, and nothing else: a sum put inside a sum stands there nested, and
+   counts as one of the openings of simplifying later on. A formula may become lighter by it (a symbol weighs 3, an
+   integer 1); W is always the opened weight. Symbols that are replaced are not read any more: their registers are
+   free. The value of the opened table is that of the formula under registers in which each defined symbol has the
+   value of its definition. */
 
 /* Opens a formula: the opened table goes to the front of `opened`. The answer: refusal number, place, records and
    weight of the opened table, WHAT, BYTE. */
@@ -332,10 +360,10 @@ uint32_t simmergate_simplify_shared(size_t limit, size_t edition, const uint8_t 
 /* ---- Formulas as text ----
 
    A text is bytes of ASCII, with no spaces, no line end and no end mark: symbols s0 to s255; integers from
-   -9223372036854775808 to 9223372036854775807 in decimal digits with no leading zero; members of a sum with +
-   between, of a product with *; a power with ^ and an exponent of at least 1. Parentheses stand round a sum inside
-   anything, round a product inside a product or as a base, round a power or a negative integer as a base, and nowhere
-   else:
+   -9223372036854775808 to 9223372036854775807; all numbers in decimal digits with no leading zero, and 0 with no sign;
+   members of a sum with + between, of a product with *; a power with ^ and an exponent of at least 1. Parentheses
+   stand round a sum inside anything, round a product inside a product or as a base, round a power or a negative
+   integer as a base, and nowhere else:
 
      s0+s1*s2   s0+-3   -3*s1   (s0+1)*2   s0*(s1*s2)   (s0^2)^3   (-2)^3   2^3
 
@@ -343,8 +371,9 @@ uint32_t simmergate_simplify_shared(size_t limit, size_t edition, const uint8_t 
    bytes, and reading what was written gives the same records without their line marks, which text does not carry.
 
    A text of any length and nesting is judged, within SIMMERGATE_READ_TEXT_STACK bytes of stack, or
-   SIMMERGATE_READ_TEXT_STACK_16384. The time grows with its length, and for a text nested deeper than half the limit
-   with its length times its depth over that. */
+   SIMMERGATE_READ_TEXT_STACK_16384. The time grows with its length; besides, where first members or bases stand
+   nested, with their depth, since each such level moves the records inside it on by one; and for a text nested deeper
+   than half the limit with how often that goes into its depth. */
 
 /* Reads a text and writes its records to the front of `table`, all or none; SIMMERGATE_TABLE_BYTES(L) are always
    enough. The answer: refusal number, place (0), records written. */
@@ -373,7 +402,8 @@ uint32_t simmergate_write_text(size_t limit, const uint8_t *table, size_t table_
    A setting is the 64 bits of a signed number: hand in (uint64_t)x for an int64_t x, and read (int64_t) back. Key 0,
    setting 0 and unit 0 are like any other. An area of zeros is one of free slots; it needs no other preparation.
    Every call looks over the whole area first; 10 says that the area was written by a newer release. From free slots,
-   any sequence of calls answers as a plain map from key to setting and unit does.
+   any sequence of stores, fetches and removes answers as a plain map from key to setting and unit does, but that a new
+   key is refused by 13 where no slot is free.
 
    What a call costs: judging compares the key of each record with those of all later ones, n x (n - 1) / 2
    comparisons for n records (1,000 settings: half a million), at every call.

@@ -1,5 +1,6 @@
 pub mod SymbolLaws
 pub mod TextTaken
+pub mod LinkTaken
 pub mod SiteTaken
 pub mod SharedTaken
 pub mod Computed

@@ -9,7 +9,7 @@ use Rattle.paper.specs.Answers.{Lent, Answer, simplified}
 use Rattle.paper.specs.Calls.{answerNumbers, eights}
 use Rattle.paper_batch.specs.Batch.{Site, inTurn, allNumbers}
 use Rattle.paper_shared.specs.Answers.{Handed, sharedGiven}
-use Rattle.paper_takeover.specs.TakenOver.{restored, restoredLengths, restoredWeight, againEach, answersIn, writtenText, readRecords, withTable}
+use Rattle.paper_takeover.specs.TakenOver.{restored, restoredLengths, restoredWeight, againEach, answersIn, writtenText, readRecords, heldBytes, withTable}
 
 abbrev a : Tree
 a = symbol 0 0
@@ -76,6 +76,10 @@ arrived = readRecords 3072 wantedLine (replicate 49 165)
 
 unfoldable pub wantedRecords : List ℕ
 wantedRecords = encode (product 0 (ofList (integer 0 (pos 2) ∷ a ∷ [])))
+
+-- ---- three bytes of an area of five are the table's
+unfoldable pub threeHeld : List ℕ
+threeHeld = heldBytes (record { state = record { count = 3; past = 0 }; area = 1 ∷ 2 ∷ 3 ∷ 165 ∷ 165 ∷ [] })
 
 -- ---- s1 + a with s1 defined as a: opened it is a + a, and its result, handed in again with the definition, stays
 unfoldable pub shares : Handed

@@ -1,5 +1,5 @@
--- What the second machine believes at the moment it takes over, beside the table of paper's `TakesOver`: of a result that travels as text, of a
--- whole site, and of a formula that shares sub-formulas, each as one statement over the limit and the edition.
+-- What the second machine believes at the moment it takes over, beside the table of paper's `TakesOver`: of a result that travels as text or in
+-- pieces, of a whole site, and of a formula that shares sub-formulas, each as one statement over the limit and the edition.
 use Prim.Native.Nat.{ℕ, zero, suc, _+_, _*_, _≤_}
 use mathlib.Core.Path.{_≡_}
 use mathlib.Core.Bool.{Bool, cond}
@@ -7,15 +7,18 @@ use mathlib.Core.List.{List, [], _∷_, _++_}
 use mathlib.Core.Option.{some}
 use lib.ListN.{length, take, drop}
 use lib.Dec.{eqb}
+use Rattle.paper.specs.Limits.{maxBytes}
 use Rattle.paper.specs.Bytes.{Bytes}
 use Rattle.paper.specs.Tree.{Tree}
 use Rattle.paper.specs.Table.{encode, treeOf}
+use Rattle.paper.specs.Verdict.{accepted}
 use Rattle.paper.specs.Erased.{erase}
 use Rattle.paper.specs.Answers.{Lent, Answer, simplified}
 use Rattle.paper.specs.Told.{answerIn}
 use Rattle.paper.specs.Demands.{result}
 use Rattle.paper.specs.Takeover.{Room, again, Repeats}
 use Rattle.paper_text.specs.Answers.{writeGiven, readGiven}
+use Rattle.paper_receiver.specs.Receiver.{Held, fresh, finishVerdict, receivedAll, whole}
 use Rattle.paper_batch.specs.Batch.{placeBytes, usedUp, inTurn}
 use Rattle.paper_shared.specs.Answers.{Handed, sharedGiven}
 
@@ -44,6 +47,22 @@ TextTakesOver lim ed =
     (s : List ℕ) → Bytes s → (l : Lent) → simplified lim ed s l .answer .number ≡ 0
     → (line table : List ℕ) (l′ : Lent) → let w = simplified lim ed s l .answer .weight-out in
     21 * w ≤ length line → 16 * w ≤ length table → Room lim w l′ → TextRepeats lim ed s l line table l′
+
+-- ---- a result that comes over the link: the bytes that a receiver holds
+unfoldable pub heldBytes : Held → List ℕ
+heldBytes x = take (x .state .count) (x .area)
+
+-- however it is cut, the finish accepts it, the result is what is held, and simplifying that is a takeover
+pub record LinkRepeats (lim ed : ℕ) (s : List ℕ) (l : Lent) (x : Held) (l′ : Lent) : Type 0 where
+  pub accepts : finishVerdict lim x ≡ accepted
+  pub same-table : heldBytes x ≡ result (simplified lim ed s l)
+  pub repeats : Repeats (simplified lim ed s l) (simplified lim ed (heldBytes x) l′)
+
+abbrev pub LinkTakesOver : ℕ → ℕ → Type 0
+LinkTakesOver lim ed =
+    (s : List ℕ) → Bytes s → (l : Lent) → simplified lim ed s l .answer .number ≡ 0
+    → (area : List ℕ) → maxBytes lim ≤ length area → (ps : List (List ℕ)) → whole ps ≡ result (simplified lim ed s l)
+    → (l′ : Lent) → Room lim (simplified lim ed s l .answer .weight-out) l′ → LinkRepeats lim ed s l (receivedAll lim (fresh area) ps) l′
 
 -- ---- a whole site: of answers, and of `out`, what a machine restores, the results of the accepted items end to end, with their lengths
 unfoldable pub isDone : Answer → Bool
