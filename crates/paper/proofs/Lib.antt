@@ -75,3 +75,10 @@ pub mod Told
 pub mod AlikeLaws
 pub mod Squares
 pub mod TryLaws
+pub mod ShallowLaws
+pub mod ShallowRules
+pub mod QuietLaws
+pub mod HalfSquares
+pub mod SquareLaws
+pub mod Squared
+pub mod Steep
