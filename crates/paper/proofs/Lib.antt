@@ -20,6 +20,7 @@ pub mod LikeFactors
 pub mod LikeFactorsWF
 pub mod LikeFactorsWeight
 pub mod LikeFactorsGood
+pub mod MarkSentences
 pub mod EditionOne
 pub mod PowerRules
 pub mod EditionTwo

@@ -274,6 +274,8 @@ counts =
     ∷ record { given = times (plus (a ∷ a ∷ []) ∷ b ∷ []); tries = 10 }
     ∷ record { given = plus (times (plus (a ∷ a ∷ []) ∷ b ∷ []) ∷ c ∷ []); tries = 18 }
     ∷ record { given = raised (plus (a ∷ a ∷ [])) 2; tries = 11 }
+    -- two sums in a sum: one pass, both opened, and then each record once more
+    ∷ record { given = plus (plus (a ∷ b ∷ []) ∷ plus (c ∷ symbol 0 3 ∷ []) ∷ []); tries = 12 }
     -- example 10
     ∷ record { given = times (raised (times (a ∷ b ∷ [])) 1 ∷ c ∷ c ∷ a ∷ []); tries = 18 }
     -- none is told after 7
@@ -305,3 +307,50 @@ computed rs t =
       weight-in = weight t;
       weight-out = outWeight (simplify rs t);
     }
+
+-- Corners that the tables above leave open.
+unfoldable pub corners : List Example
+corners =
+    gives (product 0 (ofList ((symbol 0 0) ∷ (integer 0 (pos 0)) ∷ []))) 5 (integer 0 (pos 0)) (3 ∷ []) 0 1
+    ∷ gives (product 0 (ofList ((integer 0 (pos 1)) ∷ (symbol 0 0) ∷ []))) 5 (symbol 0 0) (4 ∷ []) 0 3
+    ∷ gives (product 0 (ofList ((power 0 (symbol 0 0) 0 2) ∷ (power 0 (symbol 0 0) 0 3) ∷ []))) 11 (power 0 (symbol 0 0) 0 5) (6 ∷ []) 0 5
+    ∷ gives (product 0 (ofList ((power 0 (power 0 (symbol 0 0) 0 2) 0 3) ∷ (power 0 (power 0 (symbol 0 0) 0 2) 0 4) ∷ []))) 15 (power 0 (power 0 (symbol 0 0) 0 2) 0 7) (6 ∷ []) 0 7
+    ∷ gives (sum 0 (ofList ((product 0 (ofList ((symbol 0 0) ∷ (symbol 0 1) ∷ []))) ∷ (product 0 (ofList ((integer 0 (negsuc 0)) ∷ (symbol 0 0) ∷ (symbol 0 1) ∷ []))) ∷ []))) 16 (integer 0 (pos 0)) (2 ∷ 3 ∷ []) 0 1
+    ∷ gives (sum 0 (ofList ((symbol 0 0) ∷ (symbol 0 0) ∷ (symbol 0 1) ∷ (symbol 0 2) ∷ (symbol 0 3) ∷ []))) 16 (sum 0 (ofList ((product 0 (ofList ((integer 0 (pos 2)) ∷ (symbol 0 0) ∷ []))) ∷ (symbol 0 3) ∷ (symbol 0 1) ∷ (symbol 0 2) ∷ []))) (2 ∷ []) 0 15
+    ∷ record { given = (product 0 (ofList ((product 0 (ofList ((integer 0 (pos 4611686018427387904)) ∷ (symbol 0 0) ∷ []))) ∷ (product 0 (ofList ((integer 0 (pos 4)) ∷ (symbol 0 1) ∷ []))) ∷ []))); answer = over 0; weight-in = 11; weight-out = 0 }
+    ∷ record { given = (sum 0 (ofList ((product 0 (ofList ((product 0 (ofList ((symbol 0 0) ∷ (symbol 0 1) ∷ []))) ∷ (symbol 0 2) ∷ []))) ∷ (product 0 (ofList ((integer 0 (pos 4611686018427387904)) ∷ (integer 0 (pos 4)) ∷ []))) ∷ []))); answer = over 0; weight-in = 15; weight-out = 0 }
+    ∷ gives (sum 0 (ofList ((sum 0 (ofList ((symbol 0 0) ∷ (symbol 0 1) ∷ []))) ∷ (sum 0 (ofList ((symbol 0 2) ∷ (symbol 0 3) ∷ []))) ∷ []))) 15 (sum 0 (ofList ((symbol 0 0) ∷ (symbol 0 1) ∷ (symbol 0 2) ∷ (symbol 0 3) ∷ []))) [] 2 13
+    ∷ gives (sum 0 (ofList ((symbol 0 0) ∷ (symbol 0 1) ∷ (integer 0 (pos 0)) ∷ []))) 8 (sum 0 (ofList ((symbol 0 0) ∷ (symbol 0 1) ∷ []))) (1 ∷ []) 0 7
+    ∷ gives (product 0 (ofList ((power 0 (symbol 0 0) 0 2) ∷ (power 0 (symbol 0 0) 0 2) ∷ []))) 11 (power 0 (symbol 0 0) 0 4) (6 ∷ []) 0 5
+    ∷ gives (sum 0 (ofList ((power 0 (symbol 0 0) 0 2) ∷ (product 0 (ofList ((integer 0 (negsuc 0)) ∷ (power 0 (symbol 0 0) 0 2) ∷ []))) ∷ []))) 13 (integer 0 (pos 0)) (2 ∷ 3 ∷ []) 0 1
+    ∷ gives (sum 0 (ofList ((sum 0 (ofList ((symbol 0 0) ∷ (symbol 0 1) ∷ []))) ∷ (product 0 (ofList ((integer 0 (negsuc 0)) ∷ (sum 0 (ofList ((symbol 0 0) ∷ (symbol 0 1) ∷ []))) ∷ []))) ∷ []))) 17 (integer 0 (pos 0)) (2 ∷ 3 ∷ []) 0 1
+    ∷ gives (sum 0 (ofList ((product 0 (ofList ((symbol 0 0) ∷ (symbol 0 1) ∷ []))) ∷ (product 0 (ofList ((integer 0 (negsuc 2)) ∷ (symbol 0 0) ∷ (symbol 0 1) ∷ []))) ∷ []))) 16 (product 0 (ofList ((symbol 0 0) ∷ (symbol 0 1) ∷ (integer 0 (negsuc 1)) ∷ []))) (2 ∷ []) 0 8
+    ∷ gives (sum 0 (ofList ((symbol 0 0) ∷ (symbol 0 1) ∷ (symbol 0 2) ∷ (symbol 0 0) ∷ (symbol 0 1) ∷ (symbol 0 2) ∷ []))) 19 (sum 0 (ofList ((product 0 (ofList ((integer 0 (pos 2)) ∷ (symbol 0 0) ∷ []))) ∷ (product 0 (ofList ((integer 0 (pos 2)) ∷ (symbol 0 1) ∷ []))) ∷ (product 0 (ofList ((integer 0 (pos 2)) ∷ (symbol 0 2) ∷ []))) ∷ []))) (2 ∷ []) 0 16
+    ∷ gives (product 0 (ofList ((power 0 (integer 0 (negsuc 1)) 0 3) ∷ (power 0 (integer 0 (pos 5)) 0 3) ∷ []))) 7 (power 0 (integer 0 (negsuc 9)) 0 3) (6 ∷ []) 0 3
+    ∷ []
+
+unfoldable pub cornersMarked : List Example
+cornersMarked =
+    gives (sum 9 (ofList ((product 4 (ofList ((integer 5 (pos 2)) ∷ (product 6 (ofList ((symbol 1 0) ∷ (symbol 2 1) ∷ []))) ∷ []))) ∷ (product 8 (ofList ((product 7 (ofList ((symbol 1 0) ∷ (symbol 2 1) ∷ []))) ∷ (integer 3 (pos 3)) ∷ []))) ∷ []))) 19 (product 4 (ofList ((symbol 1 0) ∷ (symbol 2 1) ∷ (integer 4 (pos 5)) ∷ []))) (2 ∷ []) 0 8
+    ∷ gives (sum 9 (ofList ((sum 4 (ofList ((symbol 1 0) ∷ (symbol 2 1) ∷ []))) ∷ (product 8 (ofList ((integer 3 (pos 2)) ∷ (sum 7 (ofList ((symbol 5 0) ∷ (symbol 6 1) ∷ []))) ∷ []))) ∷ []))) 17 (product 4 (ofList ((integer 4 (pos 3)) ∷ (sum 4 (ofList ((symbol 1 0) ∷ (symbol 2 1) ∷ []))) ∷ []))) (2 ∷ []) 0 9
+    ∷ gives (sum 9 (ofList ((power 4 (symbol 1 0) 5 2) ∷ (power 7 (symbol 2 0) 6 2) ∷ []))) 11 (product 4 (ofList ((integer 4 (pos 2)) ∷ (power 4 (symbol 1 0) 5 2) ∷ []))) (2 ∷ []) 0 7
+    ∷ gives (sum 9 (ofList ((integer 5 (pos 4)) ∷ (product 4 (ofList ((integer 1 (pos 2)) ∷ (integer 2 (pos 3)) ∷ []))) ∷ []))) 5 (integer 5 (pos 10)) (2 ∷ []) 0 1
+    ∷ gives (sum 9 (ofList ((product 4 (ofList ((integer 5 (pos 1)) ∷ (power 6 (symbol 1 0) 2 2) ∷ []))) ∷ (symbol 3 1) ∷ (symbol 8 1) ∷ []))) 14 (sum 9 (ofList ((power 4 (symbol 1 0) 2 2) ∷ (product 3 (ofList ((integer 3 (pos 2)) ∷ (symbol 3 1) ∷ []))) ∷ []))) (2 ∷ []) 0 11
+    ∷ gives (sum 9 (ofList ((product 4 (ofList ((integer 5 (pos 1)) ∷ (sum 6 (ofList ((symbol 1 0) ∷ (symbol 2 1) ∷ []))) ∷ []))) ∷ (symbol 3 2) ∷ (symbol 8 2) ∷ []))) 16 (sum 9 (ofList ((symbol 1 0) ∷ (symbol 2 1) ∷ (product 3 (ofList ((integer 3 (pos 2)) ∷ (symbol 3 2) ∷ []))) ∷ []))) (2 ∷ []) 1 12
+    ∷ gives (product 9 (ofList ((power 4 (sum 6 (ofList ((symbol 1 0) ∷ (symbol 2 1) ∷ []))) 5 1) ∷ (symbol 3 2) ∷ (symbol 8 2) ∷ []))) 16 (product 9 (ofList ((sum 4 (ofList ((symbol 1 0) ∷ (symbol 2 1) ∷ []))) ∷ (power 3 (symbol 3 2) 3 2) ∷ []))) (6 ∷ []) 0 13
+    ∷ gives (product 9 (ofList ((power 4 (integer 6 (pos 2)) 5 1) ∷ (symbol 3 2) ∷ (symbol 8 2) ∷ []))) 10 (product 9 (ofList ((integer 4 (pos 2)) ∷ (power 3 (symbol 3 2) 3 2) ∷ []))) (6 ∷ []) 0 7
+    ∷ gives (product 9 (ofList ((power 4 (power 6 (symbol 1 0) 2 2) 5 1) ∷ (symbol 3 2) ∷ (symbol 8 2) ∷ []))) 14 (product 9 (ofList ((power 4 (symbol 1 0) 2 2) ∷ (power 3 (symbol 3 2) 3 2) ∷ []))) (6 ∷ []) 0 11
+    ∷ gives (product 9 (ofList ((sum 4 (ofList ((symbol 1 0) ∷ (symbol 2 1) ∷ []))) ∷ (sum 7 (ofList ((symbol 5 1) ∷ (symbol 6 0) ∷ []))) ∷ []))) 15 (power 4 (sum 4 (ofList ((symbol 1 0) ∷ (symbol 2 1) ∷ []))) 4 2) (6 ∷ []) 0 9
+    ∷ gives (product 9 (ofList ((product 1 (ofList ((symbol 2 0) ∷ (symbol 3 1) ∷ []))) ∷ (power 4 (product 7 (ofList ((symbol 0 1) ∷ (symbol 0 0) ∷ []))) 5 2) ∷ []))) 17 (power 1 (product 1 (ofList ((symbol 2 0) ∷ (symbol 3 1) ∷ []))) 1 3) (6 ∷ []) 0 9
+    ∷ gives (product 9 (ofList ((integer 1 (pos 2)) ∷ (power 4 (integer 2 (pos 2)) 5 3) ∷ []))) 5 (power 1 (integer 1 (pos 2)) 1 4) (6 ∷ []) 0 3
+    ∷ gives (sum 9 (ofList ((product 4 (ofList ((integer 5 (pos 2)) ∷ (sum 6 (ofList ((symbol 1 0) ∷ (symbol 2 1) ∷ []))) ∷ []))) ∷ (product 8 (ofList ((integer 3 (negsuc 0)) ∷ (sum 7 (ofList ((symbol 1 0) ∷ (symbol 2 1) ∷ []))) ∷ []))) ∷ []))) 19 (sum 4 (ofList ((symbol 1 0) ∷ (symbol 2 1) ∷ []))) (2 ∷ []) 0 7
+    ∷ gives (product 9 (ofList ((integer 1 (pos 1)) ∷ (symbol 2 0) ∷ []))) 5 (symbol 2 0) (4 ∷ []) 0 3
+    ∷ gives (product 9 (ofList ((symbol 1 0) ∷ (integer 2 (pos 1)) ∷ (symbol 3 1) ∷ []))) 8 (product 9 (ofList ((symbol 1 0) ∷ (symbol 3 1) ∷ []))) (4 ∷ []) 0 7
+    ∷ gives (sum 9 (ofList ((symbol 1 0) ∷ (integer 2 (pos 0)) ∷ (symbol 3 1) ∷ []))) 8 (sum 9 (ofList ((symbol 1 0) ∷ (symbol 3 1) ∷ []))) (1 ∷ []) 0 7
+    ∷ gives (sum 9 (ofList ((sum 3 (ofList ((symbol 1 0) ∷ (symbol 2 1) ∷ []))) ∷ (symbol 4 2) ∷ []))) 11 (sum 9 (ofList ((symbol 1 0) ∷ (symbol 2 1) ∷ (symbol 4 2) ∷ []))) [] 1 10
+    ∷ []
+
+unfoldable pub cornersMarkedTwo : List Example
+cornersMarkedTwo =
+    gives (power 1 (integer 2 (pos 1)) 3 9) 3 (integer 1 (pos 1)) (8 ∷ []) 0 1
+    ∷ []
