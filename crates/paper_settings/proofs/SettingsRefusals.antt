@@ -17,12 +17,12 @@ use Rattle.paper.specs.Refusals.{rank, Lowest}
 use Rattle.paper_settings.specs.Settings.{version, keyIn, mayBe, strays, isMalformed, isFree, holds, Setting, settingOf, slotsOf, shown, known, used, anyNewer}
 use Rattle.paper_settings.specs.Settings.{allFree, inOrder, isDisordered, areaVerdict, Op, to-store, to-fetch, to-remove, only, fetchReply, replies}
 use Rattle.paper_settings.specs.Settings.{isFull, slotOf, put, takeOut, onSlots, called, fetched, fetchedOld, joined, FreeAt, KeyAt, Disorder, malformed, key-twice}
-use Rattle.paper_settings.specs.Settings.{record-after-free, no-multiple, Refuses, newer, disordered, fetch-absent, remove-absent, full}
+use Rattle.paper_settings.specs.Settings.{settingIn, unitIn, record-after-free, no-multiple, Refuses, newer, disordered, fetch-absent, remove-absent, full}
 use Rattle.paper.proofs.Tests.{true-not-false, not-so, and-both, or-either}
 use Rattle.paper.specs.Record.{sound}
 use Rattle.paper.proofs.Refusals.{ladder, ladder-down, ladder-up, none-holds, holds-none}
-use Rattle.paper_settings.proofs.SlotLaws.{no-stray, some-stray, Ordered, no-slot, free-last, record-first, in-order, free-holds, each-at, newer-at, used-most}
-use Rattle.paper_settings.proofs.SettingsLaws.{area-whole, area-slots, fetch-called}
+use Rattle.paper_settings.proofs.SlotLaws.{old-unit, no-stray, some-stray, Ordered, no-slot, free-last, record-first, in-order, free-holds, each-at, newer-at, used-most}
+use Rattle.paper_settings.proofs.SettingsLaws.{area-whole, area-slots, fetch-called, kept}
 use Rattle.paper_settings.proofs.SettingsUpgrade.{slot-at, slot-byte, key-there, slot-version-at}
 
 -- ---- one slot: free is every byte zero; a free slot is no malformed one
@@ -459,3 +459,36 @@ old-refused-exactly k a = exactly 1 (to-fetch k) a (fetched 1 k a .number) (fetc
 pub old-accepted-exactly : (k : ℕ) (a : List ℕ) → (fetchedOld k a .number ≡ 0) ↔ ((n p : ℕ) → ¬ Refuses 1 a (to-fetch k) n p)
 unfolding fetchedOld
 old-accepted-exactly k a = none-exactly 1 (to-fetch k) a (fetched 1 k a .number) (fetch-tested 1 k a)
+
+-- ---- what a fetch of the new release shows: the record of the key, wherever it stands and whatever versions stand beside it
+sound-at : {xs : List (List ℕ)} → Ordered xs → (i : ℕ) → i < length xs → isMalformed (getD xs i []) ≡ false
+sound-at no-slot i l = absurd (omega arith)
+sound-at (free-last {x = x} {xs = xs} f a) zero l = free-sound x f
+sound-at (free-last {x = x} {xs = xs} f a) (suc i) l = free-sound (getD xs i []) (free-at xs a i (omega arith))
+sound-at (record-first f s n o) zero l = s
+sound-at (record-first f s n o) (suc i) l = sound-at o i (omega arith)
+
+shown-at : (k : ℕ) {xs : List (List ℕ)} → Ordered xs → (i : ℕ) → i < length xs → holds k (getD xs i []) ≡ true → shown xs k ≡ some (settingOf (getD xs i []))
+unfolding shown known
+shown-at k no-slot i l h = absurd (omega arith)
+shown-at k (free-last {x = x} {xs = xs} f a) zero l h = absurd (true-not-false h (free-holds k x f))
+shown-at k (free-last {x = x} {xs = xs} f a) (suc i) l h = absurd (true-not-false h (free-holds k (getD xs i []) (free-at xs a i (omega arith))))
+shown-at k (record-first {x = x} {xs = xs} f s n o) zero l h = rw h
+shown-at k (record-first {x = x} {xs = xs} f s n o) (suc i) l h = go (holds k x) refl (shown-at k o i (omega arith) h)
+  where
+    go : (b : Bool) → holds k x ≡ b → shown xs k ≡ some (settingOf (getD xs i [])) → cond b (some (settingOf x)) (shown xs k) ≡ some (settingOf (getD xs i []))
+    go true e ih =
+        absurd (true-not-false (at-known xs k i (omega arith) h) (ap known (ap (shown xs) (holds-used k x e .1) ∙ n)))
+    go false e ih = ih
+
+module _ (k : ℕ) (a : List ℕ) (i : ℕ) (h : areaVerdict 2 a ≡ 0) (l : i < length a / 32) (w : KeyAt a i k) where
+  pub shows-record : fetched 2 k a ≡ record { number = 0; setting = settingIn (getD (slotsOf a) i []); unit = unitIn (getD (slotsOf a) i []) }
+  unfolding fetched fetchReply settingOf
+  shows-record = rw (h, shown-at k (kept 2 a h .ordered) i (omega (arith, area-slots a, l)) (words-key a i l k w))
+
+  -- "The version 2 reader shows version 1 records with unit 0", also beside records of version 2
+  pub shows-unit-0 : getD a (32 * i) 0 ≤ 1 → fetched 2 k a ≡ record { number = 0; setting = settingIn (getD (slotsOf a) i []); unit = 0 }
+  shows-unit-0 v =
+      let u : unitIn (getD (slotsOf a) i []) ≡ 0 =
+      old-unit (getD (slotsOf a) i []) (omega (arith, slot-version-at a i l, v)) (sound-at (kept 2 a h .ordered) i (omega (arith, area-slots a, l))) in
+      shows-record ∙ ap (λ (n : ℕ). record { number = 0; setting = settingIn (getD (slotsOf a) i []); unit = n }) u

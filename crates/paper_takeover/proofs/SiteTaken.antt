@@ -7,7 +7,7 @@ use mathlib.Core.Bool.{Bool, true, false, cond}
 use mathlib.Core.List.{List, [], _∷_, _++_}
 use native.Mathlib.Omega.{arith}
 use borrow.Author.Tests.{eqb-true}
-use lib.ListN.{length, take, drop, length-drop}
+use lib.ListN.{length, take, drop, length-drop, length-append}
 use lib.Seq.{length-take-le, take-append-le, take-take, take-at, drop-at}
 use Rattle.paper.specs.Bytes.{Bytes}
 use Rattle.paper.specs.Tree.{weight, records}
@@ -22,7 +22,7 @@ use Rattle.paper.proofs.EncodeLaws.{encode-length, encode-bytes}
 use Rattle.paper.proofs.TableLaws.{encode-weight}
 use Rattle.paper.proofs.DemandLaws.{call-done}
 use Rattle.paper.proofs.Takeover.{takeover}
-use Rattle.paper_batch.specs.Batch.{hasRun, usedUp, remaining, inFront, firstUses, handedOn, Site, inTurn}
+use Rattle.paper_batch.specs.Batch.{hasRun, usedUp, remaining, inFront, firstUses, handedOn, Site, inTurn, total}
 use Rattle.paper_batch.proofs.Orderly.{simplified-orderly, uses-run}
 use Rattle.paper_takeover.specs.TakenOver.{isDone, restored, restoredLengths, restoredWeight, againEach, SiteRepeats, SiteTakesOver}
 
@@ -219,3 +219,38 @@ site-takes-over lim ed (n ∷ ns) s b l m room =
     let x = inTurn f (n ∷ ns) s l in
     subst (λ (t : List ℕ). SiteRepeats lim ed (x .answers) (restoredLengths (x .answers)) t m) (sym (first-restored lim ed n ns s (take-bytes n s b) l))
     (with-first lim ed n ns s b l (λ m h. site-takes-over lim ed ns (drop n s) (drop-bytes n s b) (handedOn f n s l) m h) m room)
+
+-- what is restored is a site that 8 does not refuse, given a place for each answer: its lengths add up to its bytes, and it has no more items
+module _ (lim ed : ℕ) where
+  pub restored-adds-up : (ns s : List ℕ) → Bytes s → (l : Lent) → let x = inTurn (simplified lim ed) ns s l in
+      (total (restoredLengths (x .answers)) ≡ length (restored ns s (x .answers) (x .lent .out))) × (length (restoredLengths (x .answers)) ≤ length ns)
+  unfolding inTurn restored restoredLengths total
+  restored-adds-up [] s b l = (refl, omega arith)
+  restored-adds-up (n ∷ ns) s b l =
+      let f = simplified lim ed in
+      let ih = restored-adds-up ns (drop n s) (drop-bytes n s b) (handedOn f n s l) in
+      (adds ih (isDone (g .answer)) refl ∙ ap length (sym (first-restored lim ed n ns s (take-bytes n s b) l)), fewer ih (isDone (g .answer)))
+    where
+      g : Given
+      g = simplified lim ed (take n s) l
+
+      x : Site
+      x = inTurn (simplified lim ed) ns (drop n s) (handedOn (simplified lim ed) n s l)
+
+      rest : List ℕ
+      rest = restored ns (drop n s) (x .answers) (x .lent .out)
+
+      Ih : Type 0
+      Ih = (total (restoredLengths (x .answers)) ≡ length rest) × (length (restoredLengths (x .answers)) ≤ length ns)
+
+      adds : Ih → (c : Bool) → isDone (g .answer) ≡ c
+          → total (cond c (16 * g .answer .records-written ∷ restoredLengths (x .answers)) (restoredLengths (x .answers)))
+          ≡ length (cond c (result g) [] ++ rest)
+      adds ih true e =
+          let d = left lim ed (take n s) (take-bytes n s b) l (done-number (g .answer) e) in
+          simp length-append (omega (arith, d .long, ih .0))
+      adds ih false e = ih .0
+
+      fewer : Ih → (c : Bool) → length (cond c (16 * g .answer .records-written ∷ restoredLengths (x .answers)) (restoredLengths (x .answers))) ≤ suc (length ns)
+      fewer ih true = omega (arith, ih .1)
+      fewer ih false = omega (arith, ih .1)
