@@ -17,12 +17,12 @@ use Rattle.paper.specs.Refusals.{rank, Lowest}
 use Rattle.paper_settings.specs.Settings.{version, keyIn, mayBe, strays, isMalformed, isFree, holds, Setting, settingOf, slotsOf, shown, known, used, anyNewer}
 use Rattle.paper_settings.specs.Settings.{allFree, inOrder, isDisordered, areaVerdict, Op, to-store, to-fetch, to-remove, only, fetchReply, replies}
 use Rattle.paper_settings.specs.Settings.{isFull, slotOf, put, takeOut, onSlots, called, fetched, fetchedOld, joined, FreeAt, KeyAt, Disorder, malformed, key-twice}
-use Rattle.paper_settings.specs.Settings.{settingIn, unitIn, record-after-free, no-multiple, Refuses, newer, disordered, fetch-absent, remove-absent, full}
+use Rattle.paper_settings.specs.Settings.{record-after-free, no-multiple, Refuses, newer, disordered, fetch-absent, remove-absent, full}
 use Rattle.paper.proofs.Tests.{true-not-false, not-so, and-both, or-either}
 use Rattle.paper.specs.Record.{sound}
 use Rattle.paper.proofs.Refusals.{ladder, ladder-down, ladder-up, none-holds, holds-none}
-use Rattle.paper_settings.proofs.SlotLaws.{old-unit, no-stray, some-stray, Ordered, no-slot, free-last, record-first, in-order, free-holds, each-at, newer-at, used-most}
-use Rattle.paper_settings.proofs.SettingsLaws.{area-whole, area-slots, fetch-called, kept}
+use Rattle.paper_settings.proofs.SlotLaws.{no-stray, some-stray, Ordered, no-slot, free-last, record-first, in-order, free-holds, each-at, newer-at, used-most}
+use Rattle.paper_settings.proofs.SettingsLaws.{area-whole, area-slots, fetch-called}
 use Rattle.paper_settings.proofs.SettingsUpgrade.{slot-at, slot-byte, key-there, slot-version-at}
 
 -- ---- one slot: free is every byte zero; a free slot is no malformed one
@@ -37,18 +37,18 @@ unfolding isFree
 bytes-free [] h = refl
 bytes-free (b ∷ x) h = rw (eq-eqb b 0 (h 0 (omega arith))) (bytes-free x (λ j l. h (suc j) (omega arith)))
 
-free-sound : (x : List ℕ) → isFree x ≡ true → isMalformed x ≡ false
+pub free-sound : (x : List ℕ) → isFree x ≡ true → isMalformed x ≡ false
 unfolding isMalformed
 free-sound x f = not-so (isMalformed x) (λ e. let r = some-stray (version x) x 0 32 e in r .3 (free-byte x f (r .0)))
 
-holds-used : (k : ℕ) (x : List ℕ) → holds k x ≡ true → (isFree x ≡ false) × (k ≡ keyIn x)
+pub holds-used : (k : ℕ) (x : List ℕ) → holds k x ≡ true → (isFree x ≡ false) × (k ≡ keyIn x)
 unfolding holds
 holds-used k x h =
     let a = and-both (not (isFree x)) (eqb k (keyIn x)) h in
     (not-true (isFree x) (a .0), eqb-true k (keyIn x) (a .1))
 
 -- ---- slots by their places
-known-at : (xs : List (List ℕ)) (k : ℕ) → known (shown xs k) ≡ true → (i : ℕ) × (i < length xs) × (holds k (getD xs i []) ≡ true)
+pub known-at : (xs : List (List ℕ)) (k : ℕ) → known (shown xs k) ≡ true → (i : ℕ) × (i < length xs) × (holds k (getD xs i []) ≡ true)
 unfolding shown known
 known-at [] k h = absurd (true-not-false h refl)
 known-at (x ∷ xs) k h = go (holds k x) refl h (known-at xs k)
@@ -59,7 +59,7 @@ known-at (x ∷ xs) k h = go (holds k x) refl h (known-at xs k)
     go true e h ih = (0, omega arith, e)
     go false e h ih = let r = ih h in (suc (r .0), omega (arith, r .1), r .2)
 
-at-known : (xs : List (List ℕ)) (k i : ℕ) → i < length xs → holds k (getD xs i []) ≡ true → known (shown xs k) ≡ true
+pub at-known : (xs : List (List ℕ)) (k i : ℕ) → i < length xs → holds k (getD xs i []) ≡ true → known (shown xs k) ≡ true
 unfolding shown known
 at-known [] k i l h = absurd (omega arith)
 at-known (x ∷ xs) k zero l h = rw h
@@ -80,7 +80,7 @@ not-free-at (x ∷ xs) h = go (isFree x) refl h (not-free-at xs)
     go true e h ih = let r = ih h in (suc (r .0), omega (arith, r .1), r .2)
     go false e h ih = (0, omega arith, e)
 
-free-at : (xs : List (List ℕ)) → allFree xs ≡ true → (i : ℕ) → i < length xs → isFree (getD xs i []) ≡ true
+pub free-at : (xs : List (List ℕ)) → allFree xs ≡ true → (i : ℕ) → i < length xs → isFree (getD xs i []) ≡ true
 unfolding allFree
 free-at [] a i l = absurd (omega arith)
 free-at (x ∷ xs) a zero l = and-both (isFree x) (allFree xs) a .0
@@ -191,10 +191,10 @@ module _ (a : List ℕ) (i : ℕ) (h : i < length a / 32) where
   slot-key : keyIn (getD (slotsOf a) i []) ≡ le2 a (32 * i + 2)
   slot-key = ap keyIn (slot-at a i h) ∙ key-there a i
 
-  key-words : (k : ℕ) → holds k (getD (slotsOf a) i []) ≡ true → KeyAt a i k
+  pub key-words : (k : ℕ) → holds k (getD (slotsOf a) i []) ≡ true → KeyAt a i k
   key-words k e = let r = holds-used k (getD (slotsOf a) i []) e in (used-words (r .0), sym slot-key ∙ sym (r .1))
 
-  words-key : (k : ℕ) → KeyAt a i k → holds k (getD (slotsOf a) i []) ≡ true
+  pub words-key : (k : ℕ) → KeyAt a i k → holds k (getD (slotsOf a) i []) ≡ true
   unfolding holds
   words-key k w = rw (words-used (w .0)) (eq-eqb k (keyIn (getD (slotsOf a) i [])) (sym (slot-key ∙ w .1)))
 
@@ -459,36 +459,3 @@ old-refused-exactly k a = exactly 1 (to-fetch k) a (fetched 1 k a .number) (fetc
 pub old-accepted-exactly : (k : ℕ) (a : List ℕ) → (fetchedOld k a .number ≡ 0) ↔ ((n p : ℕ) → ¬ Refuses 1 a (to-fetch k) n p)
 unfolding fetchedOld
 old-accepted-exactly k a = none-exactly 1 (to-fetch k) a (fetched 1 k a .number) (fetch-tested 1 k a)
-
--- ---- what a fetch of the new release shows: the record of the key, wherever it stands and whatever versions stand beside it
-sound-at : {xs : List (List ℕ)} → Ordered xs → (i : ℕ) → i < length xs → isMalformed (getD xs i []) ≡ false
-sound-at no-slot i l = absurd (omega arith)
-sound-at (free-last {x = x} {xs = xs} f a) zero l = free-sound x f
-sound-at (free-last {x = x} {xs = xs} f a) (suc i) l = free-sound (getD xs i []) (free-at xs a i (omega arith))
-sound-at (record-first f s n o) zero l = s
-sound-at (record-first f s n o) (suc i) l = sound-at o i (omega arith)
-
-shown-at : (k : ℕ) {xs : List (List ℕ)} → Ordered xs → (i : ℕ) → i < length xs → holds k (getD xs i []) ≡ true → shown xs k ≡ some (settingOf (getD xs i []))
-unfolding shown known
-shown-at k no-slot i l h = absurd (omega arith)
-shown-at k (free-last {x = x} {xs = xs} f a) zero l h = absurd (true-not-false h (free-holds k x f))
-shown-at k (free-last {x = x} {xs = xs} f a) (suc i) l h = absurd (true-not-false h (free-holds k (getD xs i []) (free-at xs a i (omega arith))))
-shown-at k (record-first {x = x} {xs = xs} f s n o) zero l h = rw h
-shown-at k (record-first {x = x} {xs = xs} f s n o) (suc i) l h = go (holds k x) refl (shown-at k o i (omega arith) h)
-  where
-    go : (b : Bool) → holds k x ≡ b → shown xs k ≡ some (settingOf (getD xs i [])) → cond b (some (settingOf x)) (shown xs k) ≡ some (settingOf (getD xs i []))
-    go true e ih =
-        absurd (true-not-false (at-known xs k i (omega arith) h) (ap known (ap (shown xs) (holds-used k x e .1) ∙ n)))
-    go false e ih = ih
-
-module _ (k : ℕ) (a : List ℕ) (i : ℕ) (h : areaVerdict 2 a ≡ 0) (l : i < length a / 32) (w : KeyAt a i k) where
-  pub shows-record : fetched 2 k a ≡ record { number = 0; setting = settingIn (getD (slotsOf a) i []); unit = unitIn (getD (slotsOf a) i []) }
-  unfolding fetched fetchReply settingOf
-  shows-record = rw (h, shown-at k (kept 2 a h .ordered) i (omega (arith, area-slots a, l)) (words-key a i l k w))
-
-  -- "The version 2 reader shows version 1 records with unit 0", also beside records of version 2
-  pub shows-unit-0 : getD a (32 * i) 0 ≤ 1 → fetched 2 k a ≡ record { number = 0; setting = settingIn (getD (slotsOf a) i []); unit = 0 }
-  shows-unit-0 v =
-      let u : unitIn (getD (slotsOf a) i []) ≡ 0 =
-      old-unit (getD (slotsOf a) i []) (omega (arith, slot-version-at a i l, v)) (sound-at (kept 2 a h .ordered) i (omega (arith, area-slots a, l))) in
-      shows-record ∙ ap (λ (n : ℕ). record { number = 0; setting = settingIn (getD (slotsOf a) i []); unit = n }) u
