@@ -1,9 +1,10 @@
--- Two answers that meet a contract of this crate, as the check reads it from the source, are the same: a number that is read is told with what
--- of the text is left, and its place lies in the text; a number that is spelt ends where its digits do, and where these fit the area is one. Assumes nothing.
-use Prim.Native.Nat.{ℕ, _+_, _-_, _≤_, _<_}
+-- Two answers that meet a contract of this crate, as the check reads it from the source, are the same: a digit is there or not by one definition of
+-- the text; of a number that is read the contract tells the number and what of the text is left, hence its place; a number that is spelt ends
+-- where its digits do, and where these fit the area is what it was with them put in. Assumes nothing.
+use Prim.Native.Nat.{ℕ, _+_, _≤_}
 use mathlib.Core.Path.{_≡_, refl, sym, ap, ap₂, _∙_}
 use mathlib.Core.List.{List}
-use mathlib.Core.Option.{Option, none, some}
+use mathlib.Core.Option.{none, some}
 use native.Mathlib.Omega.{arith}
 use borrow.Fn.Kinds.{Dens, endedOf}
 use contract.Lifetimes.{Lfts}
@@ -53,7 +54,8 @@ pub read-number-once : Once 1 read-number-kinds.ps read-number-kinds.r read-numb
 read-number-once κs a v v' x x' h p q = same-number (a .0 .now) (a .1 .0) v v' (p .ahead) (q .ahead) (p .says ∙ sym (q .says))
 
 -- the place always; the area where the digits fit
-pub spell-number-once : (κs : Lfts 1) (a : Dens κs spell-number-kinds.ps) (v v' : ℕ) (x x' : AtExit (endedOf 1 spell-number-kinds.ps spell-number-kinds.r) κs)
+pub spell-number-once : (κs : Lfts 1) (a : Dens κs spell-number-kinds.ps) (v v' : ℕ)
+    (x x' : AtExit (endedOf 1 spell-number-kinds.ps spell-number-kinds.r) κs)
     → spell-number-reads.Post κs a v x → spell-number-reads.Post κs a v' x'
     → (v ≡ v') × (a .1 .1 .0 + length (digits (a .0)) ≤ length (a .1 .0 .now) → x .1 .0 .now ≡ x' .1 .0 .now)
 spell-number-once κs a v v' x x' p q = (p .end ∙ sym (q .end), λ f. p .spelt f ∙ sym (q .spelt f))

@@ -1,5 +1,6 @@
 -- The call is refused exactly as the request's words have it: the tests of the definition, taken one after the other, are those of the words,
--- and a refusal's answer tells its verdict and its table. Assumes nothing.
+-- and a refusal's answer tells its verdict and its table. The list is chosen by the number that is answered: after a refusal it stays, without one
+-- it begins with every pair (`refused-stays`, `accepted-lists`). Assumes nothing.
 use Prim.Native.Nat.{ℕ, _*_, _/_, _<_, _≤_}
 use mathlib.Core.Path.{_≡_, refl, sym, ap, _∙_, subst}
 use mathlib.Core.Bool.{Bool, true, false}
@@ -13,7 +14,8 @@ use Rattle.paper.specs.Limits.{isLimit}
 use Rattle.paper.specs.Record.{sound}
 use Rattle.paper.specs.Verdict.{Verdict, accepted, told, refused, isAccepted, verdict}
 use Rattle.paper.specs.Calls.{eights}
-use Rattle.paper_differ.specs.Differ.{Differed, differencesOf, tooFewPlaces, refusedFor, differedTables, differed, numbersOf, atFront, listAfter, differing}
+use Rattle.paper_differ.specs.Differ.{Differed, differencesOf, tooFewPlaces, refusedFor, differedTables, differed}
+use Rattle.paper_differ.specs.Differ.{numbersOf, atFront, listAfter, differing}
 use Rattle.paper_differ.specs.Refusals.{Refuses, no-limit, first-table, second-table, short-list}
 use Rattle.paper.proofs.Tests.{true-not-false}
 use Rattle.paper.proofs.CallLaws.{verdict-accepted}

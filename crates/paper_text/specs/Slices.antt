@@ -13,12 +13,15 @@ use Rattle.paper_text.specs.Answers.{writeAnswer, writeGiven, writeTextR
 abbrev pub readBytes : ℕ
 readBytes = 24
 
+-- the area afterwards, by the slice: as it was where the slice has under n bytes, else what is given
+abbrev pub LeavesIn : ℕ → List ℕ → List ℕ → (List ℕ → List ℕ) → Type 0
+LeavesIn n area given leaves = (slice : List ℕ) → (length slice < n → leaves slice ≡ area) × (n ≤ length slice → leaves slice ≡ given)
+
 pub record Slices : Type 0 where
   pub reading : (lim : ℕ) (s area : List ℕ)
       → TellsIn readBytes (readAnswer lim s area .number) (takenNumbers (readAnswer lim s area)) (readTextReturns lim s area) (readTextAnswers lim s area)
-  pub reading-area : (lim : ℕ) (s area slice : List ℕ)
-      → (length slice < readBytes → readTextLeaves lim s area slice ≡ area) × (readBytes ≤ length slice → readTextLeaves lim s area slice ≡ readGiven lim s area .area)
+  pub reading-area : (lim : ℕ) (s area : List ℕ) → LeavesIn readBytes area (readGiven lim s area .area) (readTextLeaves lim s area)
   pub writing : (lim : ℕ) (s area : List ℕ)
-      → TellsIn measureBytes (writeAnswer lim s area .number) (measuredNumbers (writeAnswer lim s area)) (writeTextReturns lim s area) (writeTextAnswers lim s area)
-  pub writing-area : (lim : ℕ) (s area slice : List ℕ)
-      → (length slice < measureBytes → writeTextLeaves lim s area slice ≡ area) × (measureBytes ≤ length slice → writeTextLeaves lim s area slice ≡ writeGiven lim s area .area)
+      → TellsIn measureBytes (writeAnswer lim s area .number) (measuredNumbers (writeAnswer lim s area))
+      (writeTextReturns lim s area) (writeTextAnswers lim s area)
+  pub writing-area : (lim : ℕ) (s area : List ℕ) → LeavesIn measureBytes area (writeGiven lim s area .area) (writeTextLeaves lim s area)
