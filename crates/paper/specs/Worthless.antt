@@ -14,9 +14,13 @@ use Rattle.paper.specs.Driver.{simplify}
 use Rattle.paper.specs.Answers.{Lent, refusedBy, refusal, simplifiedBy}
 use Rattle.paper.specs.Demands.{Simplifier}
 
--- one that refuses everything: each call, with a refusal other than 7, whatever it says, or with 7 at some place
+-- one that refuses everything: each call by some number, whatever else it answers
 abbrev pub RefusesEverything : Simplifier → Type 0
-RefusesEverything f =
+RefusesEverything f = (s : List ℕ) → Bytes s → (l : Lent) → 1 ≤ f s l .answer .number
+
+-- one that does so in the form of a refusal: other than 7, whatever it says, or 7 at some place
+abbrev pub RefusesInForm : Simplifier → Type 0
+RefusesInForm f =
     (s : List ℕ) → Bytes s → (l : Lent)
     → ((v : Verdict) × (1 ≤ v .number) × (¬ (v .number ≡ 7)) × (f s l .answer ≡ refusedBy v)) ⊎ ((p : ℕ) × (f s l .answer ≡ refusal 7 p))
 
