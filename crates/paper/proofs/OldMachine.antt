@@ -124,15 +124,22 @@ old-too-heavy s p m short flawless heavy =
     go u (of-records (refusal-5 h)) = omega (arith, rank-small 3 (lit< tt), rank-small 5 (lit< tt))
     go u (refusal-19 x y) = x refl
 
--- ---- the sentences leave no choice: a machine that agrees with the higher limit on all that is up to the old one, and refuses what is longer or heavier as
--- they say, answers as the definitions do at the old limit, of every table that the higher limit accepts
+-- ---- the sentences leave no choice: two machines of which they hold answer alike, of every table that the higher limit accepts
 pub accepted-up-to-old : (s : List ℕ) → verdict old s ≡ accepted → UpToOld s
 accepted-up-to-old s h = let p = accepted-passes old s h in (omega (arith, p .long .short), p .light)
 
-module _ (m : Machine) (agrees : Agrees m) (on-two : AgreesOnTwo m) (long : RefusesLong m) (heavy : RefusesHeavy m) where
-  pub checks-once : (s : List ℕ) → verdict higher s ≡ accepted → m .checks s ≡ verdict old s
+module _ (m n : Machine) where
+  pub agrees-once : Agrees m → Agrees n → (s : List ℕ) → UpToOld s
+      → (m .checks s ≡ n .checks s) × (m .weighs s ≡ n .weighs s) × ((regs : List ℕ) → m .values s regs ≡ n .values s regs)
+  agrees-once h k s u = let x = h s u in let y = k s u in (x .0 ∙ sym (y .0), x .1 ∙ sym (y .1), λ regs. x .2 regs ∙ sym (y .2 regs))
+
+  pub compares-once : AgreesOnTwo m → AgreesOnTwo n → (a b : List ℕ) → UpToOld a → UpToOld b → m .compares a b ≡ n .compares a b
+  compares-once h k a b u v = h a b u v ∙ sym (k a b u v)
+
+  pub checks-once : Agrees m → RefusesLong m → RefusesHeavy m → Agrees n → RefusesLong n → RefusesHeavy n
+      → (s : List ℕ) → verdict higher s ≡ accepted → m .checks s ≡ n .checks s
   unfolding isFlawed
-  checks-once s h = go (ltb 49152 (length s)) refl (ltb old (tableWeight s)) refl
+  checks-once agrees long heavy agrees′ long′ heavy′ s h = go (ltb 49152 (length s)) refl (ltb old (tableWeight s)) refl
     where
       p : Passes higher s
       p = accepted-passes higher s h
@@ -140,24 +147,15 @@ module _ (m : Machine) (agrees : Agrees m) (on-two : AgreesOnTwo m) (long : Refu
       unflawed : (i : ℕ) → i < recordsIn s → ¬ Flawed s i
       unflawed i l x = true-not-false (words-flaw s i x) (ap isFlawed (p .fine i (omega arith) l .0))
 
-      go : (b : Bool) → ltb 49152 (length s) ≡ b → (c : Bool) → ltb old (tableWeight s) ≡ c → m .checks s ≡ verdict old s
-      go true e c f = let l = ltb-true 49152 (length s) e in long s l ∙ sym (old-too-long s l)
+      go : (b : Bool) → ltb 49152 (length s) ≡ b → (c : Bool) → ltb old (tableWeight s) ≡ c → m .checks s ≡ n .checks s
+      go true e c f = let l = ltb-true 49152 (length s) e in long s l ∙ sym (long′ s l)
       go false e true f =
           let short = ltb-false 49152 (length s) e in
           let over = ltb-true old (tableWeight s) f in
-          heavy s (p .long .positive) (p .long .sixteens) short unflawed over ∙ sym (old-too-heavy s (p .long .positive) (p .long .sixteens) short unflawed over)
-      go false e false f =
-          let u : UpToOld s = (ltb-false 49152 (length s) e, ltb-false old (tableWeight s) f) in
-          agrees s u .0 ∙ sym (limits-alike s u)
+          heavy s (p .long .positive) (p .long .sixteens) short unflawed over ∙ sym (heavy′ s (p .long .positive) (p .long .sixteens) short unflawed over)
+      go false e false f = agrees-once agrees agrees′ s (ltb-false 49152 (length s) e, ltb-false old (tableWeight s) f) .0
 
-  -- and so do its weight, its evaluator and its equality test of tables up to the old limit
-  pub weighs-once : (s : List ℕ) → UpToOld s → (m .weighs s ≡ weighed old s) × ((regs : List ℕ) → m .values s regs ≡ valued old s regs)
-  weighs-once s u = let x = agrees s u in let y = limits-agree s u in (x .1 ∙ sym (y .1), λ regs. x .2 regs ∙ sym (y .2 regs))
-
-  pub compares-once : (a b : List ℕ) → UpToOld a → UpToOld b → m .compares a b ≡ compared old a b
-  compares-once a b u v = on-two a b u v ∙ sym (same-comparison a b u v)
-
--- the same of a simplifier: two that give alike answers and bytes differ in `work` alone
+-- the same of simplifiers. Calls that give alike answers and bytes differ in `work` alone
 pub alike-but-work : (g h : Given) → Alike g h → g .lent .work ≡ h .lent .work → g ≡ h
 alike-but-work g h e w =
     ap (λ a. record { answer = a; lent = g .lent }) (e .0)
@@ -165,17 +163,18 @@ alike-but-work g h e w =
     ∙ ap (λ o. record { answer = h .answer; lent = record { out = h .lent .out; steps = o; work = g .lent .work } }) (e .2)
     ∙ ap (λ o. record { answer = h .answer; lent = record { out = h .lent .out; steps = h .lent .steps; work = o } }) w
 
--- and one at the old limit that is lent enough `work`, for a table up to it, has the answer, `out` and `steps` of the definitions, refused or not
+-- where enough `work` is lent (w is what the call at the higher limit is lent), two simplifiers give alike answers and bytes for a table up to the old limit, refused
+-- or not
 judged-both : (ed : ℕ) (s : List ℕ) (l : Lent) (w : List ℕ) → UpToOld s → 65536 ≤ length (l .work) → 524288 ≤ length w
     → judgement old ed s l ≡ judgement higher ed s (record { out = l .out; steps = l .steps; work = w })
 unfolding judgement judgedCall cramped isLimit workBytes
 judged-both ed s l w u h k = rw (limits-alike s u, le-ltb (length (l .work)) 65536 h, le-ltb (length w) 524288 k) refl
 
-pub calls-once : (f : ℕ → Simplifier) → AgreesOnCalls f → (ed : ℕ) (s : List ℕ) (l : Lent) → UpToOld s → 65536 ≤ length (l .work)
-    → (w : List ℕ) → 524288 ≤ length w → Alike (f ed s l) (simplified old ed s l)
-calls-once f h ed s l u room w more =
+pub calls-once : (f g : ℕ → Simplifier) → AgreesOnCalls f → AgreesOnCalls g → (ed : ℕ) (s : List ℕ) (l : Lent) → UpToOld s → 65536 ≤ length (l .work)
+    → (w : List ℕ) → 524288 ≤ length w → Alike (f ed s l) (g ed s l)
+calls-once f g h k ed s l u room w more =
     let l′ : Lent = record { out = l .out; steps = l .steps; work = w } in
     let n = ap (λ v. v .number) (judged-both ed s l w u room more) in
     let x = h ed s l l′ refl refl n in
-    let y = same-results ed s l l′ refl refl n in
+    let y = k ed s l l′ refl refl n in
     (x .0 ∙ sym (y .0), x .1 ∙ sym (y .1), x .2 ∙ sym (y .2))

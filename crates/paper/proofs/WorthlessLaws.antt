@@ -25,9 +25,9 @@ use Rattle.paper.specs.Answers.{Lent, ran, judgement, cramped, refusedBy
 use Rattle.paper.specs.Demands.{Simplifier, result, Refuses, LeavesAlone, RunsOver, Follows, Lightens, Bounded, Finishes, KeepsValue, Accepted}
 use Rattle.paper.specs.Takeover.{Room}
 use Rattle.paper.specs.Worthless.{RefusesEverything, RefusesInForm, refusesAll, returnsZero, returnsInput, firstPass, passesOnce, rootOnly, staysAtRoot, oneStepMore}
-use Rattle.paper.specs.Worthless.{oneOpeningMore, inventsSteps, inventsOpenings, oneTryLess, hidesTries}
+use Rattle.paper.specs.Worthless.{oneOpeningMore, inventsSteps, inventsOpenings, oneTryLess, hidesTries, takesCube}
 use Rattle.paper.specs.WorthlessKinds.{Makes, ReturnsZero, ReturnsInput, StopsAfterPass, NeverEnters, Invents}
-use Rattle.paper.proofs.LimitLaws.{limit-least}
+use Rattle.paper.proofs.LimitLaws.{limit-least, limit-small}
 use Rattle.paper.proofs.EncodeLaws.{encode-bytes}
 use Rattle.paper.proofs.TableLaws.{encode-weight, written-accepted}
 use Rattle.paper.proofs.ReadLaws.{tree-of-written}
@@ -440,6 +440,27 @@ overcounting-is-refused lim ed f s b l n t r more k = let x = k s b l n t r in o
 pub overtrying-is-refused : (lim ed : ℕ) (f : Simplifier) (s : List ℕ) → Bytes s → (l : Lent) → f s l .answer .number ≡ 0 → (t : Tree) → treeOf s ≡ some t
     → weight t * (weight t * weight t) < f s l .answer .tries → ¬ Bounded lim ed f
 overtrying-is-refused lim ed f s b l n t r more k = omega (arith, k s b l n t r .2, more)
+
+-- but the cube itself is allowed
+pub cube-is-allowed : (lim ed : ℕ) → Bounded lim ed (takesCube lim ed)
+unfolding takesCube ranAnswer refusedBy lentAfter outAfter written
+cube-is-allowed lim ed s b l n t r = go (call lim ed slow s l b)
+  where
+    cube : Tree → ℕ
+    cube t = weight t * (weight t * weight t)
+
+    slow : Tree → Ran
+    slow t = done t [] 0 (cube t)
+
+    go : Call lim ed slow s l → (u : Tree) × (treeOf (result (simplifiedBy lim ed slow s l)) ≡ some u) × (simplifiedBy lim ed slow s l .answer .tries ≤ cube t)
+    go (is-turned-down d) = absurd (let z = ap (λ a. a .number) (d .answer) in omega (arith, d .number))
+    go (is-run c) =
+        let v = c .holds .tree in
+        let w = result-written (simplifiedBy lim ed slow s l) (weight v) v (l .out) (ap (λ a. a .records-written) (c .answer)) (ap (λ a. a .out) (c .lent)) in (
+          v,
+          ap treeOf w ∙ tree-of-written v (c .holds .wf) (omega (arith, c .holds .light, limit-small lim (c .holds .known))),
+          subst (λ x. simplifiedBy lim ed slow s l .answer .tries ≤ cube x) (same-tree (c .holds .read) r) (omega (arith, ap (λ a. a .tries) (c .answer))),
+        )
 
 -- one whose result has another value than the table under some assignment, on some accepted call: it fails `keeps-value`
 pub straying-is-refused : (lim ed : ℕ) (f : Simplifier) (s : List ℕ) → Bytes s → (l : Lent) → f s l .answer .number ≡ 0 → (t : Tree) → treeOf s ≡ some t

@@ -1,6 +1,6 @@
 -- "Four worthless simplifiers must be turned away", and invented steps and openings too, one that never enters a member, and one that
 -- hides a try. Each is refuted at the field that the paper names for it (proofs/WorthlessLaws), at each limit lim and in each edition ed.
-use Prim.Native.Nat.{ℕ, zero, suc, _+_, _-_, _≤_}
+use Prim.Native.Nat.{ℕ, zero, suc, _+_, _-_, _*_, _≤_}
 use mathlib.Core.Path.{_≡_}
 use mathlib.Core.Logic.{_⊎_}
 use mathlib.Core.List.{List, [], _∷_}
@@ -89,3 +89,7 @@ oneTryLess (over k) = over k
 
 unfoldable pub hidesTries : ℕ → ℕ → Simplifier
 hidesTries lim ed = simplifiedBy lim ed (λ t. oneTryLess (simplify (rulesOf ed) t))
+
+-- not turned away by the bound on the tries: one that returns its input, and tells the cube of the weight and no more
+unfoldable pub takesCube : ℕ → ℕ → Simplifier
+takesCube lim ed = simplifiedBy lim ed (λ t. done t [] 0 (weight t * (weight t * weight t)))
