@@ -32,6 +32,7 @@ pub mod Fuel
 pub mod FinishedLaws
 pub mod BytesLaws
 pub mod EncodeLaws
+pub mod HeightLaws
 pub mod ReadLaws
 pub mod Stands
 pub mod SkipLaws

@@ -5,8 +5,8 @@
 -- (simplifiers that are turned away), BeforeMarks (a machine without marks), Erased (trees without their marks).
 -- More than was asked: Squared (a better bound on the tries, from both sides).
 -- Only tools, for laws and for the code's contracts: Exact (the value with no reduction), Good (what is asked of a rule), Shallow (what is asked of it
--- besides, for that bound), Gathering (document 01's gathering, to be compared with), Standing (trees that stand in a table), Once (the form of the
--- uniqueness lemmas).
+-- besides, for that bound), Gathering (document 01's gathering, to be compared with), Standing (trees that stand in a table), Cost (what tries may come
+-- to), Height (nodes one inside the other), Once (the form of the uniqueness lemmas).
 pub mod Limits
 pub mod Bytes
 pub mod Tree
@@ -43,3 +43,5 @@ pub mod SmallTables
 pub mod WorthlessKinds
 pub mod Told
 pub mod Squared
+pub mod Cost
+pub mod Height
