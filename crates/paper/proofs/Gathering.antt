@@ -2,23 +2,27 @@
 -- in a well-formed tree, and an opening leaves no fewer. So a branch for fewer is never reached: by
 -- induction on the fuel, since every tree that is visited is well-formed. Assumes nothing.
 use Prim.Native.Nat.{ℕ, zero, suc, _+_, _≤_, _<_}
-use mathlib.Core.Path.{_≡_, refl, ap, _∙_, subst}
+use mathlib.Core.Path.{_≡_, refl, sym, ap, _∙_, subst}
 use mathlib.Core.Bool.{Bool, true, false}
 use mathlib.Core.List.{List, [], _∷_, _++_}
-use mathlib.Core.Option.{Option, none, some}
+use mathlib.Core.Option.{Option, none, some, Option·none-ne-some}
 use native.Mathlib.Omega.{arith}
 use lib.ListN.{length}
 use lib.IntN.{pos}
 use lib.Dec.{eqb}
 use borrow.Author.Tests.{le-ltb, lt-ltb}
+use Rattle.paper.specs.Bytes.{Bytes}
 use Rattle.paper.specs.Tree.{Tree, Forest, integer, symbol, sum, product, power, weight}
 use Rattle.paper.specs.WellFormed.{WF, WFl}
-use Rattle.paper.specs.Rules.{Rule, collapse, sumOf, productOf}
+use Rattle.paper.specs.Table.{treeOf}
+use Rattle.paper.specs.Verdict.{accepted, verdict}
+use Rattle.paper.specs.Rules.{Rule, rulesOf, collapse, sumOf, productOf}
 use Rattle.paper.specs.Driver.{Asked, no-rule, step, out-of-range, ask, Ran, Rans, dones, overs, after, tried, each, members}
 use Rattle.paper.specs.Driver.{asSum, asProduct, openOne, opened, gather, settle, gathered, visit, run, simplify}
 use Rattle.paper.specs.Good.{Goods}
-use Rattle.paper.specs.Gathering.{Branch, collapses, unlessFewer, gatherWith, onward, andThenWith, eachWith, settleWith, settleGathered, gatheredWith, visitWith, runWith}
+use Rattle.paper.specs.Gathering.{Branch, tells, collapses, unlessFewer, gatherWith, onward, andThenWith, eachWith, settleWith, settleGathered, gatheredWith, visitWith, runWith}
 use Rattle.paper.specs.Gathering.{simplifyWith, BranchNotReached}
+use Rattle.paper.proofs.EditionTwo.{edition-good}
 use Rattle.paper.proofs.WFLaws.{count-list}
 use Rattle.paper.proofs.GatherLaws.{gatheredList, gathers-two, members-wf}
 use Rattle.paper.proofs.DriverLaws.{AskedKept, ask-kept, RunKept, RunsKept, each-kept, gathered-tree, run-kept}
@@ -115,3 +119,7 @@ unfolding simplifyWith simplify
 branch-not-reached gs fewer lim s b v t e =
     let h = accepted-holds lim s b v in
     run-alike gs fewer (weight t) t (subst WF (same-tree (h .read) e) (h .wf))
+
+-- said directly: where the branch has an outcome of its own, no run from an accepted table has it, in either edition
+pub never-told : (ed lim : ℕ) (s : List ℕ) → Bytes s → verdict lim s ≡ accepted → (t : Tree) → treeOf s ≡ some t → ¬ (simplifyWith tells (rulesOf ed) t ≡ none)
+never-told ed lim s b v t e h = Option·none-ne-some (simplify (rulesOf ed) t) (sym h ∙ branch-not-reached (edition-good ed) tells lim s b v t e)

@@ -1,5 +1,6 @@
 -- The two limits agree on tables up to the old one, since the limit is asked for in two tests only, and both pass; what is beyond the
--- old limit is refused there with 1 or 3. Assumes nothing.
+-- old limit is refused there with 1 or 3. A judgement's number tells the rest of it, so calls that are judged by the same number give the same. And what is said of a
+-- machine at the old limit, an equation for each case, leaves it no choice. Assumes nothing.
 use Prim.Native.Nat.{ℕ, _/_, _≤_, _<_}
 use mathlib.Core.Path.{_≡_, refl, sym, ap, _∙_}
 use mathlib.Core.Bool.{Bool, true, false, cond}
