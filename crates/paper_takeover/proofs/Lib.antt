@@ -1,6 +1,9 @@
 pub mod SymbolLaws
+pub mod LimitTaken
+pub mod TextOver
 pub mod TextTaken
 pub mod LinkTaken
+pub mod LinkOver
 pub mod SiteTaken
 pub mod SharedTaken
 pub mod Computed
