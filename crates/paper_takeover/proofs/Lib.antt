@@ -4,6 +4,8 @@ pub mod TextOver
 pub mod TextTaken
 pub mod LinkTaken
 pub mod LinkOver
+pub mod OldOver
 pub mod SiteTaken
 pub mod SharedTaken
 pub mod Computed
+pub mod OverComputed

@@ -2,15 +2,16 @@
 -- receivings of the definitions; the finish answers as the checker does on the whole, and a result is accepted where the limit holds its weight
 -- and else is refused by 1 or 3. What comes after a swap depends on the record and the bytes that it counts alone: a piece is put behind them.
 -- Assumes nothing.
-use Prim.Native.Nat.{ℕ, _+_, _-_, _^_, _%_, _≤_, _<_, min}
+use Prim.Native.Nat.{ℕ, _+_, _-_, _^_, _%_, _≤_, _<_}
 use mathlib.Core.Path.{_≡_, refl, sym, ap, ap₂, _∙_, subst}
 use mathlib.Core.Bool.{Bool, true, false, cond, _||_, not}
 use mathlib.Core.List.{List, [], _∷_, _++_, append-assoc}
+use mathlib.Core.Logic.{inl, inr}
 use native.Mathlib.Omega.{arith}
 use lib.ListN.{length, take, drop, replicate, length-append}
-use lib.Seq.{length-take-le, take-all, take-at}
+use lib.Seq.{length-take-le, take-at}
 use lib.Dec.{eqb, ltb}
-use borrow.Author.Tests.{le-ltb, lt-ltb, ltb-false}
+use borrow.Author.Tests.{le-ltb, lt-ltb, ltb-true, ltb-false}
 use Rattle.paper.specs.Limits.{isLimit, maxBytes}
 use Rattle.paper.specs.Bytes.{Bytes, bytes}
 use Rattle.paper.specs.Equal.{one}
@@ -20,7 +21,7 @@ use Rattle.paper.specs.Table.{encode}
 use Rattle.paper.specs.Record.{weightFrom}
 use Rattle.paper.specs.Verdict.{Verdict, accepted, refused, recordsIn, badLength, tableWeight, judgeRecords, judgedTable, verdict}
 use Rattle.paper.specs.Calls.{verdictNumbers, eights, tooShort, returned, answered}
-use Rattle.paper.specs.Answers.{Lent, Given, simplified}
+use Rattle.paper.specs.Answers.{Lent, simplified}
 use Rattle.paper.specs.Demands.{result}
 use Rattle.paper.specs.Takeover.{Room, Repeats}
 use Rattle.paper.proofs.LimitLaws.{limit-small}
@@ -35,12 +36,13 @@ use Rattle.paper.proofs.VerdictLaws.{accepted-passes, good-length}
 use Rattle.paper_receiver.specs.Receiver.{Receiver, isPast, kept, counted, areaAfter, Held, fresh, withPiece, isShort, Receipt, receipt, received, finishVerdict, receivedAll, whole}
 use Rattle.paper_receiver.specs.Calls.{receiverIn, receiverNumbers, heldIn, receiveReturns, receiveRecord, receiveArea, noRoom, finishReturns, finishAnswers}
 use Rattle.paper_receiver.proofs.PieceLaws.{either-way, open-count, past-leaves, keeps-length}
-use Rattle.paper_receiver.proofs.ReceiverLaws.{unknown-receives, receives, is-long, answer-whole, bytes-whole, record-whole}
+use Rattle.paper_receiver.proofs.ReceiverLaws.{unknown-receives, receives, is-long, answer-whole}
 use Rattle.paper_receiver.proofs.CallLaws.{reads-back}
 use Rattle.paper_takeover.specs.TakenOver.{heldBytes}
 use Rattle.paper_takeover.specs.LimitOver.{Holds}
-use Rattle.paper_takeover.specs.LinkOver.{Task, afterCall, afterCalls, returns, holding, tableIn, Ready, Arrived, CallsTakeOver, overBy, CallsTooHeavy}
+use Rattle.paper_takeover.specs.LinkOver.{Task, afterCall, afterCalls, returns, holding, tableIn, Ready, Arrived, CallsTakeOver, overBy, CallsTooHeavy, LinkNeverMisread}
 use Rattle.paper_takeover.specs.LinkOver.{SwapsOver, Copied, CopySuffices, CopiedTask, SwapTakesOver}
+use Rattle.paper_takeover.proofs.LinkTaken.{area-whole, held-whole}
 use Rattle.paper_takeover.proofs.LimitTaken.{out-weight, out-light, takes-over-at}
 
 -- ---- a swap
@@ -249,33 +251,36 @@ module _ (lim : ℕ) (known : isLimit lim ≡ true) where
   module _ (x y : Task) (h : Sane lim x) (c : CopiedTask lim x y) where
     copied-sane : Sane lim y
     copied-sane =
-        let n = ap length (c .same-record) in
+        let n = ap length (c .record-copied) in
         let r = h .record-room in
-        record { record-room = omega (arith, n, r); area-room = c .own-room; small = subst Small (ap receiverIn (sym (c .same-record))) (h .small) }
+        record { record-room = omega (arith, n, r); area-room = c .area-room; small = subst Small (ap receiverIn (sym (c .record-copied))) (h .small) }
 
     copied-held : Copied lim (holding x) (holding y)
     unfolding heldIn
-    copied-held = record { same-record = ap receiverIn (c .same-record); same-bytes = c .same-bytes; room = h .area-room; own-room = c .own-room }
+    copied-held = record { same-record = ap receiverIn (c .record-copied); same-bytes = c .bytes-copied; room = h .area-room; own-room = c .area-room }
 
   -- an empty receiver
-  module _ (x : Task) (ready : Ready lim x) (ps : List (List ℕ)) where
-    sane : Sane lim x
-    sane =
-        record {
-          record-room = ready .record-room;
-          area-room = ready .area-room;
-          small = subst Small (sym (ready .nothing-yet)) (omega arith, omega arith);
-        }
+  ready-sane : (x : Task) → Ready lim x → Sane lim x
+  ready-sane x ready =
+      record {
+        record-room = ready .record-room;
+        area-room = ready .area-room;
+        small = subst Small (sym (ready .nothing-yet)) (omega arith, omega arith);
+      }
 
+  ready-fresh : (x : Task) → Ready lim x → holding x ≡ fresh (x .area)
+  unfolding heldIn
+  ready-fresh x ready = ap (λ (r : Receiver). record { state = r; area = x .area }) (ready .nothing-yet)
+
+  module _ (x : Task) (ready : Ready lim x) (ps : List (List ℕ)) where
     held : holding (afterCalls lim x ps) ≡ receivedAll lim (fresh (x .area)) ps
-    unfolding heldIn
-    held = calls-hold ps x sane ∙ ap (λ (r : Receiver). receivedAll lim (record { state = r; area = x .area }) ps) (ready .nothing-yet)
+    held = calls-hold ps x (ready-sane x ready) ∙ ap (λ (y : Held). receivedAll lim y ps) (ready-fresh x ready)
 
     each-zero : returns lim x ps ≡ replicate (length ps) 0
-    each-zero = all-taken ps x sane
+    each-zero = all-taken ps x (ready-sane x ready)
 
     long-after : 16 ≤ length (afterCalls lim x ps .record-bytes)
-    long-after = all-sane ps x sane .record-room
+    long-after = all-sane ps x (ready-sane x ready) .record-room
 
     verdict-whole : finishVerdict lim (holding (afterCalls lim x ps)) ≡ verdict lim (whole ps)
     verdict-whole = ap (finishVerdict lim) held ∙ answer-whole lim (x .area) ps (ready .area-room)
@@ -289,25 +294,12 @@ module _ (lim : ℕ) (known : isLimit lim ≡ true) where
 
     -- what is held of a whole that the limit's area has room for
     module _ (short : length (whole ps) ≤ maxBytes lim) where
-      abbrev w : List ℕ
-      w = whole ps
-
-      all : min (length w) (maxBytes lim) ≡ length w
-      all = omega (arith, short)
-
-      front-whole : afterCalls lim x ps .area ≡ w ++ drop (length w) (x .area)
+      front-whole : afterCalls lim x ps .area ≡ whole ps ++ drop (length (whole ps)) (x .area)
       unfolding heldIn
-      front-whole =
-          ap (λ (y : Held). y .area) held
-          ∙ bytes-whole lim (x .area) ps known (ready .area-room)
-          ∙ ap₂ (λ (l : List ℕ) (n : ℕ). l ++ drop n (x .area)) (take-all (maxBytes lim) w short) all
+      front-whole = ap (λ (y : Held). y .area) held ∙ area-whole lim known (x .area) (ready .area-room) ps short
 
-      table-whole : tableIn (afterCalls lim x ps) ≡ w
-      unfolding heldIn heldBytes
-      table-whole =
-          let count-is : holding (afterCalls lim x ps) .state .count ≡ length w =
-          ap (λ (y : Held). y .state .count) held ∙ ap (λ (r : Receiver). r .count) (record-whole lim (x .area) ps known (ready .area-room)) ∙ all in
-          ap₂ (λ (n : ℕ) (l : List ℕ). take n l) count-is front-whole ∙ take-at w (drop (length w) (x .area)) (length w) refl
+      table-whole : tableIn (afterCalls lim x ps) ≡ whole ps
+      table-whole = ap heldBytes held ∙ held-whole lim known (x .area) (ready .area-room) ps short
 
 -- ---- takeover
 module _ (lim there ed : ℕ) (s : List ℕ) (b : Bytes s) (l : Lent) (e : simplified lim ed s l .answer .number ≡ 0) (h : Holds there (simplified lim ed s l))
@@ -357,7 +349,7 @@ swap-takes-over lim there ed s b l e h x ready ps qs q y c slice room l′ roomy
     let known = h .known in
     let fits = short lim there ed s b l e h (ps ++ qs) q in
     let left = afterCalls there x ps in
-    let was = all-sane there known ps x (sane there known x ready ps) in
+    let was = all-sane there known ps x (ready-sane there known x ready) in
     let is = copied-sane there known left y was c in
     let copied = all-copied there (holding left) (holding y) qs (copied-held there known left y was c) in
     let whole-held : receivedAll there (holding left) qs ≡ holding (afterCalls there x (ps ++ qs)) =
@@ -404,3 +396,11 @@ calls-too-heavy lim there ed s b l e known heavy x ready ps q slice room =
       finish-refuses = finish .0 ∙ ap (λ (v : Verdict). v .number) over;
       finish-tells = finish .1 ∙ ap (λ (v : Verdict). eights (verdictNumbers v) ++ drop 32 slice) over;
     }
+
+-- one or the other
+pub link-never-misread : (lim there ed : ℕ) → LinkNeverMisread lim there ed
+link-never-misread lim there ed s b l e known x ready ps q slice room l′ roomy =
+    let w = simplified lim ed s l .answer .weight-out in
+    either-way (ltb there w)
+    (λ t. inr (calls-too-heavy lim there ed s b l e known (ltb-true there w t) x ready ps q slice room))
+    (λ t. inl (calls-take-over lim there ed s b l e (record { known = known; light = ltb-false there w t }) x ready ps q slice room l′ roomy))

@@ -4,10 +4,12 @@
 use Prim.Native.Nat.{ℕ, _+_, _*_, _^_, _%_, _≤_}
 use mathlib.Core.Path.{_≡_, refl, sym, ap, ap₂, _∙_, subst}
 use mathlib.Core.List.{List, [], _++_}
+use mathlib.Core.Logic.{inl, inr}
 use native.Mathlib.Omega.{arith}
 use lib.ListN.{length, take, drop}
 use lib.Seq.{take-at}
-use lib.Dec.{lit<}
+use lib.Dec.{ltb, lit<}
+use borrow.Author.Tests.{ltb-true, ltb-false}
 use Rattle.paper.specs.Limits.{modulus}
 use Rattle.paper.specs.Bytes.{Bytes, word}
 use Rattle.paper.specs.Tree.{Tree, Forest, integer, symbol, sum, product, power, nil, cons, count, weight, records, recordses, value, sumValue, productValue}
@@ -44,9 +46,10 @@ use Rattle.paper_text.proofs.ReadTold.{TextIs, read-text}
 use Rattle.paper_text.proofs.LengthLaws.{text-length}
 use Rattle.paper_text.proofs.TextCallLaws.{writes, reads, read-refusal-exactly}
 use Rattle.paper_text.specs.Answers.{too-heavy}
+use Rattle.paper_receiver.proofs.PieceLaws.{either-way}
 use Rattle.paper_takeover.specs.TakenOver.{writtenText, readRecords}
 use Rattle.paper_takeover.specs.LimitOver.{Holds}
-use Rattle.paper_takeover.specs.TextOver.{lineOf, arrivesAt, TextTakesOverAt, TextTooHeavy}
+use Rattle.paper_takeover.specs.TextOver.{lineOf, arrivesAt, TextTakesOverAt, TextTooHeavy, TextNeverMisread}
 use Rattle.paper_takeover.proofs.LimitTaken.{finishedAnswer, finished-again, out-weight, out-light, out-edition, out-ends, out-again}
 
 -- ---- a tree without its marks
@@ -257,3 +260,11 @@ text-too-heavy lim there ed s b l e known heavy line table long =
     let three : readVerdict there (readText (text t)) table ≡ refused 3 0 =
     read-refusal-exactly there (text t) table 3 (lit< tt) .1 (too-heavy known t (wf lim ed s b l e) refl (omega (arith, w, heavy))) in
     record { by-three = rw (text-is, three); unchanged = rw (text-is, three) }
+
+-- one or the other
+pub text-never-misread : (lim there ed : ℕ) → TextNeverMisread lim there ed
+text-never-misread lim there ed s b l e known line table long wide l′ room =
+    let w = simplified lim ed s l .answer .weight-out in
+    either-way (ltb there w)
+    (λ t. inr (text-too-heavy lim there ed s b l e known (ltb-true there w t) line table long))
+    (λ t. inl (text-takes-over-at lim there ed s b l e (record { known = known; light = ltb-false there w t }) line table long wide l′ room))

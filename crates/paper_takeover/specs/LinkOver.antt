@@ -4,6 +4,7 @@ use Prim.Native.Nat.{ℕ, _≤_, _<_}
 use mathlib.Core.Path.{_≡_}
 use mathlib.Core.Bool.{true, cond}
 use mathlib.Core.List.{List, [], _∷_, _++_}
+use mathlib.Core.Logic.{_⊎_}
 use lib.ListN.{length, drop, replicate}
 use lib.Dec.{ltb}
 use Rattle.paper.specs.Limits.{isLimit, maxBytes}
@@ -85,6 +86,13 @@ CallsTooHeavy lim there ed =
     OfAccepted lim ed (λ s g. isLimit there ≡ true → there < g .answer .weight-out
     → (x : Task) → Ready there x → (ps : List (List ℕ)) → whole ps ≡ result g → (slice : List ℕ) → 32 ≤ length slice → CallsRefuse there g x ps slice)
 
+-- so at each limit, whatever it is: it takes over or it is refused
+abbrev pub LinkNeverMisread : ℕ → ℕ → ℕ → Type 0
+LinkNeverMisread lim there ed =
+    OfAccepted lim ed (λ s g. isLimit there ≡ true
+    → (x : Task) → Ready there x → (ps : List (List ℕ)) → whole ps ≡ result g → (slice : List ℕ) → 32 ≤ length slice
+    → (l′ : Lent) → Room there (g .answer .weight-out) l′ → CallsRepeat there ed g x ps slice l′ ⊎ CallsRefuse there g x ps slice)
+
 -- ---- a swap: to go on with qs from record and area as they were left after ps is to receive them all
 pub record SwapsOver (lim : ℕ) : Type 0 where
   pub goes-on : (x : Held) (ps qs : List (List ℕ)) → receivedAll lim x (ps ++ qs) ≡ receivedAll lim (receivedAll lim x ps) qs
@@ -110,9 +118,9 @@ CopySuffices lim = (x y : Held) → Copied lim x y → (qs : List (List ℕ)) �
 
 -- of the calls: y has the bytes of the record x, and the bytes of the area that it counts
 pub record CopiedTask (lim : ℕ) (x y : Task) : Type 0 where
-  pub same-record : y .record-bytes ≡ x .record-bytes
-  pub same-bytes : tableIn y ≡ tableIn x
-  pub own-room : maxBytes lim ≤ length (y .area)
+  pub record-copied : y .record-bytes ≡ x .record-bytes
+  pub bytes-copied : tableIn y ≡ tableIn x
+  pub area-room : maxBytes lim ≤ length (y .area)
 
 -- the first machine takes ps, the second one goes on with qs from such a copy y: each piece is taken, and the result has arrived
 pub record SwapRepeats (there ed : ℕ) (g : Given) (x : Task) (ps : List (List ℕ)) (y : Task) (qs : List (List ℕ)) (slice : List ℕ) (l′ : Lent) : Type 0 where

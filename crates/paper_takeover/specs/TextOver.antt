@@ -4,6 +4,7 @@ use Prim.Native.Nat.{ℕ, _*_, _≤_, _<_}
 use mathlib.Core.Path.{_≡_}
 use mathlib.Core.Bool.{true}
 use mathlib.Core.List.{List}
+use mathlib.Core.Logic.{_⊎_}
 use mathlib.Core.Option.{some}
 use lib.ListN.{length}
 use Rattle.paper.specs.Limits.{isLimit}
@@ -51,3 +52,10 @@ abbrev pub TextTooHeavy : ℕ → ℕ → ℕ → Type 0
 TextTooHeavy lim there ed =
     OfAccepted lim ed (λ s g. isLimit there ≡ true → there < g .answer .weight-out
     → (line table : List ℕ) → 21 * g .answer .weight-out ≤ length line → TextRefused lim there g line table)
+
+-- so at each limit, whatever it is: it takes over or it is refused
+abbrev pub TextNeverMisread : ℕ → ℕ → ℕ → Type 0
+TextNeverMisread lim there ed =
+    OfAccepted lim ed (λ s g. let w = g .answer .weight-out in
+    isLimit there ≡ true → (line table : List ℕ) → 21 * w ≤ length line → 16 * w ≤ length table
+    → (l′ : Lent) → Room there w l′ → TextArrives lim there ed s g line table l′ ⊎ TextRefused lim there g line table)
