@@ -4,3 +4,5 @@ pub mod LinkTaken
 pub mod SiteTaken
 pub mod SharedTaken
 pub mod Computed
+pub mod SiteRestored
+pub mod OtherLimit
