@@ -6,3 +6,5 @@ pub mod SharedTaken
 pub mod Computed
 pub mod SiteRestored
 pub mod OtherLimit
+pub mod SiteComputed
+pub mod LimitEdges

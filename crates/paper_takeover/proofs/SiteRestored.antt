@@ -27,7 +27,7 @@ use Rattle.paper.proofs.Takeover.{takeover}
 use Rattle.paper_batch.specs.Batch.{usedUp, remaining, firstUses, handedOn, inFront, Site, inTurn, lengthsIn, total, unfit, turnsDown, siteNumber}
 use Rattle.paper_batch.proofs.Orderly.{uses-run}
 use Rattle.paper_takeover.specs.TakenOver.{isDone, restored, restoredLengths}
-use Rattle.paper_takeover.specs.SiteRestored.{restoredWhole, wholeLengths, wholeWeight, againInPlace, NoSix, RepeatsWhole, SiteRestored, ResultsPass, WholePasses}
+use Rattle.paper_takeover.specs.SiteRestored.{restoredWhole, wholeLengths, wholeWeight, againInPlace, NoSix, RepeatsWhole, SiteRestored, SwapsAgain, ResultsPass, WholePasses}
 use Rattle.paper_takeover.proofs.SiteTaken.{Left, left, done-number, rest-behind, result-in-front, first-restored, room-behind, restored-adds-up}
 
 module _ (lim ed : ℕ) where
@@ -257,6 +257,12 @@ site-restored-whole lim ed (n ∷ ns) s b a l m none-6 room =
     let others = site-restored-whole lim ed ns (drop n s) (drop-bytes n s b) (simp length-drop (omega arith)) on (leaves lim ed p m) (none-6 .1) rest-room in
     subst (λ (q : List ℕ). RepeatsWhole (x ∷ y .answers) (k ∷ ms) q (inTurn f (k ∷ ms) q m)) (sym (first-whole lim ed n ns s (take-bytes n s b) l))
     (front lim ed n (take n s) l m one (placed-long lim ed n s b (omega arith) l) (y .answers) ms t others)
+
+pub swaps-again : (lim ed : ℕ) → SwapsAgain lim ed
+swaps-again lim ed ns s b a l m m′ none-6 room room′ =
+    let once = site-restored-whole lim ed ns s b a l m none-6 room in
+    let twice = site-restored-whole lim ed ns s b a l m′ none-6 room′ in
+    ap₂ (λ (ms t : List ℕ). inTurn (simplified lim ed) ms t m′ .answers) (once .same-lengths) (once .same-tables) ∙ twice .same-answers ∙ sym (once .same-answers)
 
 -- ---- 8 of a second call, with no more items than the first
 pub record Fit (lim ed : ℕ) (tables ns : List ℕ) : Type 0 where

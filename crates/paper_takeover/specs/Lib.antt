@@ -3,3 +3,4 @@ pub mod TakenOver
 pub mod Examples
 pub mod SiteRestored
 pub mod OtherLimit
+pub mod SiteExamples

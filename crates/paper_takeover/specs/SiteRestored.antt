@@ -53,6 +53,16 @@ SiteRestored lim ed =
     let t = restoredWhole ns s (x .answers) (x .lent .out) in
     RepeatsWhole (x .answers) ms t (inTurn (simplified lim ed) ms t m)
 
+-- and however often the pair swaps: what is restored of the second site, the third is handed, and answers as the second did
+abbrev pub SwapsAgain : ℕ → ℕ → Type 0
+SwapsAgain lim ed =
+    (ns s : List ℕ) → Bytes s → total ns ≡ length s → (l m m′ : Lent) → let x = inTurn (simplified lim ed) ns s l in
+    NoSix (x .answers) → Room lim (wholeWeight ns s (x .answers)) m → Room lim (wholeWeight ns s (x .answers)) m′
+    → let ms = wholeLengths ns (x .answers) in
+    let t = restoredWhole ns s (x .answers) (x .lent .out) in
+    let y = inTurn (simplified lim ed) ms t m in
+    inTurn (simplified lim ed) (wholeLengths ms (y .answers)) (restoredWhole ms t (y .answers) (y .lent .out)) m′ .answers ≡ y .answers
+
 -- ---- a call on what is restored of a call that was not refused as a whole is not refused as a whole: its lengths being a list, with a place for each answer
 abbrev pub PassesEight : ℕ → ℕ → (List ℕ → List ℕ → Site → List ℕ) → (List ℕ → Site → List ℕ) → Type 0
 PassesEight lim ed tables-of lengths-of =

@@ -31,9 +31,6 @@ pub record TakenWhole (c d : SiteCCall) : Type 0 where
 
 module _ (c d : SiteCCall) (n : limit d ≡ limit c) (k : edition d ≡ edition c) (e : c .returned ≡ 0) (b : Bytes (tables c)) (q : tables d ≡ left-whole c)
     (whole : length (lengths d) % 8 ≡ 0) (r : lengthsIn (lengths d) ≡ lengths-whole c) (places : placeBytes * length (lengths-whole c) ≤ length (answers d)) where
-  ns : List ℕ
-  ns = lengthsIn (lengths c)
-
   site : Site
   site = inTurn (simplified (limit c) (edition c)) (lengthsIn (lengths c)) (tables c) (areas c)
 
