@@ -19,7 +19,7 @@ use Rattle.paper_batch.specs.Sentences.{item}
 use Rattle.paper_shared.specs.Answers.{Handed, tableAt, opens, judgedSite, SharedGiven, sharedGiven}
 use Rattle.paper_takeover.specs.TakenOver.{answersIn}
 use Rattle.paper_takeover.specs.SiteRestored.{restoredWhole}
-use Rattle.paper_takeover.specs.OtherLimit.{SameAreas, SameGiven, SameSite, ItemsUpToOld, DefinitionsUpToOld, SharedUpToOld, SameShared, BothRefuse}
+use Rattle.paper_takeover.specs.OtherLimit.{SameAreas, SameGiven, SameSite, ItemsUpToOld, ItemTooLong, ItemTooHeavy, DefinitionsUpToOld, SharedUpToOld, SameShared, BothRefuse, OldRefusesShared}
 use Rattle.paper_takeover.proofs.OtherLimit.{same-calls, same-sites, item-too-long, item-too-heavy, shares-alike, old-refuses-shared}
 
 -- ---- over the old limit
@@ -35,16 +35,19 @@ pub record JustOver : Type 0 where
       → (i : ℕ) → i < length (h .symbols) → tableWeight (tableAt (h .lengths) (h .definitions) i) ≡ 3073 → BothRefuse h 15
   pub opened-18 : (h : Handed) (v : Tree) → judgedSite 16384 h ≡ opens v → UpToOld (h .table) → DefinitionsUpToOld h → weight v ≡ 3073 → BothRefuse h 18
 
-pub just-over : JustOver
-just-over =
+just-over-by : ItemTooLong → ItemTooHeavy → OldRefusesShared → JustOver
+just-over-by long heavy refuses =
     record {
-      item-1 = λ ed known ns s l i h e d. item-too-long ed known ns s l i h (omega arith) d;
-      item-3 = λ ed known ns s l i h e flawless w d. item-too-heavy ed known ns s l i h (omega arith) (omega arith) (omega arith) flawless (omega arith) d;
-      formula-1 = λ h v e n. old-refuses-shared h v e .too-long (omega arith);
-      formula-3 = λ h v e n w. old-refuses-shared h v e .too-heavy (omega arith) (omega arith);
-      definition-15 = λ h v e u i k w. old-refuses-shared h v e .definition u i k (λ over. omega (arith, over .1));
-      opened-18 = λ h v e u d w. old-refuses-shared h v e .opened u d (omega arith);
+      item-1 = λ ed known ns s l i h e d. long ed known ns s l i h (omega arith) d;
+      item-3 = λ ed known ns s l i h e flawless w d. heavy ed known ns s l i h (omega arith) (omega arith) (omega arith) flawless (omega arith) d;
+      formula-1 = λ h v e n. refuses h v e .too-long (omega arith);
+      formula-3 = λ h v e n w. refuses h v e .too-heavy (omega arith) (omega arith);
+      definition-15 = λ h v e u i k w. refuses h v e .definition u i k (λ over. omega (arith, over .1));
+      opened-18 = λ h v e u d w. refuses h v e .opened u d (omega arith);
     }
+
+pub just-over : JustOver
+just-over = just-over-by item-too-long item-too-heavy old-refuses-shared
 
 -- ---- up to it: the number, the bytes of the result and the steps that a caller reads
 pub record ReadsAlike (g g′ : Given) : Type 0 where

@@ -258,11 +258,14 @@ site-restored-whole lim ed (n ∷ ns) s b a l m none-6 room =
     subst (λ (q : List ℕ). RepeatsWhole (x ∷ y .answers) (k ∷ ms) q (inTurn f (k ∷ ms) q m)) (sym (first-whole lim ed n ns s (take-bytes n s b) l))
     (front lim ed n (take n s) l m one (placed-long lim ed n s b (omega arith) l) (y .answers) ms t others)
 
-pub swaps-again : (lim ed : ℕ) → SwapsAgain lim ed
-swaps-again lim ed ns s b a l m m′ none-6 room room′ =
-    let once = site-restored-whole lim ed ns s b a l m none-6 room in
-    let twice = site-restored-whole lim ed ns s b a l m′ none-6 room′ in
+swaps-by : (lim ed : ℕ) → SiteRestored lim ed → SwapsAgain lim ed
+swaps-by lim ed restores ns s b a l m m′ none-6 room room′ =
+    let once = restores ns s b a l m none-6 room in
+    let twice = restores ns s b a l m′ none-6 room′ in
     ap₂ (λ (ms t : List ℕ). inTurn (simplified lim ed) ms t m′ .answers) (once .same-lengths) (once .same-tables) ∙ twice .same-answers ∙ sym (once .same-answers)
+
+pub swaps-again : (lim ed : ℕ) → SwapsAgain lim ed
+swaps-again lim ed = swaps-by lim ed (site-restored-whole lim ed)
 
 -- ---- 8 of a second call, with no more items than the first
 pub record Fit (lim ed : ℕ) (tables ns : List ℕ) : Type 0 where
