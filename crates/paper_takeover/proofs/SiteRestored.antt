@@ -25,9 +25,9 @@ use Rattle.paper.proofs.JudgementLaws.{of-room}
 use Rattle.paper.proofs.CallLaws.{Call, is-turned-down, is-run, call, judgement-accepted, accepted-judgement}
 use Rattle.paper.proofs.Takeover.{takeover}
 use Rattle.paper_batch.specs.Batch.{usedUp, remaining, firstUses, handedOn, inFront, Site, inTurn, lengthsIn, total, unfit, turnsDown, siteNumber}
-use Rattle.paper_batch.proofs.Orderly.{uses-run}
+use Rattle.paper_batch.proofs.Orderly.{simplified-orderly, uses-run}
 use Rattle.paper_takeover.specs.TakenOver.{isDone, restored, restoredLengths}
-use Rattle.paper_takeover.specs.SiteRestored.{restoredWhole, wholeLengths, wholeWeight, againInPlace, NoSix, RepeatsWhole, SiteRestored, SwapsAgain, ResultsPass, WholePasses}
+use Rattle.paper_takeover.specs.SiteRestored.{restoredWhole, wholeLengths, wholeWeight, againInPlace, NoSix, RepeatsWhole, SiteRestored, AsLong, SwapsAgain, ResultsPass, WholePasses}
 use Rattle.paper_takeover.proofs.SiteTaken.{Left, left, done-number, rest-behind, result-in-front, first-restored, room-behind, restored-adds-up}
 
 module _ (lim ed : ℕ) where
@@ -236,6 +236,25 @@ module _ (lim ed : ℕ) where
       go true e = left lim ed (take n s) (take-bytes n s b) l (done-number _ e) .bytes
       go false e = tt
 
+  -- ---- what is restored uses up no more than the first site did, which was lent as much
+  counted-least : (s : List ℕ) → Bytes s → (l : Lent) → let x = simplified lim ed s l .answer in counted s x ≤ usedUp s x
+  unfolding counted
+  counted-least s b l = go (isDone (simplified lim ed s l .answer)) refl
+    where
+      go : (c : Bool) → let x = simplified lim ed s l .answer in isDone x ≡ c → cond c (x .weight-out) (usedUp s x) ≤ usedUp s x
+      go true e = let d = left lim ed s b l (done-number (simplified lim ed s l .answer) e) in omega (arith, d .lighter, d .used)
+      go false e = omega arith
+
+  least-room : (ns s : List ℕ) → Bytes s → (l : Lent) → let w = wholeWeight ns s (inTurn (simplified lim ed) ns s l .answers) in
+      (16 * w ≤ length (l .out)) × (w ≤ length (l .steps))
+  unfolding inTurn wholeWeight handedOn firstUses remaining counted
+  least-room [] s b l = (omega arith, omega arith)
+  least-room (n ∷ ns) s b l =
+      let o = simplified-orderly lim ed (take n s) (take-bytes n s b) l in
+      let c = counted-least (take n s) (take-bytes n s b) l in
+      let rest = simp length-drop at (least-room ns (drop n s) (drop-bytes n s b) (handedOn (simplified lim ed) n s l)) in
+      (omega (arith, c, rest .0, o .out-kept, o .out-fits), omega (arith, c, rest .1, o .steps-kept, o .steps-fit))
+
 -- a site restored whole
 pub site-restored-whole : (lim ed : ℕ) → SiteRestored lim ed
 unfolding inTurn restoredWhole wholeLengths wholeWeight againInPlace total counted leaves
@@ -257,6 +276,11 @@ site-restored-whole lim ed (n ∷ ns) s b a l m none-6 room =
     let others = site-restored-whole lim ed ns (drop n s) (drop-bytes n s b) (simp length-drop (omega arith)) on (leaves lim ed p m) (none-6 .1) rest-room in
     subst (λ (q : List ℕ). RepeatsWhole (x ∷ y .answers) (k ∷ ms) q (inTurn f (k ∷ ms) q m)) (sym (first-whole lim ed n ns s (take-bytes n s b) l))
     (front lim ed n (take n s) l m one (placed-long lim ed n s b (omega arith) l) (y .answers) ms t others)
+
+pub as-long : (lim ed : ℕ) → AsLong lim ed
+as-long lim ed ns s b l m o k w =
+    let r = least-room lim ed ns s b l in
+    record { out-room = omega (arith, r .0); steps-room = omega (arith, r .1); work-room = w }
 
 swaps-by : (lim ed : ℕ) → SiteRestored lim ed → SwapsAgain lim ed
 swaps-by lim ed restores ns s b a l m m′ none-6 room room′ =

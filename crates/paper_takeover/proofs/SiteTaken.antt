@@ -38,6 +38,7 @@ module _ (lim ed : ℕ) where
     pub long : length (result (simplified lim ed s l)) ≡ 16 * simplified lim ed s l .answer .records-written
     pub weighs : tableWeight (result (simplified lim ed s l)) ≡ simplified lim ed s l .answer .weight-out
     pub bytes : Bytes (result (simplified lim ed s l))
+    pub lighter : simplified lim ed s l .answer .weight-out ≤ tableWeight s
 
   pub left : (s : List ℕ) → Bytes s → (l : Lent) → simplified lim ed s l .answer .number ≡ 0 → Left s l
   unfolding ranAnswer
@@ -54,6 +55,7 @@ module _ (lim ed : ℕ) where
         long = ap length (d .written-bytes) ∙ omega (arith, recs, k);
         weighs = ap tableWeight (d .written-bytes) ∙ encode-weight u ∙ sym out;
         bytes = subst Bytes (sym (d .written-bytes)) (encode-bytes u);
+        lighter = omega (arith, out, d .holds .weighs, d .finished .lightens);
       }
 
   -- ---- the item in front of a site: its result, if it is done, begins `out`, and past what it used up stands what the others leave

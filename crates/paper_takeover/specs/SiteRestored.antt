@@ -4,6 +4,7 @@ use mathlib.Core.Path.{_≡_}
 use mathlib.Core.Bool.{cond}
 use mathlib.Core.List.{List, [], _∷_, _++_}
 use lib.ListN.{length, take, drop}
+use Rattle.paper.specs.Limits.{workBytes}
 use Rattle.paper.specs.Bytes.{Bytes}
 use Rattle.paper.specs.Answers.{Lent, Answer, simplified}
 use Rattle.paper.specs.Takeover.{Room, again}
@@ -52,6 +53,12 @@ SiteRestored lim ed =
     → let ms = wholeLengths ns (x .answers) in
     let t = restoredWhole ns s (x .answers) (x .lent .out) in
     RepeatsWhole (x .answers) ms t (inTurn (simplified lim ed) ms t m)
+
+-- areas as long as those of the first call have that room, given the `work` that the limit asks for
+abbrev pub AsLong : ℕ → ℕ → Type 0
+AsLong lim ed =
+    (ns s : List ℕ) → Bytes s → (l m : Lent) → length (l .out) ≤ length (m .out) → length (l .steps) ≤ length (m .steps) → workBytes lim ≤ length (m .work)
+    → Room lim (wholeWeight ns s (inTurn (simplified lim ed) ns s l .answers)) m
 
 -- and however often the pair swaps: what is restored of the second site, the third is handed, and answers as the second did
 abbrev pub SwapsAgain : ℕ → ℕ → Type 0
