@@ -1,20 +1,23 @@
--- The sites restored whole in figures: one statement, by computation; and the theorem is about them: its hypotheses hold of the first. Assumes nothing.
-use Prim.Native.Nat.{ℕ}
+-- The sites restored whole in figures, by computation; and the theorem is about the first of them: its hypotheses hold of it. Assumes nothing.
 use mathlib.Core.Path.{_≡_, refl}
-use mathlib.Core.List.{[], _∷_, map}
-use native.Mathlib.Omega.{arith}
+use mathlib.Core.Bool.{Bool, true, _&&_, not}
+use mathlib.Core.List.{List, [], _∷_, map}
+use borrow.Author.Tests.{eqb-false, not-true}
+use lib.Dec.{eqb}
 use lib.ListN.{length}
+use Rattle.paper.specs.Answers.{Answer}
 use Rattle.paper.specs.Takeover.{again}
+use Rattle.paper.proofs.Tests.{and-both}
 use Rattle.paper_batch.specs.Batch.{total}
 use Rattle.paper_batch.proofs.Computed.{batch-computes}
-use Rattle.paper_takeover.specs.TakenOver.{isDone, restored, restoredLengths}
+use Rattle.paper_takeover.specs.TakenOver.{isDone}
 use Rattle.paper_takeover.specs.SiteRestored.{restoredWhole, wholeLengths, wholeWeight, againInPlace, NoSix}
-use Rattle.paper_takeover.specs.SiteExamples.{mixedLengths, mixedTables, mixed, mixedAgain, wantedAgain, mixedLengthsAgain, mixedWeight, second, secondNumbers}
+use Rattle.paper_takeover.specs.SiteExamples.{mixedLengths, mixedTables, mixed, mixedAgain, wantedAgain, wantedLengths, mixedLengthsAgain, mixedWeight, second, secondNumbers}
 use Rattle.paper_takeover.specs.SiteExamples.{inPlaceNumbers, wantedSecond, returnsWhole, returnsResults, crowded, crowdedNumbers, crowdedWeight, crowdedAgain}
 
 pub record Restored-whole : Type 0 where
   pub tables : mixedAgain ≡ wantedAgain
-  pub lengths : mixedLengthsAgain ≡ 48 ∷ 16 ∷ 48 ∷ 16 ∷ 48 ∷ []
+  pub lengths : mixedLengthsAgain ≡ wantedLengths
   pub weight : mixedWeight ≡ 11
   pub answers : secondNumbers ≡ wantedSecond
   pub in-place : inPlaceNumbers ≡ wantedSecond
@@ -25,23 +28,22 @@ pub record Restored-whole : Type 0 where
   pub adds-up : total mixedLengths ≡ length mixedTables
   pub no-six : NoSix (mixed .answers)
 
--- the numbers of its answers are not 6
-seven : ¬ (_≡_ {A = ℕ} 7 6)
-seven e = omega arith
+-- that no answer has 6, as a test
+noneSix : List Answer → Bool
+noneSix [] = true
+noneSix (x ∷ xs) = not (eqb (x .number) 6) && noneSix xs
 
-zero-number : ¬ (_≡_ {A = ℕ} 0 6)
-zero-number e = omega arith
-
-five : ¬ (_≡_ {A = ℕ} 5 6)
-five e = omega arith
-
-two : ¬ (_≡_ {A = ℕ} 2 6)
-two e = omega arith
+none-six : (xs : List Answer) → noneSix xs ≡ true → NoSix xs
+unfolding noneSix
+none-six [] e = tt
+none-six (x ∷ xs) e =
+    let h = and-both (not (eqb (x .number) 6)) (noneSix xs) e in
+    (eqb-false (x .number) 6 (not-true (eqb (x .number) 6) (h .0)), none-six xs (h .1))
 
 pub restored-computed : Restored-whole
 unfolding
-    batch-computes isDone restored restoredLengths again restoredWhole wholeLengths wholeWeight againInPlace mixedLengths mixedTables mixed mixedAgain
-    wantedAgain mixedLengthsAgain mixedWeight second secondNumbers inPlaceNumbers wantedSecond returnsWhole returnsResults
+    batch-computes noneSix isDone again restoredWhole wholeLengths wholeWeight againInPlace mixedLengths mixedTables mixed mixedAgain
+    wantedAgain wantedLengths mixedLengthsAgain mixedWeight second secondNumbers inPlaceNumbers wantedSecond returnsWhole returnsResults
 restored-computed =
     record {
       tables = refl;
@@ -52,7 +54,7 @@ restored-computed =
       whole-returns = refl;
       results-return = refl;
       adds-up = refl;
-      no-six = (seven, (zero-number, (five, (two, (zero-number, tt)))));
+      no-six = none-six (mixed .answers) refl;
     }
 
 -- an item that had 6 finds room the second time, though there is room for all that is restored: that no item had 6 is needed

@@ -8,7 +8,6 @@ use Rattle.paper.specs.Table.{encode}
 use Rattle.paper.specs.Answers.{Lent, simplified}
 use Rattle.paper.specs.Calls.{eights}
 use Rattle.paper_batch.specs.Batch.{Site, inTurn, allNumbers, siteNumber}
-use Rattle.paper_takeover.specs.TakenOver.{restored, restoredLengths}
 use Rattle.paper_takeover.specs.SiteRestored.{restoredWhole, wholeLengths, wholeWeight, againInPlace}
 
 abbrev a : Tree
@@ -54,6 +53,9 @@ mixedAgain = restoredWhole mixedLengths mixedTables (mixed .answers) (mixed .len
 unfoldable pub wantedAgain : List ℕ
 wantedAgain = too-large ++ (encode a ++ (a^0 ++ (kind9 ++ 2*a)))
 
+unfoldable pub wantedLengths : List ℕ
+wantedLengths = 48 ∷ 16 ∷ 48 ∷ 16 ∷ 48 ∷ []
+
 unfoldable pub mixedLengthsAgain : List ℕ
 mixedLengthsAgain = wholeLengths mixedLengths (mixed .answers)
 
@@ -62,7 +64,7 @@ mixedWeight = wholeWeight mixedLengths mixedTables (mixed .answers)
 
 -- the second site, in just that room: its numbers, and those of `againInPlace`
 unfoldable pub second : Site
-second = inTurn (simplified 3072 1) mixedLengthsAgain mixedAgain (lends 176 11)
+second = inTurn (simplified 3072 1) wantedLengths wantedAgain (lends 176 11)
 
 unfoldable pub secondNumbers : List ℕ
 secondNumbers = allNumbers (second .answers)
@@ -77,10 +79,10 @@ wantedSecond =
 
 -- what the second call returns, with n bytes for the answers, of the whole site; and of the results alone
 unfoldable pub returnsWhole : ℕ → ℕ
-returnsWhole n = siteNumber 3072 1 mixedAgain (eights mixedLengthsAgain) (replicate n 165)
+returnsWhole n = siteNumber 3072 1 wantedAgain (eights wantedLengths) (replicate n 165)
 
 unfoldable pub returnsResults : ℕ → ℕ
-returnsResults n = siteNumber 3072 1 (restored mixedLengths mixedTables (mixed .answers) (mixed .lent .out)) (eights (restoredLengths (mixed .answers))) (replicate n 165)
+returnsResults n = siteNumber 3072 1 (encode a ++ 2*a) (eights (16 ∷ 48 ∷ [])) (replicate n 165)
 
 -- ---- where an item had 6: a + a twice, in room for 12; the first result uses up 5, so that the second item finds room for its 7
 unfoldable pub crowded : Site
