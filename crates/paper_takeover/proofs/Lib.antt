@@ -9,3 +9,7 @@ pub mod SiteTaken
 pub mod SharedTaken
 pub mod Computed
 pub mod OverComputed
+pub mod SiteRestored
+pub mod OtherLimit
+pub mod SiteComputed
+pub mod LimitEdges
