@@ -1,6 +1,6 @@
 -- What the statements about the two limits come to: at the very edge, a unit of weight or a byte over the old limit; and up to it, for what a machine
 -- reads of a call. Each is the statement put to use. Assumes nothing.
-use Prim.Native.Nat.{ℕ, _*_, _%_, _≤_, _<_}
+use Prim.Native.Nat.{ℕ, _*_, _<_}
 use mathlib.Core.Path.{_≡_, ap, ap₂}
 use mathlib.Core.Bool.{true}
 use mathlib.Core.List.{List}
@@ -13,13 +13,13 @@ use Rattle.paper.specs.Refusals.{Flawed}
 use Rattle.paper.specs.Rules.{isEdition}
 use Rattle.paper.specs.Answers.{Lent, Answer, Given, refusal, simplified}
 use Rattle.paper.specs.Demands.{result}
-use Rattle.paper.specs.OldMachine.{old, higher, UpToOld}
+use Rattle.paper.specs.OldMachine.{UpToOld}
 use Rattle.paper_batch.specs.Batch.{inTurn, lengthsIn, SiteCall, siteCalled}
 use Rattle.paper_batch.specs.Sentences.{item}
-use Rattle.paper_shared.specs.Answers.{Handed, tableAt, opens, judgedSite, SharedGiven, sharedGiven}
+use Rattle.paper_shared.specs.Answers.{Handed, tableAt, opens, judgedSite, sharedGiven}
 use Rattle.paper_takeover.specs.TakenOver.{answersIn}
 use Rattle.paper_takeover.specs.SiteRestored.{restoredWhole}
-use Rattle.paper_takeover.specs.OtherLimit.{SameAreas, SameGiven, SameSite, ItemsUpToOld, ItemTooLong, ItemTooHeavy, DefinitionsUpToOld, SharedUpToOld, SameShared, BothRefuse, OldRefusesShared}
+use Rattle.paper_takeover.specs.OtherLimit.{SameAreas, SameGiven, SameSite, ItemsUpToOld, ItemTooLong, ItemTooHeavy, DefinitionsUpToOld, SharedUpToOld, BothRefuse, OldRefusesShared}
 use Rattle.paper_takeover.proofs.OtherLimit.{same-calls, same-sites, item-too-long, item-too-heavy, shares-alike, old-refuses-shared}
 
 -- ---- over the old limit

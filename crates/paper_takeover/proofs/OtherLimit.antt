@@ -8,17 +8,17 @@ use mathlib.Core.List.{List, [], _∷_, _++_}
 use mathlib.Core.Option.{Option, none, some}
 use native.Mathlib.Omega.{arith}
 use borrow.Author.Tests.{le-ltb, lt-ltb, eqb-true, eqb-false}
-use lib.Dec.{eqb, ltb}
+use lib.Dec.{eqb}
 use lib.ListN.{length, take, drop}
 use Rattle.paper.specs.Limits.{isLimit, workBytes}
 use Rattle.paper.specs.Bytes.{Bytes}
 use Rattle.paper.specs.Tree.{Tree, weight}
-use Rattle.paper.specs.Record.{sound, flaw, isFlawed, weightFrom}
+use Rattle.paper.specs.Record.{weightFrom}
 use Rattle.paper.specs.Table.{encode}
-use Rattle.paper.specs.Verdict.{Verdict, accepted, refused, isAccepted, recordsIn, badLength, tableWeight, judgeRecords, judgedTable, verdict}
+use Rattle.paper.specs.Verdict.{Verdict, accepted, refused, isAccepted, recordsIn, tableWeight, judgeRecords, judgedTable, verdict}
 use Rattle.paper.specs.Rules.{isEdition, rulesOf}
 use Rattle.paper.specs.Driver.{simplify}
-use Rattle.paper.specs.Answers.{Lent, Answer, Given, cramped, judgedCall, judgement, turned-down, refusedBy, refusal, outcomeOf, answerOf, outAfter, stepsAfter, lentAfter}
+use Rattle.paper.specs.Answers.{Lent, Answer, cramped, judgedCall, judgement, refusal, outcomeOf, answerOf, outAfter, stepsAfter, lentAfter}
 use Rattle.paper.specs.Answers.{simplifiedBy, simplified}
 use Rattle.paper.specs.OldMachine.{old, higher, UpToOld}
 use Rattle.paper.proofs.Tests.{not-so, or-right}
@@ -29,14 +29,14 @@ use Rattle.paper.proofs.FirstLaws.{no-flaw}
 use Rattle.paper.proofs.VerdictLaws.{accepted-passes, good-length}
 use Rattle.paper.proofs.CallLaws.{verdict-accepted}
 use Rattle.paper.proofs.OldMachine.{limits-agree, old-too-long, old-too-heavy}
-use Rattle.paper_batch.specs.Batch.{usedUp, remaining, inFront, firstUses, handedOn, Site, inTurn, lengthsIn, allNumbers, turnsDown, siteNumber, untouched, carriedOut, SiteCall, siteCalled}
+use Rattle.paper_batch.specs.Batch.{usedUp, remaining, inFront, firstUses, handedOn, Site, inTurn, lengthsIn, siteNumber, untouched, carriedOut, SiteCall, siteCalled}
 use Rattle.paper_batch.specs.Sentences.{item, handed}
 use Rattle.paper_batch.proofs.Orderly.{simplified-orderly}
 use Rattle.paper_batch.proofs.SeparateLaws.{each-answer}
-use Rattle.paper_shared.specs.Answers.{Handed, tableAt, misses, anyRefused, crowded, openedOf, Opening, turned-away, opens, openingOf, judgedSite, opening, openingBy, noRoom}
-use Rattle.paper_shared.specs.Answers.{holding, unopened, openOf, openGiven, SharedGiven, unshared, sharedOf, sharedGiven}
-use Rattle.paper_shared.proofs.Refusals.{Past16, Judged, by-8, by-formula, by-15, by-16, by-17, by-18, through, judged}
-use Rattle.paper_takeover.specs.OtherLimit.{SameAreas, SameGiven, SameCalls, ItemsUpToOld, SameSite, SameSites, ItemTooLong, ItemTooHeavy, DefinitionsUpToOld}
+use Rattle.paper_shared.specs.Answers.{Handed, tableAt, anyRefused, openedOf, Opening, turned-away, opens, openingOf, judgedSite, opening, openingBy, noRoom}
+use Rattle.paper_shared.specs.Answers.{holding, openOf, openGiven, unshared, sharedOf, sharedGiven}
+use Rattle.paper_shared.proofs.Refusals.{Past16, Judged, through, judged}
+use Rattle.paper_takeover.specs.OtherLimit.{SameAreas, SameCalls, ItemsUpToOld, SameSite, SameSites, ItemTooLong, ItemTooHeavy}
 use Rattle.paper_takeover.specs.OtherLimit.{SharedUpToOld, SameShared, SameOpenings, SharesAlike, BothRefuse, OldRefuses, OldRefusesShared}
 
 -- ---- a table: the same judgement, and then the same outcome

@@ -3,16 +3,15 @@
 -- theirs: by induction on the items. The lengths of what is restored add up to its bytes, so 8 does not refuse it. Assumes nothing.
 use Prim.Native.Nat.{ℕ, suc, _+_, _*_, _/_, _%_, _≤_}
 use mathlib.Core.Path.{_≡_, refl, sym, ap, ap₂, _∙_, subst}
-use mathlib.Core.Bool.{Bool, true, false, cond, _||_, not}
+use mathlib.Core.Bool.{Bool, true, false, cond, not}
 use mathlib.Core.List.{List, [], _∷_, _++_}
 use native.Mathlib.Omega.{arith}
-use borrow.Author.Tests.{eq-eqb, eqb-true, le-ltb, ltb-false, not-true}
+use borrow.Author.Tests.{eq-eqb, eqb-true, le-ltb, ltb-false}
 use lib.Dec.{eqb, ltb}
 use lib.ListN.{length, take, drop, length-append, length-drop}
 use lib.Seq.{length-take-le, take-at, drop-at}
 use Rattle.paper.specs.Limits.{isLimit}
 use Rattle.paper.specs.Bytes.{Bytes}
-use Rattle.paper.specs.Tree.{weight}
 use Rattle.paper.specs.Verdict.{Verdict, accepted, refused, isAccepted, tableWeight, verdict}
 use Rattle.paper.specs.Rules.{isEdition, rulesOf}
 use Rattle.paper.specs.Driver.{simplify}
@@ -24,11 +23,11 @@ use Rattle.paper.proofs.BytesLaws.{append-bytes, take-bytes, drop-bytes}
 use Rattle.paper.proofs.JudgementLaws.{of-room}
 use Rattle.paper.proofs.CallLaws.{Call, is-turned-down, is-run, call, judgement-accepted, accepted-judgement}
 use Rattle.paper.proofs.Takeover.{takeover}
-use Rattle.paper_batch.specs.Batch.{usedUp, remaining, firstUses, handedOn, inFront, Site, inTurn, lengthsIn, total, unfit, turnsDown, siteNumber}
+use Rattle.paper_batch.specs.Batch.{usedUp, remaining, firstUses, handedOn, inTurn, lengthsIn, total, unfit, turnsDown, siteNumber}
 use Rattle.paper_batch.proofs.Orderly.{simplified-orderly, uses-run}
-use Rattle.paper_takeover.specs.TakenOver.{isDone, restored, restoredLengths}
-use Rattle.paper_takeover.specs.SiteRestored.{restoredWhole, wholeLengths, wholeWeight, againInPlace, NoSix, RepeatsWhole, SiteRestored, AsLong, SwapsAgain, ResultsPass, WholePasses}
-use Rattle.paper_takeover.proofs.SiteTaken.{Left, left, done-number, rest-behind, result-in-front, first-restored, room-behind, restored-adds-up}
+use Rattle.paper_takeover.specs.TakenOver.{isDone, restored}
+use Rattle.paper_takeover.specs.SiteRestored.{restoredWhole, wholeLengths, wholeWeight, againInPlace, RepeatsWhole, SiteRestored, AsLong, SwapsAgain, ResultsPass, WholePasses}
+use Rattle.paper_takeover.proofs.SiteTaken.{left, done-number, rest-behind, result-in-front, first-restored, room-behind, restored-adds-up}
 
 module _ (lim ed : ℕ) where
   -- ---- an item that is handed in again as it was: refused, but not with 6, or with room for what it used up, it is answered as it was

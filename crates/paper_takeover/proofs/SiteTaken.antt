@@ -11,7 +11,6 @@ use lib.ListN.{length, take, drop, length-drop, length-append}
 use lib.Seq.{length-take-le, take-append-le, take-take, take-at, drop-at}
 use Rattle.paper.specs.Bytes.{Bytes}
 use Rattle.paper.specs.Tree.{weight, records}
-use Rattle.paper.specs.Table.{encode}
 use Rattle.paper.specs.Verdict.{tableWeight}
 use Rattle.paper.specs.Driver.{done}
 use Rattle.paper.specs.Answers.{Lent, Answer, Given, ranAnswer, simplified}
@@ -22,7 +21,7 @@ use Rattle.paper.proofs.EncodeLaws.{encode-length, encode-bytes}
 use Rattle.paper.proofs.TableLaws.{encode-weight}
 use Rattle.paper.proofs.DemandLaws.{call-done}
 use Rattle.paper.proofs.Takeover.{takeover}
-use Rattle.paper_batch.specs.Batch.{hasRun, usedUp, remaining, inFront, firstUses, handedOn, Site, inTurn, total}
+use Rattle.paper_batch.specs.Batch.{usedUp, remaining, inFront, firstUses, handedOn, Site, inTurn, total}
 use Rattle.paper_batch.proofs.Orderly.{simplified-orderly, uses-run}
 use Rattle.paper_takeover.specs.TakenOver.{isDone, restored, restoredLengths, restoredWeight, againEach, SiteRepeats, SiteTakesOver}
 
