@@ -267,8 +267,10 @@ uint32_t simmergate_differ(size_t limit, const uint8_t *a, size_t a_bytes, const
    to `steps`, with zeros up to 16 x W and W bytes; after 7 these two stretches are zeros throughout; in both cases
    the first SIMMERGATE_WORK_BYTES(L) bytes of `work` are zero. Bytes past the stretches never change. The answer:
    refusal number, place, records written, steps, openings, weight of the table, weight of the result, WHAT, BYTE,
-   tries. A try is one asking, at one node, whether any step applies; there are at most as many as the cube of the
-   table's weight. */
+   tries. A try is one asking, at one node, whether any step applies. There are at most as many as the cube of the
+   table's weight, and even as its square; no accepted table takes more than 7,080,959 tries at L = 3,072, or
+   201,342,975 at 16,384, and a result takes one for each record. Tries are counted as the rules are written, whether
+   the code has to ask or not: they are a budget, no measure of time. */
 uint32_t simmergate_simplify(size_t limit, size_t edition, const uint8_t *table, size_t table_bytes, uint8_t *out,
                              size_t out_bytes, uint8_t *steps, size_t steps_bytes, uint8_t *work, size_t work_bytes,
                              uint8_t *answer, size_t answer_bytes);

@@ -15,8 +15,8 @@ use Rattle.paper.specs.Record.{kind, countIn, arity, isNode}
 use Rattle.paper.specs.Rules.{rulesOf}
 use Rattle.paper.specs.Verdict.{tableWeight}
 use Rattle.paper.specs.Driver.{over, each, members}
+use Rattle.paper.specs.Cost.{cost}
 use Rattle.paper.proofs.EncodeLaws.{recordses-weights, records-pos, records-weight}
-use Rattle.paper.proofs.Squares.{cost}
 use Rattle.stretch.specs.Put.{part, put}
 use Rattle.driver.specs.declared.Stand.{Stand}
 use Rattle.driver.specs.declared.Taken.{Taken}

@@ -9,12 +9,13 @@ use lib.ListN.{length}
 use Rattle.paper.specs.Tree.{Tree, weight}
 use Rattle.paper.specs.WellFormed.{WF}
 use Rattle.paper.specs.Driver.{Ran, done, over, Rans, dones, overs, andThen, each, members, gather, simplify}
+use Rattle.paper.specs.Cost.{cost}
 use Rattle.paper.proofs.Value.{total, weight-pos}
 use Rattle.paper.proofs.EditionTwo.{edition-good}
 use Rattle.paper.proofs.GatherLaws.{members-wf}
 use Rattle.paper.proofs.DriverLaws.{RunsKept, each-kept, gathered-tree}
 use Rattle.paper.proofs.Fuel.{members-lighter}
-use Rattle.paper.proofs.Squares.{cost, pass-cost}
+use Rattle.paper.proofs.Squares.{pass-cost}
 use Rattle.paper.proofs.TryLaws.{RunTries, RunsTries, run-tries, each-tries, gather-weight}
 use Rattle.driver.specs.Driven.{inside, openedRuns, passed}
 use Rattle.driver.proofs.Runs.{drives, drives-kept}

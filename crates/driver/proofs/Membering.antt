@@ -10,9 +10,9 @@ use Rattle.paper.specs.Tree.{Tree, ofList, records, weight}
 use Rattle.paper.specs.WellFormed.{WF, WFl}
 use Rattle.paper.specs.Verdict.{tableWeight}
 use Rattle.paper.specs.Driver.{overs, each}
+use Rattle.paper.specs.Cost.{cost}
 use Rattle.paper.proofs.EncodeLaws.{recordses-weights}
 use Rattle.note.proofs.NotedLaws.{encodesBy-length}
-use Rattle.paper.proofs.Squares.{cost}
 use Rattle.note.specs.Note.{note}
 use Rattle.note.specs.Noted.{encodeBy}
 use Rattle.driver.specs.Driven.{withNotes, encodeAll, weightAll, inside, openedRuns, Set, SetAll, Gave}

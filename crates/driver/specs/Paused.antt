@@ -9,7 +9,7 @@ use Rattle.paper.specs.Tree.{Tree, weight}
 use Rattle.paper.specs.WellFormed.{WF, WFl}
 use Rattle.paper.specs.Rules.{rulesOf}
 use Rattle.paper.specs.Driver.{ask, no-rule, Ran, over, Rans, dones, overs, after, each, members, simplify}
-use Rattle.paper.proofs.Squares.{cost}
+use Rattle.paper.specs.Cost.{cost}
 use Rattle.stretch.specs.Put.{part, put}
 use Rattle.driver.specs.declared.Stand.{Stand}
 use Rattle.driver.specs.declared.Turn.{Turn}

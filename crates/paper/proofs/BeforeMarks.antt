@@ -14,7 +14,7 @@ use Rattle.paper.specs.Limits.{isLimit}
 use Rattle.paper.specs.Bytes.{le, le2}
 use Rattle.paper.specs.Record.{kind, countIn, markIn, mayTable, mayTableBefore, mayBe, stray, isNode, Flaw, sound, bad-kind, bad-byte, bad-count, flaw, isFlawed}
 use Rattle.paper.specs.Verdict.{Verdict, refused, flawed, recordsIn, badLength, firstFlawed, judgeRecords, judgedTable, verdict}
-use Rattle.paper.specs.BeforeMarks.{mayBeBefore, strayBefore, flawBefore, firstFlawedBefore, judgedBefore, verdictBefore, RefusedBefore}
+use Rattle.paper.specs.BeforeMarks.{mayBeBefore, strayBefore, flawBefore, firstFlawedBefore, judgedBefore, verdictBefore, MarkedOrFlawed, NoneBefore, RefusedBefore}
 use Rattle.paper.proofs.Tests.{or-left, or-right, or-either, true-not-false, not-so}
 use Rattle.paper.proofs.FirstLaws.{All, first, first-true, first-before, first-is}
 use Rattle.paper.proofs.MayLaws.{below}
@@ -206,6 +206,19 @@ before-refuses lim known s fine i l m =
         go : (b : Bool) → eqb (markIn s j) 0 ≡ b → (not b || isFlawed (flaw s j)) ≡ false → (markIn s j ≡ 0) × (isFlawed (flaw s j) ≡ false)
         go true e t = (eqb-true (markIn s j) 0 e, t)
         go false e t = absurd (true-not-false refl t)
+
+-- there is one such record at the most
+pub before-once : (s : List ℕ) (p q : ℕ) → MarkedOrFlawed s p → NoneBefore s p → MarkedOrFlawed s q → NoneBefore s q → p ≡ q
+before-once s p q at-p none-p at-q none-q = go (ltb p q) refl (ltb q p) refl
+  where
+    not-both : (i : ℕ) → MarkedOrFlawed s i → (markIn s i ≡ 0) × (isFlawed (flaw s i) ≡ false) → ⊥
+    not-both i (inl m) x = m (x .0)
+    not-both i (inr f) x = true-not-false f (x .1)
+
+    go : (a : Bool) → ltb p q ≡ a → (b : Bool) → ltb q p ≡ b → p ≡ q
+    go true e b f = absurd (not-both p at-p (none-q p (ltb-true p q e)))
+    go false e true f = absurd (not-both q at-q (none-p q (ltb-true q p f)))
+    go false e false f = omega (arith, ltb-false p q e, ltb-false q p f)
 
 -- and a table without any mark is judged alike
 first-alike : (s : List ℕ) (i n : ℕ) → ((j : ℕ) → j < i + n → markIn s j ≡ 0) → firstFlawedBefore s i n ≡ firstFlawed s i n

@@ -88,7 +88,7 @@ module _ (rs : List Rule) where
   Ended (done u s o n) = AdmitsNone rs u
   Ended (over k) = Unit {0}
 
-  abbrev Endeds : Rans → Type 0
+  abbrev pub Endeds : Rans → Type 0
   Endeds (dones l s o n) = AllAdmitNone rs l
   Endeds (overs k) = Unit {0}
 
@@ -103,7 +103,7 @@ module _ (rs : List Rule) where
   andThen-ended (done u s o n) (overs k) a b = tt
   andThen-ended (done u s o n) (dones m s′ o′ n′) a b = and-more a b
 
-  each-ended : (f : Tree → Ran) (b : ℕ) → ((t : Tree) → WF t → weight t < b → Ended (f t))
+  pub each-ended : (f : Tree → Ran) (b : ℕ) → ((t : Tree) → WF t → weight t < b → Ended (f t))
       → (l : List Tree) → WFl l → total weight l < b → Endeds (each f l)
   unfolding each total
   each-ended f b h [] v w = no-more
@@ -193,7 +193,7 @@ mutual
       ∙ ap tried (finished-visit (λ u. run rs n u) t (total records (members t)) w o (each-finished ms (members-wf t w) n (omega (arith, members-lighter t))))
       ∙ ap (done t [] 0) (omega (arith, node-records t))
 
-  each-finished : {rs : List Rule} {l : List Tree} → AllAdmitNone rs l → WFl l → (n : ℕ) → total weight l ≤ n
+  pub each-finished : {rs : List Rule} {l : List Tree} → AllAdmitNone rs l → WFl l → (n : ℕ) → total weight l ≤ n
       → each (λ u. run rs n u) l ≡ dones l [] 0 (total records l)
   each-finished no-more w n h = refl
   each-finished {rs} (and-more {t = t} {l = l} x hs) w n h =

@@ -82,7 +82,7 @@ none-some e = absurd (let z : _≡_ {A = ℕ} 0 1 = cc in omega arith)
 
 -- ---- the two kinds
 -- what holds of the members of a sum holds wherever asSum gives members; the same of a product
-as-sum : (Q : Tree → List Tree → Type 0) → ((μ : ℕ) (f : Forest) → Q (sum μ f) (toList f)) → (t : Tree) (l : List Tree) → asSum t ≡ some l → Q t l
+pub as-sum : (Q : Tree → List Tree → Type 0) → ((μ : ℕ) (f : Forest) → Q (sum μ f) (toList f)) → (t : Tree) (l : List Tree) → asSum t ≡ some l → Q t l
 unfolding asSum
 as-sum Q h (integer μ z) l e = none-some e
 as-sum Q h (symbol μ s) l e = none-some e
@@ -90,7 +90,7 @@ as-sum Q h (sum μ f) l e = subst (Q (sum μ f)) (some-inj e) (h μ f)
 as-sum Q h (product μ f) l e = none-some e
 as-sum Q h (power μ b ξ x) l e = none-some e
 
-as-product : (Q : Tree → List Tree → Type 0) → ((μ : ℕ) (f : Forest) → Q (product μ f) (toList f)) → (t : Tree) (l : List Tree) → asProduct t ≡ some l → Q t l
+pub as-product : (Q : Tree → List Tree → Type 0) → ((μ : ℕ) (f : Forest) → Q (product μ f) (toList f)) → (t : Tree) (l : List Tree) → asProduct t ≡ some l → Q t l
 unfolding asProduct
 as-product Q h (integer μ z) l e = none-some e
 as-product Q h (symbol μ s) l e = none-some e

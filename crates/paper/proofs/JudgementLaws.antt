@@ -9,7 +9,7 @@ use mathlib.Core.Logic.{_⊎_, inl, inr, _↔_}
 use native.Mathlib.Omega.{arith}
 use lib.ListN.{length}
 use lib.Dec.{eqb, ltb, lit<, lit≤}
-use borrow.Author.Tests.{ne-eqb, eqb-false, lt-ltb, ltb-true}
+use borrow.Author.Tests.{ne-eqb, eqb-false, lt-ltb, ltb-true, ltb-false}
 use Rattle.paper.specs.Limits.{isLimit, workBytes}
 use Rattle.paper.specs.Bytes.{Bytes}
 use Rattle.paper.specs.Record.{Flaw}
@@ -62,6 +62,18 @@ module _ (lim w : ℕ) (l : Lent) where
       no (out-under h) = omega (arith, r .out-room)
       no (steps-under h) = omega (arith, r .steps-room)
       no (work-under h) = omega (arith, r .work-room)
+
+  -- and no others have room
+  pub room-of : cramped lim w l ≡ false → Room lim w l
+  unfolding cramped out steps work
+  room-of e =
+      let x = or-neither (out || steps) work e in
+      let y = or-neither out steps (x .0) in
+      record {
+        out-room = ltb-false (length (l .out)) (16 * w) (y .0);
+        steps-room = ltb-false (length (l .steps)) w (y .1);
+        work-room = ltb-false (length (l .work)) (workBytes lim) (x .1);
+      }
 
 -- the numbers of the table's refusals are 1 to 5, and 19
 applies-within : {lim : ℕ} {s : List ℕ} {k p : ℕ} → Applies lim s k p → (1 ≤ k) × ((k ≤ 5) ⊎ (k ≡ 19))

@@ -20,6 +20,7 @@ pub mod LikeFactors
 pub mod LikeFactorsWF
 pub mod LikeFactorsWeight
 pub mod LikeFactorsGood
+pub mod MarkSentences
 pub mod EditionOne
 pub mod PowerRules
 pub mod EditionTwo
@@ -31,6 +32,7 @@ pub mod Fuel
 pub mod FinishedLaws
 pub mod BytesLaws
 pub mod EncodeLaws
+pub mod HeightLaws
 pub mod ReadLaws
 pub mod Stands
 pub mod SkipLaws
@@ -75,3 +77,10 @@ pub mod Told
 pub mod AlikeLaws
 pub mod Squares
 pub mod TryLaws
+pub mod ShallowLaws
+pub mod ShallowRules
+pub mod QuietLaws
+pub mod HalfSquares
+pub mod SquareLaws
+pub mod Squared
+pub mod Steep

@@ -147,7 +147,7 @@ module _ (s : List ℕ) (i : ℕ) where
           let p = and-both (isNode (kind s i)) (ltb (countIn s i) 2) e in
           count-under (node-words (p .0)) (ltb-true (countIn s i) 2 (p .1))
 
-  words-flaw : Flawed s i → isFlawed (flaw s i) ≡ true
+  pub words-flaw : Flawed s i → isFlawed (flaw s i) ≡ true
   unfolding over under
   words-flaw (kind-over l) = three-tests ∙ or-left (over || ltb at-byte 16) under (or-left over (ltb at-byte 16) (lt-ltb 4 (kind s i) l))
   words-flaw (byte-other j l x m) =
@@ -422,10 +422,33 @@ module _ (t : ℕ → Bool) (at : ℕ → ℕ) (of : ℕ → Flaw) where
   holds-none zero i a = refl
   holds-none (suc f) i a = rw (a i (omega arith) (omega arith)) (holds-none f (i + 1) (λ j u v. a j (omega arith) (omega arith)))
 
+  -- whatever the tests, the number tells the rest
+  pub ladder-told : at 0 ≡ 0 → of 0 ≡ sound → (f i : ℕ) → let n = ladder f i .number in ladder f i ≡ told n (at n) (of n)
+  unfolding ladder
+  ladder-told a o zero i = rw (a, o) refl
+  ladder-told a o (suc f) i = go (t i) (ladder-told a o f (i + 1))
+    where
+      go : (b : Bool) → (let n = ladder f (i + 1) .number in ladder f (i + 1) ≡ told n (at n) (of n))
+          → let v = cond b (told i (at i) (of i)) (ladder f (i + 1)) in v ≡ told (v .number) (at (v .number)) (of (v .number))
+      go true h = refl
+      go false h = h
+
 -- the checker is these five tests in order
 table-ladder : (lim : ℕ) (s : List ℕ) → judgedTable lim s ≡ ladder (test lim s) (place s) (what s) 5 1
 unfolding judgedTable judgeRecords tableWeight ladder test place what
 table-ladder lim s = refl
+
+-- so the number tells the rest, whatever the limit; 6, too, has nothing more to say
+pub numbered : List ℕ → ℕ → Verdict
+numbered s k = told k (place s k) (what s k)
+
+pub numbered-plain : (s : List ℕ) → (numbered s 0 ≡ accepted) × (numbered s 6 ≡ refused 6 0)
+unfolding numbered place what
+numbered-plain s = (refl, refl)
+
+pub table-numbered : (lim : ℕ) (s : List ℕ) → judgedTable lim s ≡ numbered s (judgedTable lim s .number)
+unfolding numbered place what
+table-numbered lim s = rw (table-ladder lim s) (ladder-told (test lim s) (place s) (what s) refl refl 5 1)
 
 -- what the test of number k says of a record
 tells-what : (lim : ℕ) (s : List ℕ) (k : ℕ) → test lim s k ≡ true → Tells s (told k (place s k) (what s k))

@@ -4,6 +4,7 @@ use Prim.Native.Nat.{ℕ, suc, _+_, _*_, _-_, _≤_}
 use mathlib.Core.Path.{_≡_}
 use native.Mathlib.Omega.{arith}
 use native.Mathlib.Nat.{mul-le-mul-left, mul-le-mul-right, mul-le-mul}
+use Rattle.paper.specs.Cost.{cost}
 
 -- n tries on a tree of weight w that ends in weight v
 abbrev pub Within : ℕ → ℕ → ℕ → Type 0
@@ -51,10 +52,7 @@ cube w v n h k t =
     let b : 1 * w ≤ w * w = mul-le-mul-right w h in
     omega arith
 
--- what may still come, so that the count never leaves its range: the cost of a weight, and how a pass pays for itself
-unfoldable pub cost : ℕ → ℕ
-cost w = w + w * (w * w)
-
+-- what may still come, so that the count never leaves its range: how a pass pays for itself
 pub pass-cost : (x y n u : ℕ) → n + y * (x * x) ≤ x + x * (x * x) → u ≤ y + 1 → u ≤ x → suc n + cost u ≤ cost (suc x)
 unfolding cost
 pass-cost x y n u h g k =

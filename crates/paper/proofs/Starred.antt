@@ -1,7 +1,8 @@
 -- The starred examples: one table, one statement, by computation; and the bytes of example 1's result. Assumes nothing.
 use mathlib.Core.Path.{_≡_, refl}
 use mathlib.Core.List.{map}
-use Rattle.paper.specs.Examples.{exampleOne, exampleOneBytes, examples, lookalikes, edges, examplesTwo, examplesMarked, examplesMarkedTwo, counts, triesOf, counted, outWeight, untried, computed}
+use Rattle.paper.specs.Examples.{exampleOne, exampleOneBytes, examples, lookalikes, edges, corners, examplesTwo, examplesMarked, examplesMarkedTwo}
+use Rattle.paper.specs.Examples.{cornersMarked, cornersMarkedTwo, counts, triesOf, counted, outWeight, untried, computed}
 use Rattle.paper.specs.Rules.{editionOne, editionTwo}
 use Rattle.paper.specs.Answers.{written}
 use Rattle.paper.proofs.Computes.{table-computes, driver-computes}
@@ -25,6 +26,12 @@ example-one-bytes = refl
 pub at-the-edges : map (λ e. computed editionOne (e .given)) edges ≡ edges
 unfolding edges outWeight untried computed driver-computes
 at-the-edges = refl
+
+-- corners, with marks and without
+pub at-the-corners : (map (λ e. computed editionOne (e .given)) corners ≡ corners) × (map (λ e. computed editionOne (e .given)) cornersMarked ≡ cornersMarked)
+    × (map (λ e. computed editionTwo (e .given)) cornersMarkedTwo ≡ cornersMarkedTwo)
+unfolding corners cornersMarked cornersMarkedTwo outWeight untried computed driver-computes
+at-the-corners = (refl, refl, refl)
 
 -- edition two, by its own rules
 pub starred-two : map (λ e. computed editionTwo (e .given)) examplesTwo ≡ examplesTwo

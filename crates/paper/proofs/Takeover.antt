@@ -8,12 +8,13 @@ use mathlib.Core.List.{List, []}
 use native.Mathlib.Omega.{arith}
 use lib.ListN.{length, length-append, length-replicate}
 use Rattle.paper.specs.Limits.{workBytes}
-use Rattle.paper.specs.Bytes.{stretch}
+use Rattle.paper.specs.Bytes.{Bytes, stretch}
 use Rattle.paper.specs.Tree.{weight, records}
 use Rattle.paper.specs.Table.{encode}
 use Rattle.paper.specs.Verdict.{tableWeight}
 use Rattle.paper.specs.Driver.{Ran}
-use Rattle.paper.specs.Answers.{Lent, cramped, ran, ranAnswer, outAfter, stepsAfter, workAfter, lentAfter, simplified}
+use Rattle.paper.specs.Answers.{Lent, Given, cramped, ran, ranAnswer, outAfter, stepsAfter, workAfter, lentAfter, simplified}
+use Rattle.paper.specs.Demands.{Simplifier, result}
 use Rattle.paper.specs.Takeover.{Room, again, Repeats, TakesOver, TakesOverInPlace}
 use Rattle.paper.proofs.LimitLaws.{limit-small}
 use Rattle.paper.proofs.EncodeLaws.{encode-bytes}
@@ -68,3 +69,13 @@ takeover-in-place lim ed s b l e =
     let w : simplified lim ed s l .answer .weight-out ≡ weight (d .tree-out) = ap (λ x. x .weight-out) (d .answer) in
     let room : Room lim (weight (d .holds .tree)) (simplified lim ed s l .lent) = rw (d .lent) (left-room lim _ _ l) in
     takeover lim ed s b l e (simplified lim ed s l .lent) (room-less _ (omega (arith, d .finished .lightens)) room)
+
+-- ---- the statement turns wrong ones away: a second call has one answer and one result after the first, and a simplifier that refuses its own result, in areas that
+-- have room for it, does not take over
+pub repeats-once : (g h k : Given) → Repeats g h → Repeats g k → (h .answer ≡ k .answer) × (result h ≡ result k)
+repeats-once g h k x y = (x .same-answer ∙ sym (y .same-answer), x .same-bytes ∙ sym (y .same-bytes))
+
+pub greedy-is-refused : (lim : ℕ) (f : Simplifier) (s : List ℕ) → Bytes s → (l : Lent) → f s l .answer .number ≡ 0
+    → (l′ : Lent) → Room lim (f s l .answer .weight-out) l′ → ¬ (f (result (f s l)) l′ .answer .number ≡ 0) → ¬ TakesOver lim f
+unfolding again
+greedy-is-refused lim f s b l e l′ room refuses takes = refuses (ap (λ a. a .number) (takes s b l e l′ room .same-answer))

@@ -65,7 +65,7 @@ gather-weight (product μ f) l k h c = omega (arith, list-weights (opened asProd
 gather-weight (power μ b ξ e) l k h c = power-weight μ b (integer ξ (pos e)) ξ e k l h
 
 -- where nothing changed the weights did not either
-kepts-weight : {k : ℕ} {l m : List Tree} → Kepts k l m → total weight m ≤ total weight l
+pub kepts-weight : {k : ℕ} {l m : List Tree} → Kepts k l m → total weight m ≤ total weight l
 unfolding total
 kepts-weight nothing = omega arith
 kepts-weight (more h r) = omega (arith, h .lighter, kepts-weight r)

@@ -19,15 +19,15 @@ use Rattle.paper.specs.WellFormed.{WF}
 use Rattle.paper.specs.Table.{encode, treeOf}
 use Rattle.paper.specs.Verdict.{Verdict, accepted, refused}
 use Rattle.paper.specs.Rules.{Rule, editionOne, editionTwo, isEdition, rulesOf}
-use Rattle.paper.specs.Driver.{Ran, done, over, no-rule, step, ask, after, tried, members, simplify}
-use Rattle.paper.specs.Admits.{AdmitsNone, admits-none, AllAdmitNone, and-more}
+use Rattle.paper.specs.Driver.{Ran, done, over, no-rule, step, out-of-range, ask, after, tried, members, simplify}
+use Rattle.paper.specs.Admits.{openingsAt, AdmitsNone, admits-none, AllAdmitNone, and-more}
 use Rattle.paper.specs.Answers.{Lent, ran, judgement, cramped, refusedBy, refusal, ranAnswer, written, outAfter, lentAfter, simplifiedBy}
-use Rattle.paper.specs.Demands.{Simplifier, result, Refuses, LeavesAlone, RunsOver, Follows, Lightens, Finishes, KeepsValue, Accepted}
+use Rattle.paper.specs.Demands.{Simplifier, result, Refuses, LeavesAlone, RunsOver, Follows, Lightens, Bounded, Finishes, KeepsValue, Accepted}
 use Rattle.paper.specs.Takeover.{Room}
-use Rattle.paper.specs.Worthless.{RefusesEverything, refusesAll, returnsZero, returnsInput, firstPass, passesOnce, rootOnly, staysAtRoot, oneStepMore}
-use Rattle.paper.specs.Worthless.{oneOpeningMore, inventsSteps, inventsOpenings, oneTryLess, hidesTries}
+use Rattle.paper.specs.Worthless.{RefusesEverything, RefusesInForm, refusesAll, returnsZero, returnsInput, firstPass, passesOnce, rootOnly, staysAtRoot, oneStepMore}
+use Rattle.paper.specs.Worthless.{oneOpeningMore, inventsSteps, inventsOpenings, oneTryLess, hidesTries, takesCube}
 use Rattle.paper.specs.WorthlessKinds.{Makes, ReturnsZero, ReturnsInput, StopsAfterPass, NeverEnters, Invents}
-use Rattle.paper.proofs.LimitLaws.{limit-least}
+use Rattle.paper.proofs.LimitLaws.{limit-least, limit-small}
 use Rattle.paper.proofs.EncodeLaws.{encode-bytes}
 use Rattle.paper.proofs.TableLaws.{encode-weight, written-accepted}
 use Rattle.paper.proofs.ReadLaws.{tree-of-written}
@@ -143,15 +143,30 @@ module _ (lim ed : ℕ) (limited : isLimit lim ≡ true) (known : isEdition ed �
       no : done one [] 0 1 ≡ over p → ⊥
       no e = let z : _≡_ {A = ℕ} 0 1 = cc in omega arith
 
-  pub refusing-is-refused : RefusesEverything f → (¬ Refuses lim ed f) ⊎ (¬ RunsOver lim ed f)
-  refusing-is-refused h = go (h (encode one) (encode-bytes one) (areas lim (weight one)))
+  pub refusing-in-form-is-refused : RefusesInForm f → (¬ Refuses lim ed f) ⊎ (¬ RunsOver lim ed f)
+  refusing-in-form-is-refused h = go (h (encode one) (encode-bytes one) (areas lim (weight one)))
     where
       go : ((v : Verdict) × (1 ≤ v .number) × (¬ (v .number ≡ 7)) × Refused v) ⊎ ((p : ℕ) × Refused (refused 7 p)) → (¬ Refuses lim ed f) ⊎ (¬ RunsOver lim ed f)
       go (inl x) = inl (not-but-7 (x .0) (x .1) (x .2) (x .3))
       go (inr x) = inr (not-by-7 (x .0) (x .1))
 
+  -- whatever else it answers: demand 2 has an answer for this call
+  pub refusing-is-refused : RefusesEverything f → ¬ Follows lim ed f
+  refusing-is-refused h k =
+      let x = k (encode one) (encode-bytes one) (areas lim (weight one)) (tree-accepted lim ed limited known one one-wf one-light) one one [] 0 1
+      (tree-of-written one one-wf (omega (arith, one-light))) (ran-one ed) .0 in
+      omega (arith, h (encode one) (encode-bytes one) (areas lim (weight one)), ap (λ a. a .number) x)
+
+pub in-form-refuses : (f : Simplifier) → RefusesInForm f → RefusesEverything f
+unfolding refusedBy
+in-form-refuses f h s b l = go (h s b l)
+  where
+    go : ((v : Verdict) × (1 ≤ v .number) × (¬ (v .number ≡ 7)) × (f s l .answer ≡ refusedBy v)) ⊎ ((p : ℕ) × (f s l .answer ≡ refusal 7 p)) → 1 ≤ f s l .answer .number
+    go (inl x) = omega (arith, x .1, ap (λ a. a .number) (x .3))
+    go (inr x) = omega (arith, ap (λ a. a .number) (x .1))
+
 -- always the same refusal: it refuses everything, and falls to demand 1 for all but 7, to demand 2 for 7
-pub always-refuses : (k : ℕ) → 1 ≤ k → RefusesEverything (refusesAll k)
+pub always-refuses : (k : ℕ) → 1 ≤ k → RefusesInForm (refusesAll k)
 unfolding refusesAll
 always-refuses k h s b l = go (eqb k 7) refl
   where
@@ -178,9 +193,15 @@ zero-is-refused lim ed limited known k =
     let u : integer 0 (pos 0) ≡ x .0 = same-tree b (x .1) in
     let z : _≡_ {A = ℕ} 0 1 = ap (λ y. value y (λ n. 0)) u ∙ x .2 (λ n. 0) in omega arith
 
--- ---- a tree that admits a rule is no finished one
-admits-a-rule : {rs : List Rule} (t u : Tree) (k : ℕ) → ask rs t ≡ step k u → ¬ AdmitsNone rs t
+-- ---- a tree that admits a rule is no finished one, nor is one whose rule would leave the range, nor one with an opening
+pub admits-a-rule : {rs : List Rule} (t u : Tree) (k : ℕ) → ask rs t ≡ step k u → ¬ AdmitsNone rs t
 admits-a-rule t u k e (admits-none a o ms) = let z : step k u ≡ no-rule = sym e ∙ a in let y : _≡_ {A = ℕ} 0 1 = cc in omega arith
+
+pub admits-out-of-range : {rs : List Rule} (t : Tree) → ask rs t ≡ out-of-range → ¬ AdmitsNone rs t
+admits-out-of-range t e (admits-none a o ms) = let z : out-of-range ≡ no-rule = sym e ∙ a in let y : _≡_ {A = ℕ} 0 1 = cc in omega arith
+
+pub admits-an-opening : {rs : List Rule} (t : Tree) → ¬ (openingsAt t ≡ 0) → ¬ AdmitsNone rs t
+admits-an-opening t e (admits-none a o ms) = e o
 
 -- "One that returns its input: by "admits no rule"."
 pub input-is-refused : (lim ed : ℕ) → isLimit lim ≡ true → isEdition ed ≡ true → ¬ Finishes lim ed (returnsInput lim ed)
@@ -414,6 +435,37 @@ root-never-enters lim ed = run-makes lim ed _ _ (λ t u e. let s = stays t (weig
 pub overcounting-is-refused : (lim ed : ℕ) (f : Simplifier) (s : List ℕ) → Bytes s → (l : Lent) → f s l .answer .number ≡ 0 → (t : Tree) → treeOf s ≡ some t
     → ((u : Tree) → treeOf (result (f s l)) ≡ some u → weight t < f s l .answer .steps-taken + f s l .answer .openings + weight u) → ¬ Lightens lim ed f
 overcounting-is-refused lim ed f s b l n t r more k = let x = k s b l n t r in omega (arith, x .2, more (x .0) (x .1))
+
+-- told more tries than the cube of the weight going in, on some accepted call: it fails `bounded`
+pub overtrying-is-refused : (lim ed : ℕ) (f : Simplifier) (s : List ℕ) → Bytes s → (l : Lent) → f s l .answer .number ≡ 0 → (t : Tree) → treeOf s ≡ some t
+    → weight t * (weight t * weight t) < f s l .answer .tries → ¬ Bounded lim ed f
+overtrying-is-refused lim ed f s b l n t r more k = omega (arith, k s b l n t r .2, more)
+
+-- but the cube itself is allowed
+pub cube-is-allowed : (lim ed : ℕ) → Bounded lim ed (takesCube lim ed)
+unfolding takesCube ranAnswer refusedBy lentAfter outAfter written
+cube-is-allowed lim ed s b l n t r = go (call lim ed slow s l b)
+  where
+    cube : Tree → ℕ
+    cube t = weight t * (weight t * weight t)
+
+    slow : Tree → Ran
+    slow t = done t [] 0 (cube t)
+
+    go : Call lim ed slow s l → (u : Tree) × (treeOf (result (simplifiedBy lim ed slow s l)) ≡ some u) × (simplifiedBy lim ed slow s l .answer .tries ≤ cube t)
+    go (is-turned-down d) = absurd (let z = ap (λ a. a .number) (d .answer) in omega (arith, d .number))
+    go (is-run c) =
+        let v = c .holds .tree in
+        let w = result-written (simplifiedBy lim ed slow s l) (weight v) v (l .out) (ap (λ a. a .records-written) (c .answer)) (ap (λ a. a .out) (c .lent)) in (
+          v,
+          ap treeOf w ∙ tree-of-written v (c .holds .wf) (omega (arith, c .holds .light, limit-small lim (c .holds .known))),
+          subst (λ x. simplifiedBy lim ed slow s l .answer .tries ≤ cube x) (same-tree (c .holds .read) r) (omega (arith, ap (λ a. a .tries) (c .answer))),
+        )
+
+-- one whose result has another value than the table under some assignment, on some accepted call: it fails `keeps-value`
+pub straying-is-refused : (lim ed : ℕ) (f : Simplifier) (s : List ℕ) → Bytes s → (l : Lent) → f s l .answer .number ≡ 0 → (t : Tree) → treeOf s ≡ some t
+    → (ρ : ℕ → ℕ) → ((u : Tree) → treeOf (result (f s l)) ≡ some u → ¬ (value u ρ ≡ value t ρ)) → ¬ KeepsValue lim ed f
+straying-is-refused lim ed f s b l n t r ρ other k = let x = k s b l n t r in other (x .0) (x .1) (x .2 ρ)
 
 -- one that changes a lent byte though it refuses by another number than 7, on some call: it fails `leaves-alone`
 pub scribbling-is-refused : (lim ed : ℕ) (f : Simplifier) (s : List ℕ) → Bytes s → (l : Lent) (v : Verdict) → 1 ≤ v .number → ¬ (v .number ≡ 7)

@@ -39,10 +39,16 @@ judgedBefore lim s =
 unfoldable pub verdictBefore : ℕ → List ℕ → Verdict
 verdictBefore lim s = cond (isLimit lim) (judgedBefore lim s) (refused 19 0)
 
+abbrev pub MarkedOrFlawed : List ℕ → ℕ → Type 0
+MarkedOrFlawed s i = ¬ (markIn s i ≡ 0) ⊎ (isFlawed (flaw s i) ≡ true)
+
+abbrev pub NoneBefore : List ℕ → ℕ → Type 0
+NoneBefore s p = (i : ℕ) → i < p → (markIn s i ≡ 0) × (isFlawed (flaw s i) ≡ false)
+
 -- it refuses the table with 2, at the first record that is marked or flawed
 pub record RefusedBefore (lim : ℕ) (s : List ℕ) : Type 0 where
   pub place : ℕ
   pub inside : place < recordsIn s
   pub by-two : verdictBefore lim s ≡ flawed place (flawBefore s place)
-  pub marked-or-flawed : ¬ (markIn s place ≡ 0) ⊎ (isFlawed (flaw s place) ≡ true)
-  pub first : (i : ℕ) → i < place → (markIn s i ≡ 0) × (isFlawed (flaw s i) ≡ false)
+  pub marked-or-flawed : MarkedOrFlawed s place
+  pub first : NoneBefore s place

@@ -1,5 +1,5 @@
--- "Marked * are the ones for the proved table": the starred examples of the paper, as one table. Letters a, b, c are symbols 0,
--- 1, 2. proofs/Starred proves the whole table by one statement.
+-- "Marked * are the ones for the proved table": the starred examples of the paper, as one table. Letters a, b, c, d are symbols 0,
+-- 1, 2, 3. proofs/Starred proves the whole table by one statement.
 use Prim.Native.Nat.{ℕ, _-_}
 use mathlib.Core.List.{List, [], _∷_}
 use lib.IntN.{pos, negsuc}
@@ -22,6 +22,9 @@ b = symbol 0 1
 
 abbrev c : Tree
 c = symbol 0 2
+
+abbrev d : Tree
+d = symbol 0 3
 
 abbrev i : ℕ → Tree
 i n = integer 0 (pos n)
@@ -145,7 +148,7 @@ edges =
     -- "multiply the bases; else ..": 2*2 is 4, not 2^2
     ∷ gives (times (i 2 ∷ i 2 ∷ [])) 3 (i 4) (6 ∷ []) 0 1
     -- "each later one": seven members, the first and the last alike
-    ∷ gives (plus (a ∷ b ∷ c ∷ symbol 0 3 ∷ symbol 0 4 ∷ symbol 0 5 ∷ a ∷ [])) 22 (plus (times (i 2 ∷ a ∷ []) ∷ b ∷ c ∷ symbol 0 3 ∷ symbol 0 4 ∷ symbol 0 5 ∷ [])) (2 ∷ []) 0 21
+    ∷ gives (plus (a ∷ b ∷ c ∷ d ∷ symbol 0 4 ∷ symbol 0 5 ∷ a ∷ [])) 22 (plus (times (i 2 ∷ a ∷ []) ∷ b ∷ c ∷ d ∷ symbol 0 4 ∷ symbol 0 5 ∷ [])) (2 ∷ []) 0 21
     -- "with each member": inside a power; "from first to last": the steps 1 and then 2; "each is one opening": two at once
     ∷ gives (raised (plus (a ∷ a ∷ [])) 2) 9 (raised (times (i 2 ∷ a ∷ [])) 2) (2 ∷ []) 0 7
     ∷ gives (times (plus (i 0 ∷ a ∷ []) ∷ plus (b ∷ b ∷ []) ∷ [])) 13 (times (a ∷ i 2 ∷ b ∷ [])) (1 ∷ 2 ∷ []) 1 8
@@ -162,6 +165,42 @@ edges =
     ∷ record { given = plus (i 0 ∷ i 9223372036854775807 ∷ i 1 ∷ []); answer = over 1; weight-in = 4; weight-out = 0 }
     -- 11. a^1 alone stays
     ∷ gives (raised a 1) 5 (raised a 1) ([]) 0 5
+    ∷ []
+
+-- What these three tables leave open: corners of the rules and of the driver, one line for each.
+unfoldable pub corners : List Example
+corners =
+    -- "a member is integer 0", the last: a*0; "all members that are integer 1", the first: 1*a; two members stay: a+b+0
+    gives (times (a ∷ i 0 ∷ [])) 5 (i 0) (3 ∷ []) 0 1
+    ∷ gives (times (i 1 ∷ a ∷ [])) 5 a (4 ∷ []) 0 3
+    ∷ gives (plus (a ∷ b ∷ i 0 ∷ [])) 8 (plus (a ∷ b ∷ [])) (1 ∷ []) 0 7
+    -- "if the bases are equal, add the exponents": of two powers, of equal ones, of powers of powers; bases of either sign multiply
+    ∷ gives (times (raised a 2 ∷ raised a 3 ∷ [])) 11 (raised a 5) (6 ∷ []) 0 5
+    ∷ gives (times (raised a 2 ∷ raised a 2 ∷ [])) 11 (raised a 4) (6 ∷ []) 0 5
+    ∷ gives (times (raised (raised a 2) 3 ∷ raised (raised a 2) 4 ∷ [])) 15 (raised (raised a 2) 7) (6 ∷ []) 0 7
+    ∷ gives (times (raised (minus 2) 3 ∷ raised (i 5) 3 ∷ [])) 7 (raised (minus 10) 3) (6 ∷ []) 0 3
+    -- "else coefficient times rest", 0 times a product, a power, a sum: step 2, and then step 3 gives 0; -2 is appended last
+    ∷ gives (plus (times (a ∷ b ∷ []) ∷ times (minus 1 ∷ a ∷ b ∷ []) ∷ [])) 16 (i 0) (2 ∷ 3 ∷ []) 0 1
+    ∷ gives (plus (raised a 2 ∷ times (minus 1 ∷ raised a 2 ∷ []) ∷ [])) 13 (i 0) (2 ∷ 3 ∷ []) 0 1
+    ∷ gives (plus (plus (a ∷ b ∷ []) ∷ times (minus 1 ∷ plus (a ∷ b ∷ []) ∷ []) ∷ [])) 17 (i 0) (2 ∷ 3 ∷ []) 0 1
+    ∷ gives (plus (times (a ∷ b ∷ []) ∷ times (minus 3 ∷ a ∷ b ∷ []) ∷ [])) 16 (times (a ∷ b ∷ minus 2 ∷ [])) (2 ∷ []) 0 8
+    -- "the last member moves into its place", the others stay in order: a+a+b+c+d; "then the next member": a+b+c+a+b+c is one step
+    ∷ gives (plus (a ∷ a ∷ b ∷ c ∷ d ∷ [])) 16 (plus (times (i 2 ∷ a ∷ []) ∷ d ∷ b ∷ c ∷ [])) (2 ∷ []) 0 15
+    ∷ gives (plus (a ∷ b ∷ c ∷ a ∷ b ∷ c ∷ [])) 19 (plus (times (i 2 ∷ a ∷ []) ∷ times (i 2 ∷ b ∷ []) ∷ times (i 2 ∷ c ∷ []) ∷ [])) (2 ∷ []) 0 16
+    -- "each is one opening": two sums at once; the place of 7 counts steps, and no opening before it, at the node or in an earlier member
+    ∷ gives (plus (plus (a ∷ b ∷ []) ∷ plus (c ∷ d ∷ []) ∷ [])) 15 (plus (a ∷ b ∷ c ∷ d ∷ [])) [] 2 13
+    ∷ record {
+      given = times (times (i 4611686018427387904 ∷ a ∷ []) ∷ times (i 4 ∷ b ∷ []) ∷ []);
+      answer = over 0;
+      weight-in = 11;
+      weight-out = 0;
+    }
+    ∷ record {
+      given = plus (times (times (a ∷ b ∷ []) ∷ c ∷ []) ∷ times (i 4611686018427387904 ∷ i 4 ∷ []) ∷ []);
+      answer = over 0;
+      weight-in = 15;
+      weight-out = 0;
+    }
     ∷ []
 
 -- Edition two: "Operators see a^1 and (a^2)^3 and call them unfinished."
@@ -254,6 +293,43 @@ examplesMarkedTwo =
     ∷ gives (toThe (i 0 # 2) 3 5 # 1) 3 (i 0 # 1) (8 ∷ []) 0 1
     ∷ []
 
+-- and corners of the marks, in both editions; (a + b) # 4 is written `ab 4`, the members having the marks 1 and 2
+abbrev ab : ℕ → Tree
+ab m = plus (a # 1 ∷ b # 2 ∷ []) # m
+
+unfoldable pub cornersMarked : List Example
+cornersMarked =
+    -- a product, a sum and a power as rests: the product gives up its root, and the coefficient that is appended has the member's; the others keep theirs
+    gives (plus (times (i 2 # 5 ∷ times (a # 1 ∷ b # 2 ∷ []) # 6 ∷ []) # 4 ∷ times (times (a # 1 ∷ b # 2 ∷ []) # 7 ∷ i 3 # 3 ∷ []) # 8 ∷ []) # 9) 19
+    (times (a # 1 ∷ b # 2 ∷ i 5 # 4 ∷ []) # 4) (2 ∷ []) 0 8
+    ∷ gives (plus (ab 4 ∷ times (i 2 # 3 ∷ plus (a # 5 ∷ b # 6 ∷ []) # 7 ∷ []) # 8 ∷ []) # 9) 17 (times (i 3 # 4 ∷ ab 4 ∷ []) # 4) (2 ∷ []) 0 9
+    ∷ gives (plus (toThe (a # 1) 5 2 # 4 ∷ toThe (a # 2) 6 2 # 7 ∷ []) # 9) 11 (times (i 2 # 4 ∷ toThe (a # 1) 5 2 # 4 ∷ []) # 4) (2 ∷ []) 0 7
+    -- two integers: the mark of the first one
+    ∷ gives (plus (i 4 # 5 ∷ times (i 2 # 1 ∷ i 3 # 2 ∷ []) # 4 ∷ []) # 9) 5 (i 10 # 5) (2 ∷ []) 0 1
+    -- a rest that becomes the member: a power, its exponent keeping its own mark, and a sum, merged and not (this one is then opened)
+    ∷ gives (plus (times (i 1 # 5 ∷ toThe (a # 1) 2 2 # 6 ∷ []) # 4 ∷ b # 3 ∷ b # 8 ∷ []) # 9) 14
+    (plus (toThe (a # 1) 2 2 # 4 ∷ times (i 2 # 3 ∷ b # 3 ∷ []) # 3 ∷ []) # 9) (2 ∷ []) 0 11
+    ∷ gives (plus (times (i 2 # 5 ∷ ab 6 ∷ []) # 4 ∷ times (minus 1 # 3 ∷ ab 7 ∷ []) # 8 ∷ []) # 9) 19 (ab 4) (2 ∷ []) 0 7
+    ∷ gives (plus (times (i 1 # 5 ∷ ab 6 ∷ []) # 4 ∷ c # 3 ∷ c # 8 ∷ []) # 9) 16 (plus (a # 1 ∷ b # 2 ∷ times (i 2 # 3 ∷ c # 3 ∷ []) # 3 ∷ []) # 9) (2 ∷ []) 1 12
+    -- a base that becomes the member: a sum, an integer, a power
+    ∷ gives (times (toThe (ab 6) 5 1 # 4 ∷ c # 3 ∷ c # 8 ∷ []) # 9) 16 (times (ab 4 ∷ toThe (c # 3) 3 2 # 3 ∷ []) # 9) (6 ∷ []) 0 13
+    ∷ gives (times (toThe (i 2 # 6) 5 1 # 4 ∷ c # 3 ∷ c # 8 ∷ []) # 9) 10 (times (i 2 # 4 ∷ toThe (c # 3) 3 2 # 3 ∷ []) # 9) (6 ∷ []) 0 7
+    ∷ gives (times (toThe (toThe (a # 1) 2 2 # 6) 5 1 # 4 ∷ c # 3 ∷ c # 8 ∷ []) # 9) 14 (times (toThe (a # 1) 2 2 # 4 ∷ toThe (c # 3) 3 2 # 3 ∷ []) # 9) (6 ∷ []) 0 11
+    -- what is its own base keeps its mark below the root: a sum, a product, an integer
+    ∷ gives (times (ab 4 ∷ plus (b # 5 ∷ a # 6 ∷ []) # 7 ∷ []) # 9) 15 (toThe (ab 4) 4 2 # 4) (6 ∷ []) 0 9
+    ∷ gives (times (times (a # 2 ∷ b # 3 ∷ []) # 1 ∷ toThe (times (b ∷ a ∷ []) # 7) 5 2 # 4 ∷ []) # 9) 17 (toThe (times (a # 2 ∷ b # 3 ∷ []) # 1) 1 3 # 1) (6 ∷ []) 0 9
+    ∷ gives (times (i 2 # 1 ∷ toThe (i 2 # 2) 5 3 # 4 ∷ []) # 9) 5 (toThe (i 2 # 1) 1 4 # 1) (6 ∷ []) 0 3
+    -- steps 1 and 4: a single member that is left keeps its own, a node that keeps two keeps its mark; and a sum that is opened loses it
+    ∷ gives (times (i 1 # 1 ∷ a # 2 ∷ []) # 9) 5 (a # 2) (4 ∷ []) 0 3
+    ∷ gives (times (a # 1 ∷ i 1 # 2 ∷ b # 3 ∷ []) # 9) 8 (times (a # 1 ∷ b # 3 ∷ []) # 9) (4 ∷ []) 0 7
+    ∷ gives (plus (a # 1 ∷ i 0 # 2 ∷ b # 3 ∷ []) # 9) 8 (plus (a # 1 ∷ b # 3 ∷ []) # 9) (1 ∷ []) 0 7
+    ∷ gives (plus (ab 3 ∷ c # 4 ∷ []) # 9) 11 (plus (a # 1 ∷ b # 2 ∷ c # 4 ∷ []) # 9) [] 1 10
+    ∷ []
+
+-- step 8 at the base 1
+unfoldable pub cornersMarkedTwo : List Example
+cornersMarkedTwo = gives (toThe (i 1 # 2) 3 9 # 1) 3 (i 1 # 1) (8 ∷ []) 0 1 ∷ []
+
 -- "A try is one asking, at one node, whether any rule applies": the tries of small trees, of which the paper's examples say nothing
 pub record Count : Type 0 where
   pub given : Tree
@@ -274,6 +350,8 @@ counts =
     ∷ record { given = times (plus (a ∷ a ∷ []) ∷ b ∷ []); tries = 10 }
     ∷ record { given = plus (times (plus (a ∷ a ∷ []) ∷ b ∷ []) ∷ c ∷ []); tries = 18 }
     ∷ record { given = raised (plus (a ∷ a ∷ [])) 2; tries = 11 }
+    -- two sums in a sum: one pass, both opened, and then each record once more
+    ∷ record { given = plus (plus (a ∷ b ∷ []) ∷ plus (c ∷ d ∷ []) ∷ []); tries = 12 }
     -- example 10
     ∷ record { given = times (raised (times (a ∷ b ∷ [])) 1 ∷ c ∷ c ∷ a ∷ []); tries = 18 }
     -- none is told after 7

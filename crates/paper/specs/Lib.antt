@@ -3,8 +3,10 @@
 -- The same again, in other words or in figures, each held to it by a theorem: Refusals (1 to 6, 9 and 19 in the papers' words), Examples and Stored
 -- (trees and what the driver makes of them), Sayings, SmallTables, Bounds, Slices (small calls, limits), Worthless and WorthlessKinds
 -- (simplifiers that are turned away), BeforeMarks (a machine without marks), Erased (trees without their marks).
--- Only tools, for laws and for the code's contracts: Exact (the value with no reduction), Good (what is asked of a rule), Gathering (document
--- 01's gathering, to be compared with), Standing (trees that stand in a table), Once (the form of the uniqueness lemmas).
+-- More than was asked: Squared (a better bound on the tries, from both sides).
+-- Only tools, for laws and for the code's contracts: Exact (the value with no reduction), Good (what is asked of a rule), Shallow (what is asked of it
+-- besides, for that bound), Gathering (document 01's gathering, to be compared with), Standing (trees that stand in a table), Cost (what tries may come
+-- to), Height (nodes one inside the other), Once (the form of the uniqueness lemmas).
 pub mod Limits
 pub mod Bytes
 pub mod Tree
@@ -22,6 +24,7 @@ pub mod Gathering
 pub mod Exact
 pub mod Admits
 pub mod Good
+pub mod Shallow
 pub mod Answers
 pub mod Calls
 pub mod Demands
@@ -39,3 +42,6 @@ pub mod Slices
 pub mod SmallTables
 pub mod WorthlessKinds
 pub mod Told
+pub mod Squared
+pub mod Cost
+pub mod Height

@@ -59,6 +59,7 @@ pub record Verdicts : Type 0 where
   -- 5: "an exponent is no integer record of at least 1": "first such exponent record", wherever its power stands
   pub exponent-zero : says (encode (raised a 0)) 5 2
   pub exponent-negative : says (aPower ++ (encode a ++ encode (minus 1))) 5 2
+  pub exponent-least : says (aPower ++ (encode a ++ encode (minus 9223372036854775808))) 5 2
   pub exponent-symbol : says (aPower ++ (encode a ++ encode b)) 5 2
   pub exponent-sum : says (aPower ++ (encode a ++ encode (plus (i 1) (i 2)))) 5 2
   pub exponent-after-base : says (aPower ++ (encode (plus a b) ++ encode (i 0))) 5 4
@@ -78,6 +79,7 @@ pub record Flaws : Type 0 where
   pub lowest-byte : flaw (1 ∷ 0 ∷ 0 ∷ 1 ∷ 0 ∷ 0 ∷ 0 ∷ 1 ∷ 0 ∷ 1 ∷ replicate 6 0) 0 ≡ bad-byte 3
   pub byte-first : flaw (2 ∷ 0 ∷ 1 ∷ 0 ∷ 0 ∷ 0 ∷ 9 ∷ replicate 9 0) 0 ≡ bad-byte 6
   pub power-byte : flaw (4 ∷ 0 ∷ 2 ∷ replicate 13 0) 0 ≡ bad-byte 2
+  pub last-byte : flaw (1 ∷ replicate 14 0 ++ (1 ∷ [])) 0 ≡ bad-byte 15
   pub count-last : flaw (productOf 1) 0 ≡ bad-count
   pub no-members : flaw (sumOf 0) 0 ≡ bad-count
   pub two-members : flaw (sumOf 2) 0 ≡ sound
@@ -126,6 +128,8 @@ pub record Compares : Type 0 where
   pub any-order-inside : alike (times (plus a b) a) (times a (plus b a))
   pub power-alike : alike (raised (plus a b) 2) (raised (plus b a) 2)
   pub another-member : unlike (plus a b) (plus b b)
+  pub one-member-more : unlike (plus a b) (sum 0 (cons a (cons b (cons a nil))))
+  pub one-member-fewer : unlike (sum 0 (cons a (cons b (cons a nil)))) (plus a b)
   pub sum-no-product : unlike (plus a b) (times a b)
   pub other-exponent : unlike (raised a 2) (raised a 3)
   pub other-base : unlike (raised a 2) (raised b 2)

@@ -1,6 +1,6 @@
 -- "Four worthless simplifiers must be turned away", and invented steps and openings too, one that never enters a member, and one that
 -- hides a try. Each is refuted at the field that the paper names for it (proofs/WorthlessLaws), at each limit lim and in each edition ed.
-use Prim.Native.Nat.{ℕ, zero, suc, _+_, _-_, _≤_}
+use Prim.Native.Nat.{ℕ, zero, suc, _+_, _-_, _*_, _≤_}
 use mathlib.Core.Path.{_≡_}
 use mathlib.Core.Logic.{_⊎_}
 use mathlib.Core.List.{List, [], _∷_}
@@ -14,9 +14,13 @@ use Rattle.paper.specs.Driver.{simplify}
 use Rattle.paper.specs.Answers.{Lent, refusedBy, refusal, simplifiedBy}
 use Rattle.paper.specs.Demands.{Simplifier}
 
--- one that refuses everything: each call, with a refusal other than 7, whatever it says, or with 7 at some place
+-- one that refuses everything: each call by some number, whatever else it answers
 abbrev pub RefusesEverything : Simplifier → Type 0
-RefusesEverything f =
+RefusesEverything f = (s : List ℕ) → Bytes s → (l : Lent) → 1 ≤ f s l .answer .number
+
+-- one that does so in the form of a refusal: other than 7, whatever it says, or 7 at some place
+abbrev pub RefusesInForm : Simplifier → Type 0
+RefusesInForm f =
     (s : List ℕ) → Bytes s → (l : Lent)
     → ((v : Verdict) × (1 ≤ v .number) × (¬ (v .number ≡ 7)) × (f s l .answer ≡ refusedBy v)) ⊎ ((p : ℕ) × (f s l .answer ≡ refusal 7 p))
 
@@ -85,3 +89,7 @@ oneTryLess (over k) = over k
 
 unfoldable pub hidesTries : ℕ → ℕ → Simplifier
 hidesTries lim ed = simplifiedBy lim ed (λ t. oneTryLess (simplify (rulesOf ed) t))
+
+-- not turned away by the bound on the tries: one that returns its input, and tells the cube of the weight and no more
+unfoldable pub takesCube : ℕ → ℕ → Simplifier
+takesCube lim ed = simplifiedBy lim ed (λ t. done t [] 0 (weight t * (weight t * weight t)))

@@ -4,12 +4,13 @@ use Prim.Native.Nat.{ℕ, zero, suc, _+_, _*_, _≤_, _<_}
 use mathlib.Core.Path.{_≡_, refl, sym, ap, _∙_}
 use mathlib.Core.Bool.{Bool, true, false, cond, _||_}
 use mathlib.Core.List.{List, [], _∷_}
+use mathlib.Core.Option.{some}
 use native.Mathlib.Omega.{arith}
 use lib.ListN.{length, take, drop}
 use lib.Seq.{take-take}
 use Rattle.paper.specs.Limits.{workBytes}
 use Rattle.paper.specs.Bytes.{Bytes, stretch}
-use Rattle.paper.specs.Tree.{weight, records}
+use Rattle.paper.specs.Tree.{Tree, weight, records}
 use Rattle.paper.specs.Table.{treeOf}
 use Rattle.paper.specs.Driver.{done}
 use Rattle.paper.specs.Answers.{Lent, Answer, ranAnswer, simplified}
@@ -17,6 +18,7 @@ use Rattle.paper.specs.Demands.{result}
 use Rattle.paper.proofs.BytesLaws.{take-bytes, drop-bytes}
 use Rattle.paper.proofs.EncodeLaws.{encode-length}
 use Rattle.paper.proofs.DemandLaws.{call-done}
+use Rattle.paper.proofs.Squared.{simplified-squared}
 use Rattle.paper_batch.specs.Batch.{hasRun, usedUp, remaining, inFront, handedOn, inTurn}
 use Rattle.paper_batch.specs.Sentences.{item, usedBefore, Separate, Demanded, anyRan}
 use Rattle.paper_batch.proofs.Orderly.{simplified-orderly, uses-run, work-turn, cleared-again}
@@ -90,3 +92,9 @@ module _ (lim ed : ℕ) where
         finishes = f .admits-none;
         keeps-value = f .keeps-value;
       }
+
+  -- and, more than was asked, takes at most the square of its weight in tries
+  pub each-squared : (ns s : List ℕ) (b : Bytes s) (l : Lent) (i : ℕ) (h : i < length ns) → let own = each-separate ns s b l i h in
+      let a = simplified lim ed (item ns s i) (own .own) .answer in
+      a .number ≡ 0 → (t : Tree) → treeOf (item ns s i) ≡ some t → a .tries ≤ weight t * weight t
+  each-squared ns s b l i h e t p = simplified-squared lim ed (item ns s i) (item-bytes ns s b i) (each-separate ns s b l i h .own) e t p .2

@@ -11,7 +11,7 @@ use Rattle.paper.specs.Tree.{markOf}
 use Rattle.paper_differ.specs.Differ.{sameFields, alike, orPair, withFirst, exponents, differences, inStep, between, differencesOf}
 use Rattle.paper_differ.specs.Differ.{tooFewPlaces, refusedFor, differedTables, differed, numbersOf, atFront, listAfter}
 use Rattle.paper_differ.specs.Calls.{differedNumbers, differReturns, differAnswers, differLeaves}
-use Rattle.paper_differ.specs.Examples.{examples, computed, equalities, areEqual, calls, called}
+use Rattle.paper_differ.specs.Examples.{examples, computed, equalities, areEqual, calls, called, refusedFromC}
 use Rattle.paper.proofs.Computes.{verdict-computes, table-computes, equality-computes}
 
 -- a name that opens every definition of the walk and of the call; it states nothing
@@ -27,7 +27,8 @@ pub record Told : Type 0 where
   pub answers : map computed examples ≡ examples
   pub second-mode : map areEqual examples ≡ equalities
   pub from-c : map called calls ≡ calls
+  pub refused-from-c : refusedFromC ≡ 5
 
 pub told : Told
-unfolding differ-computes turnedDown equalTrees comparedTables compared one examples computed equalities areEqual calls called
-told = record { answers = refl; second-mode = refl; from-c = refl }
+unfolding differ-computes turnedDown equalTrees comparedTables compared one examples computed equalities areEqual calls called refusedFromC
+told = record { answers = refl; second-mode = refl; from-c = refl; refused-from-c = refl }

@@ -1,18 +1,21 @@
 -- The call is refused exactly as the request's words have it: the tests of the definition, taken one after the other, are those of the words,
--- and a refusal's answer tells its verdict and its table. Assumes nothing.
+-- and a refusal's answer tells its verdict and its table. The list is chosen by the number that is answered: after a refusal it stays, without one
+-- it begins with every pair (`refused-stays`, `accepted-lists`). Assumes nothing.
 use Prim.Native.Nat.{ℕ, _*_, _/_, _<_, _≤_}
 use mathlib.Core.Path.{_≡_, refl, sym, ap, _∙_, subst}
 use mathlib.Core.Bool.{Bool, true, false}
-use mathlib.Core.List.{List}
+use mathlib.Core.List.{List, _++_}
 use mathlib.Core.Logic.{_↔_}
 use native.Mathlib.Omega.{arith}
-use borrow.Author.Tests.{lt-ltb, ltb-true}
-use lib.ListN.{length}
+use borrow.Author.Tests.{lt-ltb, le-ltb, ltb-true, ne-eqb}
+use lib.ListN.{length, drop}
 use lib.Dec.{ltb}
 use Rattle.paper.specs.Limits.{isLimit}
 use Rattle.paper.specs.Record.{sound}
 use Rattle.paper.specs.Verdict.{Verdict, accepted, told, refused, isAccepted, verdict}
+use Rattle.paper.specs.Calls.{eights}
 use Rattle.paper_differ.specs.Differ.{Differed, differencesOf, tooFewPlaces, refusedFor, differedTables, differed}
+use Rattle.paper_differ.specs.Differ.{numbersOf, atFront, listAfter, differing}
 use Rattle.paper_differ.specs.Refusals.{Refuses, no-limit, first-table, second-table, short-list}
 use Rattle.paper.proofs.Tests.{true-not-false}
 use Rattle.paper.proofs.CallLaws.{verdict-accepted}
@@ -69,3 +72,20 @@ module _ (lim : ℕ) (a b list : List ℕ) where
 
   pub refused-exactly : (v : Verdict) (k : ℕ) → isAccepted v ≡ false → (differed lim a b list ≡ refusedFor v k) ↔ Refuses lim a b list v k
   refused-exactly v k n = (told-words v k n, words-told v k)
+
+  -- ".. which stays unchanged", and so it does after every refusal
+  pub refused-stays : ¬ (differed lim a b list .number ≡ 0) → listAfter lim a b list ≡ list
+  unfolding listAfter
+  refused-stays n = rw (ne-eqb (differed lim a b list .number) 0 n)
+
+  -- and a call that is not refused tells how many pairs there are, and lists them all, the bytes behind them staying
+  pub accepted-lists : isLimit lim ≡ true → verdict lim a ≡ accepted → verdict lim b ≡ accepted → 16 * length (differencesOf a b) ≤ length list
+      → differing lim a b list
+      ≡ (
+        record { number = 0; place = 0; flaw = sound; which = 0; pairs = length (differencesOf a b) },
+        eights (numbersOf (differencesOf a b)) ++ drop (16 * length (differencesOf a b)) list,
+      )
+  unfolding differing listAfter differed differedTables tooFewPlaces isAccepted atFront
+  accepted-lists p q r h =
+      let long = le-ltb (length list / 8) (2 * length (differencesOf a b)) (omega (arith, h)) in
+      rw (p, q, r, long) refl

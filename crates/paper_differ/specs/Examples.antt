@@ -149,3 +149,7 @@ unfoldable pub called : FromC → FromC
 called c =
     let s : List ℕ = lent (c .slice-bytes) in
     from-c (c .slice-bytes) (differReturns 3072 a+b b+a (lent 32) s) (differAnswers 3072 a+b b+a (lent 32) s) (differLeaves 3072 a+b b+a (lent 32) s)
+
+-- and a call that is refused: 5 of the second table, at record 2
+unfoldable pub refusedFromC : ℕ
+refusedFromC = differReturns 3072 a+b (a^ 0) (lent 32) (lent 48)

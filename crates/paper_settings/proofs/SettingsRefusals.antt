@@ -37,18 +37,18 @@ unfolding isFree
 bytes-free [] h = refl
 bytes-free (b ∷ x) h = rw (eq-eqb b 0 (h 0 (omega arith))) (bytes-free x (λ j l. h (suc j) (omega arith)))
 
-free-sound : (x : List ℕ) → isFree x ≡ true → isMalformed x ≡ false
+pub free-sound : (x : List ℕ) → isFree x ≡ true → isMalformed x ≡ false
 unfolding isMalformed
 free-sound x f = not-so (isMalformed x) (λ e. let r = some-stray (version x) x 0 32 e in r .3 (free-byte x f (r .0)))
 
-holds-used : (k : ℕ) (x : List ℕ) → holds k x ≡ true → (isFree x ≡ false) × (k ≡ keyIn x)
+pub holds-used : (k : ℕ) (x : List ℕ) → holds k x ≡ true → (isFree x ≡ false) × (k ≡ keyIn x)
 unfolding holds
 holds-used k x h =
     let a = and-both (not (isFree x)) (eqb k (keyIn x)) h in
     (not-true (isFree x) (a .0), eqb-true k (keyIn x) (a .1))
 
 -- ---- slots by their places
-known-at : (xs : List (List ℕ)) (k : ℕ) → known (shown xs k) ≡ true → (i : ℕ) × (i < length xs) × (holds k (getD xs i []) ≡ true)
+pub known-at : (xs : List (List ℕ)) (k : ℕ) → known (shown xs k) ≡ true → (i : ℕ) × (i < length xs) × (holds k (getD xs i []) ≡ true)
 unfolding shown known
 known-at [] k h = absurd (true-not-false h refl)
 known-at (x ∷ xs) k h = go (holds k x) refl h (known-at xs k)
@@ -59,7 +59,7 @@ known-at (x ∷ xs) k h = go (holds k x) refl h (known-at xs k)
     go true e h ih = (0, omega arith, e)
     go false e h ih = let r = ih h in (suc (r .0), omega (arith, r .1), r .2)
 
-at-known : (xs : List (List ℕ)) (k i : ℕ) → i < length xs → holds k (getD xs i []) ≡ true → known (shown xs k) ≡ true
+pub at-known : (xs : List (List ℕ)) (k i : ℕ) → i < length xs → holds k (getD xs i []) ≡ true → known (shown xs k) ≡ true
 unfolding shown known
 at-known [] k i l h = absurd (omega arith)
 at-known (x ∷ xs) k zero l h = rw h
@@ -80,7 +80,7 @@ not-free-at (x ∷ xs) h = go (isFree x) refl h (not-free-at xs)
     go true e h ih = let r = ih h in (suc (r .0), omega (arith, r .1), r .2)
     go false e h ih = (0, omega arith, e)
 
-free-at : (xs : List (List ℕ)) → allFree xs ≡ true → (i : ℕ) → i < length xs → isFree (getD xs i []) ≡ true
+pub free-at : (xs : List (List ℕ)) → allFree xs ≡ true → (i : ℕ) → i < length xs → isFree (getD xs i []) ≡ true
 unfolding allFree
 free-at [] a i l = absurd (omega arith)
 free-at (x ∷ xs) a zero l = and-both (isFree x) (allFree xs) a .0
@@ -191,10 +191,10 @@ module _ (a : List ℕ) (i : ℕ) (h : i < length a / 32) where
   slot-key : keyIn (getD (slotsOf a) i []) ≡ le2 a (32 * i + 2)
   slot-key = ap keyIn (slot-at a i h) ∙ key-there a i
 
-  key-words : (k : ℕ) → holds k (getD (slotsOf a) i []) ≡ true → KeyAt a i k
+  pub key-words : (k : ℕ) → holds k (getD (slotsOf a) i []) ≡ true → KeyAt a i k
   key-words k e = let r = holds-used k (getD (slotsOf a) i []) e in (used-words (r .0), sym slot-key ∙ sym (r .1))
 
-  words-key : (k : ℕ) → KeyAt a i k → holds k (getD (slotsOf a) i []) ≡ true
+  pub words-key : (k : ℕ) → KeyAt a i k → holds k (getD (slotsOf a) i []) ≡ true
   unfolding holds
   words-key k w = rw (words-used (w .0)) (eq-eqb k (keyIn (getD (slotsOf a) i [])) (sym (slot-key ∙ w .1)))
 

@@ -105,7 +105,7 @@ unfolding joined
 joined-append [] ys = refl
 joined-append (x ∷ xs) ys = rw (joined-append xs ys) (sym (append-assoc x (joined xs) (joined ys)))
 
-joined-take : (xs : List (List ℕ)) → Whole xs → (i : ℕ) → joined (take i xs) ≡ take (32 * i) (joined xs)
+pub joined-take : (xs : List (List ℕ)) → Whole xs → (i : ℕ) → joined (take i xs) ≡ take (32 * i) (joined xs)
 unfolding joined
 joined-take xs w zero = refl
 joined-take [] w (suc i) = sym (take-nil (32 * suc i))
@@ -113,7 +113,7 @@ joined-take (x ∷ xs) w (suc i) =
     let e : 32 * suc i ≡ length x + 32 * i = omega (arith, w .0) in
     rw (e, take-append-add x (joined xs) (32 * i), joined-take xs (w .1) i)
 
-joined-drop : (xs : List (List ℕ)) → Whole xs → (i : ℕ) → joined (drop i xs) ≡ drop (32 * i) (joined xs)
+pub joined-drop : (xs : List (List ℕ)) → Whole xs → (i : ℕ) → joined (drop i xs) ≡ drop (32 * i) (joined xs)
 unfolding joined
 joined-drop xs w zero = refl
 joined-drop [] w (suc i) = sym (drop-nil (32 * suc i))

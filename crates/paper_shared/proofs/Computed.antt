@@ -3,6 +3,7 @@ use Prim.Native.Nat.{ℕ}
 use mathlib.Core.Path.{_≡_, refl}
 use mathlib.Core.List.{List, [], _∷_, _++_, map}
 use lib.ListN.{replicate}
+use Rattle.paper.specs.Tree.{marked}
 use Rattle.paper.specs.Record.{sound, bad-byte, flawNumbers}
 use Rattle.paper.specs.Verdict.{flawed, refused}
 use Rattle.paper.specs.Limits.{isLimit, workBytes}
@@ -18,10 +19,10 @@ use Rattle.paper_shared.specs.Calls.{openNumbers, openReturns, openAnswe
 use Rattle.paper_shared.specs.Examples.{symbolsOf, lengthsOf, tablesOf, site, manyOf, examples, heavy, byBytes, computed, flawedFormula, flawedDefinition, plainSite}
 use Rattle.paper_shared.specs.Examples.{orders, ordered}
 
--- a name that opens every definition of the opening; it states nothing
+-- a name that opens every definition of the opening, and `marked`, which an opening that kept a mark would use; it states nothing
 unfoldable pub opening-computes : Unit {0}
 unfolding
-    verdict-computes table-computes defined both make replaced openBy openWithin opened lengthAt lengthsFrom beginning tableAt misses anyRefused
+    verdict-computes table-computes marked defined both make replaced openBy openWithin opened lengthAt lengthsFrom beginning tableAt misses anyRefused
     isAmong twice crowded orNought treeIn definitionsFrom definitionsOf openedOf openingOf judgedSite opening verdictOn noRoom openVerdict holding unopened
     openOf openGiven openingBy sharedVerdict isLimit workBytes isEdition cramped symbolsOf lengthsOf tablesOf site manyOf
 opening-computes = tt

@@ -5,7 +5,7 @@ use Prim.Native.Nat.{ℕ, _+_, _*_, _≤_}
 use mathlib.Core.Path.{_≡_, refl, sym, ap, _∙_, subst}
 use mathlib.Core.Bool.{Bool, true, false, cond, _||_}
 use mathlib.Core.List.{List}
-use mathlib.Core.Option.{some}
+use mathlib.Core.Option.{some, Option·some-injective}
 use native.Mathlib.Omega.{arith}
 use Rattle.paper.specs.Limits.{isLimit}
 use Rattle.paper.specs.Bytes.{Bytes}
@@ -24,11 +24,12 @@ use Rattle.paper.proofs.EncodeLaws.{encode-bytes}
 use Rattle.paper.proofs.ReadLaws.{tree-of-written}
 use Rattle.paper.proofs.CallLaws.{same-tree}
 use Rattle.paper.proofs.DemandLaws.{simplified-meets, call-done}
+use Rattle.paper.proofs.Squared.{simplified-squared}
 use Rattle.paper.proofs.Takeover.{takeover}
 use Rattle.paper_shared.specs.Shared.{NoneLeft}
 use Rattle.paper_shared.specs.Answers.{Handed, treeIn, definitionsOf, openedOf, Opening, turned-away, opens, judgedSite, openingBy, noRoom, holding}
 use Rattle.paper_shared.specs.Answers.{unshared, sharedOf, sharedGiven}
-use Rattle.paper_shared.specs.Demands.{Meets, TakenOver}
+use Rattle.paper_shared.specs.Demands.{Meets, TakenOver, SquaredOpened}
 use Rattle.paper_shared.proofs.SharedLaws.{opened-value}
 use Rattle.paper_shared.proofs.OpenedLaws.{told-of, opened-none-left}
 use Rattle.paper_shared.proofs.Words.{why}
@@ -117,6 +118,12 @@ module _ (lim ed : ℕ) (h : Handed) (area : List ℕ) (l : Lent) where
               ∙ told-of (λ (u : Tree). value u ρ ≡ value (treeIn (h .table)) ρ) (openedOf h) (w .tree) (w .is-opened)
               (opened-value (definitionsOf h) (treeIn (h .table)) ρ k);
         }
+
+    pub shared-squared : SquaredOpened lim ed h area l
+    shared-squared v e =
+        let x = simplified-squared lim ed (encode (w .tree)) (encode-bytes (w .tree)) l number-0 (w .tree) read-in in
+        let a : sharedGiven lim ed h area l .given .answer .tries ≤ weight (w .tree) * weight (w .tree) = rw (w .given) (x .2) in
+        subst (λ (u : Tree). sharedGiven lim ed h area l .given .answer .tries ≤ weight u * weight u) (Option·some-injective (w .tree) v (sym (w .is-opened) ∙ e)) a
 
     pub shared-takes-over : TakenOver lim ed h area l
     shared-takes-over l′ room =

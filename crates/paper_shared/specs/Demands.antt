@@ -66,3 +66,7 @@ abbrev pub TakenOver : ℕ → ℕ → Handed → List ℕ → Lent → Type 0
 TakenOver lim ed h area l =
     (l′ : Lent) → Room lim (sharedGiven lim ed h area l .given .answer .weight-out) l′
     → Repeats (sharedGiven lim ed h area l .given) (simplified lim ed (result (sharedGiven lim ed h area l .given)) l′)
+
+-- more than was asked: the tries are at most the square of the opened tree's weight
+abbrev pub SquaredOpened : ℕ → ℕ → Handed → List ℕ → Lent → Type 0
+SquaredOpened lim ed h area l = (v : Tree) → openedOf h ≡ some v → sharedGiven lim ed h area l .given .answer .tries ≤ weight v * weight v

@@ -116,6 +116,9 @@ examples =
     -- a sum put inside a sum stands there nested; a base is opened, an exponent stays
     ∷ opensTo (plus (a ∷ b ∷ [])) (is 0 (plus (b ∷ c ∷ [])) ∷ []) 176 (plus (plus (b ∷ c ∷ []) ∷ b ∷ [])) 5 11 96
     ∷ opensTo (raised a 2) (is 0 (plus (b ∷ i 1 ∷ [])) ∷ is 2 (i 9) ∷ []) 112 (raised (plus (b ∷ i 1 ∷ [])) 2) 5 7 32
+    -- marks: that of a replaced symbol is lost, all others stay, those of the definition's records too
+    ∷ opensTo (sum 3 (ofList (symbol 7 0 ∷ power 4 (symbol 5 1) 6 2 ∷ []))) (is 0 (sum 8 (ofList (symbol 9 2 ∷ integer 2 (pos 1) ∷ []))) ∷ []) 176
+    (sum 3 (ofList (sum 8 (ofList (symbol 9 2 ∷ integer 2 (pos 1) ∷ [])) ∷ power 4 (symbol 5 1) 6 2 ∷ []))) 7 11 64
     -- a circle that is not reached
     ∷ opensTo c (is 0 b ∷ is 1 a ∷ []) 48 c 1 3 32
     -- 17: a definition that leads back to itself, at once, by way of another, and reached only by way of another

@@ -1,6 +1,15 @@
 pub mod SymbolLaws
+pub mod LimitTaken
+pub mod TextOver
 pub mod TextTaken
 pub mod LinkTaken
+pub mod LinkOver
+pub mod OldOver
 pub mod SiteTaken
 pub mod SharedTaken
 pub mod Computed
+pub mod OverComputed
+pub mod SiteRestored
+pub mod OtherLimit
+pub mod SiteComputed
+pub mod LimitEdges

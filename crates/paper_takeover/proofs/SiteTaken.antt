@@ -7,11 +7,10 @@ use mathlib.Core.Bool.{Bool, true, false, cond}
 use mathlib.Core.List.{List, [], _∷_, _++_}
 use native.Mathlib.Omega.{arith}
 use borrow.Author.Tests.{eqb-true}
-use lib.ListN.{length, take, drop, length-drop}
+use lib.ListN.{length, take, drop, length-drop, length-append}
 use lib.Seq.{length-take-le, take-append-le, take-take, take-at, drop-at}
 use Rattle.paper.specs.Bytes.{Bytes}
 use Rattle.paper.specs.Tree.{weight, records}
-use Rattle.paper.specs.Table.{encode}
 use Rattle.paper.specs.Verdict.{tableWeight}
 use Rattle.paper.specs.Driver.{done}
 use Rattle.paper.specs.Answers.{Lent, Answer, Given, ranAnswer, simplified}
@@ -22,24 +21,25 @@ use Rattle.paper.proofs.EncodeLaws.{encode-length, encode-bytes}
 use Rattle.paper.proofs.TableLaws.{encode-weight}
 use Rattle.paper.proofs.DemandLaws.{call-done}
 use Rattle.paper.proofs.Takeover.{takeover}
-use Rattle.paper_batch.specs.Batch.{hasRun, usedUp, remaining, inFront, firstUses, handedOn, Site, inTurn}
+use Rattle.paper_batch.specs.Batch.{usedUp, remaining, inFront, firstUses, handedOn, Site, inTurn, total}
 use Rattle.paper_batch.proofs.Orderly.{simplified-orderly, uses-run}
 use Rattle.paper_takeover.specs.TakenOver.{isDone, restored, restoredLengths, restoredWeight, againEach, SiteRepeats, SiteTakesOver}
 
-done-number : (x : Answer) → isDone x ≡ true → x .number ≡ 0
+pub done-number : (x : Answer) → isDone x ≡ true → x .number ≡ 0
 unfolding isDone
 done-number x e = eqb-true (x .number) 0 e
 
 module _ (lim ed : ℕ) where
   -- ---- an item that is done: what it used up, and its result, which stands within that and is bytes again
-  record Left (s : List ℕ) (l : Lent) : Type 0 where
-    used : usedUp s (simplified lim ed s l .answer) ≡ tableWeight s
-    within : 16 * simplified lim ed s l .answer .records-written ≤ 16 * tableWeight s
-    long : length (result (simplified lim ed s l)) ≡ 16 * simplified lim ed s l .answer .records-written
-    weighs : tableWeight (result (simplified lim ed s l)) ≡ simplified lim ed s l .answer .weight-out
-    bytes : Bytes (result (simplified lim ed s l))
+  pub record Left (s : List ℕ) (l : Lent) : Type 0 where
+    pub used : usedUp s (simplified lim ed s l .answer) ≡ tableWeight s
+    pub within : 16 * simplified lim ed s l .answer .records-written ≤ 16 * tableWeight s
+    pub long : length (result (simplified lim ed s l)) ≡ 16 * simplified lim ed s l .answer .records-written
+    pub weighs : tableWeight (result (simplified lim ed s l)) ≡ simplified lim ed s l .answer .weight-out
+    pub bytes : Bytes (result (simplified lim ed s l))
+    pub lighter : simplified lim ed s l .answer .weight-out ≤ tableWeight s
 
-  left : (s : List ℕ) → Bytes s → (l : Lent) → simplified lim ed s l .answer .number ≡ 0 → Left s l
+  pub left : (s : List ℕ) → Bytes s → (l : Lent) → simplified lim ed s l .answer .number ≡ 0 → Left s l
   unfolding ranAnswer
   left s b l e =
       let d = call-done lim ed s b l e in
@@ -54,47 +54,67 @@ module _ (lim ed : ℕ) where
         long = ap length (d .written-bytes) ∙ omega (arith, recs, k);
         weighs = ap tableWeight (d .written-bytes) ∙ encode-weight u ∙ sym out;
         bytes = subst Bytes (sym (d .written-bytes)) (encode-bytes u);
+        lighter = omega (arith, out, d .holds .weighs, d .finished .lightens);
       }
 
+  -- ---- the item in front of a site: its result, if it is done, begins `out`, and past what it used up stands what the others leave
+  module _ (n : ℕ) (ns s : List ℕ) (b : Bytes (take n s)) (l : Lent) where
+    item : Given
+    item = simplified lim ed (take n s) l
+
+    w : ℕ
+    w = usedUp (take n s) (item .answer)
+
+    behind : List ℕ
+    behind = inTurn (simplified lim ed) ns (drop n s) (handedOn (simplified lim ed) n s l) .lent .out
+
+    stands : length (take (16 * w) (item .lent .out)) ≡ 16 * w
+    unfolding w item
+    stands = let o = simplified-orderly lim ed (take n s) b l in length-take-le (16 * w) (item .lent .out) (omega (arith, o .out-fits, o .out-kept))
+
+    pub rest-behind : drop (16 * usedUp (take n s) (simplified lim ed (take n s) l .answer)) (inTurn (simplified lim ed) (n ∷ ns) s l .lent .out)
+        ≡ inTurn (simplified lim ed) ns (drop n s) (handedOn (simplified lim ed) n s l) .lent .out
+    unfolding inTurn inFront firstUses item w behind
+    rest-behind = drop-at (take (16 * w) (item .lent .out)) behind (16 * w) stands
+
+    pub result-in-front : isDone (simplified lim ed (take n s) l .answer) ≡ true
+        → take (16 * simplified lim ed (take n s) l .answer .records-written) (inTurn (simplified lim ed) (n ∷ ns) s l .lent .out)
+        ≡ result (simplified lim ed (take n s) l)
+    unfolding inTurn inFront firstUses result item w behind
+    result-in-front e =
+        let d = left (take n s) b l (done-number (item .answer) e) in
+        let r = 16 * item .answer .records-written in
+        let k : r ≤ 16 * w = omega (arith, d .within, d .used) in
+        take-append-le r (take (16 * w) (item .lent .out)) behind (omega (arith, k, stands)) ∙ take-take r (16 * w) (item .lent .out) k
+
   -- ---- what is restored of a site: of the item in front its result, if it is done, and then what is restored of the others
-  first-restored : (n : ℕ) (ns s : List ℕ) → Bytes (take n s) → (l : Lent)
+  pub first-restored : (n : ℕ) (ns s : List ℕ) → Bytes (take n s) → (l : Lent)
       → let g = simplified lim ed (take n s) l in
       let x = inTurn (simplified lim ed) ns (drop n s) (handedOn (simplified lim ed) n s l) in
       restored (n ∷ ns) s (inTurn (simplified lim ed) (n ∷ ns) s l .answers) (inTurn (simplified lim ed) (n ∷ ns) s l .lent .out)
       ≡ cond (isDone (g .answer)) (result g) [] ++ restored ns (drop n s) (x .answers) (x .lent .out)
-  unfolding restored inTurn inFront firstUses result
+  unfolding restored inTurn
   first-restored n ns s b l =
-      let o = simplified-orderly lim ed (take n s) b l in
-      rw (drop-at front (x .lent .out) (16 * w) stands) (go (isDone (g .answer)) refl)
+      let x = inTurn (simplified lim ed) ns (drop n s) (handedOn (simplified lim ed) n s l) in
+      ap₂ (λ (p q : List ℕ). p ++ restored ns (drop n s) (x .answers) q) (go (isDone (simplified lim ed (take n s) l .answer)) refl) (rest-behind n ns s b l)
     where
-      g : Given
-      g = simplified lim ed (take n s) l
-
-      x : Site
-      x = inTurn (simplified lim ed) ns (drop n s) (handedOn (simplified lim ed) n s l)
-
-      w : ℕ
-      w = usedUp (take n s) (g .answer)
-
-      front : List ℕ
-      front = take (16 * w) (g .lent .out)
-
-      stands : length front ≡ 16 * w
-      stands = let o = simplified-orderly lim ed (take n s) b l in length-take-le (16 * w) (g .lent .out) (omega (arith, o .out-fits, o .out-kept))
-
-      rest : List ℕ
-      rest = restored ns (drop n s) (x .answers) (x .lent .out)
-
-      go : (c : Bool) → isDone (g .answer) ≡ c
-          → cond c (take (16 * g .answer .records-written) (front ++ x .lent .out)) [] ++ rest
-          ≡ cond c (take (16 * g .answer .records-written) (g .lent .out)) [] ++ rest
-      go true e =
-          let d = left (take n s) b l (done-number (g .answer) e) in
-          let k : 16 * g .answer .records-written ≤ 16 * w = omega (arith, d .within, d .used) in
-          ap (λ (p : List ℕ). p ++ rest)
-          (take-append-le (16 * g .answer .records-written) front (x .lent .out) (omega (arith, k, stands))
-          ∙ take-take (16 * g .answer .records-written) (16 * w) (g .lent .out) k)
+      go : (c : Bool) → let g = simplified lim ed (take n s) l in
+          isDone (g .answer) ≡ c
+          → cond c (take (16 * g .answer .records-written) (inTurn (simplified lim ed) (n ∷ ns) s l .lent .out)) [] ≡ cond c (result g) []
+      go true e = result-in-front n ns s b l e
       go false e = refl
+
+  -- ---- room for what an item uses up and for more is room for that behind it
+  pub room-behind : (p : List ℕ) → Bytes p → (m : Lent) (v : ℕ) → Room lim (usedUp p (simplified lim ed p m .answer) + v) m
+      → Room lim v (remaining (usedUp p (simplified lim ed p m .answer)) (simplified lim ed p m .lent))
+  unfolding remaining
+  room-behind p b m v room =
+      let o = simplified-orderly lim ed p b m in
+      record {
+        out-room = simp length-drop (omega (arith, room .out-room, o .out-kept));
+        steps-room = simp length-drop (omega (arith, room .steps-room, o .steps-kept));
+        work-room = omega (arith, room .work-room, o .work-kept);
+      }
 
   -- ---- room for all is room for the item in front, and for the others behind it
   module _ (s : List ℕ) (b : Bytes s) (l : Lent) (e : simplified lim ed s l .answer .number ≡ 0) (v : ℕ) (m : Lent)
@@ -114,17 +134,11 @@ module _ (lim ed : ℕ) where
     second-done = ap (λ (x : Answer). x .number) (second .same-answer)
 
     rest-room : Room lim v (remaining (usedUp r (simplified lim ed r m .answer)) (simplified lim ed r m .lent))
-    unfolding remaining r
+    unfolding r
     rest-room =
         let d = left s b l e in
-        let o = simplified-orderly lim ed r (d .bytes) m in
-        let u = left r (d .bytes) m second-done .used in
-        let w = d .weighs in
-        record {
-          out-room = simp length-drop (omega (arith, room .out-room, o .out-kept, u, w));
-          steps-room = simp length-drop (omega (arith, room .steps-room, o .steps-kept, u, w));
-          work-room = omega (arith, room .work-room, o .work-kept);
-        }
+        let w : usedUp r (simplified lim ed r m .answer) ≡ simplified lim ed s l .answer .weight-out = left r (d .bytes) m second-done .used ∙ d .weighs in
+        room-behind r (d .bytes) m v (subst (λ (k : ℕ). Room lim (k + v) m) (sym w) room)
 
   -- ---- a site with a result in front
   module _ (s : List ℕ) (b : Bytes s) (l : Lent) (e : simplified lim ed s l .answer .number ≡ 0) (xs : List Answer) (ms t : List ℕ)
@@ -219,3 +233,38 @@ site-takes-over lim ed (n ∷ ns) s b l m room =
     let x = inTurn f (n ∷ ns) s l in
     subst (λ (t : List ℕ). SiteRepeats lim ed (x .answers) (restoredLengths (x .answers)) t m) (sym (first-restored lim ed n ns s (take-bytes n s b) l))
     (with-first lim ed n ns s b l (λ m h. site-takes-over lim ed ns (drop n s) (drop-bytes n s b) (handedOn f n s l) m h) m room)
+
+-- what is restored is a site that 8 does not refuse, given a place for each answer: its lengths add up to its bytes, and it has no more items
+module _ (lim ed : ℕ) where
+  pub restored-adds-up : (ns s : List ℕ) → Bytes s → (l : Lent) → let x = inTurn (simplified lim ed) ns s l in
+      (total (restoredLengths (x .answers)) ≡ length (restored ns s (x .answers) (x .lent .out))) × (length (restoredLengths (x .answers)) ≤ length ns)
+  unfolding inTurn restored restoredLengths total
+  restored-adds-up [] s b l = (refl, omega arith)
+  restored-adds-up (n ∷ ns) s b l =
+      let f = simplified lim ed in
+      let ih = restored-adds-up ns (drop n s) (drop-bytes n s b) (handedOn f n s l) in
+      (adds ih (isDone (g .answer)) refl ∙ ap length (sym (first-restored lim ed n ns s (take-bytes n s b) l)), fewer ih (isDone (g .answer)))
+    where
+      g : Given
+      g = simplified lim ed (take n s) l
+
+      x : Site
+      x = inTurn (simplified lim ed) ns (drop n s) (handedOn (simplified lim ed) n s l)
+
+      rest : List ℕ
+      rest = restored ns (drop n s) (x .answers) (x .lent .out)
+
+      Ih : Type 0
+      Ih = (total (restoredLengths (x .answers)) ≡ length rest) × (length (restoredLengths (x .answers)) ≤ length ns)
+
+      adds : Ih → (c : Bool) → isDone (g .answer) ≡ c
+          → total (cond c (16 * g .answer .records-written ∷ restoredLengths (x .answers)) (restoredLengths (x .answers)))
+          ≡ length (cond c (result g) [] ++ rest)
+      adds ih true e =
+          let d = left lim ed (take n s) (take-bytes n s b) l (done-number (g .answer) e) in
+          simp length-append (omega (arith, d .long, ih .0))
+      adds ih false e = ih .0
+
+      fewer : Ih → (c : Bool) → length (cond c (16 * g .answer .records-written ∷ restoredLengths (x .answers)) (restoredLengths (x .answers))) ≤ suc (length ns)
+      fewer ih true = omega (arith, ih .1)
+      fewer ih false = omega (arith, ih .1)

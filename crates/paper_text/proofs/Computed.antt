@@ -2,7 +2,7 @@
 use Prim.Native.Nat.{ℕ}
 use mathlib.Core.Path.{_≡_, refl}
 use mathlib.Core.Bool.{Bool, false}
-use mathlib.Core.List.{List, [], _∷_, map}
+use mathlib.Core.List.{List, [], _∷_, _++_, map}
 use mathlib.Core.Option.{Option, some}
 use lib.ListN.{replicate, length}
 use Rattle.paper.specs.Limits.{isLimit}
@@ -50,6 +50,7 @@ pub record Settled : Type 0 where
   pub from-c : readTextReturns 3072 symbol-text (replicate 16 9) (replicate 23 7) ≡ 6
   pub from-c-kept : readTextLeaves 3072 symbol-text (replicate 16 9) (replicate 23 7) ≡ replicate 16 9
   pub from-c-room : readTextAnswers 3072 open-sum [] (replicate 25 7) ≡ 14 ∷ 0 ∷ 0 ∷ 0 ∷ 0 ∷ 0 ∷ 0 ∷ 0 ∷ 0 ∷ 0 ∷ 0 ∷ 0 ∷ 0 ∷ 0 ∷ 0 ∷ 0 ∷ 0 ∷ 0 ∷ 0 ∷ 0 ∷ 0 ∷ 0 ∷ 0 ∷ 0 ∷ 7 ∷ []
+  pub from-c-told : readTextAnswers 3072 symbol-text (replicate 16 9) (replicate 25 7) ≡ replicate 16 0 ++ (1 ∷ (replicate 7 0 ++ (7 ∷ [])))
 
 pub settled : Settled
 unfolding text-computes spelt formless
@@ -66,4 +67,5 @@ settled =
       from-c = refl;
       from-c-kept = refl;
       from-c-room = refl;
+      from-c-told = refl;
     }

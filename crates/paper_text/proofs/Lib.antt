@@ -9,3 +9,4 @@ pub mod LengthLaws
 pub mod PlaceLaws
 pub mod TextCallLaws
 pub mod Computed
+pub mod Slices

@@ -4,7 +4,25 @@ use Prim.Native.Nat.{ℕ}
 use mathlib.Core.List.{List, [], _∷_}
 use lib.IntN.{pos, negsuc}
 use Rattle.paper.specs.Tree.{Tree, integer, symbol, sum, product, power, nil, cons}
-use Rattle.paper_text.specs.Text.{opens, closes, times, plus, minus, power-sign}
+
+-- the characters ( ) * + - ^ as numbers of ASCII, whatever the definitions call them
+abbrev opens : ℕ
+opens = 40
+
+abbrev closes : ℕ
+closes = 41
+
+abbrev times : ℕ
+times = 42
+
+abbrev plus : ℕ
+plus = 43
+
+abbrev minus : ℕ
+minus = 45
+
+abbrev power-sign : ℕ
+power-sign = 94
 
 -- the letter s, and the digits
 abbrev s : ℕ

@@ -4,3 +4,4 @@ pub mod Text
 pub mod Levels
 pub mod Answers
 pub mod Examples
+pub mod Slices

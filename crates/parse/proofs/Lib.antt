@@ -6,3 +6,4 @@ pub mod JoinLaws
 pub mod LevelReads
 pub mod BlockLaws
 pub mod WeighLaws
+pub mod Unique

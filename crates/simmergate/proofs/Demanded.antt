@@ -17,8 +17,10 @@ use Rattle.paper.specs.Slices.{simplifyBytes}
 use Rattle.paper.specs.Told.{answerIn}
 use Rattle.paper.specs.Demands.{Simplifier, Demands, result}
 use Rattle.paper.specs.Takeover.{Room, Repeats, TakesOver, TakesOverInPlace}
+use Rattle.paper.specs.Squared.{Squared, Budget}
 use Rattle.paper.proofs.Slices.{slices}
 use Rattle.paper.proofs.Told.{numbers-fit, told-answer}
+use Rattle.paper.proofs.Squared.{demands-squared, budget-3072, budget-16384}
 use Rattle.paper.proofs.AlikeLaws.{alike-meets, alike-takes-over, alike-takes-over-in-place}
 use Rattle.simplify.specs.Answer.{lent}
 use Rattle.simplify.proofs.Demanded.{of-calls, in-place}
@@ -126,6 +128,10 @@ module _ (lim ed : ℕ) where
   pub c-meets : (f : Simplifier) → Describes f → Demands lim ed f
   c-meets f h = alike-meets lim ed f (described f h)
 
+  -- and, more than is asked, the tries of the call are at most the square of the weight going in
+  pub c-squared : (f : Simplifier) → Describes f → Squared lim ed f
+  c-squared f h = demands-squared lim ed f (c-meets f h)
+
   -- the takeover, of the call
   pub c-takes-over : (f : Simplifier) → Describes f → TakesOver lim f
   c-takes-over f h = alike-takes-over lim ed f (described f h)
@@ -133,7 +139,14 @@ module _ (lim ed : ℕ) where
   pub c-takes-over-in-place : (f : Simplifier) → Describes f → TakesOverInPlace lim f
   c-takes-over-in-place f h = alike-takes-over-in-place lim ed f (described f h)
 
--- the same of any two calls with one limit and one edition, the second of which is handed the result of the first: lent any areas with room for it
+-- so the limit that is handed in tells a budget, in either edition
+pub c-budget-3072 : (ed : ℕ) (f : Simplifier) → Describes 3072 ed f → Budget 7080959 f
+c-budget-3072 ed f h = budget-3072 ed f (c-meets 3072 ed f h)
+
+pub c-budget-16384 : (ed : ℕ) (f : Simplifier) → Describes 16384 ed f → Budget 201342975 f
+c-budget-16384 ed f h = budget-16384 ed f (c-meets 16384 ed f h)
+
+-- the takeover of any two calls with one limit and one edition, the second of which is handed the result of the first: lent any areas with room for it
 pub c-takeover : (c d : CCall) → limit d ≡ limit c → edition d ≡ edition c → Bytes (table c) → Bytes (table d) → simplifyBytes ≤ length (slice c) → simplifyBytes ≤ length (slice d)
     → given c .answer .number ≡ 0 → table d ≡ result (given c) → Room (limit c) (given c .answer .weight-out) (areas d) → Repeats (given c) (given d)
 c-takeover c d n e b b′ r r′ =

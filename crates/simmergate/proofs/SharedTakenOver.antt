@@ -4,7 +4,7 @@
 -- Assumes nothing.
 use Prim.Native.Nat.{ℕ, _*_, _≤_}
 use mathlib.Core.Path.{_≡_, sym, ap, ap₂, _∙_, subst}
-use mathlib.Core.List.{List}
+use mathlib.Core.List.{List, _++_}
 use lib.ListN.{length, drop}
 use borrow.Fn.Kinds.{Dens, endedOf}
 use contract.Lifetimes.{Lfts}
@@ -22,7 +22,7 @@ use Rattle.paper.proofs.Told.{numbers-fit, told-answer}
 use Rattle.paper_shared.specs.Answers.{Handed, SharedGiven, sharedGiven}
 use Rattle.paper_shared.proofs.Slices.{shared-slices}
 use Rattle.paper_shared.proofs.Demands.{went}
-use Rattle.paper_takeover.specs.TakenOver.{withTable}
+use Rattle.paper_takeover.specs.TakenOver.{withTable, SharedRepeats}
 use Rattle.paper_takeover.proofs.SharedTaken.{shared-call-takes-over}
 use Rattle.simplify.specs.Answer.{lent}
 use Rattle.opening.specs.Planned.{handed}
@@ -66,8 +66,12 @@ given c =
     let x = c .left .1 .1 .1 .1 .1 .1 .1 in
     record { answer = answerIn (x .1 .1 .1 .0 .now); lent = lent (x .0 .now) (x .1 .0 .now) (x .1 .1 .0 .now) }
 
+-- the area for the opened table, afterwards
+abbrev pub opened-after : SharedCCall → List ℕ
+opened-after c = c .left .1 .1 .1 .1 .1 .1 .0 .now
+
 -- the definitions' call, with what is handed in
-abbrev shares : SharedCCall → SharedGiven
+abbrev pub shares : SharedCCall → SharedGiven
 shares c = sharedGiven (limit c) (edition c) (formula c) (opened-area c) (areas c)
 
 -- the numbers of a call that is not refused fit in their 8 bytes, since it is the simplifier's
@@ -88,10 +92,18 @@ shared-gives c room z =
     let leaves : given c .lent ≡ g .lent = c .promised .1 .1 .1 ∙ areas-by .1 in
     ap₂ (λ (a : Answer) (l : Lent). record { answer = a; lent = l }) tells leaves
 
--- the call returns the number of its answer
-shared-returns : (c : SharedCCall) → simplifyBytes ≤ length (slice c) → c .returned ≡ shares c .given .answer .number
+-- the call returns the number of its answer, and leaves in the area for the opened table what the definitions' call leaves
+pub shared-returns : (c : SharedCCall) → simplifyBytes ≤ length (slice c) → c .returned ≡ shares c .given .answer .number
 shared-returns c room =
     c .promised .0 ∙ shared-slices .shared (limit c) (edition c) (formula c) (opened-area c) (areas c) (slice c) .1 room .0
+
+pub shared-holds : (c : SharedCCall) → simplifyBytes ≤ length (slice c) → opened-after c ≡ shares c .area
+shared-holds c room = c .promised .1 .1 .0 ∙ shared-slices .shared-areas (limit c) (edition c) (formula c) (opened-area c) (areas c) (slice c) .1 room .0
+
+-- the second call repeats the first; the area for the opened table holds the result as it was handed in, and behind it what it held
+pub record CSharedRepeats (c d : SharedCCall) : Type 0 where
+  pub repeats : Repeats (given c) (given d)
+  pub as-it-is : let r = result (given c) in opened-after d ≡ r ++ drop (length r) (opened-area d)
 
 -- the takeover of a shared formula by the same call: its result, handed in with the same definitions, has nothing left to open and to shorten
 module _ (c d : SharedCCall) (n : limit d ≡ limit c) (k : edition d ≡ edition c) (b : Bytes (formula c .table)) (bd : Bytes (formula c .definitions))
@@ -109,15 +121,24 @@ module _ (c d : SharedCCall) (n : limit d ≡ limit c) (k : edition d ≡ editio
       ap₂ (λ (i j : ℕ). sharedGiven i j (formula d) (opened-area d) (areas d)) n k
       ∙ ap (λ (h : Handed). sharedGiven (limit c) (edition c) h (opened-area d) (areas d)) (q ∙ ap (λ (g : Given). withTable (formula c) (result g)) gives)
 
-  repeated : Repeats (shares c .given) (shares d .given)
+  repeated : SharedRepeats (limit c) (edition c) (formula c) (opened-area c) (areas c) (opened-area d) (areas d)
   repeated =
-      subst (λ (x : SharedGiven). Repeats (shares c .given) (x .given)) (sym second)
-      (shared-call-takes-over (limit c) (edition c) (formula c) b bd (opened-area c) (areas c) accepted (opened-area d) (areas d)
+      shared-call-takes-over (limit c) (edition c) (formula c) b bd (opened-area c) (areas c) accepted (opened-area d) (areas d)
       (subst (λ (g : Given). 16 * g .answer .weight-out ≤ length (opened-area d)) gives wide)
-      (subst (λ (g : Given). Room (limit c) (g .answer .weight-out) (areas d)) gives room) .repeats)
+      (subst (λ (g : Given). Room (limit c) (g .answer .weight-out) (areas d)) gives room)
 
-  pub c-shared-takeover : Repeats (given c) (given d)
+  again-given : Repeats (shares c .given) (shares d .given)
+  again-given = subst (λ (x : SharedGiven). Repeats (shares c .given) (x .given)) (sym second) (repeated .repeats)
+
+  pub c-shared-takeover : CSharedRepeats c d
   unfolding again
   c-shared-takeover =
-      let accepted-too = ap (λ (a : Answer). a .number) (repeated .same-answer) in
-      subst (λ (g : Given). Repeats g (given d)) (sym gives) (subst (λ (g : Given). Repeats (shares c .given) g) (sym (shared-gives d r′ accepted-too)) repeated)
+      let accepted-too = ap (λ (a : Answer). a .number) (again-given .same-answer) in
+      record {
+        repeats =
+            subst (λ (g : Given). Repeats g (given d)) (sym gives)
+            (subst (λ (g : Given). Repeats (shares c .given) g) (sym (shared-gives d r′ accepted-too)) again-given);
+        as-it-is =
+            shared-holds d r′ ∙ ap (λ (x : SharedGiven). x .area) second ∙ repeated .as-it-is
+            ∙ ap (λ (g : Given). result g ++ drop (length (result g)) (opened-area d)) (sym gives);
+      }

@@ -1,7 +1,7 @@
 -- The takeover of a whole site from C: of any two calls, as the contract that the check reads from the source lets them be, the second of which
 -- is handed the tables and lengths that a machine restores of the first. The places tell the answers of the site, one after the other, so
 -- the takeover of the definitions (paper_takeover) is that of the calls. Assumes nothing.
-use Prim.Native.Nat.{ℕ, zero, suc, _+_, _*_, _<_, _≤_}
+use Prim.Native.Nat.{ℕ, zero, suc, _+_, _*_, _%_, _<_, _≤_}
 use mathlib.Core.Path.{_≡_, refl, sym, ap, ap₂, _∙_, subst}
 use mathlib.Core.List.{List, []}
 use native.Mathlib.Omega.{arith}
@@ -11,9 +11,11 @@ use Rattle.paper.specs.Bytes.{Bytes}
 use Rattle.paper.specs.Answers.{Lent, Answer, simplified}
 use Rattle.paper.specs.Told.{answerIn}
 use Rattle.paper.specs.Takeover.{Room}
-use Rattle.paper_batch.specs.Batch.{placeBytes, inTurn, lengthsIn, SiteCall}
+use Rattle.paper_batch.specs.Batch.{placeBytes, inTurn, lengthsIn, Site, siteNumber, SiteCall}
+use Rattle.paper_batch.proofs.UnfitLaws.{returns-number}
 use Rattle.paper_takeover.specs.TakenOver.{restored, restoredLengths, restoredWeight, againEach, SiteRepeats, answersIn}
 use Rattle.paper_takeover.proofs.SiteTaken.{site-takes-over}
+use Rattle.paper_takeover.proofs.SiteRestored.{results-bytes, results-pass}
 use Rattle.batch.proofs.ToldLaws.{count, out-left, item-told}
 use Rattle.simmergate.proofs.Site.{SiteCCall, limit, edition, tables, lengths, areas, answers, given-by}
 
@@ -41,7 +43,7 @@ in-its-place (suc n) s (suc i) d h =
     ∙ ap answerIn (drop-drop (80 * i) 80 s ∙ ap (λ (k : ℕ). drop k s) (let k : 80 + 80 * i ≡ 80 * suc i = omega arith in k))
 
 -- they are the answers of the site
-all-told : (c : SiteCCall) → c .returned ≡ 0 → Bytes (tables c)
+pub all-told : (c : SiteCCall) → c .returned ≡ 0 → Bytes (tables c)
     → told c ≡ inTurn (simplified (limit c) (edition c)) (lengthsIn (lengths c)) (tables c) (areas c) .answers
 all-told c e b =
     let xs = inTurn (simplified (limit c) (edition c)) (lengthsIn (lengths c)) (tables c) (areas c) .answers in
@@ -54,7 +56,7 @@ all-told c e b =
     let t = item-told (limit c) (edition c) (tables c) (lengths c) (areas c) (answers c) g (c .promised) e b i m in
     in-its-place n (g .answers) i (answerIn []) m ∙ t .answer ∙ sym (t .separate .answer (answerIn [])))
 
-out-is : (c : SiteCCall) → c .returned ≡ 0 → site-given c .lent .out ≡ inTurn (simplified (limit c) (edition c)) (lengthsIn (lengths c)) (tables c) (areas c) .lent .out
+pub out-is : (c : SiteCCall) → c .returned ≡ 0 → site-given c .lent .out ≡ inTurn (simplified (limit c) (edition c)) (lengthsIn (lengths c)) (tables c) (areas c) .lent .out
 out-is c e = sym (out-left (limit c) (edition c) (tables c) (lengths c) (areas c) (answers c) (site-given c) (c .promised) e)
 
 -- two sites, the second of which has the tables and lengths that are restored of the first
@@ -68,17 +70,42 @@ module _ (lim ed : ℕ) (ns s : List ℕ) (b : Bytes s) (l m : Lent) (xs : List 
       (subst (λ (q : List ℕ). SiteRepeats lim ed (x .answers) q t m) (sym (me ∙ ap restoredLengths xe))
       (subst (λ (q : List ℕ). SiteRepeats lim ed (x .answers) (restoredLengths (x .answers)) q m) (sym (te ∙ ap₂ (restored ns s) xe oe)) first))
 
--- the takeover of a whole site: the second call answers each restored item without a step and an opening, and leaves the same bytes
-pub c-site-takeover : (c d : SiteCCall) → limit d ≡ limit c → edition d ≡ edition c → c .returned ≡ 0 → d .returned ≡ 0 → Bytes (tables c) → Bytes (tables d)
-    → tables d ≡ left-behind c → lengthsIn (lengths d) ≡ restoredLengths (told c) → Room (limit c) (restoredWeight (told c)) (areas d)
-    → (told d ≡ againEach (told c)) × (left-behind d ≡ left-behind c)
-c-site-takeover c d n k e f b b′ q r room =
-    let repeated =
-    of-sites (limit c) (edition c) (lengthsIn (lengths c)) (tables c) b (areas c) (areas d) (told c) (site-given c .lent .out) (lengthsIn (lengths d)) (tables d)
-    (all-told c e b) (out-is c e) r q room in
-    let second : inTurn (simplified (limit d) (edition d)) (lengthsIn (lengths d)) (tables d) (areas d) ≡ inTurn (simplified (limit c) (edition c)) (lengthsIn (lengths d)) (tables d) (areas d) =
-    ap₂ (λ (i j : ℕ). inTurn (simplified i j) (lengthsIn (lengths d)) (tables d) (areas d)) n k in
-    let answers-are = all-told d f b′ ∙ ap (λ x. x .answers) second in (
-      answers-are ∙ repeated .same-answers,
-      ap₂ (restored (lengthsIn (lengths d)) (tables d)) answers-are (out-is d f ∙ ap (λ x. x .lent .out) second) ∙ repeated .same-bytes ∙ q,
-    )
+-- what a call returns is the number of the definitions
+pub site-returns : (c : SiteCCall) → c .returned ≡ siteNumber (limit c) (edition c) (tables c) (lengths c) (answers c)
+site-returns c = ap (λ (x : SiteCall). x .number) (c .promised) ∙ returns-number (limit c) (edition c) (tables c) (lengths c) (answers c) (areas c)
+
+-- the takeover of a whole site: the second call is not refused as a whole, answers each restored item without a step and an opening, and leaves the same bytes
+module _ (c d : SiteCCall) (n : limit d ≡ limit c) (k : edition d ≡ edition c) (e : c .returned ≡ 0) (b : Bytes (tables c)) (q : tables d ≡ left-behind c)
+    (whole : length (lengths d) % 8 ≡ 0) (r : lengthsIn (lengths d) ≡ restoredLengths (told c))
+    (places : placeBytes * length (restoredLengths (told c)) ≤ length (answers d)) (room : Room (limit c) (restoredWeight (told c)) (areas d)) where
+  site : Site
+  site = inTurn (simplified (limit c) (edition c)) (lengthsIn (lengths c)) (tables c) (areas c)
+
+  handed-on : tables d ≡ restored (lengthsIn (lengths c)) (tables c) (site .answers) (site .lent .out)
+  unfolding site
+  handed-on = q ∙ ap₂ (restored (lengthsIn (lengths c)) (tables c)) (all-told c e b) (out-is c e)
+
+  accepted : d .returned ≡ 0
+  unfolding site
+  accepted =
+      let told-so : restoredLengths (told c) ≡ restoredLengths (site .answers) = ap restoredLengths (all-told c e b) in
+      let passes =
+      results-pass (limit c) (edition c) (tables c) (lengths c) (answers c) b (sym (site-returns c) ∙ e) (areas c) (lengths d) (answers d) whole (r ∙ told-so)
+      (subst (λ (ms : List ℕ). placeBytes * length ms ≤ length (answers d)) told-so places) in
+      site-returns d ∙ ap₂ (λ (i j : ℕ). siteNumber i j (tables d) (lengths d) (answers d)) n k
+      ∙ ap (λ (t : List ℕ). siteNumber (limit c) (edition c) t (lengths d) (answers d)) handed-on ∙ passes
+
+  pub c-site-takeover : (d .returned ≡ 0) × (told d ≡ againEach (told c)) × (left-behind d ≡ left-behind c)
+  unfolding site
+  c-site-takeover =
+      let b′ : Bytes (tables d) = subst Bytes (sym handed-on) (results-bytes (limit c) (edition c) (lengthsIn (lengths c)) (tables c) b (areas c)) in
+      let repeated =
+      of-sites (limit c) (edition c) (lengthsIn (lengths c)) (tables c) b (areas c) (areas d) (told c) (site-given c .lent .out) (lengthsIn (lengths d)) (tables d)
+      (all-told c e b) (out-is c e) r q room in
+      let second : inTurn (simplified (limit d) (edition d)) (lengthsIn (lengths d)) (tables d) (areas d) ≡ inTurn (simplified (limit c) (edition c)) (lengthsIn (lengths d)) (tables d) (areas d) =
+      ap₂ (λ (i j : ℕ). inTurn (simplified i j) (lengthsIn (lengths d)) (tables d) (areas d)) n k in
+      let answers-are = all-told d accepted b′ ∙ ap (λ x. x .answers) second in (
+        accepted,
+        answers-are ∙ repeated .same-answers,
+        ap₂ (restored (lengthsIn (lengths d)) (tables d)) answers-are (out-is d accepted ∙ ap (λ x. x .lent .out) second) ∙ repeated .same-bytes ∙ q,
+      )

@@ -13,8 +13,10 @@ use Rattle.paper.specs.Answers as paper
 use Rattle.paper.specs.Answers.{Lent, Given, simplified}
 use Rattle.paper.specs.Demands.{Simplifier, Demands, result}
 use Rattle.paper.specs.Takeover.{Room, Repeats, TakesOver, TakesOverInPlace}
+use Rattle.paper.specs.Squared.{Squared}
 use Rattle.paper.proofs.DemandLaws.{simplified-meets}
 use Rattle.paper.proofs.Takeover.{takeover, takeover-in-place}
+use Rattle.paper.proofs.Squared.{demands-squared}
 use Rattle.simplify.specs.declared.Answer.{Answer}
 use Rattle.simplify.specs.Answer.{lent, gives}
 use Rattle.simplify.proofs.Unique.{answerOf, says-answer}
@@ -97,6 +99,10 @@ module _ (lim ed : ℕ) where
   -- the demands, of the code
   pub code-meets : (f : Simplifier) → Describes f → Demands lim ed f
   code-meets f h = subst (Demands lim ed) (described-is f h) (simplified-meets lim ed)
+
+  -- and, more than is asked, its tries are at most the square of the weight going in
+  pub code-squared : (f : Simplifier) → Describes f → Squared lim ed f
+  code-squared f h = demands-squared lim ed f (code-meets f h)
 
   -- the takeover, of the code
   pub code-takes-over : (f : Simplifier) → Describes f → TakesOver lim f
