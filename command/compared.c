@@ -21,7 +21,7 @@ static void compare_tables(struct compared *to) {
 }
 
 int compare(const struct operand *a, const struct operand *b, struct compared *to) {
-    *to = (struct compared){.names = {a->word, b->word}};
+    *to = (struct compared){.names = {operand_name(a), operand_name(b)}};
     int first = formula_read(a, 0, &to->formulas[0]), second = formula_read(b, 0, &to->formulas[1]), status = first > second ? first : second;
     if (status == DONE) compare_tables(to);
     else compared_free(to);

@@ -45,8 +45,6 @@ static void put_compared(const char *before, const struct compared *of) {
 
 /* ---- Two formulas ---- */
 
-static const char *shown(const struct operand *of) { return of->typed ? "-t" : strcmp(of->word, "-") == 0 ? "standard input" : of->word; }
-
 static int differ_files(const struct operand *a, const struct operand *b) {
     struct compared compared;
     if (!a->typed && !b->typed && strcmp(a->word, "-") == 0 && strcmp(b->word, "-") == 0)
@@ -54,7 +52,7 @@ static int differ_files(const struct operand *a, const struct operand *b) {
     if (compare(a, b, &compared) != DONE) return 0;
     if (!is_same_bytes(&compared)) raise_status(REFUSED);
     if (given.html) {
-        put_page_begin(shown(a), shown(b));
+        put_page_begin(operand_name(a), operand_name(b));
         put_page_compared(NULL, &compared);
         put_page_end();
     } else if (given.tabs) {
@@ -146,7 +144,7 @@ static int differ_folders(const char *a, const char *b) {
 int run_differ(void) {
     const struct operand *a = &given.operands[0], *b = &given.operands[1];
     int folders = (!a->typed && is_folder(a->word)) + (!b->typed && is_folder(b->word));
-    if (folders == 1) return complain(FAILED, NULL, "one is a folder and the other is not: %s, %s", shown(a), shown(b)), 0;
+    if (folders == 1) return complain(FAILED, NULL, "one is a folder and the other is not: %s, %s", operand_name(a), operand_name(b)), 0;
     if (given.html && given.tabs) return complain(FAILED, "--html", "--tabs says otherwise"), 0;
     return folders == 2 ? differ_folders(a->word, b->word) : differ_files(a, b);
 }

@@ -12,11 +12,13 @@
 
 const char *place_name(const char *file, size_t line) {
     static struct bytes name;
-    if (line == 0) return file;
+    if (line == 0 || (line == 1 && strcmp(file, TYPED) == 0)) return file;
     name.n = 0;
     bytes_format(&name, "%s, line %zu", file, line);
     return bytes_end(&name);
 }
+
+const char *operand_name(const struct operand *of) { return of->typed ? TYPED : strcmp(of->word, "-") == 0 ? "standard input" : of->word; }
 
 int complain_refused(const char *of, const uint8_t *table, size_t bytes, const uint8_t *answer, size_t what_at) {
     char number[SIMMERGATE_WORDS_BYTES], words[SIMMERGATE_WORDS_BYTES];
@@ -113,7 +115,7 @@ static int read_table(struct source *from, struct formula *to) {
     to->place = simmergate_number(answer, SIMMERGATE_AT_PLACE);
     to->what = (size_t)simmergate_number(answer, SIMMERGATE_AT_CHECK_WHAT), to->byte = (size_t)simmergate_number(answer, SIMMERGATE_AT_CHECK_BYTE);
     complain_refused(from->name, to->table, n, answer, SIMMERGATE_AT_CHECK_WHAT);
-    free(to->table), to->table = NULL;
+    free(to->table), to->table = NULL, to->bytes = 0;
     return REFUSED;
 }
 

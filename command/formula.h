@@ -45,7 +45,10 @@ int complain_refused(const char *of, const uint8_t *table, size_t bytes, const u
 void add_formula(struct bytes *to, const uint8_t *table, size_t bytes);
 void put_formula(const uint8_t *table, size_t bytes);
 
-/* "file, line 3", for messages; file alone for line 0. The text is the caller's until the next call. */
+/* "file, line 3", for messages; the file alone for line 0, and for the first line of -t. The text is the caller's until the next call. */
 const char *place_name(const char *file, size_t line);
+
+/* An operand as messages name it. */
+const char *operand_name(const struct operand *of);
 
 #endif

@@ -74,8 +74,8 @@ static int read_file(struct items *to, const char *path) {
 }
 
 int items_read(struct items *to, const char *path) {
-    *to = (struct items){.at = allot(SIMMERGATE_ITEMS * sizeof *to->at)};
-    return is_folder(path) ? read_folder(to, path) : read_file(to, path);
+    *to = (struct items){.path = path, .in_folder = is_folder(path), .at = allot(SIMMERGATE_ITEMS * sizeof *to->at)};
+    return to->in_folder ? read_folder(to, path) : read_file(to, path);
 }
 
 /* ---- The call ---- */
@@ -90,7 +90,7 @@ static size_t most_out(size_t bytes) {
 static size_t lend(struct items *all, uint8_t *lengths, size_t *tables, size_t *out) {
     size_t n = 0;
     *tables = *out = 0;
-    for (size_t i = 0; i < all->n; i++) *tables += all->at[i].formula.bytes, *out += most_out(all->at[i].formula.bytes);
+    for (size_t i = 0; i < all->n; i++) *tables += all->at[i].formula.bytes, *out += most_out(all->at[i].formula.bytes); /* 0 for one that was refused */
     all->tables = allot(*tables), all->out = allot(*out), all->steps = allot(*out / SIMMERGATE_RECORD_BYTES);
     all->answers = allot(SIMMERGATE_ITEMS * SIMMERGATE_SIMPLIFY_BYTES);
     for (size_t i = 0, at = 0; i < all->n; i++) {
@@ -144,6 +144,14 @@ void items_free(struct items *gone) {
 /* ---- What is shown ---- */
 
 int item_shortened(const struct item *of) { return of->status == DONE && answered(&of->made, SIMMERGATE_AT_REFUSAL) == SIMMERGATE_OK; }
+
+void complain_item(const struct items *all, const struct item *of) {
+    const struct formula *formula = &of->formula;
+    if (of->status != DONE || item_shortened(of)) return;
+    char *path = path_in(all->path, of->name);
+    complain_refused(all->in_folder ? path : place_name(all->path, formula->line), formula->table, formula->bytes, of->made.answer, SIMMERGATE_AT_SIMPLIFY_WHAT);
+    free(path);
+}
 
 void put_item_refused(const struct item *of) {
     char words[SIMMERGATE_WORDS_BYTES];

@@ -14,6 +14,8 @@ struct item {
 };
 
 struct items {
+    const char *path;
+    int in_folder;
     struct item *at; /* room for SIMMERGATE_ITEMS */
     size_t n;
     uint8_t *tables, *out, *steps, *answers; /* what was lent for the call */
@@ -28,6 +30,9 @@ void items_free(struct items *gone);
 
 /* Whether it was shortened. */
 int item_shortened(const struct item *of);
+
+/* Says in words which item the call refused, and why; those that were refused before were told when they were read. */
+void complain_item(const struct items *all, const struct item *of);
 
 /* "refused 2 at 3 byte 7". */
 void put_item_refused(const struct item *of);

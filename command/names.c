@@ -1,18 +1,18 @@
 #include "names.h"
 #include "bytes.h"
+#include "formula.h"
 #include "say.h"
 #include "source.h"
 #include <stdio.h>
 #include <string.h>
 
 static char *names[SYMBOLS]; /* NULL: it has none */
-static int given;
 
 int begins_name(uint8_t c) { return (c >= 'a' && c <= 'z') || (c >= 'A' && c <= 'Z') || c == '_'; }
 
 int within_name(uint8_t c) { return begins_name(c) || (c >= '0' && c <= '9'); }
 
-int names_given(void) { return given; }
+int names_given(void) { return given.names != NULL; }
 
 /* ---- Symbols and names ---- */
 
@@ -83,7 +83,7 @@ static size_t next_word(const char *line, size_t n, size_t *at, const char **wor
     return *at - from;
 }
 
-static int wrong_line(const char *file, size_t line, const char *what) { return complain(FAILED, file, "line %zu: %s", line, what); }
+static int wrong_line(const char *file, size_t line, const char *what) { return complain(FAILED, place_name(file, line), "%s", what); }
 
 static int take_name(const char *file, size_t line, int symbol, const char *name, size_t n) {
     struct bytes kept = {NULL, 0, 0};
@@ -112,9 +112,8 @@ int names_read(const char *file) {
     const char *line;
     size_t n;
     int status = DONE;
-    given = 1;
     if (!source_open(&from, file)) return FAILED;
-    while (status == DONE && source_line(&from, &line, &n)) status = take_line(file, from.line, line, n);
+    while (status == DONE && source_line(&from, &line, &n)) status = take_line(from.name, from.line, line, n);
     if (from.failed) status = FAILED;
     source_close(&from);
     return status;

@@ -34,7 +34,7 @@ static int take_definition(const struct operand *operand, const char *sign) {
 
 static int take_formula(const struct operand *operand) {
     if (formula_name != NULL) return complain(FAILED, operand->word, "there is no place for a second formula here");
-    formula_name = operand->typed ? "-t" : strcmp(operand->word, "-") == 0 ? "standard input" : operand->word;
+    formula_name = operand_name(operand);
     return formula_read(operand, 0, &formula);
 }
 

@@ -12,17 +12,25 @@ static const char style[] = "body { font-family: sans-serif; margin: 1.5em; colo
                             ".differs { background: #ffe0b3; color: #7a1f00; }\n"
                             ".same { color: #1a5d1a; }\n";
 
-/* Text in a page: what HTML reads as its own is written out, control bytes as ?. */
+/* What stands in a page for a character that HTML reads as its own, ? for a control byte; NULL where it stands for itself. */
+static const char *escape(uint8_t c) {
+    switch (c) {
+    case '&': return "&amp;";
+    case '<': return "&lt;";
+    case '>': return "&gt;";
+    case '"': return "&quot;";
+    case '\'': return "&#39;";
+    default: return c < 0x20 || c == 0x7f ? "?" : NULL;
+    }
+}
+
 static void put_escaped(const char *text) {
-    for (const char *c = text; *c != 0; c++) {
-        switch (*c) {
-        case '&': put_format("&amp;"); break;
-        case '<': put_format("&lt;"); break;
-        case '>': put_format("&gt;"); break;
-        case '"': put_format("&quot;"); break;
-        case '\'': put_format("&#39;"); break;
-        default: put_format("%c", (*c > 0 && *c < 0x20) || *c == 0x7f ? '?' : *c); break;
-        }
+    while (*text != 0) {
+        size_t n = 0;
+        while (text[n] != 0 && escape((uint8_t)text[n]) == NULL) n++;
+        put(text, n);
+        text += n;
+        if (*text != 0) put_format("%s", escape((uint8_t)*text++));
     }
 }
 

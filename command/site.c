@@ -33,22 +33,18 @@ static void put_words(const struct item *of) {
     else put_format("weight %llu to %llu, steps %llu, openings %llu, tries %llu", in, out, steps, openings, tries);
 }
 
-/* One that the call refuses is told in words besides; the others were when they were read. */
-static void report(const char *path, const struct item *of) {
-    char *whole = path_in(path, of->name);
-    if (of->status == DONE && !item_shortened(of))
-        complain_refused(whole, of->formula.table, of->formula.bytes, of->made.answer, SIMMERGATE_AT_SIMPLIFY_WHAT);
-    free(whole);
+static void report(const struct items *all, const struct item *of) {
+    complain_item(all, of);
     put_item_name(of->name);
     if (given.tabs) put_tabs(of);
     else put_words(of);
     put("\n", 1);
 }
 
-static void report_all(const char *path, const struct items *all) {
+static void report_all(const struct items *all) {
     size_t shortened = 0, failed = 0;
     for (size_t i = 0; i < all->n; i++) {
-        report(path, &all->at[i]);
+        report(all, &all->at[i]);
         shortened += (size_t)item_shortened(&all->at[i]), failed += all->at[i].status == FAILED;
     }
     if (given.tabs) return;
@@ -101,7 +97,7 @@ int run_site(void) {
     int read = items_read(&all, path);
     if (read && (given.out == NULL || have_folder(given.out, path))) {
         items_simplify(&all);
-        report_all(path, &all);
+        report_all(&all);
         if (given.out != NULL) write_results(given.out, &all);
     }
     items_free(&all);

@@ -16,7 +16,7 @@ int source_open(struct source *from, const char *file) {
 }
 
 void source_typed(struct source *from, const char *text) {
-    *from = (struct source){.name = "-t", .fd = -1};
+    *from = (struct source){.name = TYPED, .fd = -1};
     bytes_text(&from->read, text);
 }
 

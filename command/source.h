@@ -7,6 +7,9 @@
 /* The longest line: three times the longest text of a formula. */
 #define MOST_LINE 1048576
 
+/* The name of a formula of the command line in messages. */
+#define TYPED "-t"
+
 struct source {
     const char *name;  /* as messages show it */
     int fd;            /* -1: nothing more is to be read */

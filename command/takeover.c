@@ -59,13 +59,10 @@ static void put_tabs(const struct item *of, enum other found) {
 }
 
 /* One item; whether all is as it must be. */
-static int report(const char *path, const struct item *of, const struct folder *other) {
+static int report(const struct items *all, const struct item *of, const struct folder *other) {
     enum other found = compare_other(other, of);
     int well = is_still(of) && (found == NOT_ASKED || found == SAME);
-    char *whole = path_in(path, of->name);
-    if (of->status == DONE && !item_shortened(of))
-        complain_refused(whole, of->formula.table, of->formula.bytes, of->made.answer, SIMMERGATE_AT_SIMPLIFY_WHAT);
-    free(whole);
+    complain_item(all, of);
     if (!well) raise_status(REFUSED);
     put_item_name(of->name);
     if (given.tabs) put_tabs(of, found);
@@ -85,9 +82,9 @@ static void report_others(const struct items *all, const struct folder *other) {
     }
 }
 
-static void report_all(const char *path, const struct items *all, const struct folder *other) {
+static void report_all(const struct items *all, const struct folder *other) {
     size_t well = 0;
-    for (size_t i = 0; i < all->n; i++) well += (size_t)report(path, &all->at[i], other);
+    for (size_t i = 0; i < all->n; i++) well += (size_t)report(all, &all->at[i], other);
     if (other != NULL) report_others(all, other);
     if (!given.tabs) put_format("%zu results, %zu the same\n", all->n, well);
 }
@@ -103,7 +100,7 @@ int run_takeover(void) {
     int read = items_read(&all, path);
     if (read) {
         items_simplify(&all);
-        report_all(path, &all, other);
+        report_all(&all, other);
     }
     items_free(&all);
     if (other != NULL) folder_free(other);

@@ -103,21 +103,20 @@ void typed_take(struct typed *to, const char *text, size_t n) {
 
 /* ---- Where it stops being a formula ---- */
 
-/* How far into an unknown word one can go: as far as some name goes, or a symbol. The reader stands before its first character that fails. */
+/* How far into an unknown word one can go where some name goes further than a symbol does: behind what they have in common. Else `at`. */
 static size_t within_unknown(const struct typed *of, struct caret *reader, size_t at) {
     const char *exact = (const char *)of->exact.at;
     if (of->unknown == NOWHERE || at < of->unknown || at > of->unknown + of->unknown_n) return at;
     caret_at(reader, exact, of->unknown);
-    int may_begin = reader->place == CARET_OPERAND;
     size_t named = of->unknown + names_begin(exact + of->unknown, of->unknown_n);
-    caret_at(reader, exact, of->exact.n);
-    return may_begin && named > at ? named : at;
+    return reader->place == CARET_OPERAND && named > at ? named : at;
 }
 
 size_t typed_caret(const struct typed *of, struct caret *reader, int *c) {
-    size_t n = of->space < of->exact.n ? of->space : of->exact.n;
-    size_t at = within_unknown(of, reader, caret_at(reader, (const char *)of->exact.at, n));
+    const char *exact = (const char *)of->exact.at;
+    size_t n = of->space < of->exact.n ? of->space : of->exact.n, fails = caret_at(reader, exact, n), at = within_unknown(of, reader, fails);
+    caret_at(reader, exact, fails);
     if (of->space != NOWHERE && at >= n) return *c = ' ', of->space_at;
-    *c = at < of->exact.n ? of->exact.at[at] : -1;
+    *c = at == of->exact.n && at == fails ? -1 : at == fails ? of->exact.at[at] : of->exact.at[of->unknown]; /* the cause is the word */
     return of->at[at];
 }
