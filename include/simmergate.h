@@ -32,9 +32,10 @@
    calls, and calls on different areas may run at the same time. Of the C library memcpy, memmove and memset are
    called, and nothing else.
 
-   libsimmergate.a is code for x86-64 as Linux has it: ELF objects, position-independent, called by the System V ABI (a
-   size_t of 64 bits), for any x86-64 processor. It uses no floating point, no signal and no thread-local storage, and
-   throws nothing. Tables, answers and settings are bytes in a stated order: they are the same on every machine.
+   libsimmergate.a is code for x86-64 as Linux has it: ELF, position-independent, called by the System V ABI (a size_t has
+   64 bits), for any x86-64 processor: nothing beyond SSE2, and no floating-point number. It throws nothing, raises no
+   signal, and has no data that it writes. Tables, answers and settings are bytes in a stated order: they are the same
+   on every machine.
 
    ---- What a call costs ----
 
@@ -216,7 +217,7 @@ extern "C" {
      simmergate_settings_fetch         216          216   whatever the area
      simmergate_settings_fetch_1       216          216   whatever the area
      simmergate_settings_remove        216          216   whatever the area
-     simmergate_release                  8            8
+     simmergate_release                 32           32
 
    SIMMERGATE_STACK bytes, or SIMMERGATE_STACK_16384, are enough for every call but simmergate_read_text, which has
    names of its own.
