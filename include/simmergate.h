@@ -32,10 +32,10 @@
    calls, and calls on different areas may run at the same time. Of the C library memcpy, memmove and memset are
    called, and nothing else.
 
-   libsimmergate.a is code for x86-64 as Linux has it: ELF, position-independent, called by the System V ABI (a size_t has
-   64 bits), for any x86-64 processor: nothing beyond SSE2, and no floating-point number. It throws nothing, raises no
-   signal, and has no data that it writes. Tables, answers and settings are bytes in a stated order: they are the same
-   on every machine.
+   libsimmergate.a is code for x86-64 as Linux has it: ELF, position-independent, called by the System V ABI (a size_t
+   has 64 bits), for any x86-64 processor: nothing beyond SSE2, and no floating-point number. It throws nothing, raises
+   no signal, and has no data that it writes. Tables, answers and settings are bytes in a stated order: they are the
+   same on every machine.
 
    ---- What a call costs ----
 
