@@ -106,7 +106,7 @@ int main(int words, char **word) {
     take_signals();
     if (words < 2) return complain(FAILED, NULL, "a subcommand is missing; `simmergate --help` lists them"), finish(0);
     if (strcmp(word[1], "--help") == 0) return put_all_help(), finish(1);
-    if (strcmp(word[1], "--version") == 0) return put_format("simmergate %u\n", (unsigned)SIMMERGATE_RELEASE), finish(1);
+    if (strcmp(word[1], "--version") == 0) return put_format("simmergate %u\n", (unsigned)simmergate_release()), finish(1);
     const struct subcommand *of = find(word[1]);
     if (of == NULL) return complain(FAILED, word[1], "there is no such subcommand; `simmergate --help` lists them"), finish(0);
     return carry_out(of, words - 2, word + 2);

@@ -2,10 +2,9 @@
    or a whole site in one call, received in pieces, and read and written as text; and settings that survive an
    upgrade.
 
-   This is the third release: SIMMERGATE_RELEASE, and simmergate_release() of the library that is linked. Its answers,
-   calls and areas are those of the second, which needs no change. Callers of the first: compile again, and do not
-   link old object files; docs/MOVING.md says what to change. What the numbers mean in words, for a person to
-   read: simmergate_words.h.
+   This is the third release: SIMMERGATE_RELEASE, and simmergate_release() of the library that is linked. Callers of the
+   second have nothing to change. Callers of the first: compile again, and do not link old object files; docs/MOVING.md
+   says what to change. What the numbers mean in words, for a person to read: simmergate_words.h.
 
    ---- How a call is made ----
 
@@ -32,9 +31,10 @@
    calls, and calls on different areas may run at the same time. Of the C library memcpy, memmove and memset are
    called, and nothing else.
 
-   libsimmergate.a is code for x86-64 as Linux has it: ELF objects, position-independent, called by the System V ABI (a
-   size_t of 64 bits), for any x86-64 processor. It uses no floating point, no signal and no thread-local storage, and
-   throws nothing. Tables, answers and settings are bytes in a stated order: they are the same on every machine.
+   libsimmergate.a is code for x86-64 as Linux has it: ELF, position-independent, called by the System V ABI (a size_t
+   has 64 bits), for any x86-64 processor: nothing beyond SSE2, and no floating-point number. It throws nothing, raises
+   no signal, and has no data that it writes. Tables, answers and settings are bytes in a stated order: they are the
+   same on every machine.
 
    ---- What a call costs ----
 
@@ -44,8 +44,7 @@
      receive_finish, write_text
      receive                          with the bytes of the piece
      open                             with the records handed in and those of the opened table
-     equal                            little more than with n; where a node has many members that one has to look for
-                                      among many like them, with the square of their number
+     equal                            little more than with n for most tables, at the worst with the square of n
      simplify                         little more than with W for most formulas, with the square of W for long chains
                                       that all open; a formula made to be slow can take more. SIMMERGATE_WORK_BYTES(L)
                                       bytes are cleared besides, however short the table
@@ -216,14 +215,14 @@ extern "C" {
      simmergate_settings_fetch         216          216   whatever the area
      simmergate_settings_fetch_1       216          216   whatever the area
      simmergate_settings_remove        216          216   whatever the area
-     simmergate_release                  8            8
+     simmergate_release                 32           32
 
    SIMMERGATE_STACK bytes, or SIMMERGATE_STACK_16384, are enough for every call but simmergate_read_text, which has
    names of its own.
 
-   A thread may have less than that if it is not asked for: musl gives 131,072 bytes to a thread, a controller's task
-   often a few thousand. Give the thread that makes these calls its stack when it is made (pthread_attr_setstacksize),
-   what its own functions need besides. glibc gives what `ulimit -s` says, as a rule 8,388,608 bytes. */
+   A thread may have less than that: musl gives it 131,072 bytes, a controller's operating system often a few thousand;
+   glibc gives what `ulimit -s` says, as a rule 8,388,608. Where that is too little, ask for it when the thread is made
+   (pthread_attr_setstacksize), and for what its own functions need besides. */
 #define SIMMERGATE_STACK 286720
 #define SIMMERGATE_STACK_16384 1507328
 #define SIMMERGATE_READ_TEXT_STACK 1003520

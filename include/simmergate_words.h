@@ -67,7 +67,7 @@ static inline const char *simmergate_refusal_words(unsigned long refusal) {
     case SIMMERGATE_REFUSED_DEFINITION: return "a definition is no good table";
     case SIMMERGATE_REFUSED_SYMBOLS: return "over 16 definitions, or a symbol defined twice";
     case SIMMERGATE_REFUSED_CIRCLE: return "a definition leads back to itself";
-    case SIMMERGATE_REFUSED_OPENED: return "opened, its weight is over the limit";
+    case SIMMERGATE_REFUSED_OPENED: return "opened, it weighs over the limit";
     case SIMMERGATE_REFUSED_LIMIT: return "there is no such limit: it is 3072 or 16384";
     default: return "unknown refusal";
     }
@@ -131,7 +131,7 @@ static inline int simmergate_explain(char *to, size_t room, size_t limit, const 
         return snprintf(to, room, "record %lu is an exponent and no integer of at least 1", place);
     case SIMMERGATE_REFUSED_RANGE:
         return snprintf(to, room, "after %lu steps an integer leaves the signed 64-bit range", place);
-    case SIMMERGATE_REFUSED_OPENED: return snprintf(to, room, "opened, its weight is over %lu", (unsigned long)limit);
+    case SIMMERGATE_REFUSED_OPENED: return snprintf(to, room, "opened, it weighs over %lu", (unsigned long)limit);
     }
     return snprintf(to, room, "%s", simmergate_refusal_words(refusal));
 }
