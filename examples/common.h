@@ -7,6 +7,7 @@
 
 #include "../include/simmergate_words.h"
 #include <errno.h>
+#include <signal.h>
 #include <stdio.h>
 #include <stdlib.h>
 #include <string.h>
@@ -32,6 +33,9 @@ static inline int complain(const char *of, const char *what) {
     fprintf(stderr, PROGRAM ": %s: %s\n", of, what);
     return FAILED;
 }
+
+/* A pipe that nobody reads is output that is lost, and is said so; it does not end the program unsaid. */
+static inline void mind_pipes(void) { signal(SIGPIPE, SIG_IGN); }
 
 /* The exit code at the end of a program: `code`, or FAILED where what it printed could not be written. */
 static inline int ended(int code) {
@@ -98,6 +102,7 @@ static inline size_t whole_number(const char *word) {
 
 /* Takes `-l LIMIT` and, where the program has them, `-e EDITION` and `-o FILE` off the front of the command line. */
 static inline void take_options(int *argc, char ***argv, size_t *limit, size_t *edition, const char **out_file) {
+    mind_pipes();
     for (; *argc > 2; *argv += 2, *argc -= 2) {
         if (strcmp((*argv)[1], "-l") == 0) *limit = whole_number((*argv)[2]);
         else if (edition != NULL && strcmp((*argv)[1], "-e") == 0) *edition = whole_number((*argv)[2]);

@@ -58,7 +58,7 @@ static int hold(void) {
     int n = snprintf(beside, sizeof beside, "%s.new", file);
     if (n < 0 || (size_t)n >= sizeof beside) return complain(file, "its name is too long"), 0;
     held = fopen(beside, "wbx");
-    if (held == NULL) complain(beside, strerror(errno));
+    if (held == NULL) complain(beside, errno == EEXIST ? "it is there: another store is at work, or was cut off; then remove it" : strerror(errno));
     return held != NULL;
 }
 
@@ -153,6 +153,7 @@ int main(int argc, char **argv) {
     int is_list = strcmp(command, "list") == 0, is_fetch = strcmp(command, "fetch") == 0, is_fetch_1 = strcmp(command, "fetch-1") == 0,
         is_store = strcmp(command, "store") == 0, is_remove = strcmp(command, "remove") == 0;
     if (!(is_list && argc == 3) && !((is_fetch || is_fetch_1 || is_remove) && argc == 4) && !(is_store && (argc == 5 || argc == 6))) return usage();
+    mind_pipes();
     file = argv[1];
     if (argc > 3 && !read_16(argv[3], &key)) return FAILED;
     if (argc > 4 && !read_setting(argv[4], &setting)) return FAILED;
