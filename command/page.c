@@ -72,7 +72,7 @@ static void put_cell(struct rows *rows, int side, size_t end) {
     size_t i = rows->next[side];
     if (i < end) {
         add_branches(&text, shape, i, rows->open[side]);
-        bytes_format(&text, "%zu ", i);
+        bytes_format(&text, "%zu: ", i);
         add_record_words(&text, shape, i);
         if (record_line(shape, i) != 0) bytes_format(&text, " (line %u)", record_line(shape, i));
         rows->next[side]++;

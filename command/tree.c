@@ -11,7 +11,7 @@ static void draw(const struct shape *of) {
     for (size_t i = 0; i < of->records; i++) {
         line.n = 0;
         add_branches(&line, of, i, open);
-        bytes_format(&line, "%zu ", i);
+        bytes_format(&line, "%zu: ", i);
         add_record_words(&line, of, i);
         if (record_line(of, i) != 0) bytes_format(&line, " (line %u)", record_line(of, i));
         bytes_text(&line, "\n");
