@@ -171,7 +171,8 @@ static int no_formula(const char *of, struct formula *to) {
 static int second_formula(struct formulas *all, struct formula *to) {
     formula_free(to);
     to->number = SIMMERGATE_REFUSED_TEXT;
-    return complain(REFUSED, place_name(all->source.name, all->source.line), "refused %d at 0: a second formula; there may be one here", SIMMERGATE_REFUSED_TEXT);
+    const char *place = place_name(all->source.name, all->source.line);
+    return complain(REFUSED, place, "refused %d at 0: a second formula; there may be one here", SIMMERGATE_REFUSED_TEXT);
 }
 
 static int one_formula(struct formulas *all, struct formula *to) {

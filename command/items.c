@@ -149,7 +149,8 @@ void complain_item(const struct items *all, const struct item *of) {
     const struct formula *formula = &of->formula;
     if (of->status != DONE || item_shortened(of)) return;
     char *path = path_in(all->path, of->name);
-    complain_refused(all->in_folder ? path : place_name(all->path, formula->line), formula->table, formula->bytes, of->made.answer, SIMMERGATE_AT_SIMPLIFY_WHAT);
+    const char *place = all->in_folder ? path : place_name(all->path, formula->line);
+    complain_refused(place, formula->table, formula->bytes, of->made.answer, SIMMERGATE_AT_SIMPLIFY_WHAT);
     free(path);
 }
 

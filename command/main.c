@@ -1,4 +1,8 @@
-/* simmergate: the library for people. One program; its subcommands stand in the table below, with what --help says of them. */
+/* simmergate: the library for people. One program; its subcommands stand in the table below, with what --help says of them. Each has a file of its name.
+
+   Below them: options (the command line), formula (what is read and shown), typed, caret, cause and names (how people type), source and folder (where it is
+   read), simplified, items and compared (calls of the library), shape (trees, without recursion), page (HTML), say (streams and status), write (files), bytes
+   (memory). */
 #define _GNU_SOURCE
 #include "names.h"
 #include "options.h"
