@@ -1,4 +1,3 @@
-#define _GNU_SOURCE
 #include "formula.h"
 #include "names.h"
 #include "say.h"
@@ -6,7 +5,6 @@
 #include <simmergate_words.h>
 #include <stdlib.h>
 #include <string.h>
-#include <sys/resource.h>
 
 #define MOST_SHOWN 72 /* characters of a line that a message shows */
 
@@ -30,19 +28,6 @@ int complain_refused(const char *of, const uint8_t *table, size_t bytes, const u
 void formula_free(struct formula *gone) {
     free(gone->table);
     *gone = (struct formula){0};
-}
-
-/* ---- Stack ---- */
-
-/* The reader of texts takes its stack in full: it is asked for before, and where it is not to be had, this is said. */
-static int have_stack(const char *of) {
-    static int looked;
-    struct rlimit limit;
-    rlim_t need = (given.limit == 3072 ? SIMMERGATE_READ_TEXT_STACK : SIMMERGATE_READ_TEXT_STACK_16384) + 1048576;
-    if (looked || getrlimit(RLIMIT_STACK, &limit) != 0 || limit.rlim_cur >= need) return looked = 1;
-    if (limit.rlim_max < need) return complain(FAILED, of, "reading a text needs %lu bytes of stack, and `ulimit -s` allows fewer", (unsigned long)need), 0;
-    limit.rlim_cur = need;
-    return looked = setrlimit(RLIMIT_STACK, &limit) == 0 || (complain_system(of), 0);
 }
 
 /* ---- A text ---- */
@@ -92,7 +77,6 @@ static uint32_t read_exact(const struct typed *typed, struct formula *to) {
 /* The formula of a typed text, which is no blank one; `line` is that of its first byte. */
 static int read_typed(const char *of, size_t line, const char *text, size_t n, const struct typed *typed, struct caret *caret, struct formula *to) {
     *to = (struct formula){.line = line};
-    if (!have_stack(of)) return FAILED;
     to->number = typed->space != NOWHERE ? SIMMERGATE_REFUSED_TEXT : read_exact(typed, to);
     if (to->number == SIMMERGATE_OK) return DONE;
     free(to->table), to->table = NULL;
