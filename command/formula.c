@@ -16,6 +16,8 @@ const char *place_name(const char *file, size_t line) {
     return bytes_end(&name);
 }
 
+struct operand the_input(void) { return given.operands_n > 0 ? given.operands[0] : (struct operand){"-", 0}; }
+
 const char *operand_name(const struct operand *of) { return of->typed ? TYPED : strcmp(of->word, "-") == 0 ? "standard input" : of->word; }
 
 int complain_refused(const char *of, const uint8_t *table, size_t bytes, const uint8_t *answer, size_t what_at) {
@@ -143,6 +145,20 @@ int formulas_next(struct formulas *all, struct formula *to) {
     }
     all->failed = status == FAILED;
     return !all->failed;
+}
+
+int formulas_each(const struct operand *from, void (*put_one)(const char *of, const struct formula *formula)) {
+    struct formulas all;
+    struct formula formula;
+    if (!formulas_begin(&all, from)) return 0;
+    while (formulas_next(&all, &formula)) {
+        put_one(all.source.name, &formula);
+        put("\n", 1);
+        formula_free(&formula);
+    }
+    int whole = !all.failed;
+    formulas_end(&all);
+    return whole;
 }
 
 /* ---- Exactly one ---- */

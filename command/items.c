@@ -5,9 +5,7 @@
 #include <stdlib.h>
 #include <string.h>
 
-static void put_number(uint8_t *bytes, size_t i, uint64_t x) {
-    for (size_t k = 0; k < 8; k++) bytes[8 * i + k] = (uint8_t)(x >> 8 * k);
-}
+static void put_number(uint8_t *bytes, size_t i, uint64_t x) { put_eight(bytes + 8 * i, x); }
 
 /* ---- Reading ---- */
 
@@ -23,9 +21,7 @@ static void answer_refused(struct item *of) {
 }
 
 static struct item *next_item(struct items *to, const char *name) {
-    struct bytes copy = {NULL, 0, 0};
-    bytes_text(&copy, name);
-    to->at[to->n] = (struct item){.name = bytes_end(&copy)};
+    to->at[to->n] = (struct item){.name = text_copy(name, strlen(name))};
     return &to->at[to->n++];
 }
 
