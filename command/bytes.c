@@ -68,6 +68,16 @@ char *bytes_end(struct bytes *to) {
     return (char *)to->at;
 }
 
+char *text_copy(const char *text, size_t n) {
+    struct bytes copy = {NULL, 0, 0};
+    bytes_add(&copy, text, n);
+    return bytes_end(&copy);
+}
+
+void put_eight(uint8_t *to, uint64_t number) {
+    for (int k = 0; k < 8; k++) to[k] = (uint8_t)(number >> 8 * k);
+}
+
 void bytes_free(struct bytes *gone) {
     free(gone->at);
     *gone = (struct bytes){NULL, 0, 0};

@@ -24,6 +24,12 @@ void bytes_formatted(struct bytes *to, const char *format, va_list list) __attri
 /* A file's name as it is shown: control bytes and \ as \x09, so that it stays on its line and in its field. */
 void bytes_name(struct bytes *to, const char *name);
 
+/* A text of its own, from the heap. */
+char *text_copy(const char *text, size_t n);
+
+/* A number in 8 bytes, little-endian, as the library takes it. */
+void put_eight(uint8_t *to, uint64_t number);
+
 /* An end mark behind them, which is not counted: a text. */
 char *bytes_end(struct bytes *to);
 void bytes_free(struct bytes *gone);

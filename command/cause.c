@@ -16,8 +16,10 @@ static const char *strange(int c) {
     case ']':
     case '{':
     case '}': return "parentheses are ( and )";
-    default: return c < 0x20 || c > 0x7e ? "this is no character of a formula" : "this is no sign of a formula: those are + * ^ ( ) and the - of a negative number";
+    default: break;
     }
+    if (c < 0x20 || c > 0x7e) return "this is no character of a formula";
+    return "this is no sign of a formula: those are + * ^ ( ) and the - of a negative number";
 }
 
 static const char *letter(int named) {

@@ -1,4 +1,3 @@
-#define _GNU_SOURCE
 #include "formula.h"
 #include "names.h"
 #include "say.h"
@@ -6,7 +5,6 @@
 #include <simmergate_words.h>
 #include <stdlib.h>
 #include <string.h>
-#include <sys/resource.h>
 
 #define MOST_SHOWN 72 /* characters of a line that a message shows */
 
@@ -17,6 +15,8 @@ const char *place_name(const char *file, size_t line) {
     bytes_format(&name, "%s, line %zu", file, line);
     return bytes_end(&name);
 }
+
+struct operand the_input(void) { return given.operands_n > 0 ? given.operands[0] : (struct operand){"-", 0}; }
 
 const char *operand_name(const struct operand *of) { return of->typed ? TYPED : strcmp(of->word, "-") == 0 ? "standard input" : of->word; }
 
@@ -30,19 +30,6 @@ int complain_refused(const char *of, const uint8_t *table, size_t bytes, const u
 void formula_free(struct formula *gone) {
     free(gone->table);
     *gone = (struct formula){0};
-}
-
-/* ---- Stack ---- */
-
-/* The reader of texts takes its stack in full: it is asked for before, and where it is not to be had, this is said. */
-static int have_stack(const char *of) {
-    static int looked;
-    struct rlimit limit;
-    rlim_t need = (given.limit == 3072 ? SIMMERGATE_READ_TEXT_STACK : SIMMERGATE_READ_TEXT_STACK_16384) + 1048576;
-    if (looked || getrlimit(RLIMIT_STACK, &limit) != 0 || limit.rlim_cur >= need) return looked = 1;
-    if (limit.rlim_max < need) return complain(FAILED, of, "reading a text needs %lu bytes of stack, and `ulimit -s` allows fewer", (unsigned long)need), 0;
-    limit.rlim_cur = need;
-    return looked = setrlimit(RLIMIT_STACK, &limit) == 0 || (complain_system(of), 0);
 }
 
 /* ---- A text ---- */
@@ -92,7 +79,6 @@ static uint32_t read_exact(const struct typed *typed, struct formula *to) {
 /* The formula of a typed text, which is no blank one; `line` is that of its first byte. */
 static int read_typed(const char *of, size_t line, const char *text, size_t n, const struct typed *typed, struct caret *caret, struct formula *to) {
     *to = (struct formula){.line = line};
-    if (!have_stack(of)) return FAILED;
     to->number = typed->space != NOWHERE ? SIMMERGATE_REFUSED_TEXT : read_exact(typed, to);
     if (to->number == SIMMERGATE_OK) return DONE;
     free(to->table), to->table = NULL;
@@ -161,6 +147,20 @@ int formulas_next(struct formulas *all, struct formula *to) {
     return !all->failed;
 }
 
+int formulas_each(const struct operand *from, void (*put_one)(const char *of, const struct formula *formula)) {
+    struct formulas all;
+    struct formula formula;
+    if (!formulas_begin(&all, from)) return 0;
+    while (formulas_next(&all, &formula)) {
+        put_one(all.source.name, &formula);
+        put("\n", 1);
+        formula_free(&formula);
+    }
+    int whole = !all.failed;
+    formulas_end(&all);
+    return whole;
+}
+
 /* ---- Exactly one ---- */
 
 static int no_formula(const char *of, struct formula *to) {
@@ -171,7 +171,8 @@ static int no_formula(const char *of, struct formula *to) {
 static int second_formula(struct formulas *all, struct formula *to) {
     formula_free(to);
     to->number = SIMMERGATE_REFUSED_TEXT;
-    return complain(REFUSED, place_name(all->source.name, all->source.line), "refused %d at 0: a second formula; there may be one here", SIMMERGATE_REFUSED_TEXT);
+    const char *place = place_name(all->source.name, all->source.line);
+    return complain(REFUSED, place, "refused %d at 0: a second formula; there may be one here", SIMMERGATE_REFUSED_TEXT);
 }
 
 static int one_formula(struct formulas *all, struct formula *to) {

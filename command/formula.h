@@ -33,6 +33,9 @@ int formulas_begin(struct formulas *all, const struct operand *from);
 int formulas_next(struct formulas *all, struct formula *to);
 void formulas_end(struct formulas *all);
 
+/* Has each formula of a source, refused ones too, put what it has to a line of its own; 0 where reading failed. */
+int formulas_each(const struct operand *from, void (*put_one)(const char *of, const struct formula *formula));
+
 /* The one formula that a file or a typed text holds, with `lines` over several lines, its records marked. DONE, REFUSED or FAILED, after a message; the
    refusal stands in it. */
 int formula_read(const struct operand *from, int lines, struct formula *to);
@@ -47,6 +50,9 @@ void put_formula(const uint8_t *table, size_t bytes);
 
 /* "file, line 3", for messages; the file alone for line 0, and for the first line of -t. The text is the caller's until the next call. */
 const char *place_name(const char *file, size_t line);
+
+/* The one operand of a subcommand that reads one; standard input without it. */
+struct operand the_input(void);
 
 /* An operand as messages name it. */
 const char *operand_name(const struct operand *of);

@@ -5,9 +5,7 @@
 #include <stdlib.h>
 #include <string.h>
 
-static void put_number(uint8_t *bytes, size_t i, uint64_t x) {
-    for (size_t k = 0; k < 8; k++) bytes[8 * i + k] = (uint8_t)(x >> 8 * k);
-}
+static void put_number(uint8_t *bytes, size_t i, uint64_t x) { put_eight(bytes + 8 * i, x); }
 
 /* ---- Reading ---- */
 
@@ -23,9 +21,7 @@ static void answer_refused(struct item *of) {
 }
 
 static struct item *next_item(struct items *to, const char *name) {
-    struct bytes copy = {NULL, 0, 0};
-    bytes_text(&copy, name);
-    to->at[to->n] = (struct item){.name = bytes_end(&copy)};
+    to->at[to->n] = (struct item){.name = text_copy(name, strlen(name))};
     return &to->at[to->n++];
 }
 
@@ -149,7 +145,8 @@ void complain_item(const struct items *all, const struct item *of) {
     const struct formula *formula = &of->formula;
     if (of->status != DONE || item_shortened(of)) return;
     char *path = path_in(all->path, of->name);
-    complain_refused(all->in_folder ? path : place_name(all->path, formula->line), formula->table, formula->bytes, of->made.answer, SIMMERGATE_AT_SIMPLIFY_WHAT);
+    const char *place = all->in_folder ? path : place_name(all->path, formula->line);
+    complain_refused(place, formula->table, formula->bytes, of->made.answer, SIMMERGATE_AT_SIMPLIFY_WHAT);
     free(path);
 }
 

@@ -38,7 +38,7 @@ int run_link(void) {
     struct source from;
     size_t room = SIMMERGATE_TABLE_BYTES(given.limit), came = 0;
     results_to(NULL); /* the report is no file */
-    if (!source_open(&from, given.operands_n > 0 ? given.operands[0].word : "-")) return 0;
+    if (!source_open(&from, the_input().word)) return 0;
     uint8_t *area = allot(room);
     size_t pieces = receive(&from, area, room, &came);
     if (!from.failed) judge(from.name, area, room, came, pieces);

@@ -1,8 +1,13 @@
-/* simmergate: the library for people. One program; its subcommands stand in the table below, with what --help says of them. */
+/* simmergate: the library for people. One program; its subcommands stand in the table below, with what --help says of them. Each has a file of its name.
+
+   Below them: options (the command line), formula (what is read and shown), typed, caret, cause and names (how people type), source and folder (where it is
+   read), simplified, items and compared (calls of the library), shape (trees, without recursion), page (HTML), say (streams and status), write (files), bytes
+   and stack (memory). */
 #define _GNU_SOURCE
 #include "names.h"
 #include "options.h"
 #include "say.h"
+#include "stack.h"
 #include "subcommands.h"
 #include "write.h"
 #include <fcntl.h>
@@ -96,6 +101,7 @@ static int carry_out(const struct subcommand *of, int words, char **word) {
     carried_out = of->name;
     if (options_read(of, words, word, &help) != DONE) return finish(0);
     if (help) return put_help(of), finish(1);
+    if ((of->takes & TAKES_LIMIT) && !have_stack()) return finish(0);
     if (given.names != NULL && names_read(given.names) != DONE) return finish(0);
     if (of->takes & TAKES_OUT) results_to(given.out);
     return finish(of->run());

@@ -86,14 +86,12 @@ static size_t next_word(const char *line, size_t n, size_t *at, const char **wor
 static int wrong_line(const char *file, size_t line, const char *what) { return complain(FAILED, place_name(file, line), "%s", what); }
 
 static int take_name(const char *file, size_t line, int symbol, const char *name, size_t n) {
-    struct bytes kept = {NULL, 0, 0};
     if (symbol < 0) return wrong_line(file, line, "it does not begin with a symbol s0 to s255");
     if (n == 0) return wrong_line(file, line, "there is no name behind the symbol");
     if (!is_name(name, n)) return wrong_line(file, line, "a name is a letter or _, then letters, digits and _, and not s and digits");
     if (names[symbol] != NULL) return wrong_line(file, line, "this symbol has a name already");
     if (symbol_named(name, n) >= 0) return wrong_line(file, line, "another symbol has this name already");
-    bytes_add(&kept, name, n);
-    names[symbol] = bytes_end(&kept);
+    names[symbol] = text_copy(name, n);
     return DONE;
 }
 

@@ -24,7 +24,7 @@ static int take_definition(const struct operand *operand, const char *sign) {
     int status = formula_read(&from, 0, &curve);
     if (status != DONE) return status;
     uint8_t one = (uint8_t)symbol, length[8];
-    for (int k = 0; k < 8; k++) length[k] = (uint8_t)(curve.bytes >> 8 * k);
+    put_eight(length, curve.bytes);
     bytes_add(&symbols, &one, 1);
     bytes_add(&lengths, length, sizeof length);
     bytes_add(&tables, curve.table, curve.bytes);

@@ -145,7 +145,8 @@ static int request_of(const char *word, size_t operands) {
 static int read_request(struct request *to) {
     const struct operand *word = given.operands;
     *to = (struct request){.what = request_of(word[1].word, given.operands_n)};
-    if (to->what == NONE || (given.old && to->what != FETCH)) return complain(FAILED, word[1].word, "not understood; `simmergate settings --help` says more"), 0;
+    if (to->what == NONE || (given.old && to->what != FETCH))
+        return complain(FAILED, word[1].word, "not understood; `simmergate settings --help` says more"), 0;
     if (to->what != LIST && !read_number(word[2].word, to->what == INIT ? MOST_SLOTS : 65535, &to->key)) return 0;
     if (to->what == STORE && (!read_word(word[3].word, &to->setting) || (word[3].word[0] != '-' && to->setting > INT64_MAX)))
         return complain(FAILED, word[3].word, "not a signed number of 64 bits"), 0;

@@ -25,8 +25,12 @@ static void put_shortened(const struct simplified *made) {
     put_steps(made);
 }
 
-static void shorten_one(const char *of, struct formula *formula) {
+static void shorten_one(const char *of, const struct formula *formula) {
     struct simplified made;
+    if (formula->number != SIMMERGATE_OK) {
+        put_refused(formula);
+        return;
+    }
     uint32_t why = simplify(formula->table, formula->bytes, &made);
     if (why != SIMMERGATE_OK) complain_refused(place_name(of, formula->line), formula->table, formula->bytes, made.answer, SIMMERGATE_AT_SIMPLIFY_WHAT);
     if (given.tabs) put_tabs(formula, &made);
@@ -35,18 +39,6 @@ static void shorten_one(const char *of, struct formula *formula) {
 }
 
 int run_shorten(void) {
-    struct formulas all;
-    struct formula formula;
-    struct operand input = {"-", 0};
-    if (given.operands_n > 0) input = given.operands[0];
-    if (!formulas_begin(&all, &input)) return 0;
-    while (formulas_next(&all, &formula)) {
-        if (formula.number != SIMMERGATE_OK) put_refused(&formula);
-        else shorten_one(all.source.name, &formula);
-        put("\n", 1);
-        formula_free(&formula);
-    }
-    int keep = !all.failed;
-    formulas_end(&all);
-    return keep;
+    struct operand input = the_input();
+    return formulas_each(&input, shorten_one);
 }

@@ -3,14 +3,11 @@
 #include "say.h"
 #include "subcommands.h"
 
-static const struct operand standard_input = {"-", 0};
-
-static const struct operand *input(void) { return given.operands_n > 0 ? &given.operands[0] : &standard_input; }
-
 int run_table(void) {
     struct formula formula;
+    struct operand input = the_input();
     if (results_on_terminal()) return complain(FAILED, "standard output", "a table is no text for a terminal: -o FILE, or a pipe"), 0;
-    if (formula_read(input(), given.lines, &formula) != DONE) return 0;
+    if (formula_read(&input, given.lines, &formula) != DONE) return 0;
     put(formula.table, formula.bytes);
     formula_free(&formula);
     return 1;
@@ -18,7 +15,8 @@ int run_table(void) {
 
 int run_text(void) {
     struct formula formula;
-    if (formula_read(input(), 0, &formula) != DONE) return 0;
+    struct operand input = the_input();
+    if (formula_read(&input, 0, &formula) != DONE) return 0;
     put_formula(formula.table, formula.bytes);
     put("\n", 1);
     formula_free(&formula);

@@ -48,8 +48,7 @@ static void draw_dot(const struct shape *of) {
 int run_tree(void) {
     struct formula formula;
     struct shape shape;
-    struct operand input = {"-", 0};
-    if (given.operands_n > 0) input = given.operands[0];
+    struct operand input = the_input();
     if (formula_read(&input, 0, &formula) != DONE) return 0;
     shape_make(&shape, formula.table, formula.bytes);
     if (given.dot) draw_dot(&shape);

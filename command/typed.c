@@ -1,5 +1,6 @@
 #include "typed.h"
 #include "names.h"
+#include <stdio.h>
 #include <stdlib.h>
 #include <string.h>
 
@@ -35,12 +36,9 @@ static size_t keep_word(struct typed *to, const char *text, size_t n, size_t at)
     while (at + length < n && within_name((uint8_t)text[at + length])) length++;
     int symbol = symbol_named(text + at, length);
     if (symbol >= 0) {
-        char exact[16] = "s";
-        size_t digits = 1;
-        for (int power = 100; power > 0; power /= 10) {
-            if (symbol >= power || power == 1) exact[digits++] = (char)('0' + symbol / power % 10);
-        }
-        for (size_t i = 0; i < digits; i++) keep(to, exact[i], at);
+        char exact[16];
+        snprintf(exact, sizeof exact, "s%d", symbol);
+        for (const char *c = exact; *c != 0; c++) keep(to, *c, at);
         return length;
     }
     if (to->unknown == NOWHERE && symbol_of(text + at, length) < 0) to->unknown = to->exact.n, to->unknown_n = length;
@@ -61,7 +59,7 @@ static size_t comment_end(const char *text, size_t n, size_t at) {
     return end == NULL ? n : (size_t)(end - text);
 }
 
-/* The blanks, comments and line ends from `at` on; where they end, and whether there were any. */
+/* Past the blanks, comments and line ends from `at` on. */
 static size_t skip_blanks(const char *text, size_t n, size_t at) {
     for (;;) {
         if (at < n && is_blank(text[at])) at++;

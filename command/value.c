@@ -18,7 +18,7 @@ static int set_register(const char *word) {
     if (is_given[symbol]) return complain(FAILED, word, "this symbol is given twice"), 0;
     if (!read_word(sign + 1, &number)) return complain(FAILED, word, "not a number of 64 bits"), 0;
     is_given[symbol] = 1;
-    for (int k = 0; k < 8; k++) registers[8 * symbol + k] = (uint8_t)(number >> 8 * k);
+    put_eight(registers + 8 * symbol, number);
     return 1;
 }
 
@@ -54,22 +54,12 @@ static int all_given(const char *of, const struct formula *formula) {
 
 static void value_one(const char *of, const struct formula *formula) {
     uint8_t answer[SIMMERGATE_VALUE_BYTES];
-    if (!all_given(of, formula)) return;
+    if (formula->number != SIMMERGATE_OK || !all_given(of, formula)) return;
     simmergate_value(given.limit, formula->table, formula->bytes, registers, sizeof registers, answer, sizeof answer);
     put_format("%lld", (long long)simmergate_number(answer, SIMMERGATE_AT_VALUE_VALUE));
 }
 
 int run_value(void) {
-    struct formulas all;
-    struct formula formula;
     struct operand input = {"-", 0};
-    if (!take_operands(&input) || !formulas_begin(&all, &input)) return 0;
-    while (formulas_next(&all, &formula)) {
-        if (formula.number == SIMMERGATE_OK) value_one(all.source.name, &formula);
-        put("\n", 1);
-        formula_free(&formula);
-    }
-    int keep = !all.failed;
-    formulas_end(&all);
-    return keep;
+    return take_operands(&input) && formulas_each(&input, value_one);
 }

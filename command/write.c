@@ -59,10 +59,8 @@ static char *link_target(const char *path) {
 }
 
 char *follow(const char *path) {
-    struct bytes first = {NULL, 0, 0};
     struct stat there;
-    bytes_text(&first, path);
-    char *at = bytes_end(&first);
+    char *at = text_copy(path, strlen(path));
     for (int links = 0; lstat(at, &there) == 0 && S_ISLNK(there.st_mode); links++) {
         char *next = links == MOST_LINKS ? (errno = ELOOP, NULL) : link_target(at);
         free(at);
@@ -103,11 +101,8 @@ static int dress(int fd, const struct stat *old) {
 
 /* The folder of the target is flushed, so that the new name outlives a loss of power. */
 static int flush_folder(const char *target) {
-    char *folder = NULL;
-    struct bytes name = {NULL, 0, 0};
-    bytes_add(&name, target, folder_length(target));
-    if (name.n == 0) bytes_text(&name, ".");
-    folder = bytes_end(&name);
+    size_t n = folder_length(target);
+    char *folder = n == 0 ? text_copy(".", 1) : text_copy(target, n);
     int fd = open(folder, O_RDONLY | O_DIRECTORY | O_CLOEXEC);
     free(folder);
     if (fd < 0) return errno == EACCES ? 0 : -1; /* a folder that may be written and not read cannot be flushed */

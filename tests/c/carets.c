@@ -67,7 +67,7 @@ int main(int words, char **word) {
     long most = words == 2 ? strtol(word[1], NULL, 10) : 0;
     if (most < 1 || most > MOST) return printf("usage: carets MOST, up to %d\n", MOST), 2;
     all(text, 0, (size_t)most, 0);
-    printf("caret: all %ld texts of up to %ld characters: it stands behind the longest prefix of an accepted text; %ld are such prefixes, %ld accepted\n", texts, most,
-           prefixes, accepted);
+    printf("caret: all %ld texts of up to %ld characters: it stands behind the longest prefix of an accepted text; %ld are such prefixes, %ld accepted\n",
+           texts, most, prefixes, accepted);
     return 0;
 }
