@@ -1,10 +1,13 @@
-/* What the examples share: numbers in bytes, a file read whole, limit and edition on the command line, symbols, and the refusals in words. An example
-   defines PROGRAM, its name in messages, and then includes this; everything else about the library it shows itself. */
+/* What the examples share: numbers in bytes, files read and written whole, the options of the command line, symbols, and messages. An example defines
+   PROGRAM, its name in messages, and then includes this; everything else about the library it shows itself.
+
+   The exit code of every example: 0 done, 1 refused or different, 2 wrong use, or input or output failed. */
 #ifndef COMMON_H
 #define COMMON_H
 
-#include "../include/simmergate.h"
+#include "../include/simmergate_words.h"
 #include <errno.h>
+#include <signal.h>
 #include <stdio.h>
 #include <stdlib.h>
 #include <string.h>
@@ -12,18 +15,15 @@
 #define HIGHEST 16384 /* of the limits: areas for it serve either. A program that keeps to 3,072 has areas a fifth as long, and an eighth of the work */
 #define MOST_BYTES SIMMERGATE_TABLE_BYTES(HIGHEST)
 
-/* ---- Numbers in bytes ---- */
+enum { DONE = 0, REFUSED = 1, FAILED = 2 }; /* exit codes */
 
-/* Number i of an answer, of a list of lengths, or of a record in parts of 8 bytes. */
-static inline uint64_t number(const uint8_t *bytes, size_t i) {
-    uint64_t x = 0;
-    for (int k = 7; k >= 0; k--) x = x << 8 | bytes[8 * i + (size_t)k];
-    return x;
-}
-
+/* Number i of a list of lengths or of registers is set. */
 static inline void put_number(uint8_t *bytes, size_t i, uint64_t x) {
     for (size_t k = 0; k < 8; k++) bytes[8 * i + k] = (uint8_t)(x >> 8 * k);
 }
+
+/* Number i of an answer, to be printed. */
+static inline unsigned long long number(const uint8_t *answer, size_t i) { return simmergate_number(answer, i); }
 
 /* ---- What goes wrong, in words ---- */
 
@@ -31,53 +31,24 @@ static inline void put_number(uint8_t *bytes, size_t i, uint64_t x) {
 static inline int complain(const char *of, const char *what) {
     fflush(stdout);
     fprintf(stderr, PROGRAM ": %s: %s\n", of, what);
-    return 1;
+    return FAILED;
 }
 
-/* "refused 2 at 3 byte 7", by the numbers of an answer, of which WHAT is number `what_at`. */
-static inline void say_refused(FILE *to, const uint8_t *answer, size_t what_at) {
-    fprintf(to, "refused %llu at %llu", (unsigned long long)number(answer, 0), (unsigned long long)number(answer, 1));
-    switch (number(answer, what_at)) {
-    case 1: fprintf(to, " kind"); break;
-    case 2: fprintf(to, " byte %llu", (unsigned long long)number(answer, what_at + 1)); break;
-    case 3: fprintf(to, " count"); break;
-    }
+/* A pipe that nobody reads is output that is lost, and is said so; it does not end the program unsaid. */
+static inline void mind_pipes(void) { signal(SIGPIPE, SIG_IGN); }
+
+/* The exit code at the end of a program: `code`, or FAILED where what it printed could not be written. */
+static inline int ended(int code) {
+    if (fflush(stdout) == 0 && !ferror(stdout)) return code;
+    return complain("output was lost", strerror(errno));
 }
 
-/* The same and what it means, of a table of `bytes` bytes. */
+/* What a refusal means, of a table of `bytes` bytes, a line; WHAT is number `what_at` of the answer. */
 static inline void explain(FILE *to, size_t limit, const uint8_t *table, size_t bytes, const uint8_t *answer, size_t what_at) {
-    unsigned long long at = number(answer, 1), what = number(answer, what_at), byte = number(answer, what_at + 1);
-    say_refused(to, answer, what_at);
-    fprintf(to, ": ");
-    switch (number(answer, 0)) {
-    case 1:
-        if (bytes == 0) fprintf(to, "it is empty\n");
-        else if (bytes > SIMMERGATE_TABLE_BYTES(limit)) fprintf(to, "it is longer than %zu bytes\n", SIMMERGATE_TABLE_BYTES(limit));
-        else fprintf(to, "%zu bytes are no whole number of records of 16 bytes\n", bytes);
-        break;
-    case 2:
-        if (what == 1) fprintf(to, "record %llu has the unknown kind %u\n", at, table[16 * at]);
-        else if (what == 2) fprintf(to, "byte %llu of record %llu is %u and must be zero\n", byte, at, table[16 * at + byte]);
-        else fprintf(to, "record %llu has fewer than two members\n", at);
-        break;
-    case 3: fprintf(to, "its weight is over %zu\n", limit); break;
-    case 4:
-        if (at == bytes / 16) fprintf(to, "the records end before the formula does\n");
-        else fprintf(to, "the formula ends before record %llu\n", at);
-        break;
-    case 5: fprintf(to, "record %llu is an exponent and no integer of at least 1\n", at); break;
-    case 6: fprintf(to, "an area that this program lends is too small\n"); break;
-    case 7: fprintf(to, "after %llu steps an integer leaves the signed 64-bit range\n", at); break;
-    case 8: fprintf(to, "what this program hands in does not fit together\n"); break;
-    case 9: fprintf(to, "there is no such edition of the rules\n"); break;
-    case 14: fprintf(to, "no formula in this form: s0 to s255, integers of 64 bits, + * ^ and no spaces, parentheses only where they must stand\n"); break;
-    case 15: fprintf(to, "a definition is no good table\n"); break;
-    case 16: fprintf(to, "over %d definitions, or a symbol defined twice\n", SIMMERGATE_DEFINITIONS); break;
-    case 17: fprintf(to, "a definition leads back to itself\n"); break;
-    case 18: fprintf(to, "opened, it weighs over %zu\n", limit); break;
-    case 19: fprintf(to, "there is no such limit: it is 3072 or 16384\n"); break;
-    default: fprintf(to, "a refusal that this program does not know\n");
-    }
+    char number_and_place[SIMMERGATE_WORDS_BYTES], words[SIMMERGATE_WORDS_BYTES];
+    simmergate_refused(number_and_place, sizeof number_and_place, answer, what_at);
+    simmergate_explain(words, sizeof words, limit, table, bytes, answer, what_at);
+    fprintf(to, "%s: %s\n", number_and_place, words);
 }
 
 /* The same as a message to standard error about a file; the answer is the exit code. */
@@ -85,7 +56,7 @@ static inline int refused(const char *file, size_t limit, const uint8_t *table, 
     fflush(stdout);
     fprintf(stderr, PROGRAM ": %s: ", file);
     explain(stderr, limit, table, bytes, answer, what_at);
-    return 1;
+    return ended(REFUSED);
 }
 
 /* Prints the text of a table that has been accepted. */
@@ -93,7 +64,7 @@ static inline void print_text(size_t limit, const uint8_t *table, size_t bytes) 
     static uint8_t text[SIMMERGATE_TEXT_BYTES(HIGHEST)];
     uint8_t answer[SIMMERGATE_WRITE_TEXT_BYTES];
     simmergate_write_text(limit, table, bytes, text, sizeof text, answer, sizeof answer);
-    printf("%.*s", (int)number(answer, 2), (const char *)text);
+    printf("%.*s", (int)number(answer, SIMMERGATE_AT_WRITE_TEXT_LENGTH), (const char *)text);
 }
 
 /* ---- Files and the command line ---- */
@@ -112,6 +83,15 @@ static inline long read_file(const char *file, uint8_t *to, size_t room) {
     return (long)n;
 }
 
+/* Writes a file; DONE, or FAILED after a message. */
+static inline int write_file(const char *file, const uint8_t *from, size_t bytes) {
+    FILE *f = fopen(file, "wb");
+    if (f == NULL) return complain(file, strerror(errno));
+    int whole = fwrite(from, 1, bytes, f) == bytes, why = errno;
+    if (fclose(f) != 0 && whole) whole = 0, why = errno;
+    return whole ? DONE : complain(file, strerror(why));
+}
+
 /* The number that a word is; 0, which is no limit and no edition, where it is none. */
 static inline size_t whole_number(const char *word) {
     char *end;
@@ -120,11 +100,13 @@ static inline size_t whole_number(const char *word) {
     return *word < '0' || *word > '9' || *end != 0 || errno != 0 ? 0 : n;
 }
 
-/* Takes `-l LIMIT` and, where there is one, `-e EDITION` off the front of the command line. */
-static inline void take_options(int *argc, char ***argv, size_t *limit, size_t *edition) {
+/* Takes `-l LIMIT` and, where the program has them, `-e EDITION` and `-o FILE` off the front of the command line. */
+static inline void take_options(int *argc, char ***argv, size_t *limit, size_t *edition, const char **out_file) {
+    mind_pipes();
     for (; *argc > 2; *argv += 2, *argc -= 2) {
         if (strcmp((*argv)[1], "-l") == 0) *limit = whole_number((*argv)[2]);
         else if (edition != NULL && strcmp((*argv)[1], "-e") == 0) *edition = whole_number((*argv)[2]);
+        else if (out_file != NULL && strcmp((*argv)[1], "-o") == 0) *out_file = (*argv)[2];
         else return;
     }
 }

@@ -4,8 +4,7 @@
 
    SYMBOL:FILE defines a symbol by the table in a file, SYMBOL=NUMBER sets the register of one. The limit is 3,072, or the one that is named; the
    rules are those of edition one, or of the edition that is named. It writes the formula, the definitions, the opened formula, the shortened one and
-   its weight, and the value with the symbols named set and all others 0. Symbols are s0 to s255. What goes wrong goes to standard error in words; the
-   exit code is then 1.
+   its weight, and the value with the symbols named set and all others 0. Symbols are s0 to s255. What goes wrong goes to standard error in words.
 
    All memory is lent from here; the library has none of its own. No two areas overlap. */
 #define PROGRAM "curves"
@@ -41,7 +40,7 @@ static void say_which(void) {
     const uint8_t *begin = definitions;
     for (size_t i = 0; i < defined; i++) {
         size_t n = (size_t)number(lengths, i);
-        if (simmergate_check(limit, begin, n, answer, sizeof answer) != 0) refused(files[i], limit, begin, n, answer, 2);
+        if (simmergate_check(limit, begin, n, answer, sizeof answer) != SIMMERGATE_OK) refused(files[i], limit, begin, n, answer, SIMMERGATE_AT_CHECK_WHAT);
         begin += n;
     }
 }
@@ -54,27 +53,27 @@ static void print_line(const char *what, const uint8_t *formula, size_t bytes) {
 
 int main(int argc, char **argv) {
     uint8_t answer[SIMMERGATE_SIMPLIFY_BYTES], open_answer[SIMMERGATE_OPEN_BYTES], value[SIMMERGATE_VALUE_BYTES];
-    take_options(&argc, &argv, &limit, &edition);
+    take_options(&argc, &argv, &limit, &edition, NULL);
     if (argc < 2) {
         fprintf(stderr, "usage: curves [-l LIMIT] [-e EDITION] FILE [SYMBOL:FILE ...] [SYMBOL=NUMBER ...]\n");
-        return 2;
+        return FAILED;
     }
     for (int i = 2; i < argc; i++) {
-        if (!take(argv[i])) return 1;
+        if (!take(argv[i])) return FAILED;
     }
     long length = read_file(argv[1], table, sizeof table);
-    if (length < 0) return 1;
+    if (length < 0) return FAILED;
     size_t n = (size_t)length;
 
     uint32_t why = simmergate_simplify_shared(limit, edition, table, n, symbols, defined, lengths, 8 * defined, definitions, definitions_bytes, opened,
                                               sizeof opened, out, sizeof out, steps, sizeof steps, work, sizeof work, answer, sizeof answer);
-    if (why == 15) say_which();
-    if (why != 0) return refused(argv[1], limit, table, n, answer, 7);
+    if (why == SIMMERGATE_REFUSED_DEFINITION) say_which();
+    if (why != SIMMERGATE_OK) return refused(argv[1], limit, table, n, answer, SIMMERGATE_AT_SIMPLIFY_WHAT);
 
     /* how long the opened table is, the call that only opens tells */
     why = simmergate_open(limit, table, n, symbols, defined, lengths, 8 * defined, definitions, definitions_bytes, opened, sizeof opened, open_answer,
                           sizeof open_answer);
-    if (why != 0) return refused(argv[1], limit, table, n, open_answer, 4);
+    if (why != SIMMERGATE_OK) return refused(argv[1], limit, table, n, open_answer, SIMMERGATE_AT_OPEN_WHAT);
     print_line("formula", table, n);
     const uint8_t *begin = definitions;
     for (size_t i = 0; i < defined; i++) {
@@ -83,12 +82,12 @@ int main(int argc, char **argv) {
         print_line(name, begin, (size_t)number(lengths, i));
         begin += number(lengths, i);
     }
-    size_t shortened = 16 * (size_t)number(answer, 2);
-    print_line("opened", opened, 16 * (size_t)number(open_answer, 2));
+    size_t shortened = SIMMERGATE_RECORD_BYTES * (size_t)number(answer, SIMMERGATE_AT_SIMPLIFY_RECORDS);
+    print_line("opened", opened, SIMMERGATE_RECORD_BYTES * (size_t)number(open_answer, SIMMERGATE_AT_OPEN_RECORDS));
     print_line("shortened", out, shortened);
-    printf("weight     %llu to %llu\n", (unsigned long long)number(answer, 5), (unsigned long long)number(answer, 6));
+    printf("weight     %llu to %llu\n", number(answer, SIMMERGATE_AT_SIMPLIFY_WEIGHT_IN), number(answer, SIMMERGATE_AT_SIMPLIFY_WEIGHT_OUT));
     why = simmergate_value(limit, out, shortened, registers, sizeof registers, value, sizeof value);
-    if (why != 0) return refused(argv[1], limit, out, shortened, value, 3);
-    printf("value      %lld\n", (long long)number(value, 2));
-    return 0;
+    if (why != SIMMERGATE_OK) return refused(argv[1], limit, out, shortened, value, SIMMERGATE_AT_VALUE_WHAT);
+    printf("value      %lld\n", (long long)number(value, SIMMERGATE_AT_VALUE_VALUE));
+    return ended(DONE);
 }

@@ -4,8 +4,7 @@
      link [-l LIMIT] BYTES FILE
 
    The file stands for the link: it is read in pieces of BYTES bytes, the last one shorter. The limit is 3,072, or the one that is named. It writes
-   how many bytes came, in how many pieces, and the checker's answer in words; the exit code is 0 where the table is accepted, and else 1. What else
-   goes wrong goes to standard error.
+   how many bytes came, in how many pieces, and the checker's answer in words. What else goes wrong goes to standard error.
 
    The task keeps two things: the receiver's record, which begins as zeros, and the area, which nobody else may write until the finish. Both
    serve for the next table as they are. */
@@ -34,18 +33,20 @@ static int receive(const char *file, size_t size) {
 
 int main(int argc, char **argv) {
     uint8_t answer[SIMMERGATE_CHECK_BYTES];
-    take_options(&argc, &argv, &limit, NULL);
+    take_options(&argc, &argv, &limit, NULL, NULL);
     size_t size = argc == 3 ? whole_number(argv[1]) : 0;
     if (size == 0 || size > MOST_PIECE) {
         fprintf(stderr, "usage: link [-l LIMIT] BYTES FILE (BYTES from 1 to %d, the length of a piece)\n", MOST_PIECE);
-        return 2;
+        return FAILED;
     }
-    if (!receive(argv[2], size)) return 1;
+    if (!receive(argv[2], size)) return FAILED;
     printf("received   %zu bytes in %zu pieces\n", came, pieces);
-    if (simmergate_receive_finish(limit, receiver, sizeof receiver, area, sizeof area, answer, sizeof answer) != 0) {
-        explain(stdout, limit, area, came, answer, 2);
-        return 1;
+    /* the finish empties the receiver: how long the table is, it tells before */
+    size_t kept = (size_t)number(receiver, SIMMERGATE_AT_RECEIVER_KEPT);
+    if (simmergate_receive_finish(limit, receiver, sizeof receiver, area, sizeof area, answer, sizeof answer) != SIMMERGATE_OK) {
+        explain(stdout, limit, area, came, answer, SIMMERGATE_AT_CHECK_WHAT);
+        return ended(REFUSED);
     }
-    printf("ok\n");
-    return 0;
+    printf("ok, %zu records\n", kept / SIMMERGATE_RECORD_BYTES);
+    return ended(DONE);
 }

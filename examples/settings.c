@@ -6,9 +6,11 @@
      settings FILE store KEY SETTING [UNIT]    replaces the setting of a known key, or takes a free slot
      settings FILE remove KEY
 
-   A file of zeros is one of free slots: head -c 640 /dev/zero >FILE makes room for twenty settings. The file is read whole into memory, the
-   library changes that copy, and only what was accepted is written back: first to FILE.new, which then takes the file's place. What goes wrong
-   goes to standard error in words; the exit code is then 1. */
+   A file of zeros is one of free slots: head -c 640 /dev/zero >FILE makes room for twenty settings. A store or a remove first makes FILE.new, which
+   keeps every other one out: whoever finds it there says so and changes nothing, so that of two stores at once none is lost unsaid. Then the file is
+   read whole into memory, the library changes that copy, and only what was accepted is written to FILE.new, which takes the file's place. A link in
+   the file's place would be replaced by it; the command `simmergate settings` follows links and waits for its turn. What goes wrong goes to standard
+   error in words. */
 #define PROGRAM "settings"
 #include "common.h"
 
@@ -18,28 +20,21 @@
 static uint8_t area[MOST_AREA + 1]; /* one byte more, to see that a file is too long */
 static size_t length;
 static const char *file;
+static char beside[4096]; /* FILE.new */
+static FILE *held;        /* it, while it keeps others out */
 
 /* ---- Words for a person ---- */
 
 static int usage(void) {
     fprintf(stderr, "usage: settings FILE list | fetch KEY | fetch-1 KEY | store KEY SETTING [UNIT] | remove KEY\n");
-    return 2;
+    return FAILED;
 }
 
 static int turned_down(uint32_t why, unsigned key) {
-    fprintf(stderr, "settings: %s: refused %u: ", file, why);
-    switch (why) {
-    case 6: fprintf(stderr, "the answer that this program lends is too small\n"); break;
-    case 10: fprintf(stderr, "this area was written by a newer release\n"); break;
-    case 11:
-        if (length % SLOT != 0) fprintf(stderr, "%zu bytes are no whole number of slots of %d bytes\n", length, SLOT);
-        else fprintf(stderr, "a record is malformed, a key is there twice, or a record follows a free slot\n");
-        break;
-    case 12: fprintf(stderr, "there is no setting of key %u\n", key); break;
-    case 13: fprintf(stderr, "key %u is new, and none of the %zu slots is free\n", key, length / SLOT); break;
-    default: fprintf(stderr, "a refusal that this program does not know\n");
-    }
-    return 1;
+    char words[SIMMERGATE_WORDS_BYTES];
+    simmergate_explain_settings(words, sizeof words, why, length, key);
+    fprintf(stderr, "settings: %s: refused %u: %s\n", file, why, words);
+    return REFUSED;
 }
 
 static void show(unsigned key, uint64_t setting, uint64_t unit) {
@@ -58,19 +53,30 @@ static int read_area(void) {
     return n >= 0;
 }
 
+/* Makes FILE.new, which is not there before; 0 after a message. */
+static int hold(void) {
+    int n = snprintf(beside, sizeof beside, "%s.new", file);
+    if (n < 0 || (size_t)n >= sizeof beside) return complain(file, "its name is too long"), 0;
+    held = fopen(beside, "wbx");
+    if (held == NULL) complain(beside, errno == EEXIST ? "it is there: another store is at work, or was cut off; then remove it" : strerror(errno));
+    return held != NULL;
+}
+
+/* Gives it up: DONE or the code that is handed in. */
+static int release(int code) {
+    if (held != NULL) fclose(held), remove(beside);
+    return code;
+}
+
 /* Writes the area beside the file, and puts it in the file's place when it is written whole. */
 static int write_area(void) {
-    char beside[4096];
-    int n = snprintf(beside, sizeof beside, "%s.new", file);
-    if (n < 0 || (size_t)n >= sizeof beside) return complain(file, "its name is too long");
-    FILE *f = fopen(beside, "wb");
-    if (f == NULL) return complain(beside, strerror(errno));
-    int whole = fwrite(area, 1, length, f) == length;
-    if (fclose(f) != 0) whole = 0;
-    if (whole && rename(beside, file) == 0) return 0;
-    complain(beside, strerror(errno));
+    int whole = fwrite(area, 1, length, held) == length, why = errno;
+    if (fclose(held) != 0 && whole) whole = 0, why = errno;
+    held = NULL;
+    if (whole && rename(beside, file) == 0) return DONE;
+    complain(beside, strerror(whole ? errno : why));
     remove(beside);
-    return 1;
+    return FAILED;
 }
 
 /* ---- The commands ---- */
@@ -78,27 +84,27 @@ static int write_area(void) {
 static int fetch(unsigned key) {
     uint8_t answer[SIMMERGATE_SETTINGS_FETCH_BYTES];
     uint32_t why = simmergate_settings_fetch(area, length, (uint16_t)key, answer, sizeof answer);
-    if (why != 0) return turned_down(why, key);
-    show(key, number(answer, 2), number(answer, 3));
-    return 0;
+    if (why != SIMMERGATE_OK) return turned_down(why, key);
+    show(key, number(answer, SIMMERGATE_AT_SETTINGS_FETCH_SETTING), number(answer, SIMMERGATE_AT_SETTINGS_FETCH_UNIT));
+    return ended(DONE);
 }
 
 static int fetch_1(unsigned key) {
     uint8_t answer[SIMMERGATE_SETTINGS_FETCH_1_BYTES];
     uint32_t why = simmergate_settings_fetch_1(area, length, (uint16_t)key, answer, sizeof answer);
-    if (why != 0) return turned_down(why, key);
-    show(key, number(answer, 2), 0);
-    return 0;
+    if (why != SIMMERGATE_OK) return turned_down(why, key);
+    show(key, number(answer, SIMMERGATE_AT_SETTINGS_FETCH_1_SETTING), 0);
+    return ended(DONE);
 }
 
 static int store(unsigned key, uint64_t setting, unsigned unit) {
     uint32_t why = simmergate_settings_store(area, length, (uint16_t)key, setting, (uint16_t)unit);
-    return why != 0 ? turned_down(why, key) : write_area();
+    return why != SIMMERGATE_OK ? turned_down(why, key) : write_area();
 }
 
 static int take_out(unsigned key) {
     uint32_t why = simmergate_settings_remove(area, length, (uint16_t)key);
-    return why != 0 ? turned_down(why, key) : write_area();
+    return why != SIMMERGATE_OK ? turned_down(why, key) : write_area();
 }
 
 /* One fetch judges the area; where it is in order, its records are read as they stand, up to the first free slot. */
@@ -106,13 +112,13 @@ static int list(void) {
     uint8_t answer[SIMMERGATE_SETTINGS_FETCH_BYTES];
     uint32_t why = simmergate_settings_fetch(area, length, 0, answer, sizeof answer);
     size_t i = 0;
-    if (why != 0 && why != 12) return turned_down(why, 0);
+    if (why != SIMMERGATE_OK && why != SIMMERGATE_REFUSED_ABSENT) return turned_down(why, 0);
     for (; i < length / SLOT && area[SLOT * i] != 0; i++) {
         const uint8_t *slot = area + SLOT * i;
         show(slot[2] + 256u * slot[3], number(slot, 1), slot[4] + 256u * slot[5]);
     }
     printf("%zu of %zu slots used\n", i, length / SLOT);
-    return 0;
+    return ended(DONE);
 }
 
 /* ---- The command line ---- */
@@ -147,13 +153,15 @@ int main(int argc, char **argv) {
     int is_list = strcmp(command, "list") == 0, is_fetch = strcmp(command, "fetch") == 0, is_fetch_1 = strcmp(command, "fetch-1") == 0,
         is_store = strcmp(command, "store") == 0, is_remove = strcmp(command, "remove") == 0;
     if (!(is_list && argc == 3) && !((is_fetch || is_fetch_1 || is_remove) && argc == 4) && !(is_store && (argc == 5 || argc == 6))) return usage();
+    mind_pipes();
     file = argv[1];
-    if (argc > 3 && !read_16(argv[3], &key)) return 1;
-    if (argc > 4 && !read_setting(argv[4], &setting)) return 1;
-    if (argc > 5 && !read_16(argv[5], &unit)) return 1;
-    if (!read_area()) return 1;
+    if (argc > 3 && !read_16(argv[3], &key)) return FAILED;
+    if (argc > 4 && !read_setting(argv[4], &setting)) return FAILED;
+    if (argc > 5 && !read_16(argv[5], &unit)) return FAILED;
+    if ((is_store || is_remove) && !hold()) return FAILED;
+    if (!read_area()) return release(FAILED);
     if (is_list) return list();
     if (is_fetch) return fetch(key);
     if (is_fetch_1) return fetch_1(key);
-    return is_store ? store(key, setting, unit) : take_out(key);
+    return release(is_store ? store(key, setting, unit) : take_out(key));
 }

@@ -2,7 +2,9 @@
    or a whole site in one call, received in pieces, and read and written as text; and settings that survive an
    upgrade.
 
-   Callers of the first release: compile again, and do not link old object files; docs/MOVING.md says what to change.
+   This is the third release: SIMMERGATE_RELEASE, and simmergate_release() of the library that is linked. Callers of the
+   second have nothing to change. Callers of the first: compile again, and do not link old object files; docs/MOVING.md
+   says what to change. What the numbers mean in words, for a person to read: simmergate_words.h.
 
    ---- How a call is made ----
 
@@ -11,13 +13,14 @@
    bytes, `answer` last; those that are not const are lent to be written. A call on settings has neither limit nor
    edition, and takes its area first, then the key.
 
-   Every call returns the refusal number, 0 where nothing is refused. The numbers of its answer go to the front of
-   `answer`, 8 bytes each, little-endian, in the order named at the call: first the number that it returns, then the
-   place that the table of refusals names. After a refusal all numbers behind these two are 0, but for WHAT and BYTE
-   after 2, and for the one in simmergate_equal and simmergate_differ that says which table is refused. Where `answer`
-   is too short for the numbers, the call returns 6 before all else and changes nothing. simmergate_receive,
-   simmergate_settings_store and simmergate_settings_remove have no `answer`, since the number that they return is all
-   that they have to say; simmergate_batch has `answers`, as told there.
+   Every call but simmergate_release returns the refusal number, 0 where nothing is refused. The numbers of its answer
+   go to the front of `answer`, 8 bytes each, little-endian, in the order named at the call: first the number that it
+   returns, then the place that the table of refusals names; simmergate_number(answer, i) reads number i, and
+   SIMMERGATE_AT_SIMPLIFY_STEPS and its like name each i. After a refusal all numbers behind these two are 0, but for
+   WHAT and BYTE after 2, and for the one in simmergate_equal and simmergate_differ that says which table is refused.
+   Where `answer` is too short for the numbers, the call returns 6 before all else and changes nothing.
+   simmergate_receive, simmergate_settings_store and simmergate_settings_remove have no `answer`, since the number that
+   they return is all that they have to say; simmergate_batch has `answers`, as told there.
 
    A refusal changes no byte of any slice but `answer`, with two exceptions: 7 leaves what simmergate_simplify and
    simmergate_simplify_shared say, and a finish with 1 to 5 empties its receiver. Bytes past what a call is said to
@@ -27,6 +30,31 @@
    pointer may be anything where its length is 0, and needs no alignment. Nothing is allocated, nothing is kept between
    calls, and calls on different areas may run at the same time. Of the C library memcpy, memmove and memset are
    called, and nothing else.
+
+   libsimmergate.a is code for x86-64 as Linux has it: ELF, position-independent, called by the System V ABI (a size_t
+   has 64 bits), for any x86-64 processor: nothing beyond SSE2, and no floating-point number. It throws nothing, raises
+   no signal, and has no data that it writes. Tables, answers and settings are bytes in a stated order: they are the
+   same on every machine.
+
+   ---- What a call costs ----
+
+   A call waits for nothing. How its time grows, with n for the number of records:
+
+     check, weight, value, differ,    with n
+     receive_finish, write_text
+     receive                          with the bytes of the piece
+     open                             with the records handed in and those of the opened table
+     equal                            little more than with n for most tables, at the worst with the square of n
+     simplify                         little more than with W for most formulas, with the square of W for long chains
+                                      that all open; a formula made to be slow can take more. SIMMERGATE_WORK_BYTES(L)
+                                      bytes are cleared besides, however short the table
+     batch                            what its items would take one by one
+     simplify_shared                  what opening takes, and simplifying the opened table
+     read_text, settings              as told there
+
+   Steps, openings and tries are the paper's numbers, to which both machines of a pair can be held, and no measure of
+   time: the library often finds out for many nodes at once that no step applies, and counts a try for each. How many
+   instructions it comes to: bench/FIGURES.md.
 
    ---- Tables ----
 
@@ -187,15 +215,134 @@ extern "C" {
      simmergate_settings_fetch         216          216   whatever the area
      simmergate_settings_fetch_1       216          216   whatever the area
      simmergate_settings_remove        216          216   whatever the area
+     simmergate_release                 32           32
 
    SIMMERGATE_STACK bytes, or SIMMERGATE_STACK_16384, are enough for every call but simmergate_read_text, which has
-   names of its own. */
+   names of its own.
+
+   A thread may have less than that: musl gives it 131,072 bytes, a controller's operating system often a few thousand;
+   glibc gives what `ulimit -s` says, as a rule 8,388,608. Where that is too little, ask for it when the thread is made
+   (pthread_attr_setstacksize), and for what its own functions need besides. */
 #define SIMMERGATE_STACK 286720
 #define SIMMERGATE_STACK_16384 1507328
 #define SIMMERGATE_READ_TEXT_STACK 1003520
 #define SIMMERGATE_READ_TEXT_STACK_16384 5324800
 
+/* ---- Numbers by name ---- */
+
+/* The release that this header belongs to. */
+#define SIMMERGATE_RELEASE 3
+
+/* What a call returns, and number SIMMERGATE_AT_REFUSAL of every answer. */
+enum simmergate_refusal {
+    SIMMERGATE_OK = 0,
+    SIMMERGATE_REFUSED_LENGTH = 1,
+    SIMMERGATE_REFUSED_RECORD = 2,
+    SIMMERGATE_REFUSED_WEIGHT = 3,
+    SIMMERGATE_REFUSED_TREE = 4,
+    SIMMERGATE_REFUSED_EXPONENT = 5,
+    SIMMERGATE_REFUSED_ROOM = 6,
+    SIMMERGATE_REFUSED_RANGE = 7,
+    SIMMERGATE_REFUSED_PARTS = 8,
+    SIMMERGATE_REFUSED_EDITION = 9,
+    SIMMERGATE_REFUSED_NEWER = 10,
+    SIMMERGATE_REFUSED_AREA = 11,
+    SIMMERGATE_REFUSED_ABSENT = 12,
+    SIMMERGATE_REFUSED_FULL = 13,
+    SIMMERGATE_REFUSED_TEXT = 14,
+    SIMMERGATE_REFUSED_DEFINITION = 15,
+    SIMMERGATE_REFUSED_SYMBOLS = 16,
+    SIMMERGATE_REFUSED_CIRCLE = 17,
+    SIMMERGATE_REFUSED_OPENED = 18,
+    SIMMERGATE_REFUSED_LIMIT = 19
+};
+
+/* WHAT is wrong with a record that is refused by 2. */
+enum simmergate_wrong {
+    SIMMERGATE_WRONG_KIND = 1,
+    SIMMERGATE_WRONG_BYTE = 2,
+    SIMMERGATE_WRONG_COUNT = 3
+};
+
+/* Byte 0 of a record. */
+enum simmergate_kind {
+    SIMMERGATE_KIND_INTEGER = 0,
+    SIMMERGATE_KIND_SYMBOL = 1,
+    SIMMERGATE_KIND_SUM = 2,
+    SIMMERGATE_KIND_PRODUCT = 3,
+    SIMMERGATE_KIND_POWER = 4
+};
+
+/* A byte of `steps`. */
+enum simmergate_step {
+    SIMMERGATE_STEP_ADD_ZERO = 1,
+    SIMMERGATE_STEP_LIKE_TERMS = 2,
+    SIMMERGATE_STEP_MULTIPLY_ZERO = 3,
+    SIMMERGATE_STEP_MULTIPLY_ONE = 4,
+    SIMMERGATE_STEP_LIKE_FACTORS = 6,
+    SIMMERGATE_STEP_POWER_ONE = 7,
+    SIMMERGATE_STEP_POWER_CONSTANT = 8,
+    SIMMERGATE_STEP_POWER_POWER = 9
+};
+
+/* Which number of an answer is which: simmergate_number(answer, SIMMERGATE_AT_WEIGHT_WEIGHT). Those of CHECK are
+   simmergate_receive_finish's, too, those of SIMPLIFY simmergate_simplify_shared's and those of a place of
+   simmergate_batch; RECEIVER are the two numbers of a receiver's record. */
+enum simmergate_at {
+    SIMMERGATE_AT_REFUSAL = 0, /* of every answer */
+    SIMMERGATE_AT_PLACE = 1,   /* of every answer */
+    SIMMERGATE_AT_CHECK_WHAT = 2,
+    SIMMERGATE_AT_CHECK_BYTE = 3,
+    SIMMERGATE_AT_WEIGHT_WEIGHT = 2,
+    SIMMERGATE_AT_WEIGHT_WHAT = 3,
+    SIMMERGATE_AT_WEIGHT_BYTE = 4,
+    SIMMERGATE_AT_VALUE_VALUE = 2,
+    SIMMERGATE_AT_VALUE_WHAT = 3,
+    SIMMERGATE_AT_VALUE_BYTE = 4,
+    SIMMERGATE_AT_EQUAL_WHICH = 2, /* the table that is refused: 1, 2, or 0 for neither */
+    SIMMERGATE_AT_EQUAL_YES = 3,
+    SIMMERGATE_AT_EQUAL_WHAT = 4,
+    SIMMERGATE_AT_EQUAL_BYTE = 5,
+    SIMMERGATE_AT_DIFFER_WHICH = 2,
+    SIMMERGATE_AT_DIFFER_PAIRS = 3,
+    SIMMERGATE_AT_DIFFER_WHAT = 4,
+    SIMMERGATE_AT_DIFFER_BYTE = 5,
+    SIMMERGATE_AT_SIMPLIFY_RECORDS = 2,
+    SIMMERGATE_AT_SIMPLIFY_STEPS = 3,
+    SIMMERGATE_AT_SIMPLIFY_OPENINGS = 4,
+    SIMMERGATE_AT_SIMPLIFY_WEIGHT_IN = 5, /* W */
+    SIMMERGATE_AT_SIMPLIFY_WEIGHT_OUT = 6,
+    SIMMERGATE_AT_SIMPLIFY_WHAT = 7,
+    SIMMERGATE_AT_SIMPLIFY_BYTE = 8,
+    SIMMERGATE_AT_SIMPLIFY_TRIES = 9,
+    SIMMERGATE_AT_OPEN_RECORDS = 2,
+    SIMMERGATE_AT_OPEN_WEIGHT = 3,
+    SIMMERGATE_AT_OPEN_WHAT = 4,
+    SIMMERGATE_AT_OPEN_BYTE = 5,
+    SIMMERGATE_AT_READ_TEXT_RECORDS = 2,
+    SIMMERGATE_AT_WRITE_TEXT_LENGTH = 2,
+    SIMMERGATE_AT_WRITE_TEXT_WHAT = 3,
+    SIMMERGATE_AT_WRITE_TEXT_BYTE = 4,
+    SIMMERGATE_AT_SETTINGS_FETCH_SETTING = 2,
+    SIMMERGATE_AT_SETTINGS_FETCH_UNIT = 3,
+    SIMMERGATE_AT_SETTINGS_FETCH_1_SETTING = 2,
+    SIMMERGATE_AT_RECEIVER_KEPT = 0,
+    SIMMERGATE_AT_RECEIVER_MORE = 1
+};
+
+/* Number i of an answer, or of any other slice of numbers of 8 bytes, little-endian: lengths, a list of pairs, a
+   receiver's record. The slice has at least 8 x (i + 1) bytes. */
+static inline uint64_t simmergate_number(const uint8_t *answer, size_t i) {
+    uint64_t number = 0;
+    size_t k;
+    for (k = 8; k > 0; k--) number = number << 8 | answer[8 * i + k - 1];
+    return number;
+}
+
 /* ---- Lengths by name ---- */
+
+/* Bytes of a record. */
+#define SIMMERGATE_RECORD_BYTES 16
 
 /* Bytes of the longest table that a limit lets pass, and of the `work` that it asks for. Every area `out` or `opened`
    of SIMMERGATE_TABLE_BYTES(L) bytes and every area `steps` of L bytes is long enough. */
@@ -227,6 +374,13 @@ extern "C" {
 #define SIMMERGATE_WRITE_TEXT_BYTES 40
 #define SIMMERGATE_SETTINGS_FETCH_BYTES 32
 #define SIMMERGATE_SETTINGS_FETCH_1_BYTES 24
+
+/* ---- The release ---- */
+
+/* The release of the library that is linked: SIMMERGATE_RELEASE where header and library belong together. It returns
+   this number and no refusal. Two machines of one release simplify alike, by the same limit and edition; a pair may
+   ask each other before it trusts that. */
+uint32_t simmergate_release(void);
 
 /* ---- One table, or two ---- */
 
@@ -288,7 +442,8 @@ uint32_t simmergate_simplify(size_t limit, size_t edition, const uint8_t *table,
    `work`; the next one is tried all the same, and may have the room. Of `work` the first SIMMERGATE_WORK_BYTES(L)
    bytes are zero afterwards if any item has 0 or 7 in its place; else it is as it was. With `out` of 16 x W and
    `steps` of W bytes for all items together, and `work` of SIMMERGATE_WORK_BYTES(L), each item answers as it would
-   alone. */
+   alone. Without weighing anything: an `out` of 3 x tables_bytes and `steps` of tables_bytes always suffice, since a
+   record weighs 3 at the most. */
 uint32_t simmergate_batch(size_t limit, size_t edition, const uint8_t *tables, size_t tables_bytes,
                           const uint8_t *lengths, size_t lengths_bytes, uint8_t *out, size_t out_bytes, uint8_t *steps,
                           size_t steps_bytes, uint8_t *work, size_t work_bytes, uint8_t *answers,
@@ -300,9 +455,11 @@ uint32_t simmergate_batch(size_t limit, size_t edition, const uint8_t *tables, s
    answers at the finish as simmergate_check does on the whole: no cut alters the answer, its place or the bytes kept.
 
    The link task keeps the receiver's record, SIMMERGATE_RECEIVER_BYTES: how many bytes of the area are the table's,
-   and whether more came than are kept (0 for no), 8 bytes each, little-endian. Zero bytes begin. Any 16 bytes are a
-   record: they are judged at every call and never trusted, so that a record of rubbish costs one refused table, and
-   no byte outside the area.
+   and whether more came than are kept (0 for no), 8 bytes each, little-endian. The second number becomes 1 with the
+   first byte that is not kept, and stays so until the finish: it says that bytes were dropped, and not how many. The
+   finish empties the record, so the table's length is to be read before it, as simmergate_number(receiver,
+   SIMMERGATE_AT_RECEIVER_KEPT). Zero bytes begin. Any 16 bytes are a record: they are judged at every call and never
+   trusted, so that a record of rubbish costs one refused table, and no byte outside the area.
 
    The area has at least SIMMERGATE_TABLE_BYTES(L) bytes, and the same bytes are handed to every call from the first
    piece to the finish. Nobody else may write its first bytes, as many as the record counts, between the calls: what

@@ -59,6 +59,7 @@ static void store(void) { returned = simmergate_settings_store(slots, slots_byte
 static void fetch(void) { returned = simmergate_settings_fetch(slots, slots_bytes, key, answer, sizeof answer); }
 static void fetch_1(void) { returned = simmergate_settings_fetch_1(slots, slots_bytes, key, answer, sizeof answer); }
 static void take_out(void) { returned = simmergate_settings_remove(slots, slots_bytes, key); }
+static void ask_release(void) { returned = simmergate_release(); }
 
 static void simplify(void) {
     returned = simmergate_simplify(at.limit, edition, table, bytes, out, sizeof out, steps, sizeof steps, work, sizeof work, answer, sizeof answer);
@@ -81,7 +82,8 @@ static void simplify_shared(void) {
 }
 
 enum {
-    CHECK, WEIGHT, VALUE, EQUAL, DIFFER, SIMPLIFY, BATCH, RECEIVE, FINISH, OPEN, SHARED, WRITE_TEXT, READ_TEXT, STORE, FETCH, FETCH_1, REMOVE, CALLS
+    CHECK, WEIGHT, VALUE, EQUAL, DIFFER, SIMPLIFY, BATCH, RECEIVE, FINISH, OPEN, SHARED, WRITE_TEXT, READ_TEXT, STORE, FETCH, FETCH_1, REMOVE,
+    RELEASE, CALLS
 };
 
 /* Their names, and what the header says behind the figures. */
@@ -104,6 +106,7 @@ static const struct { void (*call)(void); const char *name, *remark; } calls[CAL
     [FETCH] = {fetch, "simmergate_settings_fetch", areas},
     [FETCH_1] = {fetch_1, "simmergate_settings_fetch_1", areas},
     [REMOVE] = {take_out, "simmergate_settings_remove", areas},
+    [RELEASE] = {ask_release, "simmergate_release", ""},
 };
 
 /* ---- The stack ---- */
@@ -364,6 +367,7 @@ static void try_all(void) {
     }
     judge_texts();
     settings();
+    measure(RELEASE), same("the release", SIMMERGATE_RELEASE, returned);
     widest(all, 0, 1, 1);
     widest(all / 3, 1, 3, 1);
     widest(1000, 2, 3001, 0);

@@ -16,5 +16,15 @@ says() {
     seen=$((seen + 1))
 }
 
+# lost ARGUMENTS: the same where nothing can be written to standard output; it must say so and exit with 2.
+lost() {
+    [ -c /dev/full ] || { echo "$0: left out, for there is no /dev/full: lost output of $example"; return; }
+    status=0
+    (cd "$work" && "$root/tests/kit/run" "$root/$programs/$example" "$@") >/dev/full 2>"$work/.seen" || status=$?
+    [ "$status" -eq 2 ] && grep -q ': output was lost: No space left on device$' "$work/.seen" ||
+        { echo "$0: exit $status, or nothing said, where output is lost, for: $example $*"; cat "$work/.seen"; exit 1; }
+    seen=$((seen + 1))
+}
+
 # record KIND COUNT BYTE: a record in the escapes of printf, with BYTE as its byte 8.
 record() { printf '\\%03o\\000\\%03o\\000\\000\\000\\000\\000\\%03o\\000\\000\\000\\000\\000\\000\\000' "$1" "$2" "$3"; }

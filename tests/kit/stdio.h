@@ -1,5 +1,6 @@
 #ifndef KIT_STDIO_H
 #define KIT_STDIO_H
+#include <stdarg.h>
 #include <stddef.h>
 typedef struct kit_file FILE;
 extern FILE *stdin, *stdout, *stderr;
@@ -9,6 +10,7 @@ extern FILE *stdin, *stdout, *stderr;
 int printf(const char *, ...) __attribute__((format(printf, 1, 2)));
 int fprintf(FILE *, const char *, ...) __attribute__((format(printf, 2, 3)));
 int snprintf(char *, size_t, const char *, ...) __attribute__((format(printf, 3, 4)));
+int vsnprintf(char *, size_t, const char *, va_list) __attribute__((format(printf, 3, 0)));
 int fputs(const char *, FILE *);
 int puts(const char *);
 int putchar(int);

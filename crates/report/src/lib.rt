@@ -1,83 +1,99 @@
-// The listing of a table: whether it was accepted, its steps and openings, both weights, and the steps by name.
+// The listing of a table: whether it was accepted, its steps and openings, both weights, and the steps by name. What writes answers whether it
+// was written; after the first write that fails there is no other, and standard error says so.
 use libc::STDOUT_FILENO;
 use record::Flaw;
 
+// Tells that output was lost, and why.
+pub fn lost() {
+    os::fail(b"output was lost");
+}
+
+// Writes a word.
+fn put(word: &[u8]) -> bool {
+    io::write_all(STDOUT_FILENO, word)
+}
+
 // Writes a word and a number.
-fn say(word: &[u8], number: usize) {
-    io::write_all(STDOUT_FILENO, word);
-    io::print_decimal(STDOUT_FILENO, number as u64);
+fn say(word: &[u8], number: usize) -> bool {
+    put(word) && io::print_decimal(STDOUT_FILENO, number as u64)
 }
 
 // Writes the name of a step, a line.
-fn name(step: u8) {
+fn name(step: u8) -> bool {
     if step == 1 {
-        io::write_all(STDOUT_FILENO, b"add-zero\n");
+        return put(b"add-zero\n");
     }
     if step == 2 {
-        io::write_all(STDOUT_FILENO, b"like-terms\n");
+        return put(b"like-terms\n");
     }
     if step == 3 {
-        io::write_all(STDOUT_FILENO, b"multiply-zero\n");
+        return put(b"multiply-zero\n");
     }
     if step == 4 {
-        io::write_all(STDOUT_FILENO, b"multiply-one\n");
+        return put(b"multiply-one\n");
     }
     if step == 6 {
-        io::write_all(STDOUT_FILENO, b"like-factors\n");
+        return put(b"like-factors\n");
     }
     if step == 7 {
-        io::write_all(STDOUT_FILENO, b"power-one\n");
+        return put(b"power-one\n");
     }
     if step == 8 {
-        io::write_all(STDOUT_FILENO, b"power-constant\n");
+        return put(b"power-constant\n");
     }
     if step == 9 {
-        io::write_all(STDOUT_FILENO, b"power-power\n");
+        return put(b"power-power\n");
     }
+    true
 }
 
 // Writes the names of the first n steps, where there are so many.
-fn names(steps: &[u8], n: usize) {
+fn names(steps: &[u8], n: usize) -> bool {
     let mut i = 0;
     while i < steps.len() {
         if i < n {
-            name(steps[i]);
+            if !name(steps[i]) {
+                return false;
+            }
         }
         i += 1;
     }
+    true
 }
 
 // Writes what is wrong with a record; nothing where nothing is.
-fn say_flaw(f: Flaw) {
+fn say_flaw(f: Flaw) -> bool {
     match f {
-        Flaw::Sound => {}
-        Flaw::Kind => {
-            io::write_all(STDOUT_FILENO, b" kind");
-        }
+        Flaw::Sound => true,
+        Flaw::Kind => put(b" kind"),
         Flaw::Byte(j) => say(b" byte ", j),
-        Flaw::Count => {
-            io::write_all(STDOUT_FILENO, b" count");
-        }
+        Flaw::Count => put(b" count"),
     }
 }
 
+// Writes a refusal, a line: number, place, and what is wrong with a record.
+pub fn refuse(number: u32, place: usize, flaw: Flaw) -> bool {
+    say(b"refused ", number as usize) && say(b" at ", place) && say_flaw(flaw) && put(b"\n")
+}
+
+// Writes what an accepted table was shortened by.
+fn tell(a: simplify::Answer, steps: &[u8]) -> bool {
+    put(b"ok\n")
+        && say(b"steps ", a.steps)
+        && say(b"\nopened ", a.openings)
+        && say(b"\nweight ", a.weight_in)
+        && say(b" to ", a.weight_out)
+        && put(b"\n")
+        && names(steps, a.steps)
+}
+
 // Writes a refusal, or what an accepted table was shortened by.
-pub fn list(a: simplify::Answer, steps: &[u8]) {
+pub fn list(a: simplify::Answer, steps: &[u8]) -> bool {
     let flaw = a.flaw;
     if 0 < a.number {
-        say(b"refused ", a.number as usize);
-        say(b" at ", a.place);
-        say_flaw(flaw);
-        io::write_all(STDOUT_FILENO, b"\n");
-        return;
+        return refuse(a.number, a.place, flaw);
     }
-    io::write_all(STDOUT_FILENO, b"ok\n");
-    say(b"steps ", a.steps);
-    say(b"\nopened ", a.openings);
-    say(b"\nweight ", a.weight_in);
-    say(b" to ", a.weight_out);
-    io::write_all(STDOUT_FILENO, b"\n");
-    names(steps, a.steps);
+    tell(a, steps)
 }
 
 // Reads a table from standard input, simplifies it at the limit 3,072 by the rules of the edition, in memory of its own, and writes its
@@ -89,5 +105,7 @@ pub fn run(edition: usize) {
     let mut work = [0u8; 65536];
     let n = io::read_full(0, &mut table);
     let a = simplify::simplify(3072, edition, &table[..n], &mut out, &mut steps, &mut work);
-    list(a, &steps);
+    if !list(a, &steps) {
+        lost();
+    }
 }

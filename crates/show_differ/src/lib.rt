@@ -1,6 +1,7 @@
 // What differs between the tables in two files, in words: a line for each pair of records, and in the second mode whether the trees are equal. All
 // of that goes to standard output; standard error tells why there is nothing to compare: a file that cannot be read, or what is wrong with a
-// table that is refused.
+// table that is refused. What writes to standard output answers whether it was written; after the first write that fails there is no other, and
+// standard error says so.
 use libc::STDERR_FILENO;
 use libc::STDOUT_FILENO;
 
@@ -13,94 +14,102 @@ const LIMIT: usize = 3072;
 // What reading answers where a file cannot be read.
 const UNREAD: isize = -1;
 
+// Writes a word.
+fn put(word: &[u8]) -> bool {
+    io::write_all(STDOUT_FILENO, word)
+}
+
 // Writes a word and a number.
-fn say(word: &[u8], number: u64) {
-    io::write_all(STDOUT_FILENO, word);
-    io::print_decimal(STDOUT_FILENO, number);
+fn say(word: &[u8], number: u64) -> bool {
+    put(word) && io::print_decimal(STDOUT_FILENO, number)
 }
 
 // Writes an integer, which its 64 bits stand for.
-fn say_integer(bits: u64) {
+fn say_integer(bits: u64) -> bool {
     if bits < TOP {
-        say(b"integer ", bits);
-        return;
+        return say(b"integer ", bits);
     }
-    say(b"integer -", u64::MAX - bits + 1);
+    say(b"integer -", u64::MAX - bits + 1)
 }
 
 // Writes the line of the sheet that record i comes from, where it says one.
-fn say_line(s: &[u8], i: usize) {
+fn say_line(s: &[u8], i: usize) -> bool {
     if s.len() / 16 <= i {
-        return;
+        return true;
     }
     let line = record::mark(s, i);
     if 0 < line {
-        say(b", line ", line as u64);
+        return say(b", line ", line as u64);
     }
+    true
 }
 
-// Writes what stands at record i of an accepted table.
-fn say_record(s: &[u8], i: usize) {
+// Writes kind, count and number of record i of an accepted table.
+fn say_node(s: &[u8], i: usize) -> bool {
     if s.len() / 16 <= i {
-        return;
+        return true;
     }
     let k = record::kind(s, i);
     if k == 0 {
-        say_integer(record::bits(s, i));
+        return say_integer(record::bits(s, i));
     }
     if k == 1 {
-        say(b"symbol ", record::symbol(s, i) as u64);
+        return say(b"symbol ", record::symbol(s, i) as u64);
     }
     if k == 2 {
-        say(b"sum of ", record::count(s, i) as u64);
+        return say(b"sum of ", record::count(s, i) as u64);
     }
     if k == 3 {
-        say(b"product of ", record::count(s, i) as u64);
+        return say(b"product of ", record::count(s, i) as u64);
     }
-    if k == 4 {
-        io::write_all(STDOUT_FILENO, b"power");
-    }
-    say_line(s, i);
+    put(b"power")
+}
+
+// Writes what stands at record i of an accepted table.
+fn say_record(s: &[u8], i: usize) -> bool {
+    say_node(s, i) && say_line(s, i)
 }
 
 // Writes pair p of the list, a line.
-fn say_pair(a: &[u8], b: &[u8], list: &[u8], p: usize) {
+fn say_pair(a: &[u8], b: &[u8], list: &[u8], p: usize) -> bool {
     if list.len() / 16 <= p {
-        return;
+        return true;
     }
     let i = number::read8(list, p * 16);
     let j = number::read8(list, p * 16 + 8);
-    say(b"record ", i);
-    say(b", record ", j);
-    io::write_all(STDOUT_FILENO, b": ");
-    say_record(a, i as usize);
-    io::write_all(STDOUT_FILENO, b", ");
-    say_record(b, j as usize);
-    io::write_all(STDOUT_FILENO, b"\n");
+    say(b"record ", i)
+        && say(b", record ", j)
+        && put(b": ")
+        && say_record(a, i as usize)
+        && put(b", ")
+        && say_record(b, j as usize)
+        && put(b"\n")
 }
 
-// Writes how many pairs there are, and each.
-fn say_pairs(a: &[u8], b: &[u8], list: &[u8], pairs: usize) {
-    say(b"differences ", pairs as u64);
-    io::write_all(STDOUT_FILENO, b"\n");
+// Writes the first pairs of the list.
+fn say_pairs(a: &[u8], b: &[u8], list: &[u8], pairs: usize) -> bool {
     let mut p = 0;
     while p < pairs {
-        say_pair(a, b, list, p);
+        if !say_pair(a, b, list, p) {
+            return false;
+        }
         p += 1;
     }
+    true
 }
 
 // Writes what is wrong with a record, as the listing does; nothing where nothing is.
-fn say_flaw(what: u64, byte: u64) {
+fn say_flaw(what: u64, byte: u64) -> bool {
     if what == 1 {
-        io::write_all(STDOUT_FILENO, b" kind");
+        return put(b" kind");
     }
     if what == 2 {
-        say(b" byte ", byte);
+        return say(b" byte ", byte);
     }
     if what == 3 {
-        io::write_all(STDOUT_FILENO, b" count");
+        return put(b" count");
     }
+    true
 }
 
 // Tells what is wrong with a record, in words.
@@ -147,48 +156,69 @@ fn explain(number: u32, what: u64) {
     }
 }
 
-// Writes which table is refused, the refusal's number and place, and what is wrong with the record; on standard error the same in words. The list
-// being as long as any table, one of the two is.
-fn say_refusal(d: differ::Differed) {
-    let flaw = d.flaw;
-    let wrong = record::flaw_numbers(flaw);
+// Tells on standard error what is wrong with a table, and with which record of it: 1 and 3 are of the whole.
+fn explain_refusal(d: differ::Differed, what: u64) {
     if d.which < 2 {
-        say(b"first: refused ", d.number as u64);
-        io::write_all(STDERR_FILENO, b"differs: first table, record ");
+        io::write_all(STDERR_FILENO, b"differs: first table");
     } else {
-        say(b"second: refused ", d.number as u64);
-        io::write_all(STDERR_FILENO, b"differs: second table, record ");
+        io::write_all(STDERR_FILENO, b"differs: second table");
     }
-    say(b" at ", d.place as u64);
-    say_flaw(wrong.what, wrong.byte);
-    io::write_all(STDOUT_FILENO, b"\n");
-    io::print_decimal(STDERR_FILENO, d.place as u64);
+    if d.number != 1 {
+        if d.number != 3 {
+            io::write_all(STDERR_FILENO, b", record ");
+            io::print_decimal(STDERR_FILENO, d.place as u64);
+        }
+    }
     io::write_all(STDERR_FILENO, b": ");
-    explain(d.number, wrong.what);
+    explain(d.number, what);
     io::write_all(STDERR_FILENO, b"\n");
 }
 
-// Writes whether the trees are equal, the order of members not counting.
-fn say_equal(a: &[u8], b: &[u8]) {
-    if equal::equal(LIMIT, a, b).yes {
-        io::write_all(STDOUT_FILENO, b"trees equal\n");
-        return;
+// Writes which table is refused. The list being as long as any table, one of the two is.
+fn say_which(which: u8) -> bool {
+    if which < 2 {
+        return put(b"first");
     }
-    io::write_all(STDOUT_FILENO, b"trees not equal\n");
+    put(b"second")
+}
+
+// Writes which table is refused, the refusal's number and place, and what is wrong with the record; then, on standard error, the same in words.
+fn say_refusal(d: differ::Differed) -> bool {
+    let flaw = d.flaw;
+    let wrong = record::flaw_numbers(flaw);
+    if !(say_which(d.which)
+        && say(b": refused ", d.number as u64)
+        && say(b" at ", d.place as u64)
+        && say_flaw(wrong.what, wrong.byte)
+        && put(b"\n")) {
+        return false;
+    }
+    explain_refusal(d, wrong.what);
+    true
+}
+
+// Writes whether the trees are equal, the order of members not counting.
+fn say_equal(a: &[u8], b: &[u8]) -> bool {
+    if equal::equal(LIMIT, a, b).yes {
+        return put(b"trees equal\n");
+    }
+    put(b"trees not equal\n")
 }
 
 // Writes what differs between two tables; the list is as long as any table.
-fn compare(a: &[u8], b: &[u8], with_equal: bool) {
+fn compare(a: &[u8], b: &[u8], with_equal: bool) -> bool {
     let mut list = [0u8; 49152];
     let d = differ::differ(LIMIT, a, b, &mut list);
     if 0 < d.number {
-        say_refusal(d);
-        return;
+        return say_refusal(d);
     }
-    say_pairs(a, b, &list, d.pairs);
+    if !(say(b"differences ", d.pairs as u64) && put(b"\n") && say_pairs(a, b, &list, d.pairs)) {
+        return false;
+    }
     if with_equal {
-        say_equal(a, b);
+        return say_equal(a, b);
     }
+    true
 }
 
 // Tells that a file cannot be read, and why.
@@ -232,7 +262,9 @@ fn compare_files(k: usize, l: usize, with_equal: bool) {
     }
     let n = io::count(got, &first);
     let m = io::count(also, &second);
-    compare(&first[..n], &second[..m], with_equal);
+    if !compare(&first[..n], &second[..m], with_equal) {
+        os::fail(b"differs: output was lost");
+    }
 }
 
 // Argument 1 is the word `equal`.

@@ -1,7 +1,8 @@
-// The entry points for C. Each call returns the refusal number and writes the numbers of its answer to a lent slice; those that take tables
-// take the limit first.
+// The entry points for C. Each call but the one that says which release this is returns the refusal number and writes the numbers of its answer
+// to a lent slice; those that take tables take the limit first.
 mod differ_calls;
 mod receiver_calls;
+mod release_call;
 mod settings_calls;
 mod shared_calls;
 mod site_calls;

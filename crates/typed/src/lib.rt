@@ -45,32 +45,26 @@ fn explain(number: u32) {
     }
 }
 
-// Writes a refusal, a line: number, place, and what is wrong with a record; and why, in words.
-fn refuse(fd: i32, number: u32, place: usize, flaw: Flaw) {
-    io::write_all(fd, b"refused ");
-    io::print_decimal(fd, number as u64);
-    io::write_all(fd, b" at ");
-    io::print_decimal(fd, place as u64);
-    match flaw {
-        Flaw::Sound => {}
-        Flaw::Kind => {
-            io::write_all(fd, b" kind");
-        }
-        Flaw::Byte(j) => {
-            io::write_all(fd, b" byte ");
-            io::print_decimal(fd, j as u64);
-        }
-        Flaw::Count => {
-            io::write_all(fd, b" count");
-        }
-    }
-    io::write_all(fd, b"\n");
+// Tells of a refusal on standard error: number and place, and why, in words.
+fn turn_away(number: u32, place: usize) {
+    io::write_all(STDERR_FILENO, b"refused ");
+    io::print_decimal(STDERR_FILENO, number as u64);
+    io::write_all(STDERR_FILENO, b" at ");
+    io::print_decimal(STDERR_FILENO, place as u64);
+    io::write_all(STDERR_FILENO, b"\n");
     explain(number);
 }
 
+// Writes a refusal, a line, and why, in words; whether it was written.
+fn refuse(number: u32, place: usize, flaw: Flaw) -> bool {
+    let written = report::refuse(number, place, flaw);
+    explain(number);
+    written
+}
+
 // Says that the input is longer than a program reads; the library was not asked.
-fn too_long(fd: i32) {
-    io::write_all(fd, b"longer than 65536 bytes\n");
+fn too_long(fd: i32) -> bool {
+    io::write_all(fd, b"longer than 65536 bytes\n")
 }
 
 // The length of a text without one line feed at its end.
@@ -107,46 +101,56 @@ fn bytes_of(records: usize) -> usize
     49152
 }
 
-// Writes the text of a table, and a line feed; or its refusal.
-fn print(table: &[u8], errors: i32) {
+// Writes the text of a table, and a line feed; or its refusal. Whether it was written.
+fn print(table: &[u8]) -> bool {
     let mut text = [0u8; 65536];
     let w = text::write(3072, table, &mut text);
     let flaw = w.flaw;
     if 0 < w.number {
-        refuse(errors, w.number, w.place, flaw);
-        return;
+        return refuse(w.number, w.place, flaw);
     }
     let n = at_most(w.result as usize, 65536);
-    io::write_all(STDOUT_FILENO, &text[..n]);
-    io::write_all(STDOUT_FILENO, b"\n");
+    io::write_all(STDOUT_FILENO, &text[..n]) && io::write_all(STDOUT_FILENO, b"\n")
 }
 
-// Reads a formula and writes the shortened one and its listing.
-pub fn shorten() {
+// Simplifies a table; writes the text of what it has become, and its listing. Whether they were written.
+fn shorten_table(table: &[u8]) -> bool {
+    let mut out = [0u8; 49152];
+    let mut steps = [0u8; 3072];
+    let mut work = [0u8; 65536];
+    let a = simplify::simplify(3072, 1, table, &mut out, &mut steps, &mut work);
+    if a.number < 1 {
+        let written = bytes_of(a.records);
+        if !print(&out[..written]) {
+            return false;
+        }
+    }
+    explain(a.number);
+    report::list(a, &steps)
+}
+
+// Reads a formula and shortens it. Whether what came of it was written.
+fn shorten_text() -> bool {
     let mut text = [0u8; 65537];
     let n = io::read_full(0, &mut text);
     if 65536 < n {
-        too_long(STDOUT_FILENO);
-        return;
+        return too_long(STDOUT_FILENO);
     }
     let m = at_most(without_end(&text[..n]), 65537);
     let mut table = [0u8; 49152];
     let r = text::read(3072, &text[..m], &mut table);
     if 0 < r.number {
-        refuse(STDOUT_FILENO, r.number, r.place, Flaw::Sound);
-        return;
+        return refuse(r.number, r.place, Flaw::Sound);
     }
-    let mut out = [0u8; 49152];
-    let mut steps = [0u8; 3072];
-    let mut work = [0u8; 65536];
     let bytes = bytes_of(r.records);
-    let a = simplify::simplify(3072, 1, &table[..bytes], &mut out, &mut steps, &mut work);
-    if a.number < 1 {
-        let written = bytes_of(a.records);
-        print(&out[..written], STDOUT_FILENO);
+    shorten_table(&table[..bytes])
+}
+
+// Reads a formula and writes the shortened one and its listing.
+pub fn shorten() {
+    if !shorten_text() {
+        report::lost();
     }
-    explain(a.number);
-    report::list(a, &steps);
 }
 
 // Reads a formula and writes its table; a refusal goes to standard error.
@@ -161,20 +165,20 @@ pub fn entry() {
     let mut table = [0u8; 49152];
     let r = text::read(3072, &text[..m], &mut table);
     if 0 < r.number {
-        refuse(STDERR_FILENO, r.number, r.place, Flaw::Sound);
+        turn_away(r.number, r.place);
         return;
     }
     let bytes = bytes_of(r.records);
-    io::write_all(STDOUT_FILENO, &table[..bytes]);
+    if !io::write_all(STDOUT_FILENO, &table[..bytes]) {
+        report::lost();
+    }
 }
 
-// Reads a table and writes its text.
+// Reads a table and writes its text. Of an input that is longer than any table only as much is read as shows that it is.
 pub fn show() {
-    let mut table = [0u8; 65537];
+    let mut table = [0u8; 49168];
     let n = io::read_full(0, &mut table);
-    if 65536 < n {
-        too_long(STDOUT_FILENO);
-        return;
+    if !print(&table[..n]) {
+        report::lost();
     }
-    print(&table[..n], STDOUT_FILENO);
 }

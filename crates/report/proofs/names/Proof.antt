@@ -1,4 +1,4 @@
--- `report::names` is safe and ends: the loop goes over the steps, what is left of them falls. Assumes nothing.
+-- `report::names` is safe and ends: the loop goes over the steps, or ends at one that cannot be written; what is left of them falls. Assumes nothing.
 use Prim.Native.Nat.{_-_}
 use lib.ListN.{length}
 use borrow.Author.Needs.{needs}
@@ -20,6 +20,9 @@ shared-slice-read-name c = search needs
 name-requires : tie.Need-name-requires Inv-loop μ-loop
 name-requires c κs = search needs
 
+returns : tie.Need-returns Inv-loop μ-loop
+returns c = search needs
+
 add-i : tie.Need-add-i Inv-loop μ-loop
 add-i c = search needs
 
@@ -29,8 +32,8 @@ loop-less c = search needs
 loop-again : tie.Need-loop-again Inv-loop μ-loop
 loop-again c = search needs
 
-returns : tie.Need-returns Inv-loop μ-loop
-returns c = search needs
+returns-2 : tie.Need-returns-2 Inv-loop μ-loop
+returns-2 c = search needs
 
 pub names-spec : {M : Type 1} → statement M
 names-spec =
@@ -41,7 +44,8 @@ names-spec =
     loop-holds
     shared-slice-read-name
     name-requires
+    returns
     add-i
     loop-less
     loop-again
-    returns)
+    returns-2)

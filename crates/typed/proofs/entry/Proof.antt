@@ -9,10 +9,11 @@ use Rattle.typed.proofs.entry.Reads as reads
 use Rattle.typed.proofs.entry.Lts as lts
 use Rattle.io.proofs.read_full.Reads as read-full-reads
 use Rattle.io.proofs.write_all.Reads as write-all-reads
+use Rattle.report.proofs.lost.Reads as lost-reads
 use Rattle.text.proofs.read.Reads as read-reads
 use Rattle.typed.proofs.at_most.Reads as at-most-reads
 use Rattle.typed.proofs.bytes_of.Reads as bytes-of-reads
-use Rattle.typed.proofs.refuse.Reads as refuse-reads
+use Rattle.typed.proofs.turn_away.Reads as turn-away-reads
 use Rattle.typed.proofs.too_long.Reads as too-long-reads
 use Rattle.typed.proofs.without_end.Reads as without-end-reads
 
@@ -54,8 +55,8 @@ slice-aggregate-read-2 c = search needs
 read-requires : tie.Need-read-requires
 read-requires c κs = search needs
 
-refuse-requires : tie.Need-refuse-requires
-refuse-requires c κs = search needs
+turn-away-requires : tie.Need-turn-away-requires
+turn-away-requires c κs = search needs
 
 returns-2 : tie.Need-returns-2
 returns-2 c = search needs
@@ -74,8 +75,14 @@ slice-aggregate-write-all c =
 write-all-requires : tie.Need-write-all-requires
 write-all-requires c κs = search needs
 
+lost-requires : tie.Need-lost-requires
+lost-requires c κs = search needs
+
 returns-3 : tie.Need-returns-3
 returns-3 c = search needs
+
+returns-4 : tie.Need-returns-4
+returns-4 c = search needs
 
 pub entry-spec : {M : Type 1} → statement M
 entry-spec =
@@ -93,10 +100,12 @@ entry-spec =
     slice-aggregate-read
     slice-aggregate-read-2
     read-requires
-    refuse-requires
+    turn-away-requires
     returns-2
     bytes-of-requires
     array-share-prefix-table
     slice-aggregate-write-all
     write-all-requires
-    returns-3)
+    lost-requires
+    returns-3
+    returns-4)

@@ -47,6 +47,9 @@ write-all-requires-2 c κs = search needs
 returns-2 : tie.Need-returns-2
 returns-2 c = search needs
 
+returns-3 : tie.Need-returns-3
+returns-3 c = search needs
+
 pub print-spec : {M : Type 1} → statement M
 print-spec =
     tie.close
@@ -61,4 +64,5 @@ print-spec =
     write-all-requires
     slice-aggregate-write-all-2
     write-all-requires-2
-    returns-2)
+    returns-2
+    returns-3)
