@@ -279,7 +279,7 @@ END {
         printf "     %-28s%9s%13s", n, comma(at_most[1]), comma(at_most[2])
         for (l = 1; l <= 2; l++) {
             if (!((n, l) in says)) { printf "   no row"; short++ }
-            else { d = says[n, l] - at_most[l]; printf "%9s", d < 0 ? "-" comma(-d) : comma(d); if (d < 0) short++; else if (d == 0) exact++ }
+            else { d = says[n, l] - at_most[l]; printf "%11s", d < 0 ? "-" comma(-d) : comma(d); if (d < 0) short++; else if (d == 0) exact++ }
         }
         print ""
         if (ways) for (l = 1; l <= 2; l++) print "         " way(home[n], l, "", 0)
