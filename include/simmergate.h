@@ -183,18 +183,17 @@ extern "C" {
      simmergate_open                 4,120        4,120   whatever the depth
      simmergate_simplify_shared    224,008    1,182,472   by either edition
      simmergate_write_text         221,400    1,179,864
-     simmergate_read_text          984,136    5,243,976   for any text
+     simmergate_read_text          123,448      655,928   for any text
      simmergate_settings_store         216          216   whatever the area
      simmergate_settings_fetch         216          216   whatever the area
      simmergate_settings_fetch_1       216          216   whatever the area
      simmergate_settings_remove        216          216   whatever the area
 
-   SIMMERGATE_STACK bytes, or SIMMERGATE_STACK_16384, are enough for every call but simmergate_read_text, which has
-   names of its own. */
+   SIMMERGATE_STACK bytes, or SIMMERGATE_STACK_16384, are enough for every call. */
 #define SIMMERGATE_STACK 286720
 #define SIMMERGATE_STACK_16384 1507328
-#define SIMMERGATE_READ_TEXT_STACK 1003520
-#define SIMMERGATE_READ_TEXT_STACK_16384 5324800
+#define SIMMERGATE_READ_TEXT_STACK SIMMERGATE_STACK /* the same two, by earlier names */
+#define SIMMERGATE_READ_TEXT_STACK_16384 SIMMERGATE_STACK_16384
 
 /* ---- Lengths by name ---- */
 
@@ -371,8 +370,8 @@ uint32_t simmergate_simplify_shared(size_t limit, size_t edition, const uint8_t 
    A table has exactly one text, and a text that is read exactly one table: writing what was read gives the same
    bytes, and reading what was written gives the same records without their line marks, which text does not carry.
 
-   A text of any length and nesting is judged, within SIMMERGATE_READ_TEXT_STACK bytes of stack, or
-   SIMMERGATE_READ_TEXT_STACK_16384. The time grows with its length; besides, where first members or bases stand
+   A text of any length and nesting is judged, within SIMMERGATE_STACK bytes of stack, or SIMMERGATE_STACK_16384.
+   The time grows with its length; besides, where first members or bases stand
    nested, with their depth, since each such level moves the records inside it on by one; and for a text nested deeper
    than half the limit with how often that goes into its depth. */
 
