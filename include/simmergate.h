@@ -174,7 +174,7 @@ extern "C" {
      simmergate_check                2,328        2,328   whatever the depth
      simmergate_weight               2,344        2,344   whatever the depth
      simmergate_value              100,496      526,480
-     simmergate_equal              273,752    1,458,520
+     simmergate_equal              273,768    1,458,536
      simmergate_differ               2,424        2,424   whatever the depth
      simmergate_simplify           223,384    1,181,848   by either edition
      simmergate_batch              223,512    1,181,976   by either edition
