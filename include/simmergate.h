@@ -182,7 +182,7 @@ extern "C" {
      simmergate_receive_finish       2,360        2,360   whatever the depth
      simmergate_open                 4,120        4,120   whatever the depth
      simmergate_simplify_shared    224,008    1,182,472   by either edition
-     simmergate_write_text         221,400    1,179,864
+     simmergate_write_text          98,488      524,472
      simmergate_read_text          123,448      655,928   for any text
      simmergate_settings_store         216          216   whatever the area
      simmergate_settings_fetch         216          216   whatever the area
