@@ -2,3 +2,4 @@ pub mod TreeLaws
 pub mod MemberLaws
 pub mod AnswerLaws
 pub mod Unique
+pub mod HeightLaws
