@@ -2,4 +2,3 @@ pub mod TreeLaws
 pub mod MemberLaws
 pub mod AnswerLaws
 pub mod Unique
-pub mod HeightLaws

@@ -1,2 +1,1 @@
 pub mod Evaluated
-pub mod Height
