@@ -64,7 +64,8 @@ AsLong lim ed =
 abbrev pub SwapsAgain : ℕ → ℕ → Type 0
 SwapsAgain lim ed =
     (ns s : List ℕ) → Bytes s → total ns ≡ length s → (l m m′ : Lent) → let x = inTurn (simplified lim ed) ns s l in
-    NoSix (x .answers) → Room lim (wholeWeight ns s (x .answers)) m → Room lim (wholeWeight ns s (x .answers)) m′
+    let w = wholeWeight ns s (x .answers) in
+    NoSix (x .answers) → Room lim w m → Room lim w m′
     → let ms = wholeLengths ns (x .answers) in
     let t = restoredWhole ns s (x .answers) (x .lent .out) in
     let y = inTurn (simplified lim ed) ms t m in
