@@ -189,6 +189,8 @@ extern "C" {
      simmergate_settings_fetch_1       216          216   whatever the area
      simmergate_settings_remove        216          216   whatever the area
 
+   On 64-bit Arm no call needs over 273,760 and 1,458,528 bytes (arm/archive, tests/arm).
+
    SIMMERGATE_STACK bytes, or SIMMERGATE_STACK_16384, are enough for every call. */
 #define SIMMERGATE_STACK 286720
 #define SIMMERGATE_STACK_16384 1507328
