@@ -218,6 +218,8 @@ extern "C" {
      simmergate_settings_remove        216          216   whatever the area
      simmergate_release                 32           32
 
+   On 64-bit Arm no call needs over 273,760 and 1,458,528 bytes (arm/archive, tests/arm).
+
    SIMMERGATE_STACK bytes, or SIMMERGATE_STACK_16384, are enough for every call.
 
    A thread may have less than that: musl gives it 131,072 bytes, a controller's operating system often a few thousand;

@@ -1,4 +1,4 @@
-# What each call of an archive needs of the stack at the most, from its machine code: x86-64, one function to a section, as clang writes it.
+# What each call of an archive needs of the stack at the most, from its machine code: x86-64 or 64-bit Arm, one function to a section, as clang writes it.
 #
 # Read in this order: the table of activations (how often a function that calls itself may be active at the same time, at each limit), the
 # header's figures and names, the symbols (llvm-objdump -t), the code with its relocations (-d -r), the relocations of the jump tables (-r).
@@ -38,21 +38,29 @@ part == 1 && NF {
 part == 2 && $1 ~ /^simmergate_/ && $2 ~ /^[0-9,]+$/ && $3 ~ /^[0-9,]+$/ {
     for (i = 1; i <= 2; i++) { n = $(i + 1); gsub(",", "", n); says[$1, i] = n + 0 }
 }
-# The names for a stack that is enough, each a number or an earlier name.
-part == 2 && $1 == "#define" && $2 ~ /^SIMMERGATE_(READ_TEXT_)?STACK(_16384)?$/ { name[$2] = $3 in name ? name[$3] : $3 + 0 }
-# The arguments of a call that are handed over on the stack, from its declaration.
+# The names for a stack that is enough, each a number or another name; those for Arm, or for other machines, may stand apart.
+part == 2 && /^#if.*__aarch64__/ { machine = "arm" }
+part == 2 && /^#else/ && machine == "arm" { machine = "x86" }
+part == 2 && /^#endif/ { machine = "" }
+part == 2 && $1 == "#define" && $2 ~ /^SIMMERGATE_(READ_TEXT_)?STACK(_16384)?$/ { name[machine, $2] = $3 }
+# How many arguments a call has, from its declaration.
 part == 2 && /^uint32_t simmergate_/ { declared = $2; sub(/\(.*/, "", declared); list = "" }
 part == 2 && declared != "" {
     list = list $0
     if (list !~ /;$/) next
-    handed[declared] = 16 * int((8 * most(0, gsub(",", ",", list) + 1 - 6) + 15) / 16)
+    arguments[declared] = gsub(",", ",", list) + 1
     declared = ""
 }
 part == 3 && $2 == "g" && $3 == "F" { exported[++exports] = $6; home[$6] = $4; if ($1 !~ /^0+$/) fault($6 " does not begin its section") }
 part == 3 && $2 == "g" && $3 != "F" { fault("an exported name that is no function: " $0) }
 
-part == 4 && /^Disassembly of section / { f = $4; sub(/:$/, "", f); functions[++count] = f; defined[f] = 1; pending = ""; next }
-part == 4 && /^ *[0-9a-f]+:[ \t]/ && !/R_X86_64_/ {
+part == 4 && /file format / {
+    arm = /aarch64/
+    if (!arm && !/x86-64/) fault("machine code that is not understood: " $0)
+    next
+}
+part == 4 && /^Disassembly of section / { f = $4; sub(/:$/, "", f); functions[++count] = f; defined[f] = 1; next }
+part == 4 && /^ *[0-9a-f]+:[ \t]/ && !/R_(X86_64|AARCH64)_/ {
     split($0, w, "\t")
     at = w[1]
     sub(/:.*/, "", at)
@@ -63,13 +71,14 @@ part == 4 && /^ *[0-9a-f]+:[ \t]/ && !/R_X86_64_/ {
     number[f, here] = n
     mnemonic[f, n] = w[2]
     operands[f, n] = w[3]
-    sub(/ *#.*/, "", operands[f, n])
+    if (arm) sub(/ *\/\/.*/, "", operands[f, n])
+    else sub(/ *#.*/, "", operands[f, n])
     next
 }
-part == 4 && /R_X86_64_/ {
+part == 4 && /R_(X86_64|AARCH64)_/ {
     split($0, w, "\t")
     reloc[f, size[f]] = w[4]
-    if (w[4] ~ /^\.rodata\./) { s = w[4]; base_of(s) }
+    if (!arm && w[4] ~ /^\.rodata\./) { s = w[4]; base_of(s) }
     next
 }
 # A table of jumps begins 4 behind the place that an instruction names.
@@ -115,53 +124,91 @@ function called(s) { sub(/[-+]0x[0-9a-f]+$/, "", s); return s in home ? home[s] 
 function edge(f, g, h, tail,    k) {
     k = ++edges[f]
     to[f, k] = g
-    cost[f, k] = tail ? 0 : h + 8
+    cost[f, k] = tail ? 0 : h + returning()
     if (!(g in defined)) outside[g] = 1
 }
-function walk_through(f,    first, n, h, m, o, a, next_h, t, probe) {
+# An instruction: `after` is the height behind it, and `follows` says whether the next one follows.
+function step_x86(f, n, h, m, o,    a, t) {
+    # below the stack pointer: the 128 bytes that a function which calls nothing may use
+    if (match(o, /-0x[0-9a-f]+\(%rsp/) && m !~ /^leaq/) own[f] = most(own[f], h - most(hex(substr(o, RSTART, RLENGTH - 5)), -128))
+    if (m == "pushq") after = h + 8
+    else if (m == "popq") after = h - 8
+    else if (m ~ /^(sub|add)q$/ && o ~ /^\$-?0x[0-9a-f]+, %rsp$/) {
+        a = o
+        sub(/^\$/, "", a)
+        sub(/,.*/, "", a)
+        after = m == "subq" ? h + hex(a) : h - hex(a)
+    }
+    else if (m == "leaq" && o ~ /^-0x[0-9a-f]+\(%rsp\), %r11$/) { a = o; sub(/^-/, "", a); sub(/\(.*/, "", a); probe = h + hex(a) }
+    else if (o ~ /%[er]?spl?$/ && m !~ /^(cmp|test)/ || o ~ /%[er]?spl?,/ && m ~ /xchg|xadd/ || m ~ /^(leave|enter|push|pop[^c]|sys|int|iret)/)
+        fault("the stack pointer set by " m " " o " in " f)
+    if (m ~ /^ret/ && o == "") returns(f, h)
+    else if (m == "ud2") follows = 0
+    else if (m == "callq") call(f, n, h, o)
+    else if (m ~ /^(l?ret|l?call|ljmp)/) fault(m " in " f)
+    else if (m ~ /^j/) {
+        if ((f, n) in reloc) jump_out(f, n, h)
+        else if (o ~ /^\*/) by_table(f, h)
+        else {
+            t = o
+            sub(/ .*/, "", t)
+            if (m == "jne" && mnemonic[f, n - 1] == "cmpq" && operands[f, n - 1] == "%r11, %rsp") after = probe
+            else reach(f, hex(t), h)
+        }
+        if (m == "jmp" || m == "jmpq") follows = 0
+    }
+}
+function step_arm(f, n, h, m, o,    a, pages, t) {
+    if (match(o, /\[sp, #-0x[0-9a-f]+\]$/)) own[f] = most(own[f], h - hex(substr(o, RSTART + 6, RLENGTH - 7)))
+    if (m ~ /^(sub|add)$/ && o ~ /^sp, sp, #0x[0-9a-f]+(, lsl #12)?$/) {
+        a = o
+        sub(/^sp, sp, #/, "", a)
+        pages = sub(/, lsl #12$/, "", a)
+        a = hex(a) * (pages ? 4096 : 1)
+        after = m == "sub" ? h + a : h - a
+    }
+    # moved by a store or a load: before it, or behind it
+    else if (match(o, /\[sp, #-?0x[0-9a-f]+\]!$/)) after = h - hex(substr(o, RSTART + 6, RLENGTH - 8))
+    else if (match(o, /\[sp\], #-?0x[0-9a-f]+$/)) after = h - hex(substr(o, RSTART + 7))
+    else if (o ~ /^w?sp(,|$)/ && m !~ /^(cmp|cmn|tst)$/ || o ~ /\[sp.*(!|\], .*)$/) fault("the stack pointer set by " m " " o " in " f)
+    if (m == "ret" && o == "") returns(f, h)
+    else if (m == "brk" || m == "udf") follows = 0
+    else if (m == "bl") call(f, n, h, o)
+    else if (m == "b" || m ~ /^b\./ || m ~ /^[ct]bn?z$/) {
+        if ((f, n) in reloc) jump_out(f, n, h)
+        else {
+            t = o
+            sub(/ <.*/, "", t)
+            sub(/.*, /, "", t)
+            reach(f, hex(t), h)
+        }
+        if (m == "b") follows = 0
+    }
+    else if (m ~ /^(br|bl|ret|svc|hvc|smc|eret)/) fault("a jump or a call by a pointer in " f)
+}
+function returns(f, h) { if (h != 0) fault("a return from " f " at the height " h); follows = 0 }
+function call(f, n, h, o) {
+    if (o ~ /^\*/) fault("a call by a pointer in " f)
+    if ((f, n) in reloc) edge(f, called(reloc[f, n]), h, 0)
+    else reach_self(f, o, h)
+}
+function jump_out(f, n, h) {
+    if (h != 0) fault("a jump out of " f " at the height " h)
+    edge(f, called(reloc[f, n]), h, 1)
+}
+function walk_through(f,    first, n, h) {
     first = last = 0
     reach(f, 0, 0)
     while (first < last) {
         n = queue[++first]
-        h = height[f, n]
-        m = mnemonic[f, n]
-        o = operands[f, n]
-        own[f] = most(own[f], h)
-        # below the stack pointer: the 128 bytes that a function which calls nothing may use
-        if (match(o, /-0x[0-9a-f]+\(%rsp/) && m !~ /^leaq/) own[f] = most(own[f], h - most(hex(substr(o, RSTART, RLENGTH - 5)), -128))
-        next_h = h
-        if (m == "pushq") next_h = h + 8
-        else if (m == "popq") next_h = h - 8
-        else if (m ~ /^(sub|add)q$/ && o ~ /^\$-?0x[0-9a-f]+, %rsp$/) {
-            a = o
-            sub(/^\$/, "", a)
-            sub(/,.*/, "", a)
-            next_h = m == "subq" ? h + hex(a) : h - hex(a)
-        }
-        else if (m == "leaq" && o ~ /^-0x[0-9a-f]+\(%rsp\), %r11$/) { a = o; sub(/^-/, "", a); sub(/\(.*/, "", a); probe = h + hex(a) }
-        else if (o ~ /%[er]?spl?$/ && m !~ /^(cmp|test)/) fault("the stack pointer set by " m " " o " in " f)
-        own[f] = most(own[f], next_h)
-        if (m == "retq") { if (h != 0) fault("a return from " f " at the height " h); continue }
-        if (m == "ud2") continue
-        if (m == "callq") {
-            if (o ~ /^\*/) fault("a call by a pointer in " f)
-            if (!((f, n) in reloc)) { reach_self(f, o, h); }
-            else edge(f, called(reloc[f, n]), h, 0)
-        } else if (m ~ /^j/) {
-            if ((f, n) in reloc) {
-                if (h != 0) fault("a jump out of " f " at the height " h)
-                edge(f, called(reloc[f, n]), h, 1)
-            } else if (o ~ /^\*/) by_table(f, h)
-            else {
-                t = o
-                sub(/ .*/, "", t)
-                if (m == "jne" && mnemonic[f, n - 1] == "cmpq" && operands[f, n - 1] == "%r11, %rsp") next_h = probe
-                else reach(f, hex(t), h)
-            }
-            if (m == "jmp" || m == "jmpq") continue
-        }
+        after = h = height[f, n]
+        follows = 1
+        if (arm) step_arm(f, n, h, mnemonic[f, n], operands[f, n])
+        else step_x86(f, n, h, mnemonic[f, n], operands[f, n])
+        own[f] = most(own[f], most(h, after))
+        if (!follows) continue
         if (n == size[f]) fault(f " ends with no return")
-        reach(f, place[f, n + 1], next_h)
+        reach(f, place[f, n + 1], after)
     }
 }
 function reach_self(f, o, h) { sub(/ .*/, "", o); if (hex(o) != 0) fault("a call into the middle of " f); edge(f, f, h, 0) }
@@ -252,11 +299,22 @@ function way(f, l, o, k,    s, g) {
     return g == "" ? s : g in defined ? s " > " way(g, l, o, k) : s " > " g
 }
 
+# What a call puts on the stack besides the frame of the function that is called: the return address on x86-64, and the arguments that no register takes.
+function returning() { return arm ? 0 : 8 }
+function handed(n) { return 16 * int((8 * most(0, arguments[n] - (arm ? 8 : 6)) + 15) / 16) }
+function bound(n, l) { return needs(home[n], l, "", 0) + returning() + handed(n) }
+
 # Whether the name that a call goes by has room for it and for a loader that binds late; a line where it has not.
+function named(by,    m) {
+    m = arm ? "arm" : "x86"
+    if (!((m, by) in name)) m = ""
+    if (!((m, by) in name)) fault("the header has no " by)
+    return name[m, by] ~ /^[0-9]+$/ ? name[m, by] + 0 : named(name[m, by])
+}
 function covered(n, l, bytes,    by) {
     by = (n == "simmergate_read_text" ? "SIMMERGATE_READ_TEXT_STACK" : "SIMMERGATE_STACK") (l == 2 ? "_16384" : "")
-    if (name[by] >= bytes + loader) return 1
-    print "stack: " by " is " comma(name[by] + 0) ", and " n " needs " comma(bytes) ", with a loader " comma(loader) " more"
+    if (named(by) >= bytes + loader) return 1
+    print "stack: " by " is " comma(named(by)) ", and " n " needs " comma(bytes) ", with a loader " comma(loader) " more"
     return 0
 }
 
@@ -272,19 +330,20 @@ END {
     for (g in outside) if (g !~ /^mem(cpy|move|set)$/) fault("a call of " g)
     for (n in listed) if (!(n in used) && !((".text." n) in defined)) fault("the table of activations has a row for " n ", which is not there")
     printf "stack: %d functions, no call by a pointer; cycles, with bytes and activations at each limit:\n%s", count, cycles
-    print "stack: bytes of stack that a call needs at the most, at the limits 3,072 and 16,384, and what the header says beyond that:"
+    print "stack: bytes of stack that a call needs at the most, at the limits 3,072 and 16,384" (arm ? ", on 64-bit Arm:" : ", and what the header says beyond that:")
     for (i = 1; i <= exports; i++) {
         n = exported[i]
-        for (l = 1; l <= 2; l++) at_most[l] = needs(home[n], l, "", 0) + 8 + handed[n]
+        for (l = 1; l <= 2; l++) at_most[l] = bound(n, l)
         printf "     %-28s%9s%13s", n, comma(at_most[1]), comma(at_most[2])
-        for (l = 1; l <= 2; l++) {
+        for (l = 1; l <= 2 && !arm; l++) {
             if (!((n, l) in says)) { printf "   no row"; short++ }
             else { d = says[n, l] - at_most[l]; printf "%11s", d < 0 ? "-" comma(-d) : comma(d); if (d < 0) short++; else if (d == 0) exact++ }
         }
         print ""
         if (ways) for (l = 1; l <= 2; l++) print "         " way(home[n], l, "", 0)
     }
-    for (i = 1; i <= exports; i++) for (l = 1; l <= 2; l++) if (!covered(exported[i], l, needs(home[exported[i]], l, "", 0) + 8 + handed[exported[i]])) tight++
-    printf "stack: of %d figures the header says %d exactly and %d too low; %d are over the name for them\n", 2 * exports, exact, short, tight
+    for (i = 1; i <= exports; i++) for (l = 1; l <= 2; l++) if (!covered(exported[i], l, bound(exported[i], l))) tight++
+    if (!arm) printf "stack: of %d figures the header says %d exactly and %d too low\n", 2 * exports, exact, short
+    printf "stack: %d of %d are over the header's name for them\n", tight, 2 * exports
     exit short + tight > 0
 }

@@ -1,11 +1,12 @@
-/* What each call needs of the stack, measured, beside what include/simmergate.h says of it; to be run where that file is found under this name.
+/* deep [names]: what each call needs of the stack, measured, beside what include/simmergate.h says of it; to be run where that file is found under this name.
 
    The deepest tables that are accepted, 1,535 nodes one inside the other at the limit 3,072 and 8,191 at 16,384, are checked, weighed, evaluated,
    compared, walked in step, simplified by both editions, alone, as a site of one item and by way of 16 definitions, received in pieces, written as
    text and read again; the widest tables are simplified, texts nested far deeper than any table are judged, tables with each flaw are refused by
    every call, and settings are stored, shown and removed. All this on a stack of 1 MiB, and of 8 MiB, that lies behind a page that nothing may touch. The stack is painted before each call, and
    what is painted over when the call is back is what it needed. The figures are printed as the header's table has them; exit 1 where a call needs
-   more than stands there. The header's figures are the bounds that tests/stack tells from the machine code; what is measured comes near them. */
+   more than stands there. The header's figures are the bounds that tests/stack tells from the machine code; what is measured comes near them. With `names` a call is held to
+   the name that covers it alone: the figures of the calls are those of x86-64. */
 #include "../../include/simmergate.h"
 #include "own.h"
 #include <pthread.h>
@@ -474,10 +475,12 @@ static void read_said(size_t said[CALLS][LEVELS]) {
     fclose(header);
 }
 
-/* Whether the header says enough of a call at a limit, in its row and by the name that covers it; a line where it does not. */
+/* Whether the header says enough of a call at a limit, by the name that covers it and, where rows count, in its row; a line where it does not. */
+static int rows = 1;
 static int enough(int k, int i, size_t row) {
     size_t n = need[k][i], name = k == READ_TEXT ? levels[i].reading : levels[i].said;
     const char *of = calls[k].name;
+    if (!rows) row = n;
     if (row == 0 && i == 0) printf("deep: the header has no row of %s\n", of);
     if (row != 0 && n > row) printf("deep: %s needs %zu bytes at the limit %zu, and its row says %zu\n", of, n, levels[i].limit, row);
     if (n > name) printf("deep: %s needs %zu bytes at the limit %zu, and the name for it says %zu\n", of, n, levels[i].limit, name);
@@ -498,15 +501,17 @@ static int report(void) {
     for (int k = 0; k < CALLS; k++) {
         for (int i = 0; i < LEVELS; i++) {
             if (!enough(k, i, said[k][i])) failed = 1;
-            else if (need[k][i] < said[k][i]) more++;
+            else if (rows && need[k][i] < said[k][i]) more++;
         }
     }
-    if (!failed && more == 0) printf("deep: the header says the same\n");
+    if (!failed && more == 0) printf("deep: the header says %s\n", rows ? "the same" : "enough");
     if (!failed && more != 0) printf("deep: the header says no less, and more in %d figures\n", more);
     return failed;
 }
 
-int main(void) {
+int main(int arguments, char **words) {
+    if (arguments > 2 || (arguments == 2 && strcmp(words[1], "names") != 0)) return printf("usage: deep [names]\n"), 2;
+    rows = arguments == 1;
     if (mprotect(area, PAGE, 0)) {
         printf("deep: no page to guard the stack\n");
         return 1;
