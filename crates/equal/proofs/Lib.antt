@@ -8,5 +8,6 @@ pub mod AnswerLaws
 pub mod TickOutLaws
 pub mod ViewLaws
 pub mod RestLaws
+pub mod RunLaws
 pub mod ComparedLaws
 pub mod Unique

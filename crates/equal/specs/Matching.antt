@@ -1,6 +1,6 @@
 -- What matching compares and answers: the trees of a row with or without its integers, those that are not ticked, and what the code asks
 -- for.
-use Prim.Native.Nat.{ℕ, zero, suc, _+_, _-_, _*_, _≤_}
+use Prim.Native.Nat.{ℕ, zero, suc, _+_, _-_, _*_, _^_, _≤_, _<_}
 use mathlib.Core.Path.{_≡_}
 use mathlib.Core.Bool.{Bool, true, false, cond, _&&_}
 use mathlib.Core.List.{List, [], _∷_}
@@ -49,6 +49,11 @@ pub record Comparable (a : List ℕ) (i : ℕ) (b : List ℕ) (j room : ℕ) : T
   pub one-there : Told how a i one
   pub other-there : Told how b j other
   pub enough : records other ≤ room
+
+-- two tables are as short as slices are
+pub record Short (a b : List ℕ) : Type 0 where
+  pub one-short : length a < 2 ^ 63
+  pub other-short : length b < 2 ^ 63
 
 -- two trees that begin alike stand in the tables, and there is room for the ticks: a byte for each record behind the second's first
 pub record Alike (a : List ℕ) (i : ℕ) (b : List ℕ) (j room : ℕ) : Type 0 where

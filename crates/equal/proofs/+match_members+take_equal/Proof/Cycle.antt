@@ -9,21 +9,21 @@ use Rattle.equal.proofs.match_members.Kinds as members-kinds
 use Rattle.equal.proofs.take_equal.Reads as take
 use Rattle.equal.proofs.take_equal.Kinds as take-kinds
 
-abbrev pub μ-members : Measures 3 members-kinds.ps ℕ
-μ-members κs a = length (a .0 .now) - 16 * a .1 .0
+abbrev pub μ-members : Measures 5 members-kinds.ps ℕ
+μ-members κs a = length (a .0 .now .now) - 16 * a .1 .0
 
-abbrev pub μ-take : Measures 3 take-kinds.ps ℕ
-μ-take κs a = length (a .0 .now) - 16 * a .1 .0 + 1
+abbrev pub μ-take : Measures 5 take-kinds.ps ℕ
+μ-take κs a = length (a .0 .now .now) - 16 * a .1 .0 + 1
 
 -- a call at the measure t, and one below it
-abbrev pub members-at : ℕ → In 3 members-kinds.ps
-members-at t = and 3 members-kinds.ps (is 3 members-kinds.ps μ-members t) members.Pre
+abbrev pub members-at : ℕ → In 5 members-kinds.ps
+members-at t = and 5 members-kinds.ps (is 5 members-kinds.ps μ-members t) members.Pre
 
-abbrev pub members-below : ℕ → In 3 members-kinds.ps
-members-below t = and 3 members-kinds.ps (falls 3 members-kinds.ps _<_ μ-members t) members.Pre
+abbrev pub members-below : ℕ → In 5 members-kinds.ps
+members-below t = and 5 members-kinds.ps (falls 5 members-kinds.ps _<_ μ-members t) members.Pre
 
-abbrev pub take-at : ℕ → In 3 take-kinds.ps
-take-at t = and 3 take-kinds.ps (is 3 take-kinds.ps μ-take t) take.Pre
+abbrev pub take-at : ℕ → In 5 take-kinds.ps
+take-at t = and 5 take-kinds.ps (is 5 take-kinds.ps μ-take t) take.Pre
 
-abbrev pub take-below : ℕ → In 3 take-kinds.ps
-take-below t = and 3 take-kinds.ps (falls 3 take-kinds.ps _<_ μ-take t) take.Pre
+abbrev pub take-below : ℕ → In 5 take-kinds.ps
+take-below t = and 5 take-kinds.ps (falls 5 take-kinds.ps _<_ μ-take t) take.Pre

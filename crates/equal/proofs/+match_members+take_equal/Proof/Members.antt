@@ -43,7 +43,7 @@ claims t = (
 abbrev pub Inv : lts.InvT-loop
 Inv a i b j ticks₀ n at₀ left₀ ticks at left =
     (i < at) × (length ticks ≡ length ticks₀)
-    × ((how : Tree → ℕ) (t u : Tree) → Told how a i t → Told how b j u → Matched how a (i + 1) false ticks₀ ticks (partsOf t) (partsOf u) at left)
+    × ((how : Tree → ℕ) (t u : Tree) → Told how (a .now) i t → Told how (b .now) j u → Matched how (a .now) (i + 1) false ticks₀ ticks (partsOf t) (partsOf u) at left)
 
 abbrev pub μ : lts.MeasureT-loop
 μ a i b j ticks₀ n at₀ left₀ ticks at left = left
@@ -82,26 +82,26 @@ module _ (t : ℕ) where
   head-of c = c .before
 
   abbrev turn-of : Called → Turn
-  turn-of c = c .before .before .before
+  turn-of c = c .before .before .before .before
 
   abbrev start-of : Head → Entry
   start-of c = entry-of (as-many-of (cleared-of c))
 
   -- the first records of the two trees are in the tables
-  one-within : (c : Entry) → c .args .i * 16 + 16 ≤ length (c .args .a .now)
-  one-within c = record-within (c .pre .1 .one-there)
+  one-within : (c : Entry) → c .args .i * 16 + 16 ≤ length (c .args .a .now .now)
+  one-within c = record-within (c .pre .1 .0 .one-there)
 
-  other-within : (c : Entry) → c .args .j * 16 + 16 ≤ length (c .args .b .now)
-  other-within c = record-within (c .pre .1 .other-there)
+  other-within : (c : Entry) → c .args .j * 16 + 16 ≤ length (c .args .b .now .now)
+  other-within c = record-within (c .pre .1 .0 .other-there)
 
   -- the number of members, which both have
   abbrev number-of : AsMany → ℕ
-  number-of c = c .before .before .members-of .result
+  number-of c = c .before .before .before .members-of .result
 
-  one-count : (c : AsMany) → let a = entry-of c .args in number-of c ≡ membersIn (a .a .now) (a .i)
-  one-count c = c .before .before .members-of .ensures
+  one-count : (c : AsMany) → let a = entry-of c .args in number-of c ≡ membersIn (a .a .now .now) (a .i)
+  one-count c = c .before .before .before .members-of .ensures
 
-  other-count : (c : AsMany) → let a = entry-of c .args in number-of c ≡ membersIn (a .b .now) (a .j)
+  other-count : (c : AsMany) → let a = entry-of c .args in number-of c ≡ membersIn (a .b .now .now) (a .j)
   other-count c = c .if1 .left ∙ c .before .members-of2 .ensures
 
   -- the ticks, cleared
@@ -116,7 +116,7 @@ module _ (t : ℕ) where
   -- all members of two trees that stand there: what is left of them to match at the start, and what that says of the trees
   bag : (c : Cleared)
       → let a = entry-of (as-many-of c) .args in
-      (how : Tree → ℕ) (x y : Tree) → Told how (a .a .now) (a .i) x → Told how (a .b .now) (a .j) y
+      (how : Tree → ℕ) (x y : Tree) → Told how (a .a .now .now) (a .i) x → Told how (a .b .now .now) (a .j) y
       → sameBag equal (without false (partsOf x)) (unticked (ticks-of c) 0 (partsOf y)) ≡ sameMembers x y
   bag c how x y h g =
       let as-many = as-many-of c in
@@ -126,25 +126,25 @@ module _ (t : ℕ) where
   matched : (c : Head)
       → let entry = start-of c in
       let a = entry .args in
-      let some = entry .pre .1 in
-      Matched (some .how) (a .a .now) (a .i + 1) false (ticks-of (cleared-of c)) (c .loop .ticks) (partsOf (some .one)) (partsOf (some .other))
+      let some = entry .pre .1 .0 in
+      Matched (some .how) (a .a .now .now) (a .i + 1) false (ticks-of (cleared-of c)) (c .loop .ticks) (partsOf (some .one)) (partsOf (some .other))
       (c .loop .at) (c .loop .left)
   matched c =
-      let some = start-of c .pre .1 in
+      let some = start-of c .pre .1 .0 in
       c .loop .inv .2 (some .how) (some .one) (some .other) (some .one-there) (some .other-there)
 
   -- the next tree to match
   next : (c : Turn)
       → let head = head-of c in
       let entry = start-of head in
-      (x : Tree) × Told (entry .pre .1 .how) (entry .args .a .now) (head .loop .at) x
+      (x : Tree) × Told (entry .pre .1 .0 .how) (entry .args .a .now .now) (head .loop .at) x
   next c = matched-tree (matched (head-of c)) (c .loop-test .taken)
 
   -- what the search says of it
   took : (c : Called)
       → let head = head-of (turn-of c) in
       let a = start-of head .args in
-      (how : Tree → ℕ) (x y : Tree) → Told how (a .a .now) (head .loop .at) x → Told how (a .b .now) (a .j) y
+      (how : Tree → ℕ) (x y : Tree) → Told how (a .a .now .now) (head .loop .at) x → Told how (a .b .now .now) (a .j) y
       → Took x (partsOf y) (head .loop .ticks) (c .take-equal .last .1 .1 .1 .1 .1 .0) (head .loop .at + records x) (c .take-equal .result)
   took c how x y h g =
       let count = c .before .before .members-of3 in
@@ -154,33 +154,33 @@ module _ (t : ℕ) where
   taken : (c : Called) → 1 ≤ c .take-equal .result
       → let head = head-of (turn-of c) in
       let a = start-of head .args in
-      (how : Tree → ℕ) (x y : Tree) → Told how (a .a .now) (head .loop .at) x → Told how (a .b .now) (a .j) y
+      (how : Tree → ℕ) (x y : Tree) → Told how (a .a .now .now) (head .loop .at) x → Told how (a .b .now .now) (a .j) y
       → (c .take-equal .result ≡ head .loop .at + records x)
       × (removeFirst (equal x) (unticked (head .loop .ticks) 0 (partsOf y)) ≡ some (unticked (c .take-equal .last .1 .1 .1 .1 .1 .0) 0 (partsOf y)))
   taken c l how x y h g = took-some x (partsOf y) _ _ _ (c .take-equal .result) l (took c how x y h g)
 
   pub members-of-requires : lts.Need-members-of-requires (claims t) (members-at t) reads.Post Inv μ
-  members-of-requires c κs = one-within (c .before .before .before)
+  members-of-requires c κs = one-within (c .before .before)
 
   pub members-of-requires-2 : lts.Need-members-of-requires-2 (claims t) (members-at t) reads.Post Inv μ
   members-of-requires-2 c κs = other-within (c .before .before .before .before)
 
   pub returns : lts.Need-returns (claims t) (members-at t) reads.Post Inv μ
   returns c =
-      let one = c .before .before .members-of .ensures in
+      let one = c .before .before .before .members-of .ensures in
       let other = c .before .members-of2 .ensures in
-      let begin = c .before .before .before .before .before .before .pre .1 .begin in
+      let begin = c .before .before .before .before .before .before .pre .1 .0 .begin in
       λ how x y h g. end-none _ (members-fewer h g begin (λ e. c .if1 .taken (one ∙ e ∙ sym other)))
 
   pub clear-requires : lts.Need-clear-requires (claims t) (members-at t) reads.Post Inv μ
   clear-requires c κs =
       let as-many = c .before in
-      let some = entry-of as-many .pre .1 in
+      let some = entry-of as-many .pre .1 .0 in
       omega
       (arith, members-room (some .one-there) (some .other-there) (number-of as-many) (one-count as-many) (other-count as-many) _ (some .enough))
 
   pub add-at : lts.Need-add-at (claims t) (members-at t) reads.Post Inv μ
-  add-at c = omega (arith, one-within (entry-of (as-many-of (c .before .before))))
+  add-at c = let entry = entry-of (as-many-of (c .before .before)) in omega (arith, one-within entry, entry .pre .1 .1 .one-short)
 
   pub loop-holds : lts.Need-loop-holds (claims t) (members-at t) reads.Post Inv μ
   loop-holds c =
@@ -192,21 +192,24 @@ module _ (t : ℕ) where
       )
 
   pub add-take-equal : lts.Need-add-take-equal (claims t) (members-at t) reads.Post Inv μ
-  add-take-equal c = omega (arith, other-within (start-of (head-of c)))
+  add-take-equal c = let entry = start-of (head-of c) in omega (arith, other-within entry, entry .pre .1 .1 .other-short)
 
   pub members-of-requires-3 : lts.Need-members-of-requires-3 (claims t) (members-at t) reads.Post Inv μ
-  members-of-requires-3 c κs = other-within (start-of (head-of c))
+  members-of-requires-3 c κs = other-within (start-of (head-of (c .before)))
 
   pub take-equal-requires : lts.Need-take-equal-requires (claims t) (members-at t) reads.Post Inv μ
   take-equal-requires c κs =
       let count = c .before .members-of3 in
-      let turn = c .before .before in
+      let turn = c .before .before .before in
       let head = head-of turn in
       let l = head .loop in
-      let some = start-of head .pre .1 in (
+      let some = start-of head .pre .1 .0 in (
         omega (arith, start-of head .pre .0, l .inv .0, record-within (next turn .1)),
-        matched-takeable (matched head) (turn .loop-test .taken) _ (members-there (some .other-there) (count .result) (count .ensures))
-            (omega (arith, some .enough, members-few (some .other), l .inv .1, cleared-of head .clear .kept .0)),
+        (
+          matched-takeable (matched head) (turn .loop-test .taken) _ (members-there (some .other-there) (count .result) (count .ensures))
+              (omega (arith, some .enough, members-few (some .other), l .inv .1, cleared-of head .clear .kept .0)),
+          start-of head .pre .1 .1,
+        ),
       )
 
   pub same-length : lts.Need-same-length (claims t) (members-at t) reads.Post Inv μ
@@ -220,7 +223,7 @@ module _ (t : ℕ) where
       let called = c .before .before .before in
       let turn = turn-of called in
       let head = head-of turn in
-      let begin = start-of head .pre .1 .begin in
+      let begin = start-of head .pre .1 .0 .begin in
       λ how x y h g.
       end-none _
       (members-differ h g begin
@@ -240,7 +243,7 @@ module _ (t : ℕ) where
       let turn = turn-of called in
       let head = head-of turn in
       let l = head .loop in
-      let some = start-of head .pre .1 in
+      let some = start-of head .pre .1 .0 in
       let o = next turn in
       let says = taken called (c .if2 .left) in (
         omega (arith, says (some .how) (o .0) (some .other) (o .1) (some .other-there) .0, l .inv .0),
@@ -252,7 +255,7 @@ module _ (t : ℕ) where
   -- all are matched: the trees are equal but for their exponents
   all : (c : Head) → c .loop .left ≡ 0
       → let a = start-of c .args in
-      (how : Tree → ℕ) (x y : Tree) → Told how (a .a .now) (a .i) x → Told how (a .b .now) (a .j) y
+      (how : Tree → ℕ) (x y : Tree) → Told how (a .a .now .now) (a .i) x → Told how (a .b .now .now) (a .j) y
       → (sameMembers x y ≡ true) × (c .loop .at ≡ a .i + 1 + recordses (partsOf x))
   all c e how x y h g =
       let done = matched-done (c .loop .inv .2 how x y h g) e in
@@ -260,18 +263,18 @@ module _ (t : ℕ) where
 
   pub past-exponent-requires : lts.Need-past-exponent-requires (claims t) (members-at t) reads.Post Inv μ
   past-exponent-requires c κs =
-      let head = c .before in
-      let some = start-of head .pre .1 in
+      let head = c .before .before .before in
+      let some = start-of head .pre .1 .0 in
       let done = all head (omega arith) (some .how) (some .one) (some .other) (some .one-there) (some .other-there) in
       members-passable (some .one-there) (some .other-there) (some .begin) (head .loop .at) (done .0) (done .1)
 
   pub same-length-2 : lts.Need-same-length-2 (claims t) (members-at t) reads.Post Inv μ
-  same-length-2 c = let head = c .before .before in head .loop .inv .1 ∙ cleared-of head .clear .kept .0
+  same-length-2 c = let head = c .before .before .before .before in head .loop .inv .1 ∙ cleared-of head .clear .kept .0
 
   pub returns-3 : lts.Need-returns-3 (claims t) (members-at t) reads.Post Inv μ
   returns-3 c =
-      let head = c .before .before in
-      let begin = start-of head .pre .1 .begin in
+      let head = c .before .before .before .before in
+      let begin = start-of head .pre .1 .0 .begin in
       λ how x y h g.
       let done = all head (omega arith) how x y h g in
       c .past-exponent .ensures ∙ members-end h g begin (head .loop .at) (done .0) (done .1)

@@ -34,7 +34,7 @@ claims t = (candidate-reads.Asked, candidate-reads.Learnt, members-below t, tree
 abbrev pub Inv : lts.InvT-loop
 Inv a i b j m ticks₀ at₀ k₀ ticks at k =
     (k ≤ m) × (length ticks ≡ length ticks₀)
-    × ((how : Tree → ℕ) (t : Tree) (g : Forest) → Told how a i t → ToldTrees how b j m g → Looked how t b m ticks₀ ticks g at k)
+    × ((how : Tree → ℕ) (t : Tree) (g : Forest) → Told how (a .now) i t → ToldTrees how (b .now) j m g → Looked how t (b .now) m ticks₀ ticks g at k)
 
 abbrev pub μ : lts.MeasureT-loop
 μ a i b j m ticks₀ at₀ k₀ ticks at k = m - k
@@ -58,13 +58,13 @@ module _ (t : ℕ) where
   Compared = lts.After-match-members (claims t) (take-at t) reads.Post Inv μ
 
   abbrev entry-of : Head → Entry
-  entry-of c = c .before .before .before .before
+  entry-of c = c .before .before
 
   abbrev head-of : Turn → Head
   head-of c = c .before
 
   abbrev turn-of : Free → Turn
-  turn-of c = c .before .before .before
+  turn-of c = c .before .before .before .before .before
 
   abbrev free-of : Compared → Free
   free-of c = c .before .before
@@ -72,16 +72,16 @@ module _ (t : ℕ) where
   -- each of the m trees has a tick
   room : (c : Head) → entry-of c .args .m ≤ length (c .loop .ticks)
   room c =
-      let some = entry-of c .pre .1 in
+      let some = entry-of c .pre .1 .0 in
       omega (arith, some .enough, c .loop .inv .1, some .others-there .counted, count-records (some .others))
 
   -- the search, for the trees that the contract says stand there
   look : (c : Head)
       → let entry = entry-of c in
-      let some = entry .pre .1 in
-      Looked (some .how) (some .one) (entry .args .b .now) (entry .args .m) (entry .args .ticks .now) (c .loop .ticks) (some .others) (c .loop .at) (c .loop .k)
+      let some = entry .pre .1 .0 in
+      Looked (some .how) (some .one) (entry .args .b .now .now) (entry .args .m) (entry .args .ticks .now) (c .loop .ticks) (some .others) (c .loop .at) (c .loop .k)
   look c =
-      let some = entry-of c .pre .1 in
+      let some = entry-of c .pre .1 .0 in
       c .loop .inv .2 (some .how) (some .one) (some .others) (some .one-there) (some .others-there)
 
   -- a candidate has no tick
@@ -89,17 +89,17 @@ module _ (t : ℕ) where
   no-tick c =
       let l = head-of (turn-of c) .loop in
       let a = entry-of (head-of (turn-of c)) .args in
-      candidate-free (a .a .now) (a .i) (a .b .now) (l .at) (l .ticks) (l .k) (sym (c .before .is-candidate .ensures) ∙ c .if1 .taken)
+      candidate-free (a .a .now .now) (a .i) (a .b .now .now) (l .at) (l .ticks) (l .k) (sym (c .before .is-candidate .ensures) ∙ c .if1 .taken)
 
   -- and begins as the tree does
   begins : (c : Free)
       → let head = head-of (turn-of c) in
       let a = entry-of head .args in
-      beginAlike (a .a .now) (a .i) (a .b .now) (head .loop .at) ≡ true
+      beginAlike (a .a .now .now) (a .i) (a .b .now .now) (head .loop .at) ≡ true
   begins c =
       let l = head-of (turn-of c) .loop in
       let a = entry-of (head-of (turn-of c)) .args in
-      candidate-begins (a .a .now) (a .i) (a .b .now) (l .at) (l .ticks) (l .k) (sym (c .before .is-candidate .ensures) ∙ c .if1 .taken)
+      candidate-begins (a .a .now .now) (a .i) (a .b .now .now) (l .at) (l .ticks) (l .k) (sym (c .before .is-candidate .ensures) ∙ c .if1 .taken)
 
   -- ---- the next tree, compared: its tick is set before that, and the ticks past those of the m trees are lent
   abbrev head-at : Compared → Head
@@ -138,14 +138,14 @@ module _ (t : ℕ) where
   -- what the comparison's answer says of it
   told : (c : Compared)
       → let a = entry-of (head-at c) .args in
-      (how : Tree → ℕ) (x u : Tree) → Told how (a .a .now) (a .i) x → Told how (a .b .now) (head-at c .loop .at) u
+      (how : Tree → ℕ) (x u : Tree) → Told how (a .a .now .now) (a .i) x → Told how (a .b .now .now) (head-at c .loop .at) u
       → c .match-members .result ≡ endOf (equal x u) (a .i + records x)
   told c how x u h v = c .match-members .ensures how x u h v
 
   -- which is that the trees are equal, where it is not 0
   found : (c : Compared) → 1 ≤ c .match-members .result
       → let a = entry-of (head-at c) .args in
-      (how : Tree → ℕ) (x u : Tree) → Told how (a .a .now) (a .i) x → Told how (a .b .now) (head-at c .loop .at) u
+      (how : Tree → ℕ) (x u : Tree) → Told how (a .a .now .now) (a .i) x → Told how (a .b .now .now) (head-at c .loop .at) u
       → (equal x u ≡ true) × (c .match-members .result ≡ a .i + records x)
   found c l how x u h v = is-some (equal x u) _ (c .match-members .result) (told c how x u h v) l
 
@@ -154,8 +154,8 @@ module _ (t : ℕ) where
 
   pub is-candidate-requires : lts.Need-is-candidate-requires (claims t) (take-at t) reads.Post Inv μ
   is-candidate-requires c κs =
-      let turn = c .before in
-      let some = entry-of (head-of turn) .pre .1 in
+      let turn = c .before .before .before in
+      let some = entry-of (head-of turn) .pre .1 .0 in
       let more = turn .loop-test .taken in
       (some-told (some .one-there), some-told (looked-tree (look (head-of turn)) more .1), omega (arith, room (head-of turn)))
 
@@ -175,10 +175,13 @@ module _ (t : ℕ) where
   match-members-requires c κs =
       let turn = turn-of (c .before) in
       let head = head-of turn in
-      let some = entry-of head .pre .1 in (
+      let some = entry-of head .pre .1 .0 in (
         omega arith,
-        looked-pair (look head) (turn .loop-test .taken) _ (some .one-there) (begins (c .before)) (omega (arith, some .enough, head .loop .inv .1))
-            (simp (length-take, length-drop, length-set) (omega arith)),
+        (
+          looked-pair (look head) (turn .loop-test .taken) _ (some .one-there) (begins (c .before)) (omega (arith, some .enough, head .loop .inv .1))
+              (simp (length-take, length-drop, length-set) (omega arith)),
+          entry-of head .pre .1 .1,
+        ),
       )
 
   pub same-length : lts.Need-same-length (claims t) (take-at t) reads.Post Inv μ
@@ -203,7 +206,7 @@ module _ (t : ℕ) where
 
   pub skip-tree-requires : lts.Need-skip-tree-requires (claims t) (take-at t) reads.Post Inv μ
   skip-tree-requires c κs =
-      let turn = c .before .before .before in
+      let turn = c .before .before .before .before .before .before in
       some-told (looked-tree (look (head-of turn)) (turn .loop-test .taken) .1)
 
   pub add-k : lts.Need-add-k (claims t) (take-at t) reads.Post Inv μ
@@ -216,9 +219,9 @@ module _ (t : ℕ) where
   -- after it w .6; or it was no candidate: its test w .0, the ticks w .1
   pub loop-again : lts.Need-loop-again (claims t) (take-at t) reads.Post Inv μ
   loop-again c =
-      let joined = c .before in
+      let joined = c .before .before in
       let tested = joined .before in
-      let turn = tested .before .before in
+      let turn = tested .before .before .before .before in
       let l = head-of turn .loop in
       let more = turn .loop-test .taken in
       let past = c .skip-tree in
