@@ -1,8 +1,8 @@
--- `driver::restore` meets its contract: five cells are written. Assumes nothing.
-use Rattle.driver.proofs.Cells.{restored-cells}
+-- `driver::come_out` meets its contract: five cells are written. Assumes nothing.
+use Rattle.driver.proofs.Cells.{returned-cells}
 use borrow.Author.Needs.{needs}
-use Rattle.driver.proofs.restore.Statement.{statement}
-use Rattle.driver.proofs.restore.Tie as tie
+use Rattle.driver.proofs.come_out.Statement.{statement}
+use Rattle.driver.proofs.come_out.Tie as tie
 
 element-copy-out-st : tie.Need-element-copy-out-st
 element-copy-out-st c = search needs
@@ -23,12 +23,10 @@ element-write-st-5 : tie.Need-element-write-st-5
 element-write-st-5 c = search needs
 
 returns : tie.Need-returns
-returns c =
-    let g = c .before .args in
-    restored-cells (g .st .now) (c .before .pre) _ _ _ _
+returns c = returned-cells (c .before .args .st .now) (c .before .pre) _ _ _ _
 
-pub restore-spec : {M : Type 1} → statement M
-restore-spec =
+pub come-out-spec : {M : Type 1} → statement M
+come-out-spec =
     tie.close
     (tie.spec
     element-copy-out-st
