@@ -1,10 +1,8 @@
 /* link: a table received in pieces. */
-#define _GNU_SOURCE
 #include "formula.h"
 #include "say.h"
 #include "subcommands.h"
 #include "write.h"
-#include <errno.h>
 #include <simmergate.h>
 #include <stdlib.h>
 

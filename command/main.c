@@ -13,7 +13,6 @@
 #include <fcntl.h>
 #include <simmergate.h>
 #include <string.h>
-#include <unistd.h>
 
 #define ANY ((size_t)-1)
 #define READS (TAKES_LIMIT | TAKES_TYPED | TAKES_FORM | TAKES_NAMES)

@@ -2,7 +2,6 @@
 #include "bytes.h"
 #include "say.h"
 #include <errno.h>
-#include <simmergate.h>
 #include <stdio.h>
 #include <stdlib.h>
 #include <string.h>

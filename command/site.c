@@ -4,7 +4,6 @@
 #include "say.h"
 #include "subcommands.h"
 #include "write.h"
-#include <errno.h>
 #include <stdlib.h>
 #include <string.h>
 #include <sys/stat.h>

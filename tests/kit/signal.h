@@ -3,7 +3,6 @@
 /* as x86-64 Linux has them */
 #define SIGHUP 1
 #define SIGINT 2
-#define SIGQUIT 3
 #define SIGPIPE 13
 #define SIGTERM 15
 #define SIGXFSZ 25
