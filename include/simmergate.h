@@ -202,14 +202,14 @@ extern "C" {
      simmergate_check                2,328        2,328   whatever the depth
      simmergate_weight               2,344        2,344   whatever the depth
      simmergate_value              100,496      526,480
-     simmergate_equal              273,768    1,458,536
+     simmergate_equal              126,328      672,120
      simmergate_differ               2,424        2,424   whatever the depth
-     simmergate_simplify           223,384    1,181,848   by either edition
-     simmergate_batch              223,512    1,181,976   by either edition
+     simmergate_simplify           125,048      657,528   by either edition
+     simmergate_batch              125,176      657,656   by either edition
      simmergate_receive                 32           32   whatever the piece
      simmergate_receive_finish       2,360        2,360   whatever the depth
      simmergate_open                 4,120        4,120   whatever the depth
-     simmergate_simplify_shared    224,008    1,182,472   by either edition
+     simmergate_simplify_shared    125,672      658,152   by either edition
      simmergate_write_text          98,488      524,472
      simmergate_read_text          123,448      655,928   for any text
      simmergate_settings_store         216          216   whatever the area
@@ -218,15 +218,21 @@ extern "C" {
      simmergate_settings_remove        216          216   whatever the area
      simmergate_release                 32           32
 
-   On 64-bit Arm no call needs over 273,760 and 1,458,528 bytes (arm/archive, tests/arm).
+   On 64-bit Arm equality, reading and writing a text take up to 96 bytes a level in place of 80, so that the names are
+   larger there (arm/archive, tests/arm); the other calls need what they need here, and at most 300 bytes more.
 
    SIMMERGATE_STACK bytes, or SIMMERGATE_STACK_16384, are enough for every call.
 
    A thread may have less than that: musl gives it 131,072 bytes, a controller's operating system often a few thousand;
    glibc gives what `ulimit -s` says, as a rule 8,388,608. Where that is too little, ask for it when the thread is made
    (pthread_attr_setstacksize), and for what its own functions need besides. */
-#define SIMMERGATE_STACK 286720
-#define SIMMERGATE_STACK_16384 1507328
+#if defined(__aarch64__)
+#define SIMMERGATE_STACK 155648
+#define SIMMERGATE_STACK_16384 819200
+#else
+#define SIMMERGATE_STACK 131072
+#define SIMMERGATE_STACK_16384 688128
+#endif
 #define SIMMERGATE_READ_TEXT_STACK SIMMERGATE_STACK /* the same two, by earlier names */
 #define SIMMERGATE_READ_TEXT_STACK_16384 SIMMERGATE_STACK_16384
 

@@ -481,7 +481,7 @@ static int enough(int k, int i, size_t row) {
     size_t n = need[k][i], name = k == READ_TEXT ? levels[i].reading : levels[i].said;
     const char *of = calls[k].name;
     if (!rows) row = n;
-    if (row == 0 && i == 0) printf("deep: the header has no row of %s\n", of);
+    if (rows && row == 0 && i == 0) printf("deep: the header has no row of %s\n", of);
     if (row != 0 && n > row) printf("deep: %s needs %zu bytes at the limit %zu, and its row says %zu\n", of, n, levels[i].limit, row);
     if (n > name) printf("deep: %s needs %zu bytes at the limit %zu, and the name for it says %zu\n", of, n, levels[i].limit, name);
     return n <= row && n <= name;
