@@ -248,6 +248,9 @@ fn come_out(st: &mut [usize; 10], node: usize, left: usize, gathered: usize, pri
     st[PRIOR] = prior;
 }
 
+// The one cell of an answer that comes back beside a slice: where the result ends.
+const RESULT: usize = 0;
+
 // The same in plain slices: each is put behind a reference of its own, and handed back.
 pub fn drive(out: &mut [u8], work: &mut [u8], steps: &mut [u8], st: &mut [usize; 10]) -> usize
     requires { ⌜ (length (now st) ≡ 10) × ((t : Tree) × (rest : List ℕ) × Called (call (now out) (now work) (now steps) (standOf (now st)) t rest)) ⌝ }
@@ -257,7 +260,7 @@ pub fn drive(out: &mut [u8], work: &mut [u8], steps: &mut [u8], st: &mut [usize;
 {
     let mut end = [0usize; 1];
     enter_steps(out, work, steps, st, &mut end);
-    end[0]
+    end[RESULT]
 }
 
 // The steps are put behind a reference, and handed back; the answer is in the cell `end`.
@@ -316,7 +319,7 @@ fn enter_out<'b>(
 {
     let mut o = out;
     let e = drive_tree(&mut o, work, steps, st);
-    end[0] = e;
+    end[RESULT] = e;
     let p = o;
     p
 }

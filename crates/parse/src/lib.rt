@@ -254,25 +254,33 @@ const FIRST: usize = 4;
 
 const KIND: usize = 5;
 
-// The item goes to the cells, w having been read before it. What is read is a number: 0 nothing, 1 and its rank where it is bare, 5 and its rank where it stands in
-// parentheses.
+// What is read, as a number: nothing, or an item, to whose rank one of these is added. Behind a member that is not the last: another one.
+const NOTHING: u8 = 0;
+
+const BARE: u8 = 1;
+
+const GROUPED: u8 = 5;
+
+const ANOTHER: u8 = 9;
+
+// The item goes to the cells, w having been read before it.
 fn taken(i: Item, st: &mut [usize; 6], w: usize) -> u8
     requires { ⌜ (length (now st) ≡ 6) × Taken i w ⌝ }
     ensures { λ r. ⌜ (length (now (st .exit)) ≡ 6) × (levelIn (now (st .exit)) ≡ levelIn (now (st .entry))) × Gives i r w (now (st .exit)) ⌝ }
 {
     match i {
-        Item::Not => 0,
+        Item::Not => NOTHING,
         Item::Bare(k, e, v, q) => {
             st[PLACE] = e;
             st[RECORD] = q;
             st[WEIGHT] = w + v;
-            1 + k
+            BARE + k
         }
         Item::Grouped(k, e, v, q) => {
             st[PLACE] = e;
             st[RECORD] = q;
             st[WEIGHT] = w + v;
-            5 + k
+            GROUPED + k
         }
     }
 }
@@ -281,13 +289,13 @@ fn taken(i: Item, st: &mut [usize; 6], w: usize) -> u8
 fn fits(m: u8, p: u8) -> bool
     ensures { λ r. ⌜ ((i : Item) (w : ℕ) (st : List ℕ) → Gives i m w st → FitsIs p i r) ⌝ }
 {
-    if m < 1 {
+    if m < BARE {
         return false;
     }
-    if m < 5 {
-        return m - 1 < p;
+    if m < GROUPED {
+        return m - BARE < p;
     }
-    p <= m - 5
+    p <= m - GROUPED
 }
 
 // What is read, with nothing beside it in a node of kind k: in a sum parentheses round it are too many.
@@ -296,20 +304,20 @@ fn lone_in(m: u8, k: u8) -> u8
 {
     if k < 3 {
         if 4 < m {
-            return 0;
+            return NOTHING;
         }
     }
     m
 }
 
-// What follows the member m, c having been read before it, of a node of kind k: 9 where another member does, else what is read. The signs of the kinds 2 and 3 stand
+// What follows the member m, c having been read before it, of a node of kind k: `ANOTHER` where another member does, else what is read. The signs of the kinds 2 and 3 stand
 // two and three before the `-`.
 fn after(text: &[u8], out: &mut [u8], st: &mut [usize; 6], k: u8, c: usize, m: u8) -> u8
     requires { ⌜ (2 ≤ k) × (k ≤ 3) × AfterAsks (now text) (now st) c m ⌝ }
     ensures { λ r. ⌜ (length (now (st .exit)) ≡ 6) × Followed k (now (text .entry)) c m (now (out .entry)) (now (st .entry)) (now (out .exit)) (now (st .exit)) r ⌝ }
 {
-    if m < 1 {
-        return 0;
+    if m < BARE {
+        return NOTHING;
     }
     let more = sign_at(text, st[PLACE], b'-' - k);
     if c < 1 {
@@ -318,7 +326,7 @@ fn after(text: &[u8], out: &mut [u8], st: &mut [usize; 6], k: u8, c: usize, m: u
         }
     }
     if !fits(m, 5 - k) {
-        return 0;
+        return NOTHING;
     }
     let d = st[FIRST];
     if c < 1 {
@@ -326,17 +334,17 @@ fn after(text: &[u8], out: &mut [u8], st: &mut [usize; 6], k: u8, c: usize, m: u
         st[RECORD] = st[RECORD] + 1;
         st[WEIGHT] = st[WEIGHT] + 1;
         st[PLACE] = st[PLACE] + 1;
-        return 9;
+        return ANOTHER;
     }
     if more {
         st[PLACE] = st[PLACE] + 1;
-        return 9;
+        return ANOTHER;
     }
     area::put_record(out, d, k, c + 1, 0);
     6 - k
 }
 
-// What is read in a group, closed, or, at 9, a power that holds no group that is read; and the exponent that may follow. Before it w was read.
+// What is read in a group, closed, or, where m is `ANOTHER`, a power that holds no group that is read; and the exponent that may follow. Before it w was read.
 fn raise(text: &[u8], out: &mut [u8], st: &mut [usize; 6], w: usize, m: u8) -> u8
     requires { ⌜ RaiseAsks (now text) (now out) (now st) w m ⌝ }
     ensures { λ r. ⌜ (length (now (st .exit)) ≡ 6) × RaiseIs (now (text .entry)) (now (out .entry)) (now (st .entry)) w m (now (out .exit)) (now (st .exit)) r ⌝ }
@@ -347,11 +355,11 @@ fn raise(text: &[u8], out: &mut [u8], st: &mut [usize; 6], w: usize, m: u8) -> u
         return taken(i, st, v);
     }
     st[LEVEL] = st[LEVEL] + 1;
-    if m < 1 {
-        return 0;
+    if m < BARE {
+        return NOTHING;
     }
     if !sign_at(text, st[PLACE], b')') {
-        return 0;
+        return NOTHING;
     }
     let i = raised(
         text,
@@ -395,7 +403,7 @@ fn sum(text: &&[u8], out: &mut &mut [u8], st: &mut [usize; 6]) -> u8
         st[FIRST] = d;
         st[KIND] = 2;
         let r = follow(text, out, st, c, m);
-        if r < 9 {
+        if r < ANOTHER {
             return r;
         }
         c += 1;
@@ -416,7 +424,7 @@ fn product(text: &&[u8], out: &mut &mut [u8], st: &mut [usize; 6]) -> u8
         st[FIRST] = d;
         st[KIND] = 3;
         let r = follow(text, out, st, c, m);
-        if r < 9 {
+        if r < ANOTHER {
             return r;
         }
         c += 1;
@@ -438,7 +446,7 @@ fn power(text: &&[u8], out: &mut &mut [u8], st: &mut [usize; 6]) -> u8
         return follow(text, out, st, w, m);
     }
     st[KIND] = 4;
-    follow(text, out, st, w, 9)
+    follow(text, out, st, w, ANOTHER)
 }
 
 // A group begins here that is read: the place moves into it.

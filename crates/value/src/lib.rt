@@ -63,16 +63,19 @@ fn joined(k: u8, total: u64, v: u64) -> u64
     number::wrapping_mul(total, v)
 }
 
-// The value of the tree at record at[0], which moves past the tree: an integer's is its bits, a symbol's its register, and the others'
+// The one cell that the levels share: the record at hand.
+const PLACE: usize = 0;
+
+// The value of the tree at the record at hand, which moves past the tree: an integer's is its bits, a symbol's its register, and the others'
 // come from their members.
 fn value_at(s: &&[u8], regs: &[u64; 256], at: &mut [usize; 1]) -> u64
     requires { ⌜ (length (now at) ≡ 1) × SomeTree (now (now s)) (place (now at)) × (length (now (now s)) < 2 ^ 63) ⌝ }
     ensures { λ r. ⌜ ((t : Tree) → TreeIn (now (now (s .entry))) (place (now (at .entry))) t
         → Evaluated (place (now (at .entry))) (records t) (value t (held (now (regs .entry)))) r (now (at .exit))) ⌝ }
 {
-    let i = at[0];
+    let i = at[PLACE];
     let k = record::kind(*s, i);
-    at[0] = i + 1;
+    at[PLACE] = i + 1;
     if k < 1 {
         return record::bits(*s, i);
     }
@@ -89,8 +92,8 @@ fn value_at(s: &&[u8], regs: &[u64; 256], at: &mut [usize; 1]) -> u64
     if k < 4 {
         return total;
     }
-    let e = at[0];
-    at[0] = e + 1;
+    let e = at[PLACE];
+    at[PLACE] = e + 1;
     number::wrapping_pow(total, record::bits(*s, e))
 }
 
