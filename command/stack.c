@@ -8,16 +8,9 @@
 
 #define ELSE 1048576 /* what is not the library's: the command line, the environment, this program */
 
-/* Bytes that every call is served with, reading a text or not. */
-static rlim_t most_of_all(void) {
-    rlim_t reading = given.limit == 3072 ? SIMMERGATE_READ_TEXT_STACK : SIMMERGATE_READ_TEXT_STACK_16384;
-    rlim_t others = given.limit == 3072 ? SIMMERGATE_STACK : SIMMERGATE_STACK_16384;
-    return reading > others ? reading : others;
-}
-
 int have_stack(void) {
     struct rlimit limit;
-    rlim_t need = most_of_all() + ELSE;
+    rlim_t need = (given.limit == 3072 ? SIMMERGATE_STACK : SIMMERGATE_STACK_16384) + ELSE;
     if (getrlimit(RLIMIT_STACK, &limit) != 0 || limit.rlim_cur >= need) return 1;
     if (limit.rlim_max < need)
         return complain(FAILED, NULL, "at the limit %zu the library needs %lu bytes of stack, and `ulimit -s` allows fewer", given.limit, (unsigned long)need), 0;

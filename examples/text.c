@@ -5,8 +5,7 @@
    The limit is 3,072, or the one that is named; the rules are those of edition one, or of the edition that is named. With -o the table that was read goes
    to the file TABLE. What goes wrong goes to standard error in words.
 
-   Reading a text needs SIMMERGATE_READ_TEXT_STACK bytes of stack, or SIMMERGATE_READ_TEXT_STACK_16384, whatever the text is: a task with less must not call
-   it. All memory is lent from here; the library has none of its own. No two areas overlap. */
+   The calls need SIMMERGATE_STACK bytes of stack, or SIMMERGATE_STACK_16384, whatever the text is: a task with less must not make them. All memory is lent from here; the library has none of its own. No two areas overlap. */
 #define PROGRAM "text"
 #include "common.h"
 

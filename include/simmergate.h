@@ -193,40 +193,48 @@ extern "C" {
 
 /* ---- Stack ----
 
-   Bytes of stack that a call needs at the most, counted from the call on, at the limit 3,072 and at 16,384. The
-   deepest tables that are accepted, 1,535 nodes one inside the other at the one and 8,191 at the other, also by way
-   of 16 definitions, were measured to need what stands here on x86-64 (tests/c/deep.c); a loader that binds memcpy and
-   its like at their first call may take some 2,000 bytes more, which the names below have room for.
+   Bytes of stack that a call needs at the most, counted from the call on, at the limit 3,072 and at 16,384, whatever it
+   is handed. They are bounds, told from the machine code for x86-64 (tests/stack): from its frames, from who calls
+   whom, and from the nodes that an accepted table can have one inside the other, 1,535 at the one limit and 8,191 at
+   the other. Of memcpy and its like the return address alone is counted; a loader that binds them at their first call
+   may take some 2,000 bytes more, which the names below have room for.
 
-     simmergate_check                2,248        2,248   whatever the depth
-     simmergate_weight               2,264        2,264   whatever the depth
-     simmergate_value              125,024      657,504
-     simmergate_equal              273,680    1,458,496
-     simmergate_differ               2,344        2,344   whatever the depth
-     simmergate_simplify           223,024    1,181,488   by either edition
-     simmergate_batch              223,152    1,181,616   by either edition
+     simmergate_check                2,328        2,328   whatever the depth
+     simmergate_weight               2,344        2,344   whatever the depth
+     simmergate_value              100,496      526,480
+     simmergate_equal              126,328      672,120
+     simmergate_differ               2,424        2,424   whatever the depth
+     simmergate_simplify           125,048      657,528   by either edition
+     simmergate_batch              125,176      657,656   by either edition
      simmergate_receive                 32           32   whatever the piece
-     simmergate_receive_finish       2,264        2,264   whatever the depth
-     simmergate_open                 4,040        4,040   whatever the depth
-     simmergate_simplify_shared    223,680    1,182,144   by either edition
-     simmergate_write_text         221,384    1,179,848
-     simmergate_read_text          984,088    5,243,928   for any text
+     simmergate_receive_finish       2,360        2,360   whatever the depth
+     simmergate_open                 4,120        4,120   whatever the depth
+     simmergate_simplify_shared    125,672      658,152   by either edition
+     simmergate_write_text          98,488      524,472
+     simmergate_read_text          123,448      655,928   for any text
      simmergate_settings_store         216          216   whatever the area
      simmergate_settings_fetch         216          216   whatever the area
      simmergate_settings_fetch_1       216          216   whatever the area
      simmergate_settings_remove        216          216   whatever the area
      simmergate_release                 32           32
 
-   SIMMERGATE_STACK bytes, or SIMMERGATE_STACK_16384, are enough for every call but simmergate_read_text, which has
-   names of its own.
+   On 64-bit Arm equality, reading and writing a text take up to 96 bytes a level in place of 80, so that the names are
+   larger there (arm/archive, tests/arm); the other calls need what they need here, and at most 300 bytes more.
+
+   SIMMERGATE_STACK bytes, or SIMMERGATE_STACK_16384, are enough for every call.
 
    A thread may have less than that: musl gives it 131,072 bytes, a controller's operating system often a few thousand;
    glibc gives what `ulimit -s` says, as a rule 8,388,608. Where that is too little, ask for it when the thread is made
    (pthread_attr_setstacksize), and for what its own functions need besides. */
-#define SIMMERGATE_STACK 286720
-#define SIMMERGATE_STACK_16384 1507328
-#define SIMMERGATE_READ_TEXT_STACK 1003520
-#define SIMMERGATE_READ_TEXT_STACK_16384 5324800
+#if defined(__aarch64__)
+#define SIMMERGATE_STACK 155648
+#define SIMMERGATE_STACK_16384 819200
+#else
+#define SIMMERGATE_STACK 131072
+#define SIMMERGATE_STACK_16384 688128
+#endif
+#define SIMMERGATE_READ_TEXT_STACK SIMMERGATE_STACK /* the same two, by earlier names */
+#define SIMMERGATE_READ_TEXT_STACK_16384 SIMMERGATE_STACK_16384
 
 /* ---- Numbers by name ---- */
 
@@ -529,8 +537,8 @@ uint32_t simmergate_simplify_shared(size_t limit, size_t edition, const uint8_t 
    A table has exactly one text, and a text that is read exactly one table: writing what was read gives the same
    bytes, and reading what was written gives the same records without their line marks, which text does not carry.
 
-   A text of any length and nesting is judged, within SIMMERGATE_READ_TEXT_STACK bytes of stack, or
-   SIMMERGATE_READ_TEXT_STACK_16384. The time grows with its length; besides, where first members or bases stand
+   A text of any length and nesting is judged, within SIMMERGATE_STACK bytes of stack, or SIMMERGATE_STACK_16384.
+   The time grows with its length; besides, where first members or bases stand
    nested, with their depth, since each such level moves the records inside it on by one; and for a text nested deeper
    than half the limit with how often that goes into its depth. */
 

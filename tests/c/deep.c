@@ -1,11 +1,12 @@
-/* What each call needs of the stack, measured, beside what include/simmergate.h says of it; to be run where that file is found under this name.
+/* deep [names]: what each call needs of the stack, measured, beside what include/simmergate.h says of it; to be run where that file is found under this name.
 
    The deepest tables that are accepted, 1,535 nodes one inside the other at the limit 3,072 and 8,191 at 16,384, are checked, weighed, evaluated,
    compared, walked in step, simplified by both editions, alone, as a site of one item and by way of 16 definitions, received in pieces, written as
-   text and read again; the widest tables are simplified, texts nested far deeper than any table are judged, and settings are stored, shown and
-   removed. All this on a stack of 1 MiB, and of 8 MiB, that lies behind a page that nothing may touch. The stack is painted before each call, and
+   text and read again; the widest tables are simplified, texts nested far deeper than any table are judged, tables with each flaw are refused by
+   every call, and settings are stored, shown and removed. All this on a stack of 1 MiB, and of 8 MiB, that lies behind a page that nothing may touch. The stack is painted before each call, and
    what is painted over when the call is back is what it needed. The figures are printed as the header's table has them; exit 1 where a call needs
-   more than stands there. */
+   more than stands there. The header's figures are the bounds that tests/stack tells from the machine code; what is measured comes near them. With `names` a call is held to
+   the name that covers it alone: the figures of the calls are those of x86-64. */
 #include "../../include/simmergate.h"
 #include "own.h"
 #include <pthread.h>
@@ -33,10 +34,10 @@ static int level;
 /* What is handed to the calls. */
 static uint8_t table[RECORD * HIGHER], second[RECORD * HIGHER], registers[SIMMERGATE_REGISTERS_BYTES], answer[SIMMERGATE_SIMPLIFY_BYTES];
 static uint8_t out[RECORD * HIGHER], steps[HIGHER], work[SIMMERGATE_WORK_BYTES(HIGHER)], lengths[8];
-static uint8_t formula[RECORD], symbols[SIMMERGATE_DEFINITIONS], definition_lengths[8 * SIMMERGATE_DEFINITIONS];
+static uint8_t formula[RECORD * HIGHER], symbols[SIMMERGATE_DEFINITIONS], definition_lengths[8 * SIMMERGATE_DEFINITIONS];
 static uint8_t definitions[RECORD * (HIGHER + SIMMERGATE_DEFINITIONS)], opened[RECORD * HIGHER];
 static uint8_t receiver[SIMMERGATE_RECEIVER_BYTES], received[RECORD * HIGHER], text[1 << 20], slots[SIMMERGATE_SLOT_BYTES * SLOTS];
-static size_t bytes, second_bytes, edition = 1, defined, definitions_bytes, text_bytes, slots_bytes;
+static size_t bytes, second_bytes, formula_bytes, edition = 1, defined, definitions_bytes, text_bytes, slots_bytes;
 static const uint8_t *piece;
 static size_t piece_bytes;
 static uint16_t key;
@@ -71,12 +72,12 @@ static void site(void) {
 }
 
 static void open_up(void) {
-    returned = simmergate_open(at.limit, formula, sizeof formula, symbols, defined, definition_lengths, 8 * defined, definitions, definitions_bytes,
+    returned = simmergate_open(at.limit, formula, formula_bytes, symbols, defined, definition_lengths, 8 * defined, definitions, definitions_bytes,
                                opened, sizeof opened, answer, sizeof answer);
 }
 
 static void simplify_shared(void) {
-    returned = simmergate_simplify_shared(at.limit, edition, formula, sizeof formula, symbols, defined, definition_lengths, 8 * defined, definitions,
+    returned = simmergate_simplify_shared(at.limit, edition, formula, formula_bytes, symbols, defined, definition_lengths, 8 * defined, definitions,
                                           definitions_bytes, opened, sizeof opened, out, sizeof out, steps, sizeof steps, work, sizeof work, answer,
                                           sizeof answer);
 }
@@ -122,12 +123,20 @@ static __attribute__((noinline)) void paint(void) {
     for (volatile uint8_t *p = stack + at.stack - BEGINNING; p < end; p++) *p = PAINT;
 }
 
+/* How many bytes at the far end are still painted: eight at a time, then one by one. */
+static size_t still_painted(void) {
+    uint64_t eight, painted;
+    size_t i = 0;
+    memset(&painted, PAINT, sizeof painted);
+    for (; memcpy(&eight, stack + i, sizeof eight), eight == painted; i += sizeof eight) {}
+    while (stack[i] == PAINT) i++;
+    return i;
+}
+
 static void *run(void *unused) {
     paint();
     running();
-    size_t i = 0;
-    while (stack[i] == PAINT) i++;
-    touched = at.stack - i;
+    touched = at.stack - still_painted();
     return unused;
 }
 
@@ -207,7 +216,8 @@ static void compare_all(int first) {
 
 /* A chain of n definitions, each the symbol of the next; the last is the table that stands there, or leads back to the first. */
 static void define(size_t n, int back) {
-    memset(formula, 0, sizeof formula);
+    memset(formula, 0, RECORD);
+    formula_bytes = RECORD;
     formula[0] = 1;
     formula[8] = 100;
     definitions_bytes = 0;
@@ -303,6 +313,58 @@ static void judge_texts(void) {
     judged("(", 10000, "1+1", ")+1)", 14);
 }
 
+/* ---- Refused tables ---- */
+
+static const char *flaw;
+
+static void refused(int k, uint32_t expected) {
+    measure(k);
+    if (returned == expected) return;
+    printf("deep: %s of a table with %s: %u, not %u\n", calls[k].name, flaw, (unsigned)returned, (unsigned)expected);
+    exit(1);
+}
+
+/* The table that stands there in place of one good record: as the only one, as the second of two, and as a formula or a definition. */
+static void refused_all(uint32_t expected) {
+    static const uint8_t good[RECORD];
+    static const int alone[] = {CHECK, WEIGHT, VALUE, SIMPLIFY, WRITE_TEXT, EQUAL, DIFFER};
+    memcpy(second, table, bytes), second_bytes = bytes;
+    for (size_t i = 0; i < sizeof alone / sizeof *alone; i++) refused(alone[i], expected);
+    own_bytes(lengths, bytes);
+    refused(BATCH, 0);
+    if (own_number(answer) != expected) printf("deep: a site of a table with %s\n", flaw), exit(1);
+    memset(receiver, 0, sizeof receiver);
+    piece = table, piece_bytes = bytes;
+    refused(RECEIVE, 0), refused(FINISH, expected);
+    define(1, 0);
+    refused(OPEN, 15), refused(SHARED, 15);
+    defined = definitions_bytes = 0;
+    memcpy(formula, table, bytes), formula_bytes = bytes;
+    refused(OPEN, expected), refused(SHARED, expected);
+    memcpy(table, good, RECORD), bytes = RECORD;
+    refused(EQUAL, expected), refused(DIFFER, expected);
+}
+
+/* Each flaw in one record, and the refusals that are no flaw of a record. */
+static void refuse_all(void) {
+    static const struct { unsigned kind, count, byte; const char *flaw; } flaws[] = {
+        {0, 0, 7, "a stray byte in an integer"}, {1, 0, 9, "a stray byte in a symbol"}, {2, 2, 7, "a stray byte in a sum"},
+        {3, 2, 15, "a stray byte in a product"}, {4, 0, 2, "a stray byte in a power"},  {5, 0, 0, "a kind over 4"},
+        {2, 1, 0, "a sum of one member"},        {3, 0, 0, "a product of no member"},
+    };
+    for (size_t i = 0; i < sizeof flaws / sizeof *flaws; i++) {
+        bytes = 0, put(flaws[i].kind, flaws[i].count, 0);
+        if (flaws[i].byte != 0) table[flaws[i].byte] = 1;
+        flaw = flaws[i].flaw, refused_all(2);
+    }
+    bytes = RECORD + 1, flaw = "half a record", refused_all(1);
+    for (bytes = 0; bytes < RECORD * at.limit;) put(1, 0, 0);
+    flaw = "too great a weight", refused_all(3);
+    bytes = 0, put(2, 2, 0), put(0, 0, 3), flaw = "too few records", refused_all(4);
+    bytes = 0, put(0, 0, 3), put(0, 0, 3), flaw = "a record too many", refused_all(4);
+    bytes = 0, put(4, 0, 0), put(0, 0, 3), put(0, 0, 0), flaw = "the exponent 0", refused_all(5);
+}
+
 /* ---- Settings ---- */
 
 static void setting(int k, unsigned of, uint32_t expected) {
@@ -366,12 +428,13 @@ static void try_all(void) {
         as_text();
     }
     judge_texts();
+    refuse_all();
     settings();
     measure(RELEASE), same("the release", SIMMERGATE_RELEASE, returned);
     widest(all, 0, 1, 1);
     widest(all / 3, 1, 3, 1);
     widest(1000, 2, 3001, 0);
-    printf("deep: at the limit %zu, %zu shapes of %d nested nodes on a stack of %zu MiB, the widest sums, texts and settings\n", at.limit,
+    printf("deep: at the limit %zu, %zu shapes of %d nested nodes on a stack of %zu MiB, the widest sums, texts, flaws and settings\n", at.limit,
            sizeof kinds / sizeof *kinds, at.depth, at.stack >> 20);
 }
 
@@ -412,11 +475,13 @@ static void read_said(size_t said[CALLS][LEVELS]) {
     fclose(header);
 }
 
-/* Whether the header says enough of a call at a limit, in its row and by the name that covers it; a line where it does not. */
+/* Whether the header says enough of a call at a limit, by the name that covers it and, where rows count, in its row; a line where it does not. */
+static int rows = 1;
 static int enough(int k, int i, size_t row) {
     size_t n = need[k][i], name = k == READ_TEXT ? levels[i].reading : levels[i].said;
     const char *of = calls[k].name;
-    if (row == 0 && i == 0) printf("deep: the header has no row of %s\n", of);
+    if (!rows) row = n;
+    if (rows && row == 0 && i == 0) printf("deep: the header has no row of %s\n", of);
     if (row != 0 && n > row) printf("deep: %s needs %zu bytes at the limit %zu, and its row says %zu\n", of, n, levels[i].limit, row);
     if (n > name) printf("deep: %s needs %zu bytes at the limit %zu, and the name for it says %zu\n", of, n, levels[i].limit, name);
     return n <= row && n <= name;
@@ -436,15 +501,17 @@ static int report(void) {
     for (int k = 0; k < CALLS; k++) {
         for (int i = 0; i < LEVELS; i++) {
             if (!enough(k, i, said[k][i])) failed = 1;
-            else if (need[k][i] < said[k][i]) more++;
+            else if (rows && need[k][i] < said[k][i]) more++;
         }
     }
-    if (!failed && more == 0) printf("deep: the header says the same\n");
+    if (!failed && more == 0) printf("deep: the header says %s\n", rows ? "the same" : "enough");
     if (!failed && more != 0) printf("deep: the header says no less, and more in %d figures\n", more);
     return failed;
 }
 
-int main(void) {
+int main(int arguments, char **words) {
+    if (arguments > 2 || (arguments == 2 && strcmp(words[1], "names") != 0)) return printf("usage: deep [names]\n"), 2;
+    rows = arguments == 1;
     if (mprotect(area, PAGE, 0)) {
         printf("deep: no page to guard the stack\n");
         return 1;

@@ -24,7 +24,7 @@ use Rattle.driver.specs.declared.Taken.the-variants as taken
 use Rattle.driver.specs.declared.Turn.the-variants as turn
 use Rattle.driver.specs.Driven.{kindNumber, withNotes, encodeAll, weightAll, firstRecord, inside, openedRuns, passed, closedOver}
 use Rattle.driver.specs.Driven.{Set, Back, TakenIs, Drove, Gave, Gathers, Closed}
-use Rattle.driver.specs.Paused.{begunAt, joinedTo, keptBy, endedAt, entered, returned, Small, Onward, Call, call, runOf, Called, Fell, Reached, Come, Gathering}
+use Rattle.driver.specs.Paused.{begunAt, joinedTo, keptBy, endedAt, entered, returned, Onward, Call, call, runOf, Called, Fell, Reached, Come, Gathering}
 use Rattle.driver.specs.Paused.{Midway, Resumed, Begun, WentOn, TurnIs}
 use Rattle.driver.proofs.Forests.{members-weigh, front-long}
 use Rattle.driver.proofs.Weighs.{weighs-all, weighs-tree}
@@ -112,18 +112,6 @@ module _ {c : Call} {out work steps : List ℕ} {s : Stand} (v : Midway c out wo
   node-fits =
       let f = passing.record-fits set-then .1 in
       (omega (arith, v .node-is, v .out-kept, v .gathering .out-long), omega (arith, v .node-is, v .gathering .end))
-
-  pub small : Small s
-  small =
-      let g = v .gathering in
-      let a = membering.small g in
-      let f = node-fits in
-      record {
-        node = omega (arith, f .1, few-now);
-        left = a .2;
-        gathered = a .1;
-        prior = omega (arith, v .prior-is, v .called .few, v .come .lighter, v .come .noted-end);
-      }
 
   -- what is pending weighs less than the tree and what was pending after it
   pub lighter-now : tableWeight (drop (s .place * 16) work) < tableWeight (drop (c .stand .place * 16) (c .work))
@@ -466,7 +454,7 @@ pub record KeptFits (s : Stand) (i : ℕ) (out work : List ℕ) : Type 0 where
 
 pub kept-fits : {c : Call} {out work steps : List ℕ} (s : Stand) (i : ℕ) → Midway c out work steps (keptBy s i) → KeptFits s i out work
 kept-fits s i v =
-    record { place = place-fits v; tries = omega (arith, tries-now v); end = omega (arith, few-now v); gathered = small v .gathered }
+    record { place = place-fits v; tries = omega (arith, tries-now v); end = omega (arith, few-now v); gathered = membering.small (v .gathering) .1 }
 
 pub kept-next : {c : Call} {out work steps : List ℕ} (s : Stand) (i : ℕ) → Midway c out work steps (keptBy s i) → i < s .left → kind work (s .place + i) < 2
     → (out' : List ℕ) → out' ≡ put out ((s .end + i) * 16) (part work ((s .place + i) * 16) 16) → length out' ≡ length out → Midway c out' work steps (keptBy s (i + 1))

@@ -1,12 +1,11 @@
--- The driver's ten cells: they are the numbers of a `Stand`, in order; so writing some of them changes those numbers alone. And two bytes for each of
--- four numbers, put together, give the four numbers back. Assumes nothing.
-use Prim.Native.Nat.{ℕ, _/_, _%_}
+-- The driver's ten cells: they are the numbers of a `Stand`, in order; so writing some of them changes those numbers alone. Assumes nothing.
+use Prim.Native.Nat.{ℕ}
 use mathlib.Core.Path.{_≡_, refl, sym, ap, subst}
 use mathlib.Core.List.{List, [], _∷_}
 use native.Mathlib.Omega.{arith}
 use lib.ListN.{length, getD, set}
 use Rattle.driver.specs.declared.Stand.{Stand}
-use Rattle.driver.specs.Paused.{standOf, cells, packed, entered, returned, Small}
+use Rattle.driver.specs.Paused.{standOf, cells, entered, returned}
 
 -- ten cells hold a `Stand`
 ten : (l : List ℕ) → length l ≡ 10 → cells (standOf l) ≡ l
@@ -28,11 +27,11 @@ module _ (l : List ℕ) (h : length l ≡ 10) where
   holds : (P : List ℕ → Type 0) → ((s : Stand) → P (cells s)) → P l
   holds P p = subst P (ten l h) (p (standOf l))
 
-  pub saved-cells : set l 5 (getD l 6 0) ≡ cells (entered (standOf l))
-  saved-cells = holds (λ x. set x 5 (getD x 6 0) ≡ cells (entered (standOf x))) (λ s. refl)
+  pub entered-cells : set l 5 (getD l 6 0) ≡ cells (entered (standOf l))
+  entered-cells = holds (λ x. set x 5 (getD x 6 0) ≡ cells (entered (standOf x))) (λ s. refl)
 
-  pub restored-cells : (d m g b : ℕ) → set (set (set (set (set l 6 (getD l 5 0)) 5 d) 7 m) 8 g) 9 b ≡ cells (returned (standOf l) d m g b)
-  restored-cells d m g b =
+  pub returned-cells : (d m g b : ℕ) → set (set (set (set (set l 6 (getD l 5 0)) 5 d) 7 m) 8 g) 9 b ≡ cells (returned (standOf l) d m g b)
+  returned-cells d m g b =
       holds (λ x. set (set (set (set (set x 6 (getD x 5 0)) 5 d) 7 m) 8 g) 9 b ≡ cells (returned (standOf x) d m g b)) (λ s. refl)
 
   pub stored-cells : (s : Stand) → s .edition ≡ standOf l .edition
@@ -46,28 +45,3 @@ module _ (l : List ℕ) (h : length l ≡ 10) where
       (λ x e. ap
       (λ i. i ∷ s .place ∷ s .noted ∷ s .openings ∷ s .tries ∷ s .node ∷ s .end ∷ s .left ∷ s .gathered ∷ s .prior ∷ [])
       (sym e))
-
--- what is saved comes back
-pub record Unpacked (s : Stand) (c : ℕ) : Type 0 where
-  pub node : c % 65536 ≡ s .node
-  pub left : c / 65536 % 65536 ≡ s .left
-  pub gathered : c / 4294967296 % 65536 ≡ s .gathered
-  pub prior : c / 281474976710656 ≡ s .prior
-
-pub unpacked : (s : Stand) → Small s → Unpacked s (packed s)
-unfolding packed
-unpacked s h =
-    let a = h .node in
-    let b = h .left in
-    let c = h .gathered in
-    let d = h .prior in
-    record { node = omega arith; left = omega arith; gathered = omega arith; prior = omega arith }
-
-pub comes-back : (s x : Stand) (c : ℕ) → Unpacked s c
-    → returned x (c % 65536) (c / 65536 % 65536) (c / 4294967296 % 65536) (c / 281474976710656) ≡ returned x (s .node) (s .left) (s .gathered) (s .prior)
-comes-back s x c u =
-    let a = u .node in
-    let b = u .left in
-    let d = u .gathered in
-    let e = u .prior in
-    cc

@@ -100,10 +100,7 @@ endedAt s e q n τ =
       prior = s .prior;
     }
 
--- the numbers of a node in one, two bytes each; the member that is next as the node; and the node again after it
-unfoldable pub packed : Stand → ℕ
-packed s = ((s .prior * 65536 + s .gathered) * 65536 + s .left) * 65536 + s .node
-
+-- the member that is next as the node; and the node again after it, by its own numbers
 abbrev pub entered : Stand → Stand
 entered s =
     record {
@@ -133,12 +130,6 @@ returned s d l g b =
       gathered = g;
       prior = b;
     }
-
-pub record Small (s : Stand) : Type 0 where
-  pub node : s .node < 65536
-  pub left : s .left < 65536
-  pub gathered : s .gathered < 65536
-  pub prior : s .prior < 65536
 
 -- the edition stays, and the tries do not fall
 pub record Onward (s s' : Stand) : Type 0 where
@@ -182,6 +173,17 @@ pub record Reached (c : Call) (out work steps : List ℕ) (s : Stand) (e : ℕ) 
 pub record DrivenTo (c : Call) (out work steps : List ℕ) (s : Stand) (e : ℕ) : Type 0 where
   pub refused : e < 1 → Fell c (s .noted)
   pub reached : 1 ≤ e → Reached c out work steps s e
+
+-- ten cells say where the driver stands, and a tree is set up there
+abbrev pub Drivable : (out work steps st : List ℕ) → Type 0
+Drivable out work steps st = (length st ≡ 10) × ((t : Tree) × (rest : List ℕ) × Called (call out work steps (standOf st) t rest))
+
+-- what a run from there leaves and answers, on whatever tree is set up there
+abbrev pub Drives : (out work steps st out' work' steps' st' : List ℕ) (r : ℕ) → Type 0
+Drives out work steps st out' work' steps' st' r =
+    (length st' ≡ 10)
+    × ((t : Tree) (rest : List ℕ) → Called (call out work steps (standOf st) t rest)
+    → DrivenTo (call out work steps (standOf st) t rest) out' work' steps' (standOf st') r)
 
 -- ---- on the way
 -- members gathered before others

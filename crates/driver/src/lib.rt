@@ -1,17 +1,17 @@
 // The driver: at a node the rules of an edition are asked, then the members are driven and gathered, and it begins again while anything changes.
 ghost use mathlib.Core.Path.{_≡_};
 ghost use mathlib.Core.List.{List};
-ghost use Prim.Native.Nat.{ℕ, _+_, _*_, _/_, _%_, _^_, _≤_, _<_};
+ghost use Prim.Native.Nat.{ℕ, _+_, _*_, _^_, _≤_, _<_};
 ghost use mathlib.Core.Bool.{_&&_};
-ghost use lib.ListN.{length};
+ghost use lib.ListN.{length, getD};
 ghost use lib.Dec.{eqb};
 ghost use Rattle.paper.specs.Record.{isNode, arity};
 ghost use Rattle.paper.specs.Tree.{Tree};
 ghost use Rattle.paper.specs.Rules.{rulesOf};
 ghost use Rattle.stretch.specs.Put.{part, put};
 ghost use Rattle.driver.specs.Driven.{closedOver, Set, Back, easedOf, SettledIs, EasedIs, TakenIs, Gathers, Closed};
-ghost use Rattle.driver.specs.Paused.{standOf, cells, begunAt, joinedTo, keptBy, endedAt, packed, entered, returned, Small, Onward};
-ghost use Rattle.driver.specs.Paused.{Call, call, Called, DrivenTo, Midway, Resumed, GoesOn, Begun, WentOn, TurnIs};
+ghost use Rattle.driver.specs.Paused.{standOf, cells, begunAt, joinedTo, keptBy, endedAt, entered, returned, Onward};
+ghost use Rattle.driver.specs.Paused.{Call, call, Called, DrivenTo, Drivable, Drives, Midway, Resumed, GoesOn, Begun, WentOn, TurnIs};
 
 // Where a tree stands once no rule applies to it, and the steps noted; or the steps completed when a rule left the range.
 enum Settled {
@@ -173,20 +173,53 @@ enum Turn {
     Over(usize),
 }
 
+// The cells that the levels of the driver share: the numbers of a `Stand`, each by its name.
+pub const EDITION: usize = 0;
+
+pub const PLACE: usize = 1;
+
+pub const NOTED: usize = 2;
+
+pub const OPENINGS: usize = 3;
+
+pub const TRIES: usize = 4;
+
+const NODE: usize = 5;
+
+const END: usize = 6;
+
+const LEFT: usize = 7;
+
+const GATHERED: usize = 8;
+
+const PRIOR: usize = 9;
+
 // Drives the tree pending until nothing changes, and appends its result to the records done and its steps to those noted. Answers where the
-// result ends, 0 where a rule left the range. The cells hold the numbers of a `Stand`, in its order, and are all that the levels share beside the areas; a level keeps
-// one number of its own.
-pub fn drive(out: &mut [u8], work: &mut [u8], steps: &mut [u8], st: &mut [usize; 10]) -> usize
-    requires { ⌜ (length (now st) ≡ 10) × ((t : Tree) × (rest : List ℕ) × Called (call (now out) (now work) (now steps) (standOf (now st)) t rest)) ⌝ }
-    ensures { λ r. ⌜ (length (now (st .exit)) ≡ 10) × ((t : Tree) (rest : List ℕ) → Called (call (now (out .entry)) (now (work .entry)) (now (steps .entry)) (standOf (now (st .entry))) t rest)
-        → DrivenTo (call (now (out .entry)) (now (work .entry)) (now (steps .entry)) (standOf (now (st .entry))) t rest)
-        (now (out .exit)) (now (work .exit)) (now (steps .exit)) (standOf (now (st .exit))) r) ⌝ }
+// result ends, 0 where a rule left the range. The cells hold the numbers of a `Stand` and are all that the levels share beside the areas, which are
+// behind references of one word; a level keeps the four numbers of its node.
+fn drive_tree(
+    out: &mut &mut [u8],
+    work: &mut &mut [u8],
+    steps: &mut &mut [u8],
+    st: &mut [usize; 10],
+) -> usize
+    requires { ⌜ Drivable (now (now out)) (now (now work)) (now (now steps)) (now st) ⌝ }
+    ensures { λ r. ⌜ Drives (now (now (out .entry))) (now (now (work .entry))) (now (now (steps .entry))) (now (st .entry))
+        (now (now (out .exit))) (now (now (work .exit))) (now (now (steps .exit))) (now (st .exit)) r ⌝ }
+    ensures { λ _. ⌜ (length (now (now (out .exit))) ≡ length (now (now (out .entry)))) × (length (now (now (work .exit))) ≡ length (now (now (work .entry))))
+        × (length (now (now (steps .exit))) ≡ length (now (now (steps .entry)))) ⌝ }
+    ensures { λ _. ⌜ (now (out .exit) .name ≡ now (out .entry) .name) × (now (work .exit) .name ≡ now (work .entry) .name)
+        × (now (steps .exit) .name ≡ now (steps .entry) .name) ⌝ }
 {
     let mut e = go_on(out, work, steps, st, 0);
-    while 0 < st[7] {
-        let c = saved(st);
-        let g = drive(out, work, steps, st);
-        restore(st, c);
+    while 0 < st[LEFT] {
+        let node = st[NODE];
+        let left = st[LEFT];
+        let gathered = st[GATHERED];
+        let prior = st[PRIOR];
+        go_in(st);
+        let g = drive_tree(out, work, steps, st);
+        come_out(st, node, left, gathered, prior);
         if g < 1 {
             return 0;
         }
@@ -195,26 +228,100 @@ pub fn drive(out: &mut [u8], work: &mut [u8], steps: &mut [u8], st: &mut [usize;
     e
 }
 
-// The numbers of the node in one, two bytes each; the member that is next is the node now.
-fn saved(st: &mut [usize; 10]) -> usize
-    requires { ⌜ (length (now st) ≡ 10) × Small (standOf (now st)) ⌝ }
-    ensures { λ r. ⌜ (r ≡ packed (standOf (now (st .entry)))) × (now (st .exit) ≡ cells (entered (standOf (now (st .entry))))) ⌝ }
+// The member that is next is the node now.
+fn go_in(st: &mut [usize; 10])
+    requires { ⌜ length (now st) ≡ 10 ⌝ }
+    ensures { λ _. ⌜ now (st .exit) ≡ cells (entered (standOf (now (st .entry)))) ⌝ }
 {
-    let c = ((st[9] * 65536 + st[8]) * 65536 + st[7]) * 65536 + st[5];
-    st[5] = st[6];
-    c
+    st[NODE] = st[END];
 }
 
-// Puts the numbers of the node back; what is gathered ends where the member stands.
-fn restore(st: &mut [usize; 10], c: usize)
+// The node's own numbers are put back; what is gathered ends where the member stands.
+fn come_out(st: &mut [usize; 10], node: usize, left: usize, gathered: usize, prior: usize)
     requires { ⌜ length (now st) ≡ 10 ⌝ }
-    ensures { λ _. ⌜ now (st .exit) ≡ cells (returned (standOf (now (st .entry))) (c % 65536) (c / 65536 % 65536) (c / 4294967296 % 65536) (c / 281474976710656)) ⌝ }
+    ensures { λ _. ⌜ now (st .exit) ≡ cells (returned (standOf (now (st .entry))) node left gathered prior) ⌝ }
 {
-    st[6] = st[5];
-    st[5] = c % 65536;
-    st[7] = c / 65536 % 65536;
-    st[8] = c / 4294967296 % 65536;
-    st[9] = c / 281474976710656;
+    st[END] = st[NODE];
+    st[NODE] = node;
+    st[LEFT] = left;
+    st[GATHERED] = gathered;
+    st[PRIOR] = prior;
+}
+
+// The one cell of an answer that comes back beside a slice: where the result ends.
+const RESULT: usize = 0;
+
+// The same in plain slices: each is put behind a reference of its own, and handed back.
+pub fn drive(out: &mut [u8], work: &mut [u8], steps: &mut [u8], st: &mut [usize; 10]) -> usize
+    requires { ⌜ (length (now st) ≡ 10) × ((t : Tree) × (rest : List ℕ) × Called (call (now out) (now work) (now steps) (standOf (now st)) t rest)) ⌝ }
+    ensures { λ r. ⌜ (length (now (st .exit)) ≡ 10) × ((t : Tree) (rest : List ℕ) → Called (call (now (out .entry)) (now (work .entry)) (now (steps .entry)) (standOf (now (st .entry))) t rest)
+        → DrivenTo (call (now (out .entry)) (now (work .entry)) (now (steps .entry)) (standOf (now (st .entry))) t rest)
+        (now (out .exit)) (now (work .exit)) (now (steps .exit)) (standOf (now (st .exit))) r) ⌝ }
+{
+    let mut end = [0usize; 1];
+    enter_steps(out, work, steps, st, &mut end);
+    end[RESULT]
+}
+
+// The steps are put behind a reference, and handed back; the answer is in the cell `end`.
+fn enter_steps<'b>(
+    out: &mut [u8],
+    work: &mut [u8],
+    steps: &'b mut [u8],
+    st: &mut [usize; 10],
+    end: &mut [usize; 1],
+) -> &'b mut [u8]
+    requires { ⌜ Drivable (now out) (now work) (now steps) (now st) × (length (now end) ≡ 1) ⌝ }
+    ensures { λ p. ⌜ Drives (now (out .entry)) (now (work .entry)) (now (steps .entry)) (now (st .entry))
+        (now (out .exit)) (now (work .exit)) (now p) (now (st .exit)) (getD (now (end .exit)) 0 0) ⌝ }
+    ensures { λ p. ⌜ (p .name ≡ steps .entry .name) × (length (now p) ≡ length (now (steps .entry))) × (length (now (end .exit)) ≡ 1) ⌝ }
+{
+    let mut s = steps;
+    enter_work(out, work, &mut s, st, end);
+    let p = s;
+    p
+}
+
+// Then the pending records, likewise.
+fn enter_work<'b>(
+    out: &mut [u8],
+    work: &'b mut [u8],
+    steps: &mut &mut [u8],
+    st: &mut [usize; 10],
+    end: &mut [usize; 1],
+) -> &'b mut [u8]
+    requires { ⌜ Drivable (now out) (now work) (now (now steps)) (now st) × (length (now end) ≡ 1) ⌝ }
+    ensures { λ p. ⌜ Drives (now (out .entry)) (now (work .entry)) (now (now (steps .entry))) (now (st .entry))
+        (now (out .exit)) (now p) (now (now (steps .exit))) (now (st .exit)) (getD (now (end .exit)) 0 0) ⌝ }
+    ensures { λ p. ⌜ (p .name ≡ work .entry .name) × (length (now p) ≡ length (now (work .entry))) × (length (now (end .exit)) ≡ 1)
+        × (now (steps .exit) .name ≡ now (steps .entry) .name) × (length (now (now (steps .exit))) ≡ length (now (now (steps .entry)))) ⌝ }
+{
+    let mut w = work;
+    enter_out(out, &mut w, steps, st, end);
+    let p = w;
+    p
+}
+
+// Then the records done; and the tree is driven.
+fn enter_out<'b>(
+    out: &'b mut [u8],
+    work: &mut &mut [u8],
+    steps: &mut &mut [u8],
+    st: &mut [usize; 10],
+    end: &mut [usize; 1],
+) -> &'b mut [u8]
+    requires { ⌜ Drivable (now out) (now (now work)) (now (now steps)) (now st) × (length (now end) ≡ 1) ⌝ }
+    ensures { λ p. ⌜ Drives (now (out .entry)) (now (now (work .entry))) (now (now (steps .entry))) (now (st .entry))
+        (now p) (now (now (work .exit))) (now (now (steps .exit))) (now (st .exit)) (getD (now (end .exit)) 0 0) ⌝ }
+    ensures { λ p. ⌜ (p .name ≡ out .entry .name) × (length (now p) ≡ length (now (out .entry))) × (length (now (end .exit)) ≡ 1)
+        × (now (work .exit) .name ≡ now (work .entry) .name) × (length (now (now (work .exit))) ≡ length (now (now (work .entry))))
+        × (now (steps .exit) .name ≡ now (steps .entry) .name) × (length (now (now (steps .exit))) ≡ length (now (now (steps .entry)))) ⌝ }
+{
+    let mut o = out;
+    let e = drive_tree(&mut o, work, steps, st);
+    end[RESULT] = e;
+    let p = o;
+    p
 }
 
 // Where the driver stands, from its cells.
@@ -222,16 +329,16 @@ fn from_cells(st: &[usize; 10]) -> Stand
     ensures { λ r. ⌜ r ≡ standOf (now (st .entry)) ⌝ }
 {
     Stand {
-        edition: st[0],
-        place: st[1],
-        noted: st[2],
-        openings: st[3],
-        tries: st[4],
-        node: st[5],
-        end: st[6],
-        left: st[7],
-        gathered: st[8],
-        prior: st[9],
+        edition: st[EDITION],
+        place: st[PLACE],
+        noted: st[NOTED],
+        openings: st[OPENINGS],
+        tries: st[TRIES],
+        node: st[NODE],
+        end: st[END],
+        left: st[LEFT],
+        gathered: st[GATHERED],
+        prior: st[PRIOR],
     }
 }
 
@@ -240,32 +347,42 @@ fn to_cells(st: &mut [usize; 10], s: Stand) -> usize
     requires { ⌜ (length (now st) ≡ 10) × (s .edition ≡ standOf (now st) .edition) ⌝ }
     ensures { λ r. ⌜ (r ≡ s .end) × (now (st .exit) ≡ cells s) ⌝ }
 {
-    st[1] = s.place;
-    st[2] = s.noted;
-    st[3] = s.openings;
-    st[4] = s.tries;
-    st[5] = s.node;
-    st[6] = s.end;
-    st[7] = s.left;
-    st[8] = s.gathered;
-    st[9] = s.prior;
+    st[PLACE] = s.place;
+    st[NOTED] = s.noted;
+    st[OPENINGS] = s.openings;
+    st[TRIES] = s.tries;
+    st[NODE] = s.node;
+    st[END] = s.end;
+    st[LEFT] = s.left;
+    st[GATHERED] = s.gathered;
+    st[PRIOR] = s.prior;
     s.end
 }
 
 // Goes on with the tree, from its beginning where g is 0, else from the result of the member that it waited for, which ends at g: up to the next member
 // that is a node, or to the end.
-fn go_on(out: &mut [u8], work: &mut [u8], steps: &mut [u8], st: &mut [usize; 10], g: usize) -> usize
-    requires { ⌜ (length (now st) ≡ 10) × ((c : Call) × GoesOn c (now out) (now work) (now steps) (standOf (now st)) g) ⌝ }
+fn go_on(
+    out: &mut &mut [u8],
+    work: &mut &mut [u8],
+    steps: &mut &mut [u8],
+    st: &mut [usize; 10],
+    g: usize,
+) -> usize
+    requires { ⌜ (length (now st) ≡ 10) × ((c : Call) × GoesOn c (now (now out)) (now (now work)) (now (now steps)) (standOf (now st)) g) ⌝ }
     ensures { λ r. ⌜ (length (now (st .exit)) ≡ 10) × (r ≡ standOf (now (st .exit)) .end) × Onward (standOf (now (st .entry))) (standOf (now (st .exit)))
-        × ((c : Call) → GoesOn c (now (out .entry)) (now (work .entry)) (now (steps .entry)) (standOf (now (st .entry))) g
-        → WentOn c (now (out .exit)) (now (work .exit)) (now (steps .exit)) (standOf (now (st .exit)))) ⌝ }
+        × ((c : Call) → GoesOn c (now (now (out .entry))) (now (now (work .entry))) (now (now (steps .entry))) (standOf (now (st .entry))) g
+        → WentOn c (now (now (out .exit))) (now (now (work .exit))) (now (now (steps .exit))) (standOf (now (st .exit)))) ⌝ }
+    ensures { λ _. ⌜ (length (now (now (out .exit))) ≡ length (now (now (out .entry)))) × (length (now (now (work .exit))) ≡ length (now (now (work .entry))))
+        × (length (now (now (steps .exit))) ≡ length (now (now (steps .entry)))) ⌝ }
+    ensures { λ _. ⌜ (now (out .exit) .name ≡ now (out .entry) .name) × (now (work .exit) .name ≡ now (work .entry) .name)
+        × (now (steps .exit) .name ≡ now (steps .entry) .name) ⌝ }
 {
     let s = from_cells(st);
-    let begun = first(out, work, steps, s, g);
+    let begun = first(*out, *work, *steps, s, g);
     if begun.end < 1 {
         return to_cells(st, begun);
     }
-    let last = pass_on(out, work, steps, begun);
+    let last = pass_on(*out, *work, *steps, begun);
     to_cells(st, last)
 }
 
@@ -293,19 +410,15 @@ fn begin(out: &mut [u8], work: &[u8], s: Stand, q: usize, n: usize, tries: usize
 {
     let d = s.node;
     stretch::copy_bytes(out, d * 16, work, q * 16, 16);
-    let left = record::arity(work, q);
-    Stand {
-        edition: s.edition,
-        place: q + 1,
-        noted: n,
-        openings: s.openings,
-        tries,
-        node: d,
-        end: d + 1,
-        left,
-        gathered: 0,
-        prior: n + s.openings,
-    }
+    let mut t = s;
+    t.place = q + 1;
+    t.noted = n;
+    t.tries = tries;
+    t.end = d + 1;
+    t.left = record::arity(work, q);
+    t.gathered = 0;
+    t.prior = n + s.openings;
+    t
 }
 
 // Gathers the result of a member, which ends at g: opens it where it is of the node's kind.
@@ -328,18 +441,12 @@ fn joined(s: Stand, f: usize, o: usize, m: usize) -> Stand
     requires { ⌜ (1 ≤ s .left) × (s .gathered + m < 2 ^ 63) ⌝ }
     ensures { λ r. ⌜ r ≡ joinedTo s f o m ⌝ }
 {
-    Stand {
-        edition: s.edition,
-        place: s.place,
-        noted: s.noted,
-        openings: o,
-        tries: s.tries,
-        node: s.node,
-        end: f,
-        left: s.left - 1,
-        gathered: s.gathered + m,
-        prior: s.prior,
-    }
+    let mut t = s;
+    t.openings = o;
+    t.end = f;
+    t.left = s.left - 1;
+    t.gathered = s.gathered + m;
+    t
 }
 
 // Keeps the members up to the next one that is a node: each is a leaf, and finished after one try.
@@ -366,18 +473,13 @@ fn kept(s: Stand, i: usize) -> Stand
     requires { ⌜ (i ≤ s .left) × (s .place + i < 2 ^ 63) × (s .tries + i < 2 ^ 63) × (s .end + i < 2 ^ 63) × (s .gathered + i < 2 ^ 63) ⌝ }
     ensures { λ r. ⌜ r ≡ keptBy s i ⌝ }
 {
-    Stand {
-        edition: s.edition,
-        place: s.place + i,
-        noted: s.noted,
-        openings: s.openings,
-        tries: s.tries + i,
-        node: s.node,
-        end: s.end + i,
-        left: s.left - i,
-        gathered: s.gathered + i,
-        prior: s.prior,
-    }
+    let mut t = s;
+    t.place = s.place + i;
+    t.tries = s.tries + i;
+    t.end = s.end + i;
+    t.left = s.left - i;
+    t.gathered = s.gathered + i;
+    t
 }
 
 // Goes on with a pass: up to the next member that is a node, or, beginning again while anything changes, to the end.
@@ -407,18 +509,13 @@ fn pass_on(out: &mut [u8], work: &mut [u8], steps: &mut [u8], from: Stand) -> St
 fn ended(s: Stand, e: usize, q: usize, n: usize, tries: usize) -> Stand
     ensures { λ r. ⌜ r ≡ endedAt s e q n tries ⌝ }
 {
-    Stand {
-        edition: s.edition,
-        place: q,
-        noted: n,
-        openings: s.openings,
-        tries,
-        node: s.node,
-        end: e,
-        left: 0,
-        gathered: s.gathered,
-        prior: s.prior,
-    }
+    let mut t = s;
+    t.place = q;
+    t.noted = n;
+    t.tries = tries;
+    t.end = e;
+    t.left = 0;
+    t
 }
 
 // Ends a pass, all members being gathered: where nothing changed the node is finished; else it is closed up and taken up.

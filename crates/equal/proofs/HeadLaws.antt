@@ -8,7 +8,7 @@ use mathlib.Core.List.{List}
 use native.Mathlib.Decide.{decLe}
 use native.Mathlib.Omega.{arith}
 use borrow.Author.Tests.{eq-eqb, eqb-true, eqb-false}
-use lib.ListN.{length, getD}
+use lib.ListN.{length}
 use lib.IntN.{pos}
 use lib.Dec.{eqb}
 use Rattle.paper.specs.Bytes.{word}
@@ -80,17 +80,17 @@ module _ {how : Tree → ℕ} {a : List ℕ} {i : ℕ} {b : List ℕ} {j : ℕ} 
       (leaves-equal h g k l n, leaf-records h g k l)
 
   -- a tree with no tick that is no candidate is not equal
-  pub passed-by : (us : List ℕ) (k : ℕ) → isCandidate a i b j us k ≡ false → getD us k 0 ≡ 0 → equal t u ≡ false
+  pub passed-by : (x : ℕ) → isCandidate a i b j x ≡ false → x ≡ 0 → equal t u ≡ false
   unfolding isCandidate
-  passed-by us k e z = begins-differ (sym (rw (eq-eqb (getD us k 0) 0 z)) ∙ e)
+  passed-by x e z = begins-differ (sym (rw (eq-eqb x 0 z)) ∙ e)
 
-pub candidate-free : (a : List ℕ) (i : ℕ) (b : List ℕ) (j : ℕ) (us : List ℕ) (k : ℕ) → isCandidate a i b j us k ≡ true → getD us k 0 ≡ 0
+pub candidate-free : (a : List ℕ) (i : ℕ) (b : List ℕ) (j x : ℕ) → isCandidate a i b j x ≡ true → x ≡ 0
 unfolding isCandidate
-candidate-free a i b j us k e = eqb-true _ _ (and-both (eqb (getD us k 0) 0) (beginAlike a i b j) e .0)
+candidate-free a i b j x e = eqb-true _ _ (and-both (eqb x 0) (beginAlike a i b j) e .0)
 
-pub candidate-begins : (a : List ℕ) (i : ℕ) (b : List ℕ) (j : ℕ) (us : List ℕ) (k : ℕ) → isCandidate a i b j us k ≡ true → beginAlike a i b j ≡ true
+pub candidate-begins : (a : List ℕ) (i : ℕ) (b : List ℕ) (j x : ℕ) → isCandidate a i b j x ≡ true → beginAlike a i b j ≡ true
 unfolding isCandidate
-candidate-begins a i b j us k e = and-both (eqb (getD us k 0) 0) (beginAlike a i b j) e .1
+candidate-begins a i b j x e = and-both (eqb x 0) (beginAlike a i b j) e .1
 
 -- ---- rests
 -- a tree that is neither an integer nor a product is whole

@@ -1,6 +1,7 @@
 pub mod SameLaws
 pub mod TwoLaws
 pub mod HeadLaws
+pub mod CellLaws
 pub mod TickLaws
 pub mod MemberLaws
 pub mod MatchLaws
@@ -8,5 +9,6 @@ pub mod AnswerLaws
 pub mod TickOutLaws
 pub mod ViewLaws
 pub mod RestLaws
+pub mod RunLaws
 pub mod ComparedLaws
 pub mod Unique

@@ -72,28 +72,29 @@ bag-end (t ∷ k) e = absurd (omega arith)
 removed-length : (p : Tree → Bool) (l m : List Tree) → removeFirst p l ≡ some m → length l ≡ 1 + length m
 removed-length p l m e = taken-length (subst (First p l) e (removeFirst-first p l) .2)
 
--- the trees of f matched so far: those from record `at` on are left, equally many as are unticked, and say what the whole does
-pub record Matched (how : Tree → ℕ) (a : List ℕ) (i : ℕ) (skip : Bool) (us₀ us : List ℕ) (f g : Forest) (at left : ℕ) : Type 0 where
+-- the trees of f matched so far: those from record `at` on are left, equally many as are unticked, the ticks of g being those from tick u on, and
+-- say what the whole does
+pub record Matched (how : Tree → ℕ) (a : List ℕ) (i : ℕ) (skip : Bool) (u : ℕ) (us₀ us : List ℕ) (f g : Forest) (at left : ℕ) : Type 0 where
   pub rest : Forest
   pub stand : ToldTrees how a at left rest
   pub ends : at + recordses rest ≡ i + recordses f
-  pub as-many : length (without skip rest) ≡ length (unticked us 0 g)
-  pub same : sameBag equal (without skip rest) (unticked us 0 g) ≡ sameBag equal (without skip f) (unticked us₀ 0 g)
+  pub as-many : length (without skip rest) ≡ length (unticked us u g)
+  pub same : sameBag equal (without skip rest) (unticked us u g) ≡ sameBag equal (without skip f) (unticked us₀ u g)
 
-module _ {how : Tree → ℕ} {a : List ℕ} {i : ℕ} {skip : Bool} {f g : Forest} where
-  pub matched-start : {n : ℕ} (us : List ℕ) → ToldTrees how a i n f → length (without skip f) ≡ length (unticked us 0 g) → Matched how a i skip us us f g i n
+module _ {how : Tree → ℕ} {a : List ℕ} {i : ℕ} {skip : Bool} {u : ℕ} {f g : Forest} where
+  pub matched-start : {n : ℕ} (us : List ℕ) → ToldTrees how a i n f → length (without skip f) ≡ length (unticked us u g) → Matched how a i skip u us us f g i n
   matched-start us h l = record { rest = f; stand = h; ends = refl; as-many = l; same = refl }
 
-  module _ {us₀ us : List ℕ} {at left : ℕ} (h : Matched how a i skip us₀ us f g at left) where
-    pub matched-done : left ≡ 0 → (sameBag equal (without skip f) (unticked us₀ 0 g) ≡ true) × (at ≡ i + recordses f)
+  module _ {us₀ us : List ℕ} {at left : ℕ} (h : Matched how a i skip u us₀ us f g at left) where
+    pub matched-done : left ≡ 0 → (sameBag equal (without skip f) (unticked us₀ u g) ≡ true) × (at ≡ i + recordses f)
     unfolding records
     matched-done e =
         let z : h .rest ≡ nil = none-of (h .rest) (h .stand) e in
         let w : without skip (h .rest) ≡ [] = ap (without skip) z ∙ without-none skip in
         let r : recordses (h .rest) ≡ 0 = ap recordses z in
         let l : length (without skip (h .rest)) ≡ 0 = ap length w in
-        let all = bag-end (unticked us 0 g) (omega (arith, h .as-many)) in
-        (sym (h .same) ∙ ap (λ k. sameBag equal k (unticked us 0 g)) w ∙ all, omega (arith, h .ends))
+        let all = bag-end (unticked us u g) (omega (arith, h .as-many)) in
+        (sym (h .same) ∙ ap (λ k. sameBag equal k (unticked us u g)) w ∙ all, omega (arith, h .ends))
 
     module _ (l : 0 < left) where
       next : FirstOf how a at left (h .rest)
@@ -111,7 +112,7 @@ module _ {how : Tree → ℕ} {a : List ℕ} {i : ℕ} {skip : Bool} {f g : Fore
       after = omega (arith, h .ends, ap recordses (next .whole))
 
       -- one that is passed over
-      pub matched-out : isPassed skip a at ≡ true → Matched how a i skip us₀ us f g (at + 1) (left - 1)
+      pub matched-out : isPassed skip a at ≡ true → Matched how a i skip u us₀ us f g (at + 1) (left - 1)
       matched-out e =
           let q = without-integer skip (next .there) (next .others) e in
           let w : without skip (h .rest) ≡ without skip (next .others) = ap (without skip) (next .whole) ∙ q .0 in
@@ -122,7 +123,7 @@ module _ {how : Tree → ℕ} {a : List ℕ} {i : ℕ} {skip : Bool} {f g : Fore
             stand = next .after;
             ends = after;
             as-many = ap length (sym w) ∙ h .as-many;
-            same = ap (λ k. sameBag equal k (unticked us 0 g)) (sym w) ∙ h .same;
+            same = ap (λ k. sameBag equal k (unticked us u g)) (sym w) ∙ h .same;
           })
 
       module _ (n : isPassed skip a at ≡ false) where
@@ -130,17 +131,17 @@ module _ {how : Tree → ℕ} {a : List ℕ} {i : ℕ} {skip : Bool} {f g : Fore
         first = ap (without skip) (next .whole) ∙ without-other skip (next .there) (next .others) n
 
         -- one that equals no unticked one
-        pub matched-none : ((t : Tree) → Told how a at t → removeFirst (equal t) (unticked us 0 g) ≡ none)
-            → sameBag equal (without skip f) (unticked us₀ 0 g) ≡ false
+        pub matched-none : ((t : Tree) → Told how a at t → removeFirst (equal t) (unticked us u g) ≡ none)
+            → sameBag equal (without skip f) (unticked us₀ u g) ≡ false
         matched-none r =
             sym (h .same)
-            ∙ ap (λ k. sameBag equal k (unticked us 0 g)) first
-            ∙ bag-none (next .tree) (without skip (next .others)) (unticked us 0 g) (r (next .tree) (next .there))
+            ∙ ap (λ k. sameBag equal k (unticked us u g)) first
+            ∙ bag-none (next .tree) (without skip (next .others)) (unticked us u g) (r (next .tree) (next .there))
 
         -- one that took an equal one
         pub matched-more : (vs : List ℕ) (y : ℕ)
-            → ((t : Tree) → Told how a at t → (y ≡ at + records t) × (removeFirst (equal t) (unticked us 0 g) ≡ some (unticked vs 0 g)))
-            → Matched how a i skip us₀ vs f g y (left - 1)
+            → ((t : Tree) → Told how a at t → (y ≡ at + records t) × (removeFirst (equal t) (unticked us u g) ≡ some (unticked vs u g)))
+            → Matched how a i skip u us₀ vs f g y (left - 1)
         matched-more vs y r =
             let t = next .tree in
             let k : List Tree = without skip (next .others) in
@@ -150,10 +151,10 @@ module _ {how : Tree → ℕ} {a : List ℕ} {i : ℕ} {skip : Bool} {f g : Fore
               rest = next .others;
               stand = next .after;
               ends = after;
-              as-many = omega (arith, ap length first, h .as-many, removed-length (equal t) (unticked us 0 g) (unticked vs 0 g) (q .1));
+              as-many = omega (arith, ap length first, h .as-many, removed-length (equal t) (unticked us u g) (unticked vs u g) (q .1));
               same =
-                  sym (bag-more t k (unticked us 0 g) (unticked vs 0 g) (q .1))
-                  ∙ ap (λ z. sameBag equal z (unticked us 0 g)) (sym first)
+                  sym (bag-more t k (unticked us u g) (unticked vs u g) (q .1))
+                  ∙ ap (λ z. sameBag equal z (unticked us u g)) (sym first)
                   ∙ h .same;
             })
 
@@ -170,15 +171,15 @@ module _ {how : Tree → ℕ} {a : List ℕ} {i : ℕ} {b : List ℕ} {j : ℕ} 
   pub members-room : (room : ℕ) → records u ≤ 1 + room → n ≤ room
   members-room room l = omega (arith, members-few u, others-there .counted, count-records (partsOf u))
 
-  module _ (us : List ℕ) (zero-ticks : (k : ℕ) → k < n → getD us k 0 ≡ 0) where
-    all-others : unticked us 0 (partsOf u) ≡ toList (partsOf u)
-    all-others = unticked-all us 0 n (partsOf u) (λ k p l. zero-ticks k l) (omega (arith, others-there .counted))
+  module _ (v : ℕ) (us : List ℕ) (zero-ticks : (k : ℕ) → v ≤ k → k < v + n → getD us k 0 ≡ 0) where
+    all-others : unticked us v (partsOf u) ≡ toList (partsOf u)
+    all-others = unticked-all us v (v + n) (partsOf u) zero-ticks (omega (arith, others-there .counted))
 
-    pub all-members : sameBag equal (without false (partsOf t)) (unticked us 0 (partsOf u)) ≡ sameMembers t u
+    pub all-members : sameBag equal (without false (partsOf t)) (unticked us v (partsOf u)) ≡ sameMembers t u
     unfolding without
     all-members = ap (sameBag equal (toList (partsOf t))) all-others
 
-    pub members-start : Matched how a (i + 1) false us us (partsOf t) (partsOf u) (i + 1) n
+    pub members-start : Matched how a (i + 1) false v us us (partsOf t) (partsOf u) (i + 1) n
     unfolding without
     members-start =
         matched-start us ones-there

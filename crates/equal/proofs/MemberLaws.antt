@@ -163,7 +163,7 @@ module _ {how : Tree → ℕ} {a : List ℕ} {i : ℕ} {b : List ℕ} {j : ℕ} 
 
     past-power : (e : ℕ) → PowersEnd a i b j t u e → pastExponent a i b j e ≡ endOf (equal t u) (i + records t)
     unfolding pastExponent
-    past-power e p = rw (le-ltb (kind a i) 4 l) (by (eqb (bits a e) (bits b (j + (e - i)))) refl)
+    past-power e p = rw (le-ltb (kind b j) 4 (omega (arith, kinds))) (by (eqb (bits a e) (bits b (j + (e - i)))) refl)
       where
         by : (q : Bool) → eqb (bits a e) (bits b (j + (e - i))) ≡ q → cond q (e + 1) 0 ≡ endOf (equal t u) (i + records t)
         by true d = rw (p .yes-if (eqb-true _ _ d)) (p .size)
@@ -192,10 +192,10 @@ module _ {how : Tree → ℕ} {a : List ℕ} {i : ℕ} {b : List ℕ} {j : ℕ} 
     pub members-passable : Passable a i b j e
     members-passable =
         record {
-          within = record-within h;
+          within = record-within g;
           ahead = omega arith;
-          exponent-within = λ l. bases-end l e q x .one-within;
-          other-within = λ l. bases-end l e q x .other-within;
+          exponent-within = λ l. bases-end (omega (arith, kinds)) e q x .one-within;
+          other-within = λ l. bases-end (omega (arith, kinds)) e q x .other-within;
         }
 
     pub members-end : pastExponent a i b j e ≡ endOf (equal t u) (i + records t)
@@ -206,4 +206,4 @@ module _ {how : Tree → ℕ} {a : List ℕ} {i : ℕ} {b : List ℕ} {j : ℕ} 
         by (yes l) = past-power l e (bases-end l e q x)
         by (no l) =
             let y : e ≡ i + records t = omega (arith, members-size t (omega (arith, kind-number h))) in
-            rw (lt-ltb (kind a i) 4 (omega arith), all-match (omega arith), q) y
+            rw (lt-ltb (kind b j) 4 (omega (arith, kinds)), all-match (omega arith), q) y

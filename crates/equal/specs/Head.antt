@@ -4,7 +4,6 @@ use Prim.Native.Nat.{ℕ, _+_, _-_}
 use mathlib.Core.Bool.{Bool, true, cond, not, _&&_}
 use mathlib.Core.List.{List}
 use lib.Dec.{eqb, ltb}
-use lib.ListN.{getD}
 use Rattle.paper.specs.Record.{kind, countIn, bits}
 use Rattle.note.specs.Plain.{partsIn}
 
@@ -15,8 +14,8 @@ unfoldable pub beginAlike : List ℕ → ℕ → List ℕ → ℕ → Bool
 beginAlike a i b j = sameHead a i b j && cond (eqb (kind a i) 4) (sameHead a (i + 1) b (j + 1)) true
 
 -- the tree at record j of b has no tick, and begins as the tree at record i of a does
-unfoldable pub isCandidate : List ℕ → ℕ → List ℕ → ℕ → List ℕ → ℕ → Bool
-isCandidate a i b j us k = eqb (getD us k 0) 0 && beginAlike a i b j
+unfoldable pub isCandidate : List ℕ → ℕ → List ℕ → (j tick : ℕ) → Bool
+isCandidate a i b j x = eqb x 0 && beginAlike a i b j
 
 -- how many members of the tree at record i are matched: of a power the base, of a leaf none
 unfoldable pub membersIn : List ℕ → ℕ → ℕ
@@ -25,7 +24,7 @@ membersIn s i = partsIn s i (kind s i)
 -- where the tree at record i of a ends, its matched members, equal to those of the tree at record j of b, ending before record e: of powers
 -- the exponents follow, and 0 says that they differ
 unfoldable pub pastExponent : List ℕ → ℕ → List ℕ → ℕ → ℕ → ℕ
-pastExponent a i b j e = cond (ltb (kind a i) 4) e (cond (eqb (bits a e) (bits b (j + (e - i)))) (e + 1) 0)
+pastExponent a i b j e = cond (ltb (kind b j) 4) e (cond (eqb (bits a e) (bits b (j + (e - i)))) (e + 1) 0)
 
 -- the tree at record i is its own rest: neither an integer nor a product
 unfoldable pub isWhole : List ℕ → ℕ → Bool

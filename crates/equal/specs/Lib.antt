@@ -2,3 +2,4 @@ pub mod Matching
 pub mod Views
 pub mod Compared
 pub mod Head
+pub mod Run

@@ -1,6 +1,6 @@
 -- What matching compares and answers: the trees of a row with or without its integers, those that are not ticked, and what the code asks
 -- for.
-use Prim.Native.Nat.{ℕ, zero, suc, _+_, _-_, _*_, _≤_}
+use Prim.Native.Nat.{ℕ, zero, suc, _+_, _-_, _*_, _^_, _≤_, _<_}
 use mathlib.Core.Path.{_≡_}
 use mathlib.Core.Bool.{Bool, true, false, cond, _&&_}
 use mathlib.Core.List.{List, [], _∷_}
@@ -50,6 +50,29 @@ pub record Comparable (a : List ℕ) (i : ℕ) (b : List ℕ) (j room : ℕ) : T
   pub other-there : Told how b j other
   pub enough : records other ≤ room
 
+-- ---- the cells that the levels of a comparison share: the record of the first table at which it stands, and how many ticks are in use
+abbrev pub placeIn : List ℕ → ℕ
+placeIn at = getD at 0 0
+
+abbrev pub usedIn : List ℕ → ℕ
+usedIn at = getD at 1 0
+
+abbrev pub moved : (place used : ℕ) → List ℕ
+moved i u = i ∷ u ∷ []
+
+-- there are two cells, the ticks in use are among those lent, and tables and ticks are as short as slices are
+pub record Level (a b at us : List ℕ) : Type 0 where
+  pub two : length at ≡ 2
+  pub within : usedIn at ≤ length us
+  pub one-short : length a < 2 ^ 63
+  pub other-short : length b < 2 ^ 63
+  pub ticks-short : length us < 2 ^ 63
+
+-- the first n ticks are as they were, and there are as many
+pub record Kept (n : ℕ) (us us′ : List ℕ) : Type 0 where
+  pub as-long : length us′ ≡ length us
+  pub same : (k : ℕ) → k < n → getD us′ k 0 ≡ getD us k 0
+
 -- two trees that begin alike stand in the tables, and there is room for the ticks: a byte for each record behind the second's first
 pub record Alike (a : List ℕ) (i : ℕ) (b : List ℕ) (j room : ℕ) : Type 0 where
   pub how : Tree → ℕ
@@ -60,12 +83,12 @@ pub record Alike (a : List ℕ) (i : ℕ) (b : List ℕ) (j room : ℕ) : Type 0
   pub begin : beginAlike a i b j ≡ true
   pub enough : records other ≤ 1 + room
 
--- a record stands at i of the table a; where it is a power's, so do its exponent at e, and that of the power at j of the table b as far on
+-- a record stands at j of the table b; where it is a power's, so do its exponent as far on as e is from i, and at e of the table a another
 pub record Passable (a : List ℕ) (i : ℕ) (b : List ℕ) (j e : ℕ) : Type 0 where
-  pub within : i * 16 + 16 ≤ length a
+  pub within : j * 16 + 16 ≤ length b
   pub ahead : i ≤ e
-  pub exponent-within : 4 ≤ kind a i → e * 16 + 16 ≤ length a
-  pub other-within : 4 ≤ kind a i → (j + (e - i)) * 16 + 16 ≤ length b
+  pub exponent-within : 4 ≤ kind b j → e * 16 + 16 ≤ length a
+  pub other-within : 4 ≤ kind b j → (j + (e - i)) * 16 + 16 ≤ length b
 
 -- two tables hold trees that weigh no more than the limit
 pub record Weighed (a b : List ℕ) (limit : ℕ) : Type 0 where
@@ -85,10 +108,11 @@ pub record Takeable (a : List ℕ) (i : ℕ) (b : List ℕ) (j m room : ℕ) : T
   pub others-there : ToldTrees how b j m others
   pub enough : recordses others ≤ room
 
--- what taking the first unticked tree of g that equals t, which ends before record e, answers: 0, there being none; or e, it being ticked
-abbrev pub Took : Tree → Forest → List ℕ → List ℕ → ℕ → ℕ → Type 0
-Took t g us us′ e zero = removeFirst (equal t) (unticked us 0 g) ≡ none
-Took t g us us′ e (suc x) = (suc x ≡ e) × (removeFirst (equal t) (unticked us 0 g) ≡ some (unticked us′ 0 g))
+-- what taking the first unticked tree of g, whose ticks are those from tick u on, that equals t, which ends before record e, answers: 0, there
+-- being none; or e, it being ticked
+abbrev pub Took : Tree → Forest → ℕ → List ℕ → List ℕ → ℕ → ℕ → Type 0
+Took t g u us us′ e zero = removeFirst (equal t) (unticked us u g) ≡ none
+Took t g u us us′ e (suc x) = (suc x ≡ e) × (removeFirst (equal t) (unticked us u g) ≡ some (unticked us′ u g))
 
 -- n trees stand in the one table, m in the other; without those passed over, and without the ticked ones, there are as many
 pub record Matchable (a : List ℕ) (i n : ℕ) (skip : Bool) (b : List ℕ) (j m : ℕ) (us : List ℕ) : Type 0 where

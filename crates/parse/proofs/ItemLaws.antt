@@ -25,6 +25,7 @@ use Rattle.parse.specs.declared.Item.the-variants.{Not, Bare, Grouped}
 use Rattle.parse.specs.declared.Member.{Member}
 use Rattle.parse.specs.declared.Member.the-variants.{Unfit, Fit}
 use Rattle.parse.specs.Parsed.{Laid, Stands, ItemIs, bared, raising, fitted, nextOf, Sized}
+use Rattle.parse.specs.Joined.{bound}
 
 -- what stands in one reading stands in another that reads it too
 pub restand : {s : List ℕ} {at : ℕ} {o o' : Reading paper.Item} {wrap : Tree → paper.Item} {L : Tree → Type 0} {k e w : ℕ} (h : Stands s at o wrap L k e w)
@@ -111,11 +112,6 @@ module _ (s : List ℕ) (at : ℕ) (o : Reading Tree) (L : ℕ → Tree → Type
   not-closed k e w q b h = rw (bared-bare o (h .tree) (drop e s) (h .read), b)
 
 -- ---- an item as a member
-unfoldable pub bound : Place → ℕ
-bound in-sum = 3
-bound in-product = 2
-bound as-base = 1
-
 needs-from : (p : Place) (t : Tree) → needs p t ≡ leb (bound p) (rank t)
 unfolding bound needsRank
 needs-from in-sum t = needs-by-rank in-sum t

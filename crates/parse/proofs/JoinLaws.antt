@@ -18,7 +18,8 @@ use Rattle.parse.specs.declared.Item.the-variants.{Not, Bare, Grouped}
 use Rattle.parse.specs.Parsed.{Laid, Stands}
 use Rattle.parse.specs.declared.Item as code
 use Rattle.parse.proofs.ItemLaws.{FitIs, Misfit}
-use Rattle.parse.proofs.LaidLaws.{Rows, no-rows, one-row}
+use Rattle.parse.proofs.LaidLaws.{no-rows, one-row}
+use Rattle.parse.specs.Joined.{Rows, Nodes, whole, finish, firstIn, Joining, Going}
 use Rattle.paper.proofs.EncodeLaws.{records-weight}
 
 -- ---- readings one after the other
@@ -46,21 +47,8 @@ abbrev Nonempty : List Item → Type 0
 Nonempty [] = ⊥
 Nonempty (i ∷ l) = Unit {0}
 
--- ---- nodes of one kind: members at place p, read by r, with a sign between two; `from` makes the node of items
-pub record Nodes (r : List ℕ → Reading Item) (p : Place) (sign : ℕ) (k : ℕ) (node : Forest → Tree) (from : Item → List ℕ → List Item → Reading Item) : Type 0 where
-  pub made : (i j : Item) (l : List Item) (z : List ℕ) → from i z (j ∷ l) ≡ leaving z (λ ts. bare (node (ofList ts))) (allFit p (i ∷ j ∷ l))
-  pub ranked : (f : Forest) → k ≡ rank (node f)
-  pub weighs : (f : Forest) → weight (node f) ≡ 1 + weights f
-
 module _ {r : List ℕ → Reading Item} {p : Place} {sign k : ℕ} {node : Forest → Tree} {from : Item → List ℕ → List Item → Reading Item} (n : Nodes r p sign k node from) where
-  unfoldable pub whole : List ℕ → Reading Item
-  whole s = then (r s) (λ i q. then (readOthers r sign (length q) q) (λ l z. from i z l))
-
-  -- the node of the trees `acc` and of the items l after them
-  unfoldable pub finish : List Tree → List Item → List ℕ → Reading Item
-  finish acc l z = leaving z (λ ts. bare (node (ofList (acc ++ ts)))) (allFit p l)
-
-  finish-more : (acc : List Tree) (i : Item) (t : Tree) (l : List Item) (z : List ℕ) → fits p i ≡ some t → finish acc (i ∷ l) z ≡ finish (acc ++ (t ∷ [])) l z
+  finish-more : (acc : List Tree) (i : Item) (t : Tree) (l : List Item) (z : List ℕ) → fits p i ≡ some t → finish n acc (i ∷ l) z ≡ finish n (acc ++ (t ∷ [])) l z
   unfolding finish allFit also leaving
   finish-more acc i t l z e = rw e (go (allFit p l))
     where
@@ -68,12 +56,12 @@ module _ {r : List ℕ → Reading Item} {p : Place} {sign k : ℕ} {node : Fore
       go none = refl
       go (some ts) = ap (λ (x : List Tree). some (bare (node (ofList x)), z)) (sym (append-assoc acc (t ∷ []) ts))
 
-  finish-misfit : (acc : List Tree) (i : Item) (l : List Item) (z : List ℕ) → fits p i ≡ none → finish acc (i ∷ l) z ≡ none
+  finish-misfit : (acc : List Tree) (i : Item) (l : List Item) (z : List ℕ) → fits p i ≡ none → finish n acc (i ∷ l) z ≡ none
   unfolding finish allFit also leaving
   finish-misfit acc i l z e = rw e
 
   -- the first member
-  from-first : (i j : Item) (t : Tree) (l : List Item) (z : List ℕ) → fits p i ≡ some t → from i z (j ∷ l) ≡ finish (t ∷ []) (j ∷ l) z
+  from-first : (i j : Item) (t : Tree) (l : List Item) (z : List ℕ) → fits p i ≡ some t → from i z (j ∷ l) ≡ finish n (t ∷ []) (j ∷ l) z
   unfolding finish allFit also leaving
   from-first i j t l z e = n .made i j l z ∙ rw e (go (also (fits p j) (allFit p l)))
     where
@@ -102,27 +90,7 @@ module _ {r : List ℕ → Reading Item} {p : Place} {sign k : ℕ} {node : Fore
   some-left : (s : List ℕ) (e : ℕ) → begins sign (drop e s) ≡ true → 1 ≤ length (drop e s)
   some-left s e b = let h = sign-inside s e sign b in let l = length-drop e s in omega (arith, h, l)
 
-  -- the tree that the first member is, where it fits
-  unfoldable pub firstIn : Reading Item → Option Tree
-  firstIn none = none
-  firstIn (some x) = fits p (x .0)
-
-  -- ---- the loop: the first member and those after it; A holds of those
-  pub record Joining (s : List ℕ) (A : List Tree → Type 0) (at e w : ℕ) : Type 0 where
-    pub first : Tree
-    pub more : List Tree
-    pub fuel : ℕ
-    pub enough : length s ≤ e + fuel
-    pub rest : whole (drop at s) ≡ then (readOthers r sign fuel (drop e s)) (λ l z. finish (first ∷ more) l z)
-    pub begun : firstIn (r (drop at s)) ≡ some first
-    pub rows : A more
-    pub heavy : w ≡ 1 + weights (ofList (first ∷ more))
-    pub ahead : at < e
-    pub within : e ≤ length s
-    pub light : w ≤ 2 * (e - at)
-    pub several : begins sign (drop e s) ≡ false → w + 1 ≤ 2 * (e - at)
-
-  pub first-misfit : (s : List ℕ) (at m : ℕ) → Told (Misfit p s m) (r (drop at s)) → begins sign (drop m s) ≡ true → whole (drop at s) ≡ none
+  pub first-misfit : (s : List ℕ) (at m : ℕ) → Told (Misfit p s m) (r (drop at s)) → begins sign (drop m s) ≡ true → whole n (drop at s) ≡ none
   unfolding whole then
   first-misfit s at m h b = go (r (drop at s)) h
     where
@@ -135,7 +103,7 @@ module _ {r : List ℕ → Reading Item} {p : Place} {sign k : ℕ} {node : Fore
           ∙ then-none (readOthers r sign (length (drop m s)) (drop m s)))
 
   pub begin-joining : (s : List ℕ) (L : Tree → Type 0) (A : List Tree → Type 0) (at e w : ℕ) → FitIs p s at (r (drop at s)) L e w → begins sign (drop e s) ≡ true → A []
-      → Joining s A at e (w + 1)
+      → Joining n s A at e (w + 1)
   unfolding whole then ofList weight firstIn
   begin-joining s L A at e w f b none-yet =
       let l = f .light in
@@ -149,7 +117,7 @@ module _ {r : List ℕ → Reading Item} {p : Place} {sign k : ℕ} {node : Fore
         enough = omega (arith, d, i);
         rest =
             rw (f .read)
-            (then-agree Nonempty (readOthers r sign (length (drop e s)) (drop e s)) (λ l z. from (f .item) z l) (λ l z. finish (f .tree ∷ []) l z)
+            (then-agree Nonempty (readOthers r sign (length (drop e s)) (drop e s)) (λ l z. from (f .item) z l) (λ l z. finish n (f .tree ∷ []) l z)
             (others-some (length (drop e s)) (drop e s) b (some-left s e b)) (firsts (f .item) (f .tree) (f .fits-there)));
         begun = rw (f .read) (f .fits-there);
         rows = none-yet;
@@ -160,7 +128,7 @@ module _ {r : List ℕ → Reading Item} {p : Place} {sign k : ℕ} {node : Fore
         several = λ q. never (sym q ∙ b);
       }
     where
-      firsts : (i : Item) (t : Tree) → fits p i ≡ some t → (l : List Item) (z : List ℕ) → Nonempty l → from i z l ≡ finish (t ∷ []) l z
+      firsts : (i : Item) (t : Tree) → fits p i ≡ some t → (l : List Item) (z : List ℕ) → Nonempty l → from i z l ≡ finish n (t ∷ []) l z
       firsts i t h [] z y = absurd y
       firsts i t h (j ∷ l) z y = from-first i j t l z h
 
@@ -171,35 +139,35 @@ module _ {r : List ℕ → Reading Item} {p : Place} {sign k : ℕ} {node : Fore
 
   -- one member more is read, for the fuel that is left
   step-others : (s : List ℕ) (e f : ℕ) (acc : List Tree) → begins sign (drop e s) ≡ true
-      → then (readOthers r sign (suc f) (drop e s)) (λ l z. finish acc l z)
-      ≡ then (r (drop (e + 1) s)) (λ i q. then (readOthers r sign f q) (λ l z. finish acc (i ∷ l) z))
+      → then (readOthers r sign (suc f) (drop e s)) (λ l z. finish n acc l z)
+      ≡ then (r (drop (e + 1) s)) (λ i q. then (readOthers r sign f q) (λ l z. finish n acc (i ∷ l) z))
   unfolding readOthers then
   step-others s e f acc b =
       rw (b, tail-there s e (sign-inside s e sign b))
-      (then-then (r (drop (e + 1) s)) (λ i q. then (readOthers r sign f q) (λ l z. some (i ∷ l, z))) (λ l z. finish acc l z)
-      ∙ then-agree (λ i. Unit {0}) (r (drop (e + 1) s)) (λ i q. then (then (readOthers r sign f q) (λ l z. some (i ∷ l, z))) (λ l z. finish acc l z))
-      (λ i q. then (readOthers r sign f q) (λ l z. finish acc (i ∷ l) z)) (anyway (r (drop (e + 1) s)))
-      (λ i q y. then-then (readOthers r sign f q) (λ l z. some (i ∷ l, z)) (λ l z. finish acc l z)))
+      (then-then (r (drop (e + 1) s)) (λ i q. then (readOthers r sign f q) (λ l z. some (i ∷ l, z))) (λ l z. finish n acc l z)
+      ∙ then-agree (λ i. Unit {0}) (r (drop (e + 1) s)) (λ i q. then (then (readOthers r sign f q) (λ l z. some (i ∷ l, z))) (λ l z. finish n acc l z))
+      (λ i q. then (readOthers r sign f q) (λ l z. finish n acc (i ∷ l) z)) (anyway (r (drop (e + 1) s)))
+      (λ i q y. then-then (readOthers r sign f q) (λ l z. some (i ∷ l, z)) (λ l z. finish n acc l z)))
 
   fuel-left : (s : List ℕ) (e fuel : ℕ) → length s ≤ e + fuel → begins sign (drop e s) ≡ true → fuel ≡ suc (fuel - 1)
   fuel-left s e fuel h b = let i = sign-inside s e sign b in omega (arith, i, h)
 
-  pub member-misfit : (s : List ℕ) (A : List Tree → Type 0) (at e w m : ℕ) → Joining s A at e w → begins sign (drop e s) ≡ true
-      → Told (Misfit p s m) (r (drop (e + 1) s)) → whole (drop at s) ≡ none
+  pub member-misfit : (s : List ℕ) (A : List Tree → Type 0) (at e w m : ℕ) → Joining n s A at e w → begins sign (drop e s) ≡ true
+      → Told (Misfit p s m) (r (drop (e + 1) s)) → whole n (drop at s) ≡ none
   unfolding then
   member-misfit s A at e w m j b h =
-      j .rest ∙ ap (λ (f : ℕ). then (readOthers r sign f (drop e s)) (λ l z. finish (j .first ∷ j .more) l z)) (fuel-left s e (j .fuel) (j .enough) b)
+      j .rest ∙ ap (λ (f : ℕ). then (readOthers r sign f (drop e s)) (λ l z. finish n (j .first ∷ j .more) l z)) (fuel-left s e (j .fuel) (j .enough) b)
       ∙ step-others s e (j .fuel - 1) (j .first ∷ j .more) b ∙ go (r (drop (e + 1) s)) h
     where
-      go : (o : Reading Item) → Told (Misfit p s m) o → then o (λ i q. then (readOthers r sign (j .fuel - 1) q) (λ l z. finish (j .first ∷ j .more) (i ∷ l) z)) ≡ none
+      go : (o : Reading Item) → Told (Misfit p s m) o → then o (λ i q. then (readOthers r sign (j .fuel - 1) q) (λ l z. finish n (j .first ∷ j .more) (i ∷ l) z)) ≡ none
       go none h = refl
       go (some (i, q)) h =
-          then-agree (λ l. Unit {0}) (readOthers r sign (j .fuel - 1) q) (λ l z. finish (j .first ∷ j .more) (i ∷ l) z) (λ l z. none) (anyway (readOthers r sign (j .fuel - 1) q))
+          then-agree (λ l. Unit {0}) (readOthers r sign (j .fuel - 1) q) (λ l z. finish n (j .first ∷ j .more) (i ∷ l) z) (λ l z. none) (anyway (readOthers r sign (j .fuel - 1) q))
           (λ l z y. finish-misfit (j .first ∷ j .more) i l z (h .unfit))
           ∙ then-none (readOthers r sign (j .fuel - 1) q)
 
-  pub one-member : (s : List ℕ) (L : Tree → Type 0) (A A' : List Tree → Type 0) (at e w e1 w1 : ℕ) → Joining s A at e w → begins sign (drop e s) ≡ true
-      → FitIs p s (e + 1) (r (drop (e + 1) s)) L e1 w1 → ((l : List Tree) (t : Tree) → A l → L t → A' (l ++ (t ∷ []))) → Joining s A' at e1 (w + w1)
+  pub one-member : (s : List ℕ) (L : Tree → Type 0) (A A' : List Tree → Type 0) (at e w e1 w1 : ℕ) → Joining n s A at e w → begins sign (drop e s) ≡ true
+      → FitIs p s (e + 1) (r (drop (e + 1) s)) L e1 w1 → ((l : List Tree) (t : Tree) → A l → L t → A' (l ++ (t ∷ []))) → Joining n s A' at e1 (w + w1)
   unfolding then
   one-member s L A A' at e w e1 w1 j b f step =
       let a = j .ahead in
@@ -217,11 +185,11 @@ module _ {r : List ℕ → Reading Item} {p : Place} {sign k : ℕ} {node : Fore
         fuel = j .fuel - 1;
         enough = omega (arith, u, c, i);
         rest =
-            j .rest ∙ ap (λ (y : ℕ). then (readOthers r sign y (drop e s)) (λ l z. finish (j .first ∷ j .more) l z)) (fuel-left s e (j .fuel) (j .enough) b)
+            j .rest ∙ ap (λ (y : ℕ). then (readOthers r sign y (drop e s)) (λ l z. finish n (j .first ∷ j .more) l z)) (fuel-left s e (j .fuel) (j .enough) b)
             ∙ step-others s e (j .fuel - 1) (j .first ∷ j .more) b
             ∙ rw (f .read)
-            (then-agree (λ l. Unit {0}) (readOthers r sign (j .fuel - 1) (drop e1 s)) (λ l z. finish (j .first ∷ j .more) (f .item ∷ l) z)
-            (λ l z. finish (j .first ∷ (j .more ++ (f .tree ∷ []))) l z) (anyway (readOthers r sign (j .fuel - 1) (drop e1 s)))
+            (then-agree (λ l. Unit {0}) (readOthers r sign (j .fuel - 1) (drop e1 s)) (λ l z. finish n (j .first ∷ j .more) (f .item ∷ l) z)
+            (λ l z. finish n (j .first ∷ (j .more ++ (f .tree ∷ []))) l z) (anyway (readOthers r sign (j .fuel - 1) (drop e1 s)))
             (λ l z y. finish-more (j .first ∷ j .more) (f .item) (f .tree) l z (f .fits-there)));
         begun = j .begun;
         rows = step (j .more) (f .tree) (j .rows) (f .laid);
@@ -233,18 +201,18 @@ module _ {r : List ℕ → Reading Item} {p : Place} {sign k : ℕ} {node : Fore
       }
 
   -- the first member is the same, whichever way it is come by
-  same-first : (s : List ℕ) (L : Tree → Type 0) (at e w : ℕ) (f : FitIs p s at (r (drop at s)) L e w) (t : Tree) → firstIn (r (drop at s)) ≡ some t → L t
+  pub same-first : (s : List ℕ) (L : Tree → Type 0) (at e w : ℕ) (f : FitIs p s at (r (drop at s)) L e w) (t : Tree) → firstIn n (r (drop at s)) ≡ some t → L t
   unfolding firstIn
   same-first s L at e w f t q = subst L (some-same (f .tree) t (sym (rw (f .read) (f .fits-there)) ∙ q)) (f .laid)
     where
       some-same : (a b : Tree) → some a ≡ some b → a ≡ b
       some-same a b e = cc
 
-  pub all-read : (s : List ℕ) (L L' : Tree → Type 0) (A : List Tree → Type 0) (at e0 w0 e w : ℕ) → FitIs p s at (r (drop at s)) L e0 w0 → Joining s A at e w
-      → begins sign (drop e s) ≡ false → ((t : Tree) (l : List Tree) → L t → A l → L' (node (ofList (t ∷ l))))
-      → Stands s at (whole (drop at s)) bare L' k e w
+  pub all-read : (s : List ℕ) (L' : Tree → Type 0) (A : List Tree → Type 0) (at e w : ℕ) (j : Joining n s A at e w)
+      → begins sign (drop e s) ≡ false → L' (node (ofList (j .first ∷ j .more)))
+      → Stands s at (whole n (drop at s)) bare L' k e w
   unfolding readOthers then finish allFit leaving
-  all-read s L L' A at e0 w0 e w f j b step =
+  all-read s L' A at e w j b last =
       let h = j .heavy in
       let x = n .weighs (ofList (j .first ∷ j .more)) in
       record {
@@ -255,28 +223,22 @@ module _ {r : List ℕ → Reading Item} {p : Place} {sign k : ℕ} {node : Fore
         ahead = j .ahead;
         within = j .within;
         light = j .several b;
-        laid = step (j .first) (j .more) (same-first s L at e0 w0 f (j .first) (j .begun)) (j .rows);
+        laid = last;
       }
     where
-      ended : (acc : List Tree) (f : ℕ) → then (readOthers r sign f (drop e s)) (λ l z. finish acc l z) ≡ some (bare (node (ofList (acc ++ []))), drop e s)
+      ended : (acc : List Tree) (f : ℕ) → then (readOthers r sign f (drop e s)) (λ l z. finish n acc l z) ≡ some (bare (node (ofList (acc ++ []))), drop e s)
       ended acc zero = refl
       ended acc (suc f) = rw b
 
-  -- ---- the loop with its area: the members after the first stand from record i on; q is the record after them, c the count with the first
-  pub record Going (s old : List ℕ) (i : ℕ) (new : List ℕ) (at e w q c : ℕ) : Type 0 where
-    pub joined : Joining s (Rows old i new q c) at e w
-    pub low : q ≤ 2 * e
-    pub few : c ≤ e
-    pub same : length new ≡ length old
-
+  -- ---- the loop with its area
   pub begin-going : (s area : List ℕ) (L : Tree → Type 0) (at e w i : ℕ) → FitIs p s at (r (drop at s)) L e w → begins sign (drop e s) ≡ true → i ≤ 2 * e
-      → Going s area i area at e (w + 1) i 1
+      → Going n s area i area at e (w + 1) i 1
   begin-going s area L at e w i f b h =
       let a = f .ahead in
       record { joined = begin-joining s L (Rows area i area i 1) at e w f b (no-rows area i); low = h; few = omega (arith, a); same = refl }
 
-  pub one-going : (s old : List ℕ) (i : ℕ) (new new' : List ℕ) (at e w q c e1 w1 q1 : ℕ) → Going s old i new at e w q c → begins sign (drop e s) ≡ true
-      → FitIs p s (e + 1) (r (drop (e + 1) s)) (Laid new q new' q1) e1 w1 → length new' ≡ length new → Going s old i new' at e1 (w + w1) q1 (c + 1)
+  pub one-going : (s old : List ℕ) (i : ℕ) (new new' : List ℕ) (at e w q c e1 w1 q1 : ℕ) → Going n s old i new at e w q c → begins sign (drop e s) ≡ true
+      → FitIs p s (e + 1) (r (drop (e + 1) s)) (Laid new q new' q1) e1 w1 → length new' ≡ length new → Going n s old i new' at e1 (w + w1) q1 (c + 1)
   one-going s old i new new' at e w q c e1 w1 q1 g b f n =
       let l = g .low in
       let m = g .few in

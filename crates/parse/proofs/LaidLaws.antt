@@ -10,6 +10,7 @@ use Rattle.paper.specs.Table.{recordOf, encode, encodes}
 use Rattle.area.specs.Written.{Written, Shifted}
 use Rattle.area.proofs.TreesWritten.{none-written, one-more-written, sum-written, product-written, power-written}
 use Rattle.parse.specs.Parsed.{Laid}
+use Rattle.parse.specs.Joined.{Rows}
 
 module _ {old o1 o2 o3 o4 : List ℕ} {d q : ℕ} (s : Shifted o1 d q o2) where
   pub power-laid : {v : ℕ} → Written (recordOf 0 0 0 v) o2 (q + 1) o3 → Written (recordOf 4 0 0 0) o3 d o4 → (t : Tree) → Laid old d o1 q t
@@ -17,12 +18,6 @@ module _ {old o1 o2 o3 o4 : List ℕ} {d q : ℕ} (s : Shifted o1 d q o2) where
   unfolding records
   power-laid {v} y z t h =
       record { next = (let n = h .next in omega (arith, n)); put-there = power-written t q (h .next) (h .put-there) s v y z }
-
--- the members l after the first: their records from record i on, up to q; with the first they are c
-pub record Rows (old : List ℕ) (i : ℕ) (new : List ℕ) (q c : ℕ) (l : List Tree) : Type 0 where
-  pub next : q ≡ i + recordses (ofList l)
-  pub put-there : Written (encodes (ofList l)) old i new
-  pub counted : c ≡ 1 + length l
 
 pub no-rows : (old : List ℕ) (i : ℕ) → Rows old i old i 1 []
 unfolding ofList records

@@ -15,9 +15,10 @@ use Rattle.paper_text.proofs.PlaceLaws.{sign-inside, tail-there}
 use Rattle.paper_text.proofs.RoundTrip.{none-follows}
 use Rattle.parse.specs.declared.Item as code
 use Rattle.parse.specs.declared.Item.the-variants.{Not, Bare, Grouped}
-use Rattle.parse.specs.Parsed.{Stands, ItemIs, bared, raising, lone, nextOf}
+use Rattle.parse.specs.Parsed.{Laid, Stands, ItemIs, bared, raising, nextOf}
 use Rattle.parse.proofs.ItemLaws.{restand}
-use Rattle.parse.proofs.JoinLaws.{Nodes, whole}
+use Rattle.parse.specs.Joined.{Nodes, Kind, bound, loneIn, whole}
+use Rattle.parse.proofs.LaidLaws.{sum-laid, product-laid}
 
 module _ (inner : List ℕ → Reading Tree) where
   pub sums : Nodes (readProduct inner) in-sum plus 3 (sum 0) (λ i z l. bared (sumFrom inner i z l))
@@ -62,7 +63,7 @@ module _ (inner : List ℕ → Reading Tree) where
 
   -- no sign follows the first member
   pub sum-alone : (s : List ℕ) (at : ℕ) (L : ℕ → Tree → Type 0) (i : code.Item) → ItemIs s at (readProduct inner (drop at s)) L i → begins plus (drop (nextOf i) s) ≡ false
-      → ItemIs s at (bared (readSum inner (drop at s))) L (lone i)
+      → ItemIs s at (bared (readSum inner (drop at s))) L (loneIn 2 i)
   unfolding readSum bared then sumFrom alone leaving
   sum-alone s at L Not h b = rw h
   sum-alone s at L (Bare k e w q) h b =
@@ -70,13 +71,29 @@ module _ (inner : List ℕ → Reading Tree) where
   sum-alone s at L (Grouped k e w q) h b = rw (h .read, none-follows (readProduct inner) plus (length (drop e s)) (drop e s) b)
 
   pub product-alone : (s : List ℕ) (at : ℕ) (L : ℕ → Tree → Type 0) (i : code.Item) → ItemIs s at (readPower inner (drop at s)) L i → begins times (drop (nextOf i) s) ≡ false
-      → ItemIs s at (readProduct inner (drop at s)) L i
+      → ItemIs s at (readProduct inner (drop at s)) L (loneIn 3 i)
   unfolding readProduct then productFrom
   product-alone s at L Not h b = rw h
   product-alone s at L (Bare k e w q) h b =
       restand h (rw (h .read, none-follows (readPower inner) times (length (drop e s)) (drop e s) b))
   product-alone s at L (Grouped k e w q) h b =
       restand h (rw (h .read, none-follows (readPower inner) times (length (drop e s)) (drop e s) b))
+
+  pub sum-kind : Kind 2 sums
+  unfolding bound
+  sum-kind = record {
+    bounded = refl;
+    lays = λ s z t l h r. sum-laid s z t l h r;
+    alone = λ s at old d new i h b. subst (λ o. ItemIs s at o (Laid old d new) (loneIn 2 i)) (sum-whole (drop at s)) (sum-alone s at (Laid old d new) i h b);
+  }
+
+  pub product-kind : Kind 3 products
+  unfolding bound
+  product-kind = record {
+    bounded = refl;
+    lays = λ s z t l h r. product-laid s z t l h r;
+    alone = λ s at old d new i h b. subst (λ o. ItemIs s at o (Laid old d new) (loneIn 3 i)) (product-whole (drop at s)) (product-alone s at (Laid old d new) i h b);
+  }
 
   -- ---- a power by its first character
   pub power-group : (s : List ℕ) (at : ℕ) → begins opens (drop at s) ≡ true → readPower inner (drop at s) ≡ then (then (inner (drop (at + 1) s)) closed) raising

@@ -4,6 +4,8 @@ pub mod LaidLaws
 pub mod ItemLaws
 pub mod JoinLaws
 pub mod LevelReads
+pub mod TurnLaws
+pub mod GroupLaws
 pub mod BlockLaws
 pub mod WeighLaws
 pub mod Unique

@@ -59,11 +59,6 @@ fitted p Not = Unfit
 fitted p (Bare k e w q) = cond (ltb k p) (Fit e w q) Unfit
 fitted p (Grouped k e w q) = cond (ltb k p) Unfit (Fit e w q)
 
-abbrev pub lone : Item → Item
-lone Not = Not
-lone (Bare k e w q) = Bare k e w q
-lone (Grouped k e w q) = Not
-
 abbrev pub nextOf : Item → ℕ
 nextOf Not = 0
 nextOf (Bare k e w q) = e

@@ -10,7 +10,7 @@ use lib.IntN.{ℤ, pos, negsuc}
 use mir.Syntax.{w64}
 use mir.Facts.{toZ-pos}
 use Rattle.paper.specs.Bytes.{signed}
-use Rattle.paper_text.specs.Text.{minus, digits, signedDigits}
+use Rattle.paper_text.specs.Text.{minus, power-sign, digits, signedDigits}
 use Rattle.paper.proofs.EncodeLaws.{signed-negative}
 use Rattle.stretch.specs.Put.{put}
 use Rattle.stretch.proofs.Laws.{length-put, put-put}
@@ -52,3 +52,7 @@ unfolding signedDigits
 below-nought {v} {w} {o} {o'} {o''} {at} {m} {e} l u q h k =
     let same : w ≡ suc (2 ^ 64 - suc v) = omega (arith, q, l, u) in
     rw (signed-negative v l) (subst (λ x. Put (minus ∷ digits x) o at o'' e) same (then-put h (digits-put k)))
+
+pub exponent-put : {v w : ℕ} {o o' o'' : List ℕ} {at m e : ℕ} → v ≡ w → Put (power-sign ∷ []) o at o' m → NumberSpelt v o' m o'' e
+    → Put (power-sign ∷ digits w) o at o'' e
+exponent-put {v} {w} {o} {o'} {o''} {at} {m} {e} q h k = subst (λ x. Put (power-sign ∷ digits x) o at o'' e) q (then-put h (digits-put k))

@@ -120,18 +120,17 @@ module _ {s : List ℕ} {i : ℕ} where
         let w = room-after (needs as-base (q .1)) (q .1) b l (m .next) (m .text-put .end) .fits in
         omega (arith, w)
 
-    pub power-put : (t : Tree) → TreeIn s i t → {o1 o2 : List ℕ} {m v e : ℕ} → Put (power-sign ∷ []) o' (r .end) o1 m → v ≡ bits s (r .next)
-        → NumberSpelt v o1 m o2 e → TextPut i (records t) (text t) o at o2 (record { next = r .next + 1; end = e })
+    pub power-put : (t : Tree) → TreeIn s i t → {o2 : List ℕ} {e : ℕ} → Put (power-sign ∷ digits (bits s (r .next))) o' (r .end) o2 e
+        → TextPut i (records t) (text t) o at o2 (record { next = r .next + 1; end = e })
     unfolding text records leastRank
-    power-put t h {o1} {o2} {m} {v} {e} c u d =
+    power-put t h {o2} {e} d =
         let q = seen-power (seen h) k in
         let b = g as-base (q .1) refl (base t (q .0) (q .1) (q .2) (q .3) h (q .4)) in
         let x = b .next in
-        let z : v ≡ q .3 = u ∙ ap (bits s) x ∙ q .5 .exponent-bits in
+        let z : bits s (r .next) ≡ q .3 = ap (bits s) x ∙ q .5 .exponent-bits in
         rw (q .4) (record {
           next = omega (arith, x);
-          text-put = subst (λ y. Put (enclosed (needs as-base (q .1)) (text (q .1)) ++ (power-sign ∷ digits y)) o at o2 e) z
-              (then-put (b .text-put) (then-put c (digits-put d)));
+          text-put = subst (λ y. Put (enclosed (needs as-base (q .1)) (text (q .1)) ++ (power-sign ∷ digits y)) o at o2 e) z (then-put (b .text-put) d);
         })
 
 -- ---- a member: bare, or in parentheses

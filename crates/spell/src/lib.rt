@@ -5,16 +5,22 @@ ghost use Prim.Native.Nat.{ℕ, _+_, _-_, _*_, _^_, _<_, _≤_};
 ghost use lib.ListN.{length};
 ghost use Rattle.paper.specs.Bytes.{signed};
 ghost use Rattle.paper.specs.Tree.{Tree, Forest, records, recordses};
-ghost use Rattle.paper_text.specs.Text.{Place, signedDigits, needs, enclosed, text, joined};
+ghost use Rattle.paper.specs.Record.{kind, bits};
+ghost use Rattle.paper_text.specs.Text.{Place, power-sign, digits, signedDigits, needs, enclosed, text, joined};
 ghost use Rattle.paper_text.specs.Levels.{rank};
 ghost use Rattle.paper.specs.Standing.{TreeIn, TreesIn, SomeTree, SomeTrees};
-ghost use Rattle.spell.specs.Spelt.{Put, TextPut, leastRank, Roomy};
+ghost use Rattle.spell.specs.Spelt.{Put, TextPut, leastRank, Roomy, nextIn, endIn, Passed, Cells};
 
 // The record after what is spelt, and the place after its text.
 pub struct Spelt {
     next: usize,
     end: usize,
 }
+
+// Cells that all levels share: the record that is next, and the place in the area.
+const NEXT: usize = 0;
+
+const END: usize = 1;
 
 // One character, where it lies in the area; the place after it.
 fn put_sign(c: u8, out: &mut [u8], at: usize) -> usize
@@ -36,7 +42,7 @@ fn put_integer(v: u64, out: &mut [u8], at: usize) -> usize
     if v < 0x8000_0000_0000_0000 {
         return decimal::spell_number(v, out, at);
     }
-    let e = put_sign(45, out, at);
+    let e = put_sign(b'-', out, at);
     decimal::spell_number(0xFFFF_FFFF_FFFF_FFFF - v + 1, out, e)
 }
 
@@ -64,42 +70,105 @@ fn rank_at(s: &[u8], i: usize) -> u8
     1
 }
 
-// The n members from record i on, with a sign between two, each in parentheses from rank `least` on.
-fn joined_at(s: &[u8], i: usize, n: usize, least: u8, sign: u8, out: &mut [u8], at: usize) -> Spelt
-    requires { ⌜ SomeTrees (now s) i n × (0 < n) × ((p : Place) × (least ≡ leastRank p)) × Roomy (now s) i at ⌝ }
-    ensures { λ r. ⌜ ((p : Place) (f : Forest) → least ≡ leastRank p → TreesIn (now (s .entry)) i n f
-        → TextPut i (recordses f) (joined p sign f) (now (out .entry)) at (now (out .exit)) r) ⌝ }
+// The symbol or the integer at record i.
+fn put_leaf(s: &[u8], i: usize, out: &mut [u8], at: usize) -> usize
+    requires { ⌜ SomeTree (now s) i × (kind (now s) i < 2) × Roomy (now s) i (at - 1) ⌝ }
+    ensures { λ r. ⌜ ((t : Tree) → TreeIn (now (s .entry)) i t
+        → TextPut i (records t) (text t) (now (out .entry)) at (now (out .exit)) (record { next = i + 1; end = r })) ⌝ }
 {
-    let first = member_at(s, i, least, out, at);
-    let mut j = first.next;
-    let mut e = first.end;
-    let mut left = n - 1;
-    while 0 < left {
-        let b = put_sign(sign, out, e);
-        let m = member_at(s, j, least, out, b);
-        j = m.next;
-        e = m.end;
-        left -= 1;
+    if record::kind(s, i) < 1 {
+        let v = record::bits(s, i);
+        return put_integer(v, out, at);
     }
-    Spelt { next: j, end: e }
+    let b = put_sign(b's', out, at);
+    let v = record::symbol(s, i);
+    decimal::spell_number(v as u64, out, b)
 }
 
-// The tree at record i where it is a member, in parentheses from rank `least` on.
-fn member_at(s: &[u8], i: usize, least: u8, out: &mut [u8], at: usize) -> Spelt
-    requires { ⌜ SomeTree (now s) i × ((p : Place) × (least ≡ leastRank p)) × Roomy (now s) i at ⌝ }
-    ensures { λ r. ⌜ ((p : Place) (t : Tree) → least ≡ leastRank p → TreeIn (now (s .entry)) i t
-        → TextPut i (records t) (enclosed (needs p t) (text t)) (now (out .entry)) at (now (out .exit)) r) ⌝ }
+// The sign of a power, and its exponent at record i.
+fn put_exponent(s: &[u8], i: usize, out: &mut [u8], at: usize) -> usize
+    requires { ⌜ (i * 16 + 16 ≤ length (now s)) × (at + 1 ≤ 2 ^ 62) ⌝ }
+    ensures { λ r. ⌜ Put (power-sign ∷ digits (bits (now (s .entry)) i)) (now (out .entry)) at (now (out .exit)) r ⌝ }
 {
-    if rank_at(s, i) < least {
-        return spell(s, i, out, at);
+    let b = put_sign(b'^', out, at);
+    let v = record::bits(s, i);
+    decimal::spell_number(v, out, b)
+}
+
+// The n members from record st[NEXT] on, with a sign between two, each in parentheses from rank `least` on.
+fn joined_at(s: &&[u8], out: &mut &mut [u8], st: &mut [usize; 2], n: usize, least: u8, sign: u8)
+    requires { ⌜ Cells (now (now s)) (now st) × SomeTrees (now (now s)) (nextIn (now st)) n × (0 < n) × ((p : Place) × (least ≡ leastRank p))
+        × Roomy (now (now s)) (nextIn (now st)) (endIn (now st)) ⌝ }
+    ensures { λ _. ⌜ (length (now (st .exit)) ≡ 2) × ((p : Place) (f : Forest) → least ≡ leastRank p → TreesIn (now (now (s .entry))) (nextIn (now (st .entry))) n f
+        → Passed (now (st .entry)) (recordses f) (joined p sign f) (now (now (out .entry))) (now (now (out .exit))) (now (st .exit))) ⌝ }
+    ensures { λ _. ⌜ (now (out .exit) .name ≡ now (out .entry) .name) × (length (now (now (out .exit))) ≡ length (now (now (out .entry)))) ⌝ }
+{
+    member_at(s, out, st, least);
+    let mut left = n - 1;
+    while 0 < left {
+        st[END] = put_sign(sign, *out, st[END]);
+        member_at(s, out, st, least);
+        left -= 1;
     }
-    let b = put_sign(40, out, at);
-    let t = spell(s, i, out, b);
-    let e = put_sign(41, out, t.end);
-    Spelt {
-        next: t.next,
-        end: e,
+}
+
+// The tree at record st[NEXT] where it is a member, in parentheses from rank `least` on.
+fn member_at(s: &&[u8], out: &mut &mut [u8], st: &mut [usize; 2], least: u8)
+    requires { ⌜ Cells (now (now s)) (now st) × SomeTree (now (now s)) (nextIn (now st)) × ((p : Place) × (least ≡ leastRank p))
+        × Roomy (now (now s)) (nextIn (now st)) (endIn (now st)) ⌝ }
+    ensures { λ _. ⌜ (length (now (st .exit)) ≡ 2) × ((p : Place) (t : Tree) → least ≡ leastRank p → TreeIn (now (now (s .entry))) (nextIn (now (st .entry))) t
+        → Passed (now (st .entry)) (records t) (enclosed (needs p t) (text t)) (now (now (out .entry))) (now (now (out .exit))) (now (st .exit))) ⌝ }
+    ensures { λ _. ⌜ (now (out .exit) .name ≡ now (out .entry) .name) × (length (now (now (out .exit))) ≡ length (now (now (out .entry)))) ⌝ }
+{
+    if rank_at(*s, st[NEXT]) < least {
+        tree_at(s, out, st);
+        return;
     }
+    st[END] = put_sign(b'(', *out, st[END]);
+    tree_at(s, out, st);
+    st[END] = put_sign(b')', *out, st[END]);
+}
+
+// The tree at record st[NEXT], from place st[END] on; both move past it. Table and area stand behind references, one word of each level
+// where a slice is two, and what calls no further stands in functions of its own.
+fn tree_at(s: &&[u8], out: &mut &mut [u8], st: &mut [usize; 2])
+    requires { ⌜ Cells (now (now s)) (now st) × SomeTree (now (now s)) (nextIn (now st)) × Roomy (now (now s)) (nextIn (now st)) (endIn (now st) - 1) ⌝ }
+    ensures { λ _. ⌜ (length (now (st .exit)) ≡ 2) × ((t : Tree) → TreeIn (now (now (s .entry))) (nextIn (now (st .entry))) t
+        → Passed (now (st .entry)) (records t) (text t) (now (now (out .entry))) (now (now (out .exit))) (now (st .exit))) ⌝ }
+    ensures { λ _. ⌜ (now (out .exit) .name ≡ now (out .entry) .name) × (length (now (now (out .exit))) ≡ length (now (now (out .entry)))) ⌝ }
+{
+    let i = st[NEXT];
+    let k = record::kind(*s, i);
+    st[NEXT] = i + 1;
+    if k < 2 {
+        st[END] = put_leaf(*s, i, *out, st[END]);
+        return;
+    }
+    if k < 3 {
+        joined_at(s, out, st, record::count(*s, i), 3, b'+');
+        return;
+    }
+    if k < 4 {
+        joined_at(s, out, st, record::count(*s, i), 2, b'*');
+        return;
+    }
+    member_at(s, out, st, 1);
+    let e = st[NEXT];
+    st[NEXT] = e + 1;
+    st[END] = put_exponent(*s, e, *out, st[END]);
+}
+
+// The cycle over an area that is put behind a reference, and handed back.
+fn enter<'b>(s: &[u8], out: &'b mut [u8], st: &mut [usize; 2]) -> &'b mut [u8]
+    requires { ⌜ (length (now st) ≡ 2) × SomeTree (now s) (nextIn (now st)) × Roomy (now s) (nextIn (now st)) (endIn (now st) - 1) ⌝ }
+    ensures { λ r. ⌜ (r .name ≡ out .entry .name) × (length (now r) ≡ length (now (out .entry))) × (length (now (st .exit)) ≡ 2)
+        × ((t : Tree) → TreeIn (now (s .entry)) (nextIn (now (st .entry))) t
+        → Passed (now (st .entry)) (records t) (text t) (now (out .entry)) (now r) (now (st .exit))) ⌝ }
+{
+    let mut o = out;
+    tree_at(&s, &mut o, st);
+    let p = o;
+    p
 }
 
 // The tree at record i, from place `at` on.
@@ -108,37 +177,11 @@ pub fn spell(s: &[u8], i: usize, out: &mut [u8], at: usize) -> Spelt
     ensures { λ r. ⌜ ((t : Tree) → TreeIn (now (s .entry)) i t
         → TextPut i (records t) (text t) (now (out .entry)) at (now (out .exit)) r) ⌝ }
 {
-    let k = record::kind(s, i);
-    if k < 1 {
-        let v = record::bits(s, i);
-        let e = put_integer(v, out, at);
-        return Spelt {
-            next: i + 1,
-            end: e,
-        };
-    }
-    if k < 2 {
-        let b = put_sign(115, out, at);
-        let v = record::symbol(s, i);
-        let e = decimal::spell_number(v as u64, out, b);
-        return Spelt {
-            next: i + 1,
-            end: e,
-        };
-    }
-    if k < 3 {
-        return joined_at(s, i + 1, record::count(s, i), 3, 43, out, at);
-    }
-    if k < 4 {
-        return joined_at(s, i + 1, record::count(s, i), 2, 42, out, at);
-    }
-    let base = member_at(s, i + 1, 1, out, at);
-    let b = put_sign(94, out, base.end);
-    let v = record::bits(s, base.next);
-    let e = decimal::spell_number(v, out, b);
+    let mut st = [i, at];
+    enter(s, out, &mut st);
     Spelt {
-        next: base.next + 1,
-        end: e,
+        next: st[NEXT],
+        end: st[END],
     }
 }
 

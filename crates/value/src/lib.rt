@@ -2,7 +2,7 @@
 use record::Flaw;
 use table::Measured;
 ghost use mathlib.Core.Path.{_≡_};
-ghost use Prim.Native.Nat.{ℕ, _+_, _*_, _%_, _<_, _≤_};
+ghost use Prim.Native.Nat.{ℕ, _+_, _*_, _%_, _^_, _<_, _≤_};
 ghost use lib.ListN.{length, getD};
 ghost use Rattle.paper.specs.Limits.{modulus};
 ghost use Rattle.paper.specs.Tree.{Tree, records, value};
@@ -63,23 +63,26 @@ fn joined(k: u8, total: u64, v: u64) -> u64
     number::wrapping_mul(total, v)
 }
 
-// The value of the tree at record at[0], which moves past the tree: an integer's is its bits, a symbol's its register, and the others'
+// The one cell that the levels share: the record at hand.
+const PLACE: usize = 0;
+
+// The value of the tree at the record at hand, which moves past the tree: an integer's is its bits, a symbol's its register, and the others'
 // come from their members.
-fn value_at(s: &[u8], regs: &[u64; 256], at: &mut [usize; 1]) -> u64
-    requires { ⌜ (length (now at) ≡ 1) × SomeTree (now s) (place (now at)) ⌝ }
-    ensures { λ r. ⌜ ((t : Tree) → TreeIn (now (s .entry)) (place (now (at .entry))) t
+fn value_at(s: &&[u8], regs: &[u64; 256], at: &mut [usize; 1]) -> u64
+    requires { ⌜ (length (now at) ≡ 1) × SomeTree (now (now s)) (place (now at)) × (length (now (now s)) < 2 ^ 63) ⌝ }
+    ensures { λ r. ⌜ ((t : Tree) → TreeIn (now (now (s .entry))) (place (now (at .entry))) t
         → Evaluated (place (now (at .entry))) (records t) (value t (held (now (regs .entry)))) r (now (at .exit))) ⌝ }
 {
-    let i = at[0];
-    let k = record::kind(s, i);
-    at[0] = i + 1;
+    let i = at[PLACE];
+    let k = record::kind(*s, i);
+    at[PLACE] = i + 1;
     if k < 1 {
-        return record::bits(s, i);
+        return record::bits(*s, i);
     }
     if k < 2 {
-        return register_of(regs, record::symbol(s, i));
+        return register_of(regs, record::symbol(*s, i));
     }
-    let mut left = parts(s, i);
+    let mut left = parts(*s, i);
     let mut total = neutral(k);
     while 0 < left {
         let v = value_at(s, regs, at);
@@ -89,9 +92,9 @@ fn value_at(s: &[u8], regs: &[u64; 256], at: &mut [usize; 1]) -> u64
     if k < 4 {
         return total;
     }
-    let e = at[0];
-    at[0] = e + 1;
-    number::wrapping_pow(total, record::bits(s, e))
+    let e = at[PLACE];
+    at[PLACE] = e + 1;
+    number::wrapping_pow(total, record::bits(*s, e))
 }
 
 // The value of a table; 0 where the table or the registers are refused.
@@ -118,7 +121,8 @@ pub fn value(limit: usize, s: &[u8], registers: &[u8]) -> Measured
     }
     let regs = fill(registers);
     let mut at = [0usize; 1];
-    let v = value_at(s, &regs, &mut at);
+    let t = s;
+    let v = value_at(&t, &regs, &mut at);
     Measured {
         number: 0,
         place: 0,

@@ -18,14 +18,14 @@ copy-bytes-requires c κs = search needs
 arity-requires : tie.Need-arity-requires
 arity-requires c κs = search needs
 
-add-t12 : tie.Need-add-t12
-add-t12 c = search needs
+add-t : tie.Need-add-t
+add-t c = search needs
 
-add-t13 : tie.Need-add-t13
-add-t13 c = search needs
+add-t-2 : tie.Need-add-t-2
+add-t-2 c = search needs
 
-add-t14 : tie.Need-add-t14
-add-t14 c = search needs
+add-t-3 : tie.Need-add-t-3
+add-t-3 c = search needs
 
 same-length : tie.Need-same-length
 same-length c = search needs
@@ -43,9 +43,9 @@ begin-spec =
     mul-copy-bytes
     mul-copy-bytes-2
     copy-bytes-requires
+    add-t
+    add-t-2
     arity-requires
-    add-t12
-    add-t13
-    add-t14
+    add-t-3
     same-length
     returns)

@@ -1,22 +1,20 @@
 -- `parse::sum`, `product` and `power`, which call each other, meet their contracts. They end because the text left falls: a group begins behind
 -- its parenthesis, and at one place a sum asks a product and a product a power. Assumes nothing.
-use Prim.Native.Nat.{_+_, _-_, _*_}
-use mathlib.Core.Path.{_≡_, sym, ap, _∙_, subst}
-use mathlib.Core.Bool.{true}
+use Prim.Native.Nat.{ℕ, suc, _+_, _-_, _*_, _^_, _≤_, _<_}
+use mathlib.Core.Bool.{true, false}
+use mathlib.Core.List.{List}
+use mathlib.Core.Path.{_≡_, refl, sym, ap, _∙_, subst}
 use native.Mathlib.Omega.{arith}
 use borrow.Author.Needs.{needs}
-use lib.ListN.{length, drop}
+use lib.ListN.{length, drop, getD, set}
 use Rattle.paper.specs.Tree.{Tree}
-use Rattle.paper_text.specs.Text.{Reading, then, closed, bare, in-sum, in-product, begins, readPower, readProduct, readSum}
+use Rattle.paper_text.specs.Text.{Reading, then, closed, begins, opens, readPower, readProduct, readSum}
 use Rattle.paper_text.specs.Levels.{readCut}
 use Rattle.paper_text.proofs.PlaceLaws.{sign-inside}
-use Rattle.parse.specs.Parsed.{Laid, Stands, ItemIs, bared, nextOf}
-use Rattle.parse.specs.declared.Member.{Member}
-use Rattle.parse.proofs.ItemLaws.{bound, MemberIs, member, sized, Placed, placed, after-no, after-yes}
-use Rattle.parse.proofs.LaidLaws.{sum-laid, product-laid}
-use Rattle.parse.proofs.JoinLaws.{Going, first-misfit, begin-going, member-misfit, one-going, all-read}
-use Rattle.parse.proofs.LevelReads.{sums, products, sum-whole, product-whole, sum-alone, product-alone, last-level, no-group, group-read}
-use Prim.Native.Nat.{ℕ, _<_}
+use Rattle.parse.specs.Parsed.{bared, raising}
+use Rattle.parse.specs.Joined.{Read, Inside, Turn, Followed, EntersIs, whole, placeIn, recordIn, weightIn, levelIn, firstOf, kindOf}
+use Rattle.parse.proofs.LevelReads.{sums, products, sum-kind, product-kind, sum-whole, product-whole, group-read}
+use Rattle.parse.proofs.TurnLaws.{number-low, set-up, kinded, moved-read, read-as, turn-numbers, turn-few, turn-asks, turn-ahead}
 use borrow.Fn.Kinds.{In}
 use borrow.Fn.PlainCycle.{Measures, is, falls, and}
 use Rattle.parse.proofs.power.Reads as power
@@ -28,838 +26,652 @@ use Rattle.parse.proofs.+power+product+sum.Lts-product as product-lts
 use Rattle.parse.proofs.sum.Reads as sum
 use Rattle.parse.proofs.sum.Kinds as sum-kinds
 use Rattle.parse.proofs.+power+product+sum.Lts-sum as sum-lts
-use Rattle.area.proofs.make_room.Reads as make-room-reads
-use Rattle.area.proofs.put_record.Reads as put-record-reads
-use Rattle.parse.proofs.alone.Reads as alone-reads
-use Rattle.parse.proofs.closed.Reads as closed-reads
-use Rattle.parse.proofs.fit.Reads as fit-reads
-use Rattle.parse.proofs.flat.Reads as flat-reads
-use Rattle.parse.proofs.next.Reads as next-reads
-use Rattle.parse.proofs.raised.Reads as raised-reads
-use Rattle.parse.proofs.sign_at.Reads as sign-at-reads
+use Rattle.parse.proofs.enters.Reads as enters-reads
+use Rattle.parse.proofs.follow.Reads as follow-reads
 use Rattle.parse.proofs.+power+product+sum.{statement}
 use Rattle.parse.proofs.+power+product+sum.Tie.{close}
 
-abbrev μ-power : Measures 2 power-kinds.ps ℕ
-μ-power κs a = 3 * (length (a .0 .now) - a .1 .0)
+abbrev μ-power : Measures 5 power-kinds.ps ℕ
+μ-power κs a = 3 * (length (a .0 .now .now) - placeIn (a .1 .1 .0 .now))
 
-abbrev μ-product : Measures 2 product-kinds.ps ℕ
-μ-product κs a = 3 * (length (a .0 .now) - a .1 .0) + 1
+abbrev μ-product : Measures 5 product-kinds.ps ℕ
+μ-product κs a = 3 * (length (a .0 .now .now) - placeIn (a .1 .1 .0 .now)) + 1
 
-abbrev μ-sum : Measures 2 sum-kinds.ps ℕ
-μ-sum κs a = 3 * (length (a .0 .now) - a .1 .0) + 2
+abbrev μ-sum : Measures 5 sum-kinds.ps ℕ
+μ-sum κs a = 3 * (length (a .0 .now .now) - placeIn (a .1 .1 .0 .now)) + 2
 
-abbrev power-at : ℕ → In 2 power-kinds.ps
-power-at t = and 2 power-kinds.ps (is 2 power-kinds.ps μ-power t) power.Pre
+abbrev power-at : ℕ → In 5 power-kinds.ps
+power-at t = and 5 power-kinds.ps (is 5 power-kinds.ps μ-power t) power.Pre
 
-abbrev power-below : ℕ → In 2 power-kinds.ps
-power-below t = and 2 power-kinds.ps (falls 2 power-kinds.ps _<_ μ-power t) power.Pre
+abbrev power-below : ℕ → In 5 power-kinds.ps
+power-below t = and 5 power-kinds.ps (falls 5 power-kinds.ps _<_ μ-power t) power.Pre
 
-abbrev product-at : ℕ → In 2 product-kinds.ps
-product-at t = and 2 product-kinds.ps (is 2 product-kinds.ps μ-product t) product.Pre
+abbrev product-at : ℕ → In 5 product-kinds.ps
+product-at t = and 5 product-kinds.ps (is 5 product-kinds.ps μ-product t) product.Pre
 
-abbrev product-below : ℕ → In 2 product-kinds.ps
-product-below t = and 2 product-kinds.ps (falls 2 product-kinds.ps _<_ μ-product t) product.Pre
+abbrev product-below : ℕ → In 5 product-kinds.ps
+product-below t = and 5 product-kinds.ps (falls 5 product-kinds.ps _<_ μ-product t) product.Pre
 
-abbrev sum-at : ℕ → In 2 sum-kinds.ps
-sum-at t = and 2 sum-kinds.ps (is 2 sum-kinds.ps μ-sum t) sum.Pre
+abbrev sum-at : ℕ → In 5 sum-kinds.ps
+sum-at t = and 5 sum-kinds.ps (is 5 sum-kinds.ps μ-sum t) sum.Pre
 
-abbrev sum-below : ℕ → In 2 sum-kinds.ps
-sum-below t = and 2 sum-kinds.ps (falls 2 sum-kinds.ps _<_ μ-sum t) sum.Pre
+abbrev sum-below : ℕ → In 5 sum-kinds.ps
+sum-below t = and 5 sum-kinds.ps (falls 5 sum-kinds.ps _<_ μ-sum t) sum.Pre
 
+-- what the calls ask and tell, at the measure t
 abbrev power-rs : ℕ → power-lts.Claims
-power-rs t = (
-  flat-reads.Asked,
-  flat-reads.Learnt,
-  sign-at-reads.Asked,
-  sign-at-reads.Learnt,
-  sum-below t,
-  sum.Post,
-  closed-reads.Asked,
-  closed-reads.Learnt,
-  raised-reads.Asked,
-  raised-reads.Learnt,
-)
+power-rs t = (enters-reads.Asked, enters-reads.Learnt, sum-below t, sum.Post, follow-reads.Asked, follow-reads.Learnt)
 
 abbrev product-rs : ℕ → product-lts.Claims
-product-rs t = (
-  power-below t,
-  power.Post,
-  next-reads.Asked,
-  next-reads.Learnt,
-  sign-at-reads.Asked,
-  sign-at-reads.Learnt,
-  fit-reads.Asked,
-  fit-reads.Learnt,
-  make-room-reads.Asked,
-  make-room-reads.Learnt,
-  put-record-reads.Asked,
-  put-record-reads.Learnt,
-)
+product-rs t = (power-below t, power.Post, follow-reads.Asked, follow-reads.Learnt)
 
 abbrev sum-rs : ℕ → sum-lts.Claims
-sum-rs t = (
-  product-below t,
-  product.Post,
-  next-reads.Asked,
-  next-reads.Learnt,
-  sign-at-reads.Asked,
-  sign-at-reads.Learnt,
-  alone-reads.Asked,
-  alone-reads.Learnt,
-  fit-reads.Asked,
-  fit-reads.Learnt,
-  make-room-reads.Asked,
-  make-room-reads.Learnt,
-  put-record-reads.Asked,
-  put-record-reads.Learnt,
-)
+sum-rs t = (product-below t, product.Post, follow-reads.Asked, follow-reads.Learnt)
 
--- ---- power: the entry, and after the group's closing parenthesis was asked for
-abbrev power-Entry : ℕ → Type 0
-power-Entry t = power-lts.Start (power-rs t) (power-at t) power.Post
+-- ---- power: where a group is read, and where none is
+module _ (t : ℕ) where
+  abbrev Entered : Type 0
+  Entered = power-lts.After-enters (power-rs t) (power-at t) power.Post
 
-abbrev power-Group : ℕ → Type 0
-power-Group t = power-lts.After-closed (power-rs t) (power-at t) power.Post
+  abbrev Group : Type 0
+  Group = power-lts.Then1 (power-rs t) (power-at t) power.Post
 
-abbrev power-entry-of : {t : ℕ} → power-Group t → power-Entry t
-power-entry-of c = c .before .before .before .before .before .before .before .before .before .before
+  abbrev Content : Type 0
+  Content = power-lts.After-sum (power-rs t) (power-at t) power.Post
 
--- what is read as the sum in the group
-abbrev power-content : {t : ℕ} → power-Group t → Reading Tree
-power-content c = let a = power-entry-of c .args in readSum (readCut (a .n - 1)) (drop (a .at + 1) (a .text .now))
+  abbrev Flat : Type 0
+  Flat = power-lts.Else1 (power-rs t) (power-at t) power.Post
 
--- the group is read up to its closing parenthesis, or is none
-power-group : {t : ℕ} (c : power-Group t)
-    → let a = power-entry-of c .args in
-    let laid = Laid (a .out .now) (a .d) (c .before .before .before .sum .last .1 .1 .1 .0) in
-    ItemIs (a .text .now) (a .at) (then (power-content c) closed) laid (c .closed .result)
-power-group c =
-    let a = power-entry-of c .args in
-    c .closed .ensures (power-content c) (a .out .now) (a .d) _ (c .before .before .before .sum .ensures)
+  abbrev power-entry : Entered → power-lts.Start (power-rs t) (power-at t) power.Post
+  power-entry c = c .before .before .before
 
-power-flat-requires : (t : ℕ) → power-lts.Need-flat-requires (power-rs t) (power-at t) power.Post
-power-flat-requires t c κs = c .before .before .before .before .pre .1
+  abbrev group-of : Content → Group
+  group-of c = c .before .before .before
 
-power-same-length : (t : ℕ) → power-lts.Need-same-length (power-rs t) (power-at t) power.Post
-power-same-length t c = search needs
+  opened : (c : Group) → let a = power-entry (c .before) .args in EntersIs (a .text .now .now) (a .st .now) (c .before .enters .last .1 .0) true
+  opened c =
+      let a = power-entry (c .before) .args in
+      subst (EntersIs (a .text .now .now) (a .st .now) (c .before .enters .last .1 .0)) (c .if1 .taken) (c .before .enters .ensures)
 
-power-returns : (t : ℕ) → power-lts.Need-returns (power-rs t) (power-at t) power.Post
-power-returns t c =
-    let a = c .before .before .before .before .before .before .before .args in
-    let s = a .text .now in
-    let flat = c .before .before .flat in
-    subst (λ o. ItemIs s (a .at) o (Laid (a .out .now) (a .d) (flat .last .1 .1 .0)) (flat .result))
-    (sym (last-level s (a .at) (a .n) (c .before .before .before .before .if1 .taken))) (flat .ensures)
+  passes : (c : Flat) → let a = power-entry (c .before) .args in EntersIs (a .text .now .now) (a .st .now) (c .before .enters .last .1 .0) false
+  passes c =
+      let a = power-entry (c .before) .args in
+      subst (EntersIs (a .text .now .now) (a .st .now) (c .before .enters .last .1 .0)) (c .if1 .left) (c .before .enters .ensures)
 
-power-sign-at-requires : (t : ℕ) → power-lts.Need-sign-at-requires (power-rs t) (power-at t) power.Post
-power-sign-at-requires t c κs = search needs
+  -- what stands in the group
+  abbrev content-read : Content → Reading Tree
+  content-read c = let a = power-entry (group-of c .before) .args in readSum (readCut (levelIn (a .st .now) - 1)) (drop (placeIn (a .st .now) + 1) (a .text .now .now))
 
-power-add-sum : (t : ℕ) → power-lts.Need-add-sum (power-rs t) (power-at t) power.Post
-power-add-sum t c =
-    let a = c .before .before .before .before .before .args in
-    let h = sign-inside (a .text .now) (a .at) 40 (sym (c .before .sign-at .ensures) ∙ c .if2 .taken) in
-    search (needs, h)
+  abbrev content-cells : Content → List ℕ
+  content-cells c = set (c .sum .last .1 .1 .0) 5 4
 
-power-sum-requires : (t : ℕ) → power-lts.Need-sum-requires (power-rs t) (power-at t) power.Post
-power-sum-requires t c κs =
-    let entry = c .before .before .before .before .before .before in
-    let a = entry .args in
-    let h = sign-inside (a .text .now) (a .at) 40 (sym (c .before .before .sign-at .ensures) ∙ c .before .if2 .taken) in
-    let m = entry .pre .0 in
-    let l = entry .pre .1 in
-    (omega (arith, h, m), omega (arith, l))
+  inside : (c : Content)
+      → let a = power-entry (group-of c .before) .args in
+      Inside (a .text .now .now) (placeIn (a .st .now)) (content-read c) (a .out .now .now) (c .sum .last .1 .0 .now) (content-cells c) (weightIn (a .st .now)) (c .sum .result)
+  inside c =
+      let entry = power-entry (group-of c .before) in
+      let a = entry .args in
+      let s = a .text .now .now in
+      let at = placeIn (a .st .now) in
+      let e = opened (group-of c) in
+      let told = c .sum .ensures .0 in
+      let k = kinded (c .sum .last .1 .1 .0) 4 (told .0 .0) in
+      let reading = ap (λ (l : ℕ). bared (readSum (readCut l) (drop (placeIn (group-of c .before .enters .last .1 .0)) s))) (e .6)
+      ∙ ap (λ (y : ℕ). bared (readSum (readCut (levelIn (a .st .now) - 1)) (drop y s))) (e .3) in
+      let low = entry .pre .1 .2 in
+      let f : firstOf (content-cells c) ≡ recordIn (a .st .now) = k .5 ∙ told .1 ∙ e .4 in
+      record {
+        read = read-as s _ (at + 1) _ (bared (content-read c)) (a .out .now .now) _ (firstOf (content-cells c)) (c .sum .last .1 .0 .now) _ (weightIn (a .st .now)) (content-cells c) (c .sum .result)
+            (moved-read s _ _ (a .out .now .now) _ (c .sum .last .1 .0 .now) _ (c .sum .last .1 .1 .0) (content-cells c) (c .sum .result) (told .2) (k .1) (k .2) (k .3))
+            (e .3) reading (sym (k .5 ∙ told .1)) (e .5);
+        low = omega (arith, f, low);
+        light = entry .pre .1 .3;
+      }
 
-power-closed-requires : (t : ℕ) → power-lts.Need-closed-requires (power-rs t) (power-at t) power.Post
-power-closed-requires t c κs = search needs
+  small : (c : Content) → c .sum .result ≤ 8
+  small c = let i = c .sum .ensures .0 .2 in number-low (i .item) _ _ _ (i .given)
 
-power-raised-requires : (t : ℕ) → power-lts.Need-raised-requires (power-rs t) (power-at t) power.Post
-power-raised-requires t c κs =
-    let group = c .before in
-    let entry = power-entry-of group in
-    let a = entry .args in
-    sized (a .text .now) (a .at) _ (a .out .now) _ (a .d) (entry .pre .1) (group .closed .result) (power-group group)
+  power-element-copy-out-w : power-lts.Need-element-copy-out-w (power-rs t) (power-at t) power.Post
+  power-element-copy-out-w c = search needs
 
-power-same-length-2 : (t : ℕ) → power-lts.Need-same-length-2 (power-rs t) (power-at t) power.Post
-power-same-length-2 t c = search needs
+  power-enters-requires : power-lts.Need-enters-requires (power-rs t) (power-at t) power.Post
+  power-enters-requires c κs = c .before .before .pre .1
 
-power-returns-2 : (t : ℕ) → power-lts.Need-returns-2 (power-rs t) (power-at t) power.Post
-power-returns-2 t c =
-    let group = c .before .before .before .before in
-    let a = power-entry-of group .args in
-    let s = a .text .now in
-    let raised = c .before .before .raised in
-    let opened = sym (group .before .before .before .before .before .before .sign-at .ensures) ∙ group .before .before .before .before .before .if2 .taken in
-    subst (λ o. ItemIs s (a .at) o (Laid (a .out .now) (a .d) (raised .last .1 .1 .0)) (raised .result))
-    (sym (group-read s (a .at) (a .n) (group .before .before .before .before .before .before .before .if1 .left) opened))
-    (raised .ensures (a .at) (then (power-content group) closed) (a .out .now) (power-group group))
+  power-sum-requires : power-lts.Need-sum-requires (power-rs t) (power-at t) power.Post
+  power-sum-requires c κs =
+      let group = c .before .before in
+      let entry = power-entry (group .before) in
+      let a = entry .args in
+      let e = opened group in
+      let m = entry .pre .0 in
+      let r = entry .pre .1 in
+      let h = sign-inside (a .text .now .now) (placeIn (a .st .now)) 40 (e .1) in
+      let e0 = e .0 in
+      let e3 = e .3 in
+      let e4 = e .4 in
+      let e5 = e .5 in
+      let e6 = e .6 in
+      let r2 = r .2 in
+      let r3 = r .3 in
+      let r4 = r .4 in
+      (omega (arith, h, m, e3), (e .2, r .1, omega (arith, e3, e4, r2), omega (arith, e3, e5, r3), omega (arith, e6, e0, r4)))
 
-power-flat-requires-2 : (t : ℕ) → power-lts.Need-flat-requires-2 (power-rs t) (power-at t) power.Post
-power-flat-requires-2 t c κs = c .before .before .before .before .before .before .pre .1
+  power-element-write-st : power-lts.Need-element-write-st (power-rs t) (power-at t) power.Post
+  power-element-write-st c = search needs
 
-power-same-length-3 : (t : ℕ) → power-lts.Need-same-length-3 (power-rs t) (power-at t) power.Post
-power-same-length-3 t c = search needs
+  power-follow-requires : power-lts.Need-follow-requires (power-rs t) (power-at t) power.Post
+  power-follow-requires c κs =
+      let content = c .before .before in
+      let entry = power-entry (group-of content .before) in
+      let a = entry .args in
+      let e = opened (group-of content) in
+      let told = content .sum .ensures .0 in
+      let k = kinded (content .sum .last .1 .1 .0) 4 (told .0 .0) in
+      let k6 = k .6 in
+      let m = small content in
+      let lv = k .4 ∙ told .0 .1 ∙ e .6 in
+      let e0 = e .0 in
+      let r4 = entry .pre .1 .4 in (
+        omega (arith, k6),
+        λ h. absurd (omega (arith, h, k6)),
+        λ h. (
+          k .0,
+          λ q. absurd (omega (arith, q, m)),
+          λ q. (omega (arith, lv, e0, r4), (placeIn (a .st .now), content-read content, a .out .now .now, inside content)),
+        ),
+      )
 
-power-returns-3 : (t : ℕ) → power-lts.Need-returns-3 (power-rs t) (power-at t) power.Post
-power-returns-3 t c =
-    let a = c .before .before .before .before .before .before .before .before .before .args in
-    let s = a .text .now in
-    let flat = c .before .before .flat2 in
-    let no-opening = sym (c .before .before .before .before .before .sign-at .ensures) ∙ c .before .before .before .before .if2 .left in
-    subst (λ o. ItemIs s (a .at) o (Laid (a .out .now) (a .d) (flat .last .1 .1 .0)) (flat .result))
-    (sym (no-group s (a .at) (a .n) no-opening)) (flat .ensures)
+  power-returns : power-lts.Need-returns (power-rs t) (power-at t) power.Post
+  power-returns c =
+      let content = c .before .before .before in
+      let entry = power-entry (group-of content .before) in
+      let a = entry .args in
+      let s = a .text .now .now in
+      let st = a .st .now in
+      let e = opened (group-of content) in
+      let told = content .sum .ensures in
+      let k = kinded (content .sum .last .1 .1 .0) 4 (told .0 .0 .0) in
+      let lv = k .4 ∙ told .0 .0 .1 ∙ e .6 in
+      let e0 = e .0 in
+      let up = c .follow .ensures .0 .3 (k .6) .1 (small content) in
+      let u0 = up .0 in (
+        (
+          (c .follow .ensures .0 .0, omega (arith, u0, lv, e0)),
+          read-as s (placeIn st) (placeIn st) _ (readPower (readCut (levelIn st)) (drop (placeIn st) s)) (a .out .now .now) _ (recordIn st) (c .follow .last .1 .0 .now) (weightIn st) (weightIn st)
+              (c .follow .last .1 .1 .0) (c .follow .result) (up .1 (placeIn st) (content-read content) (a .out .now .now) (inside content)) refl
+              (sym (group-read s (placeIn st) (levelIn st) (e .0) (e .1))) (k .5 ∙ told .0 .1 ∙ e .4) refl,
+        ),
+        (c .follow .ensures .1 .0 ∙ told .1 .0, c .follow .ensures .1 .1 ∙ told .1 .1),
+      )
 
+  abbrev flat-cells : Flat → List ℕ
+  flat-cells c = set (c .before .enters .last .1 .0) 5 4
+
+  -- the cells are as they were but for the kind
+  as-before : (c : Flat)
+      → let st = power-entry (c .before) .args .st .now in
+      (length (flat-cells c) ≡ 6) × (placeIn (flat-cells c) ≡ placeIn st) × (recordIn (flat-cells c) ≡ recordIn st) × (weightIn (flat-cells c) ≡ weightIn st) × (levelIn (flat-cells c) ≡ levelIn st)
+      × (kindOf (flat-cells c) ≡ 4)
+  as-before c =
+      let st = power-entry (c .before) .args .st .now in
+      let k = kinded st 4 (power-entry (c .before) .pre .1 .0) in
+      subst (λ (l : List ℕ). (length (set l 5 4) ≡ 6) × (placeIn (set l 5 4) ≡ placeIn st) × (recordIn (set l 5 4) ≡ recordIn st) × (weightIn (set l 5 4) ≡ weightIn st)
+      × (levelIn (set l 5 4) ≡ levelIn st) × (kindOf (set l 5 4) ≡ 4)) (sym (passes c .0)) (k .0, k .1, k .2, k .3, k .4, k .6)
+
+  power-element-write-st-2 : power-lts.Need-element-write-st-2 (power-rs t) (power-at t) power.Post
+  power-element-write-st-2 c = let l = ap length (passes c .0) ∙ power-entry (c .before) .pre .1 .0 in search (needs, l)
+
+  power-follow-requires-2 : power-lts.Need-follow-requires-2 (power-rs t) (power-at t) power.Post
+  power-follow-requires-2 c κs =
+      let flat = c .before .before in
+      let k = as-before flat in
+      let r = power-entry (flat .before) .pre .1 in
+      let r2 = r .2 in
+      let r3 = r .3 in
+      let k1 = k .1 in
+      let k2 = k .2 in
+      let k3 = k .3 in
+      let k5 = k .5 in (
+        omega (arith, k5),
+        λ h. absurd (omega (arith, h, k5)),
+        λ h. (k .0, λ q. (omega (arith, k1, k2, r2), omega (arith, k1, k3, r3)), λ q. absurd (omega (arith, q))),
+      )
+
+  power-returns-2 : power-lts.Need-returns-2 (power-rs t) (power-at t) power.Post
+  power-returns-2 c =
+      let flat = c .before .before .before in
+      let entry = power-entry (flat .before) in
+      let a = entry .args in
+      let s = a .text .now .now in
+      let st = a .st .now in
+      let k = as-before flat in
+      let told = c .follow2 .ensures in
+      let up = told .0 .3 (k .5) .0 (omega arith) in (
+        (
+          (told .0 .0, up .0 ∙ k .4),
+          read-as s (placeIn (flat-cells flat)) (placeIn st) _ (readPower (readCut (levelIn st)) (drop (placeIn st) s)) (a .out .now .now) _ (recordIn st) (c .follow2 .last .1 .0 .now) _ (weightIn st)
+              (c .follow2 .last .1 .1 .0) (c .follow2 .result) (up .1) (k .1)
+              (ap (λ (y : ℕ). readPower (readCut 0) (drop y s)) (k .1) ∙ sym (passes flat .1)) (k .2) (k .3),
+        ),
+        told .1,
+      )
+
+-- ---- product: the loop stands before a member, as `Turn` has it
 abbrev product-Inv-loop : product-lts.InvT-loop
-product-Inv-loop text at n out₀ d e0 w0 q0 e₀ w₀ q₀ c₀ out e w q c = Going (products (readCut n)) text out₀ (q0 + 1) out at e w q c
+product-Inv-loop text out₀ st₀ d c₀ out st c =
+    (length st ≡ 6) × (levelIn st ≡ levelIn st₀) × Turn (products (readCut (levelIn st₀))) (text .now) (out₀ .now) (placeIn st₀) (recordIn st₀) (weightIn st₀) c (out .now) st
+    × (out .name ≡ out₀ .name) × (length (out .now) ≡ length (out₀ .now))
 
 abbrev product-μ-loop : product-lts.MeasureT-loop
-product-μ-loop text at n out₀ d e0 w0 q0 e₀ w₀ q₀ c₀ out e w q c = length text - e
+product-μ-loop text out₀ st₀ d c₀ out st c = length (text .now) - placeIn st
 
--- ---- product: places on the way through the code, and from each the one before it: the entry, after the first power was asked for as a
--- member, before a turn of the loop, and after the power of that turn was asked for as a member
-abbrev product-Entry : ℕ → Type 0
-product-Entry t = product-lts.Start (product-rs t) (product-at t) product.Post product-Inv-loop product-μ-loop
+module _ (t : ℕ) where
+  abbrev product-Turn : Type 0
+  product-Turn = product-lts.At-loop (product-rs t) (product-at t) product.Post product-Inv-loop product-μ-loop
 
-abbrev product-First : ℕ → Type 0
-product-First t = product-lts.After-fit (product-rs t) (product-at t) product.Post product-Inv-loop product-μ-loop
+  abbrev product-Member : Type 0
+  product-Member = product-lts.After-power (product-rs t) (product-at t) product.Post product-Inv-loop product-μ-loop
 
-abbrev product-Turn : ℕ → Type 0
-product-Turn t = product-lts.At-loop (product-rs t) (product-at t) product.Post product-Inv-loop product-μ-loop
+  abbrev product-Followed : Type 0
+  product-Followed = product-lts.After-follow (product-rs t) (product-at t) product.Post product-Inv-loop product-μ-loop
 
-abbrev product-Other : ℕ → Type 0
-product-Other t = product-lts.After-fit2 (product-rs t) (product-at t) product.Post product-Inv-loop product-μ-loop
+  abbrev product-entry : product-Turn → product-lts.Start (product-rs t) (product-at t) product.Post product-Inv-loop product-μ-loop
+  product-entry c = c .before .before
 
-abbrev product-entry-of : {t : ℕ} → product-First t → product-Entry t
-product-entry-of c = c .before .before .before .before .before .before .before .before .before .before
+  abbrev product-turn-of : product-Member → product-Turn
+  product-turn-of c = c .before .before .before
 
-abbrev product-first-of : {t : ℕ} → product-Turn t → product-First t
-product-first-of c = c .before .before .before .before .before .before .before .before
+  abbrev product-member-of : product-Followed → product-Member
+  product-member-of c = c .before .before .before
 
-abbrev product-turn-of : {t : ℕ} → product-Other t → product-Turn t
-product-turn-of c = c .before .before .before .before .before .before .before
+  -- the cells before `follow`
+  abbrev product-cells : product-Member → List ℕ
+  product-cells c = set (set (c .power .last .1 .1 .0) 4 (recordIn (product-entry (product-turn-of c) .args .st .now))) 5 3
 
--- the first power, as a member m
-product-first : {t : ℕ} (c : product-First t) (m : Member) → c .fit .result ≡ m
-    → let a = product-entry-of c .args in
-    let s = a .text .now in
-    let first = c .before .before .before .before .before .before .power in
-    let laid = Laid (a .out .now) (a .d) (first .last .1 .1 .1 .0) in
-    MemberIs in-product s (a .at) (readPower (readCut (a .n)) (drop (a .at) s)) laid (nextOf (first .result)) m
-unfolding bound
-product-first c m e =
-    let a = product-entry-of c .args in
-    let first = c .before .before .before .before .before .before .power in
-    member in-product (a .text .now) (a .at) _ _ (first .result) m (first .ensures) (sym e ∙ c .fit .ensures)
+  product-member : (c : product-Member)
+      → let turn = product-turn-of c in
+      let a = product-entry turn .args in
+      let l = turn .loop in
+      Read (a .text .now .now) (placeIn (l .st)) (readPower (readCut (levelIn (a .st .now))) (drop (placeIn (l .st)) (a .text .now .now))) (l .out .now) (recordIn (l .st))
+      (c .power .last .1 .0 .now) (weightIn (l .st)) (c .power .last .1 .1 .0) (c .power .result)
+  product-member c =
+      let turn = product-turn-of c in
+      let a = product-entry turn .args in
+      let l = turn .loop in
+      let s = a .text .now .now in
+      read-as s (placeIn (l .st)) (placeIn (l .st)) _ _ (l .out .now) (recordIn (l .st)) (recordIn (l .st)) (c .power .last .1 .0 .now) (weightIn (l .st)) (weightIn (l .st)) (c .power .last .1 .1 .0) (c .power .result)
+      (c .power .ensures .0 .1) refl (ap (λ (k : ℕ). readPower (readCut k) (drop (placeIn (l .st)) s)) (l .inv .1)) refl refl
 
--- where it lies
-product-placed : {t : ℕ} (c : product-First t) (m : Member) → c .fit .result ≡ m
-    → let a = product-entry-of c .args in
-    Placed (a .text .now) (a .d) (nextOf (c .before .before .before .before .before .before .power .result)) m
-product-placed c m e =
-    let a = product-entry-of c .args in
-    let s = a .text .now in
-    let first = c .before .before .before .before .before .before .power in
-    let size = sized s (a .at) _ (a .out .now) _ (a .d) (product-entry-of c .pre .1) (first .result) (first .ensures) in
-    placed s (a .d) 2 (first .result) m size (sym e ∙ c .fit .ensures)
+  -- what follows
+  product-outcome : (c : product-Followed)
+      → let member = product-member-of c in
+      let turn = product-turn-of member in
+      let a = product-entry turn .args in
+      let st = a .st .now in
+      let s = a .text .now .now in
+      let n = products (readCut (levelIn st)) in
+      let f = c .follow in
+      (levelIn (f .last .1 .1 .0) ≡ levelIn (product-cells member)) × (firstOf (f .last .1 .1 .0) ≡ firstOf (product-cells member))
+      × (9 ≤ f .result → (1 ≤ member .power .result) × (placeIn (f .last .1 .1 .0) ≡ placeIn (product-cells member) + 1)
+      × Turn n s (a .out .now .now) (placeIn st) (recordIn st) (weightIn st) (suc (turn .loop .c)) (f .last .1 .0 .now) (f .last .1 .1 .0))
+      × (f .result < 9 → Read s (placeIn st) (whole n (drop (placeIn st) s)) (a .out .now .now) (recordIn st) (f .last .1 .0 .now) (weightIn st) (f .last .1 .1 .0) (f .result))
+  product-outcome c =
+      let member = product-member-of c in
+      let turn = product-turn-of member in
+      let a = product-entry turn .args in
+      let l = turn .loop in
+      let st = a .st .now in
+      let s = a .text .now .now in
+      let told = member .power .ensures in
+      let u = set-up (member .power .last .1 .1 .0) (recordIn st) 3 (told .0 .0 .0) in
+      let f = c .follow .ensures .0 .2 (u .6) in
+      let o = f .2 _ _ _ _ (products (readCut (levelIn st))) (product-kind (readCut (levelIn st))) (a .out .now .now) (placeIn st) (recordIn st) (weightIn st) (l .out .now) (l .st) (l .inv .2)
+      (moved-read s (placeIn (l .st)) _ (l .out .now) (recordIn (l .st)) (member .power .last .1 .0 .now) (weightIn (l .st)) (member .power .last .1 .1 .0) (product-cells member) (member .power .result)
+      (product-member member) (u .1) (u .2) (u .3)) (u .5) (told .1 .1) in
+      (f .0, f .1, o .0, o .1)
 
--- a sign follows it
-product-goes-on : {t : ℕ} (c : product-First t)
-    → let first = c .before .before .before .before .before .before .power in
-    begins 42 (drop (nextOf (first .result)) (product-entry-of c .args .text .now)) ≡ true
-product-goes-on c =
-    let s = product-entry-of c .args .text .now in
-    let first = c .before .before .before .before .before .before .power in
-    after-yes s (first .result) _ 42 _ (c .before .before .before .next .ensures) (c .before .before .sign-at .ensures) (c .before .if1 .left)
+  product-level : (c : product-Followed) → levelIn (c .follow .last .1 .1 .0) ≡ levelIn (product-entry (product-turn-of (product-member-of c)) .args .st .now)
+  product-level c =
+      let member = product-member-of c in
+      let turn = product-turn-of member in
+      let told = member .power .ensures in
+      let u = set-up (member .power .last .1 .1 .0) (recordIn (product-entry turn .args .st .now)) 3 (told .0 .0 .0) in
+      product-outcome c .0 ∙ u .4 ∙ told .0 .0 .1 ∙ turn .loop .inv .1
 
--- the power of a turn, as a member m
-product-other : {t : ℕ} (c : product-Other t) (m : Member) → c .fit2 .result ≡ m
-    → let turn = product-turn-of c in
-    let a = product-entry-of (product-first-of turn) .args in
-    let s = a .text .now in
-    let l = turn .loop in
-    let other = c .before .before .before .power2 in
-    let laid = Laid (l .out) (l .q) (other .last .1 .1 .1 .0) in
-    MemberIs in-product s (l .e + 1) (readPower (readCut (a .n)) (drop (l .e + 1) s)) laid (nextOf (other .result)) m
-unfolding bound
-product-other c m e =
-    let turn = product-turn-of c in
-    let s = product-entry-of (product-first-of turn) .args .text .now in
-    let other = c .before .before .before .power2 in
-    member in-product s (turn .loop .e + 1) _ _ (other .result) m (other .ensures) (sym e ∙ c .fit2 .ensures)
+  product-element-copy-out-d : product-lts.Need-element-copy-out-d (product-rs t) (product-at t) product.Post product-Inv-loop product-μ-loop
+  product-element-copy-out-d c = search needs
 
--- the sign before it
-product-sign : {t : ℕ} (c : product-Other t)
-    → let turn = product-turn-of c in
-    begins 42 (drop (turn .loop .e) (product-entry-of (product-first-of turn) .args .text .now)) ≡ true
-product-sign c = sym (c .before .before .before .before .before .before .sign-at2 .ensures) ∙ c .before .before .before .before .before .if2 .taken
+  product-loop-holds : product-lts.Need-loop-holds (product-rs t) (product-at t) product.Post product-Inv-loop product-μ-loop
+  product-loop-holds c = (c .before .pre .1 .0, refl, record { here = refl; next = refl; weighs = refl; same = refl }, refl, refl)
 
-product-power-requires : (t : ℕ) → product-lts.Need-power-requires (product-rs t) (product-at t) product.Post product-Inv-loop product-μ-loop
-product-power-requires t c κs =
-    (omega arith, c .before .before .before .pre .1)
+  product-power-requires : product-lts.Need-power-requires (product-rs t) (product-at t) product.Post product-Inv-loop product-μ-loop
+  product-power-requires c κs =
+      let turn = c .before .before in
+      let entry = product-entry turn in
+      let a = entry .args in
+      let l = turn .loop in
+      let r = entry .pre .1 in
+      let inner = readCut (levelIn (a .st .now)) in
+      let x = turn-numbers (products inner) (product-kind inner) (a .text .now .now) (a .out .now .now) (placeIn (a .st .now)) (recordIn (a .st .now)) (weightIn (a .st .now)) (l .c) (l .out .now) (l .st) (l .inv .2) (r .2) (r .3) in
+      let x3 = x .3 in
+      let m = entry .pre .0 in
+      let v = l .inv .1 in
+      let r4 = r .4 in
+      (omega (arith, x3, m), (l .inv .0, r .1, x .0, x .1, omega (arith, v, r4)))
 
-product-next-requires : (t : ℕ) → product-lts.Need-next-requires (product-rs t) (product-at t) product.Post product-Inv-loop product-μ-loop
-product-next-requires t c κs = search needs
+  product-element-write-st : product-lts.Need-element-write-st (product-rs t) (product-at t) product.Post product-Inv-loop product-μ-loop
+  product-element-write-st c = search needs
 
-product-sign-at-requires : (t : ℕ) → product-lts.Need-sign-at-requires (product-rs t) (product-at t) product.Post product-Inv-loop product-μ-loop
-product-sign-at-requires t c κs = search needs
+  product-element-write-st-2 : product-lts.Need-element-write-st-2 (product-rs t) (product-at t) product.Post product-Inv-loop product-μ-loop
+  product-element-write-st-2 c = search needs
 
-product-same-length : (t : ℕ) → product-lts.Need-same-length (product-rs t) (product-at t) product.Post product-Inv-loop product-μ-loop
-product-same-length t c = search needs
+  product-follow-requires : product-lts.Need-follow-requires (product-rs t) (product-at t) product.Post product-Inv-loop product-μ-loop
+  product-follow-requires c κs =
+      let member = c .before .before in
+      let turn = product-turn-of member in
+      let entry = product-entry turn in
+      let a = entry .args in
+      let st = a .st .now in
+      let l = turn .loop in
+      let r = entry .pre .1 in
+      let inner = readCut (levelIn st) in
+      let u = set-up (member .power .last .1 .1 .0) (recordIn st) 3 (member .power .ensures .0 .0 .0) in
+      let k = u .6 in (
+        omega (arith, k),
+        λ h. turn-asks (products inner) (product-kind inner) (a .text .now .now) (a .out .now .now) (placeIn st) (recordIn st) (weightIn st) (l .c) (l .out .now) (l .st) (member .power .last .1 .0 .now)
+            (member .power .last .1 .1 .0) (product-cells member) (member .power .result) _ (l .inv .2) (r .2) (r .3) (r .1) (product-member member) (u .0) (u .1) (u .2) (u .3) (u .5),
+        λ h. absurd (omega (arith, h, k)),
+      )
 
-product-returns : (t : ℕ) → product-lts.Need-returns (product-rs t) (product-at t) product.Post product-Inv-loop product-μ-loop
-product-returns t c =
-    let a = c .before .before .before .before .before .before .before .before .before .args in
-    let s = a .text .now in
-    let first = c .before .before .before .before .before .power in
-    let no-sign = after-no s (first .result) _ 42 _ (c .before .before .next .ensures) (c .before .sign-at .ensures) (c .if1 .taken) in
-    product-alone (readCut (a .n)) s (a .at) (Laid (a .out .now) (a .d) (first .last .1 .1 .1 .0)) (first .result) (first .ensures) no-sign
+  product-returns : product-lts.Need-returns (product-rs t) (product-at t) product.Post product-Inv-loop product-μ-loop
+  product-returns c =
+      let followed = c .before in
+      let member = product-member-of followed in
+      let turn = product-turn-of member in
+      let a = product-entry turn .args in
+      let st = a .st .now in
+      let s = a .text .now .now in
+      let f = followed .follow in
+      let o = product-outcome followed in
+      let whole-read = read-as s (placeIn st) (placeIn st) _ (readProduct (readCut (levelIn st)) (drop (placeIn st) s)) (a .out .now .now) (recordIn st) (recordIn st) (f .last .1 .0 .now) (weightIn st) (weightIn st)
+      (f .last .1 .1 .0) (f .result) (o .3 (c .if1 .taken)) refl (sym (product-whole (readCut (levelIn st)) (drop (placeIn st) s))) refl refl in (
+        ((f .ensures .0 .0, product-level followed), whole-read),
+        (f .ensures .1 .0 ∙ member .power .ensures .1 .0 ∙ turn .loop .inv .3, f .ensures .1 .1 ∙ member .power .ensures .1 .1 ∙ turn .loop .inv .4),
+      )
 
-product-fit-requires : (t : ℕ) → product-lts.Need-fit-requires (product-rs t) (product-at t) product.Post product-Inv-loop product-μ-loop
-product-fit-requires t c κs = search needs
+  product-add-c : product-lts.Need-add-c (product-rs t) (product-at t) product.Post product-Inv-loop product-μ-loop
+  product-add-c c =
+      let turn = product-turn-of (product-member-of (c .before)) in
+      let entry = product-entry turn in
+      let a = entry .args in
+      let st = a .st .now in
+      let inner = readCut (levelIn st) in
+      let x = turn-few (products inner) (product-kind inner) (a .text .now .now) (a .out .now .now) (placeIn st) (recordIn st) (weightIn st) (turn .loop .c) (turn .loop .out .now) (turn .loop .st) (turn .loop .inv .2)
+      (entry .pre .1 .1) in
+      record { fits = omega (arith, x) }
 
-product-enum-known-e0 : (t : ℕ) → product-lts.Need-enum-known-e0 (product-rs t) (product-at t) product.Post product-Inv-loop product-μ-loop
-product-enum-known-e0 t c = search needs
+  product-loop-less : product-lts.Need-loop-less (product-rs t) (product-at t) product.Post product-Inv-loop product-μ-loop
+  product-loop-less c =
+      let followed = c .before in
+      let member = product-member-of followed in
+      let turn = product-turn-of member in
+      let entry = product-entry turn in
+      let a = entry .args in
+      let st = a .st .now in
+      let l = turn .loop in
+      let r = entry .pre .1 in
+      let inner = readCut (levelIn st) in
+      let f = followed .follow in
+      let u = set-up (member .power .last .1 .1 .0) (recordIn st) 3 (member .power .ensures .0 .0 .0) in
+      let o = product-outcome followed .2 (c .if1 .left) in
+      turn-ahead (products inner) (product-kind inner) (a .text .now .now) (a .out .now .now) (placeIn st) (recordIn st) (weightIn st) (l .c) (l .out .now) (l .st) (member .power .last .1 .0 .now)
+      (member .power .last .1 .1 .0) (product-cells member) (f .last .1 .0 .now) (f .last .1 .1 .0) (member .power .result) _ (l .inv .2) (r .2) (r .3) (product-member member) (o .0) (u .1) (o .1) (o .2)
 
-product-enum-told : (t : ℕ) → product-lts.Need-enum-told (product-rs t) (product-at t) product.Post product-Inv-loop product-μ-loop
-product-enum-told t c = search needs
+  product-loop-again : product-lts.Need-loop-again (product-rs t) (product-at t) product.Post product-Inv-loop product-μ-loop
+  product-loop-again c =
+      let followed = c .before in
+      let member = product-member-of followed in
+      let turn = product-turn-of member in
+      let a = product-entry turn .args in
+      let st = a .st .now in
+      let f = followed .follow in
+      let count : suc (turn .loop .c) ≡ turn .loop .c + 1 = omega arith in (
+        f .ensures .0 .0,
+        product-level followed,
+        subst (λ (y : ℕ). Turn (products (readCut (levelIn st))) (a .text .now .now) (a .out .now .now) (placeIn st) (recordIn st) (weightIn st) y (f .last .1 .0 .now) (f .last .1 .1 .0)) count
+            (product-outcome followed .2 (c .if1 .left) .2),
+        f .ensures .1 .0 ∙ member .power .ensures .1 .0 ∙ turn .loop .inv .3,
+        f .ensures .1 .1 ∙ member .power .ensures .1 .1 ∙ turn .loop .inv .4,
+      )
 
-product-same-length-2 : (t : ℕ) → product-lts.Need-same-length-2 (product-rs t) (product-at t) product.Post product-Inv-loop product-μ-loop
-product-same-length-2 t c = search needs
-
-product-returns-2 : (t : ℕ) → product-lts.Need-returns-2 (product-rs t) (product-at t) product.Post product-Inv-loop product-μ-loop
-product-returns-2 t c =
-    let first = c .before .before in
-    let a = product-entry-of first .args in
-    let s = a .text .now in
-    let misfit = product-first first _ (c .enum-told .given .1) in
-    product-whole (readCut (a .n)) (drop (a .at) s)
-    ∙ first-misfit (products (readCut (a .n))) s (a .at) _ misfit (product-goes-on first)
-
-product-make-room-requires : (t : ℕ) → product-lts.Need-make-room-requires (product-rs t) (product-at t) product.Post product-Inv-loop product-μ-loop
-product-make-room-requires t c κs = product-placed (c .before .before .before .before) _ (c .before .before .e0 .given .1) .2
-
-product-add-w : (t : ℕ) → product-lts.Need-add-w (product-rs t) (product-at t) product.Post product-Inv-loop product-μ-loop
-product-add-w t c =
-    let first = c .before .before .before .before .before .before .before in
-    let m = product-placed first _ (c .before .before .before .before .before .e0 .given .1) in
-    let x = m .1 in
-    let g = product-entry-of first .good .0 .1 in
-    record { fits = omega (arith, x, g) }
-
-product-add-q : (t : ℕ) → product-lts.Need-add-q (product-rs t) (product-at t) product.Post product-Inv-loop product-μ-loop
-product-add-q t c =
-    let first = c .before .before .before .before .before .before .before in
-    let m = product-placed first _ (c .before .before .before .before .before .e0 .given .1) in
-    let x = m .3 in
-    let y = m .4 in
-    let g = product-entry-of first .good .0 .1 in
-    record { fits = omega (arith, x, y, g) }
-
-product-loop-holds : (t : ℕ) → product-lts.Need-loop-holds (product-rs t) (product-at t) product.Post product-Inv-loop product-μ-loop
-product-loop-holds t c =
-    let first = c .before .before .before .before .before .before .before in
-    let a = product-entry-of first .args in
-    let s = a .text .now in
-    let fitting = c .before .before .before .before .before .e0 .given .1 in
-    let m = product-first first _ fitting in
-    let h = product-placed first _ fitting in
-    let sign = ap (λ (x : ℕ). begins 42 (drop x s)) (m .0) ∙ product-goes-on first in
-    begin-going (products (readCut (a .n))) s (c .before .before .make-room .last .0) _ (a .at) _ _ _ (m .1) sign (h .3)
-
-product-sign-at-requires-2 : (t : ℕ) → product-lts.Need-sign-at-requires-2 (product-rs t) (product-at t) product.Post product-Inv-loop product-μ-loop
-product-sign-at-requires-2 t c κs = search needs
-
-product-add-power : (t : ℕ) → product-lts.Need-add-power (product-rs t) (product-at t) product.Post product-Inv-loop product-μ-loop
-product-add-power t c =
-    let turn = c .before .before in
-    let entry = product-entry-of (product-first-of turn) in
-    let h = sign-inside (entry .args .text .now) (turn .loop .e) 42 (sym (c .before .sign-at2 .ensures) ∙ c .if2 .taken) in
-    let g = entry .good .0 .1 in
-    record { fits = omega (arith, h, g) }
-
-product-power-requires-2 : (t : ℕ) → product-lts.Need-power-requires-2 (product-rs t) (product-at t) product.Post product-Inv-loop product-μ-loop
-product-power-requires-2 t c κs =
-    let turn = c .before .before .before in
-    let entry = product-entry-of (product-first-of turn) in
-    let l = turn .loop in
-    let h = sign-inside (entry .args .text .now) (l .e) 42 (sym (c .before .before .sign-at2 .ensures) ∙ c .before .if2 .taken) in
-    let x = l .inv .joined .ahead in
-    let y = l .inv .low in
-    let m = entry .pre .0 in
-    (omega (arith, h, x, m), omega (arith, y))
-
-product-fit-requires-2 : (t : ℕ) → product-lts.Need-fit-requires-2 (product-rs t) (product-at t) product.Post product-Inv-loop product-μ-loop
-product-fit-requires-2 t c κs = search needs
-
-product-enum-known-e1 : (t : ℕ) → product-lts.Need-enum-known-e1 (product-rs t) (product-at t) product.Post product-Inv-loop product-μ-loop
-product-enum-known-e1 t c = search needs
-
-product-enum-told-2 : (t : ℕ) → product-lts.Need-enum-told-2 (product-rs t) (product-at t) product.Post product-Inv-loop product-μ-loop
-product-enum-told-2 t c = search needs
-
-product-same-length-3 : (t : ℕ) → product-lts.Need-same-length-3 (product-rs t) (product-at t) product.Post product-Inv-loop product-μ-loop
-product-same-length-3 t c = search needs
-
-product-returns-3 : (t : ℕ) → product-lts.Need-returns-3 (product-rs t) (product-at t) product.Post product-Inv-loop product-μ-loop
-product-returns-3 t c =
-    let other = c .before .before in
-    let turn = product-turn-of other in
-    let a = product-entry-of (product-first-of turn) .args in
-    let s = a .text .now in
-    let l = turn .loop in
-    let misfit = product-other other _ (c .enum-told2 .given .1) in
-    product-whole (readCut (a .n)) (drop (a .at) s)
-    ∙ member-misfit (products (readCut (a .n))) s _ (a .at) (l .e) (l .w) _ (l .inv .joined) (product-sign other) misfit
-
-product-add-w-2 : (t : ℕ) → product-lts.Need-add-w-2 (product-rs t) (product-at t) product.Post product-Inv-loop product-μ-loop
-product-add-w-2 t c =
-    let other = c .before .before .before in
-    let turn = product-turn-of other in
-    let joined = turn .loop .inv .joined in
-    let f = product-other other _ (c .before .e1 .given .1) .1 in
-    let x = f .light in
-    let y = f .within in
-    let z = joined .light in
-    let u = f .ahead in
-    let v = joined .ahead in
-    let g = product-entry-of (product-first-of turn) .good .0 .1 in
-    record { fits = omega (arith, x, y, z, u, v, g) }
-
-product-add-c : (t : ℕ) → product-lts.Need-add-c (product-rs t) (product-at t) product.Post product-Inv-loop product-μ-loop
-product-add-c t c =
-    let turn = product-turn-of (c .before .before .before) in
-    let x = turn .loop .inv .few in
-    let y = turn .loop .inv .joined .within in
-    let g = product-entry-of (product-first-of turn) .good .0 .1 in
-    record { fits = omega (arith, x, y, g) }
-
-product-loop-less : (t : ℕ) → product-lts.Need-loop-less (product-rs t) (product-at t) product.Post product-Inv-loop product-μ-loop
-product-loop-less t c =
-    let f = product-other (c .before .before .before) _ (c .before .e1 .given .1) .1 in
-    let x = f .ahead in
-    let y = f .within in
-    omega (arith, x, y)
-
-product-loop-again : (t : ℕ) → product-lts.Need-loop-again (product-rs t) (product-at t) product.Post product-Inv-loop product-μ-loop
-product-loop-again t c =
-    let other = c .before .before .before in
-    let turn = product-turn-of other in
-    let a = product-entry-of (product-first-of turn) .args in
-    let l = turn .loop in
-    let f = product-other other _ (c .before .e1 .given .1) .1 in
-    one-going (products (readCut (a .n))) (a .text .now) (turn .before .before .before .make-room .last .0) _ (l .out) _ (a .at) (l .e) (l .w) (l .q) (l .c)
-    _ _ _ (l .inv) (product-sign other) f (search needs)
-
-product-put-record-requires : (t : ℕ) → product-lts.Need-put-record-requires (product-rs t) (product-at t) product.Post product-Inv-loop product-μ-loop
-product-put-record-requires t c κs = search needs
-
-product-same-length-4 : (t : ℕ) → product-lts.Need-same-length-4 (product-rs t) (product-at t) product.Post product-Inv-loop product-μ-loop
-product-same-length-4 t c = search needs
-
-product-returns-4 : (t : ℕ) → product-lts.Need-returns-4 (product-rs t) (product-at t) product.Post product-Inv-loop product-μ-loop
-product-returns-4 t c =
-    let turn = c .before .before .before .before .before .before in
-    let first = product-first-of turn in
-    let a = product-entry-of first .args in
-    let s = a .text .now in
-    let l = turn .loop in
-    let put = c .before .before .put-record in
-    let f = product-first first _ (turn .before .before .before .before .before .before .e0 .given .1) .1 in
-    let no-sign = sym (c .before .before .before .before .before .sign-at2 .ensures) ∙ c .before .before .before .before .if2 .left in
-    let laid = product-laid (turn .before .before .before .make-room .ensures) (put .ensures) in
-    subst (λ o. Stands s (a .at) o bare (Laid (a .out .now) (a .d) (put .last .0) (l .q)) 2 (l .e) (l .w))
-    (sym (product-whole (readCut (a .n)) (drop (a .at) s)))
-    (all-read (products (readCut (a .n))) s _ _ _ (a .at) _ _ (l .e) (l .w) f (l .inv .joined) no-sign laid)
-
+-- ---- sum: the loop stands before a member, as `Turn` has it
 abbrev sum-Inv-loop : sum-lts.InvT-loop
-sum-Inv-loop text at n out₀ d e0 w0 q0 e₀ w₀ q₀ c₀ out e w q c = Going (sums (readCut n)) text out₀ (q0 + 1) out at e w q c
+sum-Inv-loop text out₀ st₀ d c₀ out st c =
+    (length st ≡ 6) × (levelIn st ≡ levelIn st₀) × Turn (sums (readCut (levelIn st₀))) (text .now) (out₀ .now) (placeIn st₀) (recordIn st₀) (weightIn st₀) c (out .now) st
+    × (out .name ≡ out₀ .name) × (length (out .now) ≡ length (out₀ .now))
 
 abbrev sum-μ-loop : sum-lts.MeasureT-loop
-sum-μ-loop text at n out₀ d e0 w0 q0 e₀ w₀ q₀ c₀ out e w q c = length text - e
+sum-μ-loop text out₀ st₀ d c₀ out st c = length (text .now) - placeIn st
 
--- ---- sum: places on the way through the code, and from each the one before it: the entry, after the first product was asked for as a
--- member, before a turn of the loop, and after the product of that turn was asked for as a member
-abbrev sum-Entry : ℕ → Type 0
-sum-Entry t = sum-lts.Start (sum-rs t) (sum-at t) sum.Post sum-Inv-loop sum-μ-loop
+module _ (t : ℕ) where
+  abbrev sum-Turn : Type 0
+  sum-Turn = sum-lts.At-loop (sum-rs t) (sum-at t) sum.Post sum-Inv-loop sum-μ-loop
 
-abbrev sum-First : ℕ → Type 0
-sum-First t = sum-lts.After-fit (sum-rs t) (sum-at t) sum.Post sum-Inv-loop sum-μ-loop
+  abbrev sum-Member : Type 0
+  sum-Member = sum-lts.After-product (sum-rs t) (sum-at t) sum.Post sum-Inv-loop sum-μ-loop
 
-abbrev sum-Turn : ℕ → Type 0
-sum-Turn t = sum-lts.At-loop (sum-rs t) (sum-at t) sum.Post sum-Inv-loop sum-μ-loop
+  abbrev sum-Followed : Type 0
+  sum-Followed = sum-lts.After-follow (sum-rs t) (sum-at t) sum.Post sum-Inv-loop sum-μ-loop
 
-abbrev sum-Other : ℕ → Type 0
-sum-Other t = sum-lts.After-fit2 (sum-rs t) (sum-at t) sum.Post sum-Inv-loop sum-μ-loop
+  abbrev sum-entry : sum-Turn → sum-lts.Start (sum-rs t) (sum-at t) sum.Post sum-Inv-loop sum-μ-loop
+  sum-entry c = c .before .before
 
-abbrev sum-entry-of : {t : ℕ} → sum-First t → sum-Entry t
-sum-entry-of c = c .before .before .before .before .before .before .before .before .before .before
+  abbrev sum-turn-of : sum-Member → sum-Turn
+  sum-turn-of c = c .before .before .before
 
-abbrev sum-first-of : {t : ℕ} → sum-Turn t → sum-First t
-sum-first-of c = c .before .before .before .before .before .before .before .before
+  abbrev sum-member-of : sum-Followed → sum-Member
+  sum-member-of c = c .before .before .before
 
-abbrev sum-turn-of : {t : ℕ} → sum-Other t → sum-Turn t
-sum-turn-of c = c .before .before .before .before .before .before .before
+  -- the cells before `follow`
+  abbrev sum-cells : sum-Member → List ℕ
+  sum-cells c = set (set (c .product .last .1 .1 .0) 4 (recordIn (sum-entry (sum-turn-of c) .args .st .now))) 5 2
 
--- the first product, as a member m
-sum-first : {t : ℕ} (c : sum-First t) (m : Member) → c .fit .result ≡ m
-    → let a = sum-entry-of c .args in
-    let s = a .text .now in
-    let first = c .before .before .before .before .before .before .product in
-    let laid = Laid (a .out .now) (a .d) (first .last .1 .1 .1 .0) in
-    MemberIs in-sum s (a .at) (readProduct (readCut (a .n)) (drop (a .at) s)) laid (nextOf (first .result)) m
-unfolding bound
-sum-first c m e =
-    let a = sum-entry-of c .args in
-    let first = c .before .before .before .before .before .before .product in
-    member in-sum (a .text .now) (a .at) _ _ (first .result) m (first .ensures) (sym e ∙ c .fit .ensures)
+  sum-member : (c : sum-Member)
+      → let turn = sum-turn-of c in
+      let a = sum-entry turn .args in
+      let l = turn .loop in
+      Read (a .text .now .now) (placeIn (l .st)) (readProduct (readCut (levelIn (a .st .now))) (drop (placeIn (l .st)) (a .text .now .now))) (l .out .now) (recordIn (l .st))
+      (c .product .last .1 .0 .now) (weightIn (l .st)) (c .product .last .1 .1 .0) (c .product .result)
+  sum-member c =
+      let turn = sum-turn-of c in
+      let a = sum-entry turn .args in
+      let l = turn .loop in
+      let s = a .text .now .now in
+      read-as s (placeIn (l .st)) (placeIn (l .st)) _ _ (l .out .now) (recordIn (l .st)) (recordIn (l .st)) (c .product .last .1 .0 .now) (weightIn (l .st)) (weightIn (l .st)) (c .product .last .1 .1 .0) (c .product .result)
+      (c .product .ensures .0 .1) refl (ap (λ (k : ℕ). readProduct (readCut k) (drop (placeIn (l .st)) s)) (l .inv .1)) refl refl
 
--- where it lies
-sum-placed : {t : ℕ} (c : sum-First t) (m : Member) → c .fit .result ≡ m
-    → let a = sum-entry-of c .args in
-    Placed (a .text .now) (a .d) (nextOf (c .before .before .before .before .before .before .product .result)) m
-sum-placed c m e =
-    let a = sum-entry-of c .args in
-    let s = a .text .now in
-    let first = c .before .before .before .before .before .before .product in
-    let size = sized s (a .at) _ (a .out .now) _ (a .d) (sum-entry-of c .pre .1) (first .result) (first .ensures) in
-    placed s (a .d) 3 (first .result) m size (sym e ∙ c .fit .ensures)
+  -- what follows
+  sum-outcome : (c : sum-Followed)
+      → let member = sum-member-of c in
+      let turn = sum-turn-of member in
+      let a = sum-entry turn .args in
+      let st = a .st .now in
+      let s = a .text .now .now in
+      let n = sums (readCut (levelIn st)) in
+      let f = c .follow in
+      (levelIn (f .last .1 .1 .0) ≡ levelIn (sum-cells member)) × (firstOf (f .last .1 .1 .0) ≡ firstOf (sum-cells member))
+      × (9 ≤ f .result → (1 ≤ member .product .result) × (placeIn (f .last .1 .1 .0) ≡ placeIn (sum-cells member) + 1)
+      × Turn n s (a .out .now .now) (placeIn st) (recordIn st) (weightIn st) (suc (turn .loop .c)) (f .last .1 .0 .now) (f .last .1 .1 .0))
+      × (f .result < 9 → Read s (placeIn st) (whole n (drop (placeIn st) s)) (a .out .now .now) (recordIn st) (f .last .1 .0 .now) (weightIn st) (f .last .1 .1 .0) (f .result))
+  sum-outcome c =
+      let member = sum-member-of c in
+      let turn = sum-turn-of member in
+      let a = sum-entry turn .args in
+      let l = turn .loop in
+      let st = a .st .now in
+      let s = a .text .now .now in
+      let told = member .product .ensures in
+      let u = set-up (member .product .last .1 .1 .0) (recordIn st) 2 (told .0 .0 .0) in
+      let f = c .follow .ensures .0 .1 (u .6) in
+      let o = f .2 _ _ _ _ (sums (readCut (levelIn st))) (sum-kind (readCut (levelIn st))) (a .out .now .now) (placeIn st) (recordIn st) (weightIn st) (l .out .now) (l .st) (l .inv .2)
+      (moved-read s (placeIn (l .st)) _ (l .out .now) (recordIn (l .st)) (member .product .last .1 .0 .now) (weightIn (l .st)) (member .product .last .1 .1 .0) (sum-cells member) (member .product .result)
+      (sum-member member) (u .1) (u .2) (u .3)) (u .5) (told .1 .1) in
+      (f .0, f .1, o .0, o .1)
 
--- a sign follows it
-sum-goes-on : {t : ℕ} (c : sum-First t)
-    → let first = c .before .before .before .before .before .before .product in
-    begins 43 (drop (nextOf (first .result)) (sum-entry-of c .args .text .now)) ≡ true
-sum-goes-on c =
-    let s = sum-entry-of c .args .text .now in
-    let first = c .before .before .before .before .before .before .product in
-    after-yes s (first .result) _ 43 _ (c .before .before .before .next .ensures) (c .before .before .sign-at .ensures) (c .before .if1 .left)
+  sum-level : (c : sum-Followed) → levelIn (c .follow .last .1 .1 .0) ≡ levelIn (sum-entry (sum-turn-of (sum-member-of c)) .args .st .now)
+  sum-level c =
+      let member = sum-member-of c in
+      let turn = sum-turn-of member in
+      let told = member .product .ensures in
+      let u = set-up (member .product .last .1 .1 .0) (recordIn (sum-entry turn .args .st .now)) 2 (told .0 .0 .0) in
+      sum-outcome c .0 ∙ u .4 ∙ told .0 .0 .1 ∙ turn .loop .inv .1
 
--- the product of a turn, as a member m
-sum-other : {t : ℕ} (c : sum-Other t) (m : Member) → c .fit2 .result ≡ m
-    → let turn = sum-turn-of c in
-    let a = sum-entry-of (sum-first-of turn) .args in
-    let s = a .text .now in
-    let l = turn .loop in
-    let other = c .before .before .before .product2 in
-    let laid = Laid (l .out) (l .q) (other .last .1 .1 .1 .0) in
-    MemberIs in-sum s (l .e + 1) (readProduct (readCut (a .n)) (drop (l .e + 1) s)) laid (nextOf (other .result)) m
-unfolding bound
-sum-other c m e =
-    let turn = sum-turn-of c in
-    let s = sum-entry-of (sum-first-of turn) .args .text .now in
-    let other = c .before .before .before .product2 in
-    member in-sum s (turn .loop .e + 1) _ _ (other .result) m (other .ensures) (sym e ∙ c .fit2 .ensures)
+  sum-element-copy-out-d : sum-lts.Need-element-copy-out-d (sum-rs t) (sum-at t) sum.Post sum-Inv-loop sum-μ-loop
+  sum-element-copy-out-d c = search needs
 
--- the sign before it
-sum-sign : {t : ℕ} (c : sum-Other t)
-    → let turn = sum-turn-of c in
-    begins 43 (drop (turn .loop .e) (sum-entry-of (sum-first-of turn) .args .text .now)) ≡ true
-sum-sign c = sym (c .before .before .before .before .before .before .sign-at2 .ensures) ∙ c .before .before .before .before .before .if2 .taken
+  sum-loop-holds : sum-lts.Need-loop-holds (sum-rs t) (sum-at t) sum.Post sum-Inv-loop sum-μ-loop
+  sum-loop-holds c = (c .before .pre .1 .0, refl, record { here = refl; next = refl; weighs = refl; same = refl }, refl, refl)
 
-sum-product-requires : (t : ℕ) → sum-lts.Need-product-requires (sum-rs t) (sum-at t) sum.Post sum-Inv-loop sum-μ-loop
-sum-product-requires t c κs =
-    (omega arith, c .before .before .before .pre .1)
+  sum-product-requires : sum-lts.Need-product-requires (sum-rs t) (sum-at t) sum.Post sum-Inv-loop sum-μ-loop
+  sum-product-requires c κs =
+      let turn = c .before .before in
+      let entry = sum-entry turn in
+      let a = entry .args in
+      let l = turn .loop in
+      let r = entry .pre .1 in
+      let inner = readCut (levelIn (a .st .now)) in
+      let x = turn-numbers (sums inner) (sum-kind inner) (a .text .now .now) (a .out .now .now) (placeIn (a .st .now)) (recordIn (a .st .now)) (weightIn (a .st .now)) (l .c) (l .out .now) (l .st) (l .inv .2) (r .2) (r .3) in
+      let x3 = x .3 in
+      let m = entry .pre .0 in
+      let v = l .inv .1 in
+      let r4 = r .4 in
+      (omega (arith, x3, m), (l .inv .0, r .1, x .0, x .1, omega (arith, v, r4)))
 
-sum-next-requires : (t : ℕ) → sum-lts.Need-next-requires (sum-rs t) (sum-at t) sum.Post sum-Inv-loop sum-μ-loop
-sum-next-requires t c κs = search needs
+  sum-element-write-st : sum-lts.Need-element-write-st (sum-rs t) (sum-at t) sum.Post sum-Inv-loop sum-μ-loop
+  sum-element-write-st c = search needs
 
-sum-sign-at-requires : (t : ℕ) → sum-lts.Need-sign-at-requires (sum-rs t) (sum-at t) sum.Post sum-Inv-loop sum-μ-loop
-sum-sign-at-requires t c κs = search needs
+  sum-element-write-st-2 : sum-lts.Need-element-write-st-2 (sum-rs t) (sum-at t) sum.Post sum-Inv-loop sum-μ-loop
+  sum-element-write-st-2 c = search needs
 
-sum-alone-requires : (t : ℕ) → sum-lts.Need-alone-requires (sum-rs t) (sum-at t) sum.Post sum-Inv-loop sum-μ-loop
-sum-alone-requires t c κs = search needs
+  sum-follow-requires : sum-lts.Need-follow-requires (sum-rs t) (sum-at t) sum.Post sum-Inv-loop sum-μ-loop
+  sum-follow-requires c κs =
+      let member = c .before .before in
+      let turn = sum-turn-of member in
+      let entry = sum-entry turn in
+      let a = entry .args in
+      let st = a .st .now in
+      let l = turn .loop in
+      let r = entry .pre .1 in
+      let inner = readCut (levelIn st) in
+      let u = set-up (member .product .last .1 .1 .0) (recordIn st) 2 (member .product .ensures .0 .0 .0) in
+      let k = u .6 in (
+        omega (arith, k),
+        λ h. turn-asks (sums inner) (sum-kind inner) (a .text .now .now) (a .out .now .now) (placeIn st) (recordIn st) (weightIn st) (l .c) (l .out .now) (l .st) (member .product .last .1 .0 .now)
+            (member .product .last .1 .1 .0) (sum-cells member) (member .product .result) _ (l .inv .2) (r .2) (r .3) (r .1) (sum-member member) (u .0) (u .1) (u .2) (u .3) (u .5),
+        λ h. absurd (omega (arith, h, k)),
+      )
 
-sum-same-length : (t : ℕ) → sum-lts.Need-same-length (sum-rs t) (sum-at t) sum.Post sum-Inv-loop sum-μ-loop
-sum-same-length t c = search needs
+  sum-returns : sum-lts.Need-returns (sum-rs t) (sum-at t) sum.Post sum-Inv-loop sum-μ-loop
+  sum-returns c =
+      let followed = c .before in
+      let member = sum-member-of followed in
+      let turn = sum-turn-of member in
+      let a = sum-entry turn .args in
+      let st = a .st .now in
+      let s = a .text .now .now in
+      let f = followed .follow in
+      let o = sum-outcome followed in
+      let whole-read = read-as s (placeIn st) (placeIn st) _ (bared (readSum (readCut (levelIn st)) (drop (placeIn st) s))) (a .out .now .now) (recordIn st) (recordIn st) (f .last .1 .0 .now) (weightIn st) (weightIn st)
+      (f .last .1 .1 .0) (f .result) (o .3 (c .if1 .taken)) refl (sym (sum-whole (readCut (levelIn st)) (drop (placeIn st) s))) refl refl in (
+        ((f .ensures .0 .0, sum-level followed), o .1 ∙ set-up (member .product .last .1 .1 .0) (recordIn st) 2 (member .product .ensures .0 .0 .0) .5, whole-read),
+        (f .ensures .1 .0 ∙ member .product .ensures .1 .0 ∙ turn .loop .inv .3, f .ensures .1 .1 ∙ member .product .ensures .1 .1 ∙ turn .loop .inv .4),
+      )
 
-sum-returns : (t : ℕ) → sum-lts.Need-returns (sum-rs t) (sum-at t) sum.Post sum-Inv-loop sum-μ-loop
-sum-returns t c =
-    let a = c .before .before .before .before .before .before .before .before .before .before .args in
-    let s = a .text .now in
-    let first = c .before .before .before .before .before .before .product in
-    let laid = Laid (a .out .now) (a .d) (first .last .1 .1 .1 .0) in
-    let no-sign = after-no s (first .result) _ 43 _ (c .before .before .before .next .ensures) (c .before .before .sign-at .ensures) (c .before .if1 .taken) in
-    subst (ItemIs s (a .at) (bared (readSum (readCut (a .n)) (drop (a .at) s))) laid) (sym (c .alone .ensures))
-    (sum-alone (readCut (a .n)) s (a .at) laid (first .result) (first .ensures) no-sign)
+  sum-add-c : sum-lts.Need-add-c (sum-rs t) (sum-at t) sum.Post sum-Inv-loop sum-μ-loop
+  sum-add-c c =
+      let turn = sum-turn-of (sum-member-of (c .before)) in
+      let entry = sum-entry turn in
+      let a = entry .args in
+      let st = a .st .now in
+      let inner = readCut (levelIn st) in
+      let x = turn-few (sums inner) (sum-kind inner) (a .text .now .now) (a .out .now .now) (placeIn st) (recordIn st) (weightIn st) (turn .loop .c) (turn .loop .out .now) (turn .loop .st) (turn .loop .inv .2)
+      (entry .pre .1 .1) in
+      record { fits = omega (arith, x) }
 
-sum-fit-requires : (t : ℕ) → sum-lts.Need-fit-requires (sum-rs t) (sum-at t) sum.Post sum-Inv-loop sum-μ-loop
-sum-fit-requires t c κs = search needs
+  sum-loop-less : sum-lts.Need-loop-less (sum-rs t) (sum-at t) sum.Post sum-Inv-loop sum-μ-loop
+  sum-loop-less c =
+      let followed = c .before in
+      let member = sum-member-of followed in
+      let turn = sum-turn-of member in
+      let entry = sum-entry turn in
+      let a = entry .args in
+      let st = a .st .now in
+      let l = turn .loop in
+      let r = entry .pre .1 in
+      let inner = readCut (levelIn st) in
+      let f = followed .follow in
+      let u = set-up (member .product .last .1 .1 .0) (recordIn st) 2 (member .product .ensures .0 .0 .0) in
+      let o = sum-outcome followed .2 (c .if1 .left) in
+      turn-ahead (sums inner) (sum-kind inner) (a .text .now .now) (a .out .now .now) (placeIn st) (recordIn st) (weightIn st) (l .c) (l .out .now) (l .st) (member .product .last .1 .0 .now)
+      (member .product .last .1 .1 .0) (sum-cells member) (f .last .1 .0 .now) (f .last .1 .1 .0) (member .product .result) _ (l .inv .2) (r .2) (r .3) (sum-member member) (o .0) (u .1) (o .1) (o .2)
 
-sum-enum-known-e0 : (t : ℕ) → sum-lts.Need-enum-known-e0 (sum-rs t) (sum-at t) sum.Post sum-Inv-loop sum-μ-loop
-sum-enum-known-e0 t c = search needs
-
-sum-enum-told : (t : ℕ) → sum-lts.Need-enum-told (sum-rs t) (sum-at t) sum.Post sum-Inv-loop sum-μ-loop
-sum-enum-told t c = search needs
-
-sum-same-length-2 : (t : ℕ) → sum-lts.Need-same-length-2 (sum-rs t) (sum-at t) sum.Post sum-Inv-loop sum-μ-loop
-sum-same-length-2 t c = search needs
-
-sum-returns-2 : (t : ℕ) → sum-lts.Need-returns-2 (sum-rs t) (sum-at t) sum.Post sum-Inv-loop sum-μ-loop
-sum-returns-2 t c =
-    let first = c .before .before in
-    let a = sum-entry-of first .args in
-    let s = a .text .now in
-    let misfit = sum-first first _ (c .enum-told .given .1) in
-    sum-whole (readCut (a .n)) (drop (a .at) s)
-    ∙ first-misfit (sums (readCut (a .n))) s (a .at) _ misfit (sum-goes-on first)
-
-sum-make-room-requires : (t : ℕ) → sum-lts.Need-make-room-requires (sum-rs t) (sum-at t) sum.Post sum-Inv-loop sum-μ-loop
-sum-make-room-requires t c κs = sum-placed (c .before .before .before .before) _ (c .before .before .e0 .given .1) .2
-
-sum-add-w : (t : ℕ) → sum-lts.Need-add-w (sum-rs t) (sum-at t) sum.Post sum-Inv-loop sum-μ-loop
-sum-add-w t c =
-    let first = c .before .before .before .before .before .before .before in
-    let m = sum-placed first _ (c .before .before .before .before .before .e0 .given .1) in
-    let x = m .1 in
-    let g = sum-entry-of first .good .0 .1 in
-    record { fits = omega (arith, x, g) }
-
-sum-add-q : (t : ℕ) → sum-lts.Need-add-q (sum-rs t) (sum-at t) sum.Post sum-Inv-loop sum-μ-loop
-sum-add-q t c =
-    let first = c .before .before .before .before .before .before .before in
-    let m = sum-placed first _ (c .before .before .before .before .before .e0 .given .1) in
-    let x = m .3 in
-    let y = m .4 in
-    let g = sum-entry-of first .good .0 .1 in
-    record { fits = omega (arith, x, y, g) }
-
-sum-loop-holds : (t : ℕ) → sum-lts.Need-loop-holds (sum-rs t) (sum-at t) sum.Post sum-Inv-loop sum-μ-loop
-sum-loop-holds t c =
-    let first = c .before .before .before .before .before .before .before in
-    let a = sum-entry-of first .args in
-    let s = a .text .now in
-    let fitting = c .before .before .before .before .before .e0 .given .1 in
-    let m = sum-first first _ fitting in
-    let h = sum-placed first _ fitting in
-    let sign = ap (λ (x : ℕ). begins 43 (drop x s)) (m .0) ∙ sum-goes-on first in
-    begin-going (sums (readCut (a .n))) s (c .before .before .make-room .last .0) _ (a .at) _ _ _ (m .1) sign (h .3)
-
-sum-sign-at-requires-2 : (t : ℕ) → sum-lts.Need-sign-at-requires-2 (sum-rs t) (sum-at t) sum.Post sum-Inv-loop sum-μ-loop
-sum-sign-at-requires-2 t c κs = search needs
-
-sum-add-product : (t : ℕ) → sum-lts.Need-add-product (sum-rs t) (sum-at t) sum.Post sum-Inv-loop sum-μ-loop
-sum-add-product t c =
-    let turn = c .before .before in
-    let entry = sum-entry-of (sum-first-of turn) in
-    let h = sign-inside (entry .args .text .now) (turn .loop .e) 43 (sym (c .before .sign-at2 .ensures) ∙ c .if2 .taken) in
-    let g = entry .good .0 .1 in
-    record { fits = omega (arith, h, g) }
-
-sum-product-requires-2 : (t : ℕ) → sum-lts.Need-product-requires-2 (sum-rs t) (sum-at t) sum.Post sum-Inv-loop sum-μ-loop
-sum-product-requires-2 t c κs =
-    let turn = c .before .before .before in
-    let entry = sum-entry-of (sum-first-of turn) in
-    let l = turn .loop in
-    let h = sign-inside (entry .args .text .now) (l .e) 43 (sym (c .before .before .sign-at2 .ensures) ∙ c .before .if2 .taken) in
-    let x = l .inv .joined .ahead in
-    let y = l .inv .low in
-    let m = entry .pre .0 in
-    (omega (arith, h, x, m), omega (arith, y))
-
-sum-fit-requires-2 : (t : ℕ) → sum-lts.Need-fit-requires-2 (sum-rs t) (sum-at t) sum.Post sum-Inv-loop sum-μ-loop
-sum-fit-requires-2 t c κs = search needs
-
-sum-enum-known-e1 : (t : ℕ) → sum-lts.Need-enum-known-e1 (sum-rs t) (sum-at t) sum.Post sum-Inv-loop sum-μ-loop
-sum-enum-known-e1 t c = search needs
-
-sum-enum-told-2 : (t : ℕ) → sum-lts.Need-enum-told-2 (sum-rs t) (sum-at t) sum.Post sum-Inv-loop sum-μ-loop
-sum-enum-told-2 t c = search needs
-
-sum-same-length-3 : (t : ℕ) → sum-lts.Need-same-length-3 (sum-rs t) (sum-at t) sum.Post sum-Inv-loop sum-μ-loop
-sum-same-length-3 t c = search needs
-
-sum-returns-3 : (t : ℕ) → sum-lts.Need-returns-3 (sum-rs t) (sum-at t) sum.Post sum-Inv-loop sum-μ-loop
-sum-returns-3 t c =
-    let other = c .before .before in
-    let turn = sum-turn-of other in
-    let a = sum-entry-of (sum-first-of turn) .args in
-    let s = a .text .now in
-    let l = turn .loop in
-    let misfit = sum-other other _ (c .enum-told2 .given .1) in
-    sum-whole (readCut (a .n)) (drop (a .at) s)
-    ∙ member-misfit (sums (readCut (a .n))) s _ (a .at) (l .e) (l .w) _ (l .inv .joined) (sum-sign other) misfit
-
-sum-add-w-2 : (t : ℕ) → sum-lts.Need-add-w-2 (sum-rs t) (sum-at t) sum.Post sum-Inv-loop sum-μ-loop
-sum-add-w-2 t c =
-    let other = c .before .before .before in
-    let turn = sum-turn-of other in
-    let joined = turn .loop .inv .joined in
-    let f = sum-other other _ (c .before .e1 .given .1) .1 in
-    let x = f .light in
-    let y = f .within in
-    let z = joined .light in
-    let u = f .ahead in
-    let v = joined .ahead in
-    let g = sum-entry-of (sum-first-of turn) .good .0 .1 in
-    record { fits = omega (arith, x, y, z, u, v, g) }
-
-sum-add-c : (t : ℕ) → sum-lts.Need-add-c (sum-rs t) (sum-at t) sum.Post sum-Inv-loop sum-μ-loop
-sum-add-c t c =
-    let turn = sum-turn-of (c .before .before .before) in
-    let x = turn .loop .inv .few in
-    let y = turn .loop .inv .joined .within in
-    let g = sum-entry-of (sum-first-of turn) .good .0 .1 in
-    record { fits = omega (arith, x, y, g) }
-
-sum-loop-less : (t : ℕ) → sum-lts.Need-loop-less (sum-rs t) (sum-at t) sum.Post sum-Inv-loop sum-μ-loop
-sum-loop-less t c =
-    let f = sum-other (c .before .before .before) _ (c .before .e1 .given .1) .1 in
-    let x = f .ahead in
-    let y = f .within in
-    omega (arith, x, y)
-
-sum-loop-again : (t : ℕ) → sum-lts.Need-loop-again (sum-rs t) (sum-at t) sum.Post sum-Inv-loop sum-μ-loop
-sum-loop-again t c =
-    let other = c .before .before .before in
-    let turn = sum-turn-of other in
-    let a = sum-entry-of (sum-first-of turn) .args in
-    let l = turn .loop in
-    let f = sum-other other _ (c .before .e1 .given .1) .1 in
-    one-going (sums (readCut (a .n))) (a .text .now) (turn .before .before .before .make-room .last .0) _ (l .out) _ (a .at) (l .e) (l .w) (l .q) (l .c)
-    _ _ _ (l .inv) (sum-sign other) f (search needs)
-
-sum-put-record-requires : (t : ℕ) → sum-lts.Need-put-record-requires (sum-rs t) (sum-at t) sum.Post sum-Inv-loop sum-μ-loop
-sum-put-record-requires t c κs = search needs
-
-sum-same-length-4 : (t : ℕ) → sum-lts.Need-same-length-4 (sum-rs t) (sum-at t) sum.Post sum-Inv-loop sum-μ-loop
-sum-same-length-4 t c = search needs
-
-sum-returns-4 : (t : ℕ) → sum-lts.Need-returns-4 (sum-rs t) (sum-at t) sum.Post sum-Inv-loop sum-μ-loop
-sum-returns-4 t c =
-    let turn = c .before .before .before .before .before .before in
-    let first = sum-first-of turn in
-    let a = sum-entry-of first .args in
-    let s = a .text .now in
-    let l = turn .loop in
-    let put = c .before .before .put-record in
-    let f = sum-first first _ (turn .before .before .before .before .before .before .e0 .given .1) .1 in
-    let no-sign = sym (c .before .before .before .before .before .sign-at2 .ensures) ∙ c .before .before .before .before .if2 .left in
-    let laid = sum-laid (turn .before .before .before .make-room .ensures) (put .ensures) in
-    subst (λ o. Stands s (a .at) o bare (Laid (a .out .now) (a .d) (put .last .0) (l .q)) 3 (l .e) (l .w))
-    (sym (sum-whole (readCut (a .n)) (drop (a .at) s)))
-    (all-read (sums (readCut (a .n))) s _ _ _ (a .at) _ _ (l .e) (l .w) f (l .inv .joined) no-sign laid)
+  sum-loop-again : sum-lts.Need-loop-again (sum-rs t) (sum-at t) sum.Post sum-Inv-loop sum-μ-loop
+  sum-loop-again c =
+      let followed = c .before in
+      let member = sum-member-of followed in
+      let turn = sum-turn-of member in
+      let a = sum-entry turn .args in
+      let st = a .st .now in
+      let f = followed .follow in
+      let count : suc (turn .loop .c) ≡ turn .loop .c + 1 = omega arith in (
+        f .ensures .0 .0,
+        sum-level followed,
+        subst (λ (y : ℕ). Turn (sums (readCut (levelIn st))) (a .text .now .now) (a .out .now .now) (placeIn st) (recordIn st) (weightIn st) y (f .last .1 .0 .now) (f .last .1 .1 .0)) count
+            (sum-outcome followed .2 (c .if1 .left) .2),
+        f .ensures .1 .0 ∙ member .product .ensures .1 .0 ∙ turn .loop .inv .3,
+        f .ensures .1 .1 ∙ member .product .ensures .1 .1 ∙ turn .loop .inv .4,
+      )
 
 pub +power+product+sum-spec : {M : Type 1} → statement M
-+power+product+sum-spec = close μ-power μ-product μ-sum (λ t. power-lts.spec (
-  flat-reads.Asked,
-  flat-reads.Learnt,
-  sign-at-reads.Asked,
-  sign-at-reads.Learnt,
-  sum-below t,
-  sum.Post,
-  closed-reads.Asked,
-  closed-reads.Learnt,
-  raised-reads.Asked,
-  raised-reads.Learnt,
-)
++power+product+sum-spec = close μ-power μ-product μ-sum (λ t. power-lts.spec (power-rs t)
     (power-at t)
     power.Post
-    (power-flat-requires t)
-    (power-same-length t)
-    (power-returns t)
-    (power-sign-at-requires t)
-    (power-add-sum t)
+    (power-element-copy-out-w t)
+    (power-enters-requires t)
     (power-sum-requires t)
-    (power-closed-requires t)
-    (power-raised-requires t)
-    (power-same-length-2 t)
-    (power-returns-2 t)
-    (power-flat-requires-2 t)
-    (power-same-length-3 t)
-    (power-returns-3 t))
-    (λ t. product-lts.spec (
-      power-below t,
-      power.Post,
-      next-reads.Asked,
-      next-reads.Learnt,
-      sign-at-reads.Asked,
-      sign-at-reads.Learnt,
-      fit-reads.Asked,
-      fit-reads.Learnt,
-      make-room-reads.Asked,
-      make-room-reads.Learnt,
-      put-record-reads.Asked,
-      put-record-reads.Learnt,
-    )
+    (power-element-write-st t)
+    (power-follow-requires t)
+    (power-returns t)
+    (power-element-write-st-2 t)
+    (power-follow-requires-2 t)
+    (power-returns-2 t))
+    (λ t. product-lts.spec (product-rs t)
     (product-at t)
     product.Post
     product-Inv-loop
     product-μ-loop
-    (product-power-requires t)
-    (product-next-requires t)
-    (product-sign-at-requires t)
-    (product-same-length t)
-    (product-returns t)
-    (product-fit-requires t)
-    (product-enum-known-e0 t)
-    (product-enum-told t)
-    (product-same-length-2 t)
-    (product-returns-2 t)
-    (product-make-room-requires t)
-    (product-add-w t)
-    (product-add-q t)
+    (product-element-copy-out-d t)
     (product-loop-holds t)
-    (product-sign-at-requires-2 t)
-    (product-add-power t)
-    (product-power-requires-2 t)
-    (product-fit-requires-2 t)
-    (product-enum-known-e1 t)
-    (product-enum-told-2 t)
-    (product-same-length-3 t)
-    (product-returns-3 t)
-    (product-add-w-2 t)
+    (product-power-requires t)
+    (product-element-write-st t)
+    (product-element-write-st-2 t)
+    (product-follow-requires t)
+    (product-returns t)
     (product-add-c t)
     (product-loop-less t)
-    (product-loop-again t)
-    (product-put-record-requires t)
-    (product-same-length-4 t)
-    (product-returns-4 t))
-    λ t. sum-lts.spec (
-      product-below t,
-      product.Post,
-      next-reads.Asked,
-      next-reads.Learnt,
-      sign-at-reads.Asked,
-      sign-at-reads.Learnt,
-      alone-reads.Asked,
-      alone-reads.Learnt,
-      fit-reads.Asked,
-      fit-reads.Learnt,
-      make-room-reads.Asked,
-      make-room-reads.Learnt,
-      put-record-reads.Asked,
-      put-record-reads.Learnt,
-    )
+    (product-loop-again t))
+    λ t. sum-lts.spec (sum-rs t)
     (sum-at t)
     sum.Post
     sum-Inv-loop
     sum-μ-loop
-    (sum-product-requires t)
-    (sum-next-requires t)
-    (sum-sign-at-requires t)
-    (sum-alone-requires t)
-    (sum-same-length t)
-    (sum-returns t)
-    (sum-fit-requires t)
-    (sum-enum-known-e0 t)
-    (sum-enum-told t)
-    (sum-same-length-2 t)
-    (sum-returns-2 t)
-    (sum-make-room-requires t)
-    (sum-add-w t)
-    (sum-add-q t)
+    (sum-element-copy-out-d t)
     (sum-loop-holds t)
-    (sum-sign-at-requires-2 t)
-    (sum-add-product t)
-    (sum-product-requires-2 t)
-    (sum-fit-requires-2 t)
-    (sum-enum-known-e1 t)
-    (sum-enum-told-2 t)
-    (sum-same-length-3 t)
-    (sum-returns-3 t)
-    (sum-add-w-2 t)
+    (sum-product-requires t)
+    (sum-element-write-st t)
+    (sum-element-write-st-2 t)
+    (sum-follow-requires t)
+    (sum-returns t)
     (sum-add-c t)
     (sum-loop-less t)
     (sum-loop-again t)
-    (sum-put-record-requires t)
-    (sum-same-length-4 t)
-    (sum-returns-4 t)

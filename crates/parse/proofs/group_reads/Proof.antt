@@ -7,13 +7,13 @@ use Rattle.parse.proofs.group_reads.Tie as tie
 use Rattle.parse.proofs.group_reads.Reads as reads
 use Rattle.parse.proofs.group_reads.Lts as lts
 use Rattle.parse.proofs.sign_at.Reads as sign-at-reads
-use Rattle.parse.proofs.sum.Reads as sum-reads
+use Rattle.parse.proofs.read_sum.Reads as read-sum-reads
 
-slice-aggregate-sum : tie.Need-slice-aggregate-sum
-slice-aggregate-sum c = search needs
+slice-aggregate-read-sum : tie.Need-slice-aggregate-read-sum
+slice-aggregate-read-sum c = search needs
 
-sum-requires : tie.Need-sum-requires
-sum-requires c κs = search needs
+read-sum-requires : tie.Need-read-sum-requires
+read-sum-requires c κs = search needs
 
 enum-told : tie.Need-enum-told
 enum-told c = search needs
@@ -31,27 +31,27 @@ returns : tie.Need-returns
 returns c =
     let a = c .before .before .before .before .before .before .args in
     let s = a .text .now in
-    no-closing s (a .at) (a .k) (rw (c .enum-told .given .1) at (c .before .before .before .sum .ensures))
+    no-closing s (a .at) (a .k) (rw (c .enum-told .given .1) at (c .before .before .before .read-sum .ensures))
 
 returns-2 : tie.Need-returns-2
 returns-2 c =
     let a = c .before .before .before .before .before .before .before .before .args in
     let known = c .before .before .e .given in
-    let read = rw (known .1) at (c .before .before .before .before .before .sum .ensures) in
+    let read = rw (known .1) at (c .before .before .before .before .before .read-sum .ensures) in
     c .sign-at .ensures ∙ closing-there (a .text .now) (a .at) (a .k) (known .0 .0) (known .0 .1 .0) (known .0 .1 .1 .0) read
 
 returns-3 : tie.Need-returns-3
 returns-3 c =
     let a = c .before .before .before .before .before .before .args in
     let s = a .text .now in
-    never-grouped s (a .at) (a .k) _ _ _ (rw (c .enum-told2 .given .1) at (c .before .before .before .sum .ensures))
+    never-grouped s (a .at) (a .k) _ _ _ (rw (c .enum-told2 .given .1) at (c .before .before .before .read-sum .ensures))
 
 pub group-reads-spec : {M : Type 1} → statement M
 group-reads-spec =
     tie.close
     (tie.spec
-    slice-aggregate-sum
-    sum-requires
+    slice-aggregate-read-sum
+    read-sum-requires
     enum-told
     enum-known-e
     sign-at-requires

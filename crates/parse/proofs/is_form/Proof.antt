@@ -6,13 +6,13 @@ use Rattle.parse.proofs.is_form.Tie as tie
 use Rattle.parse.proofs.is_form.Reads as reads
 use Rattle.parse.proofs.is_form.Lts as lts
 use Rattle.parse.proofs.blocks_read.Reads as blocks-read-reads
-use Rattle.parse.proofs.sum.Reads as sum-reads
+use Rattle.parse.proofs.read_sum.Reads as read-sum-reads
 
-slice-aggregate-sum : tie.Need-slice-aggregate-sum
-slice-aggregate-sum c = search needs
+slice-aggregate-read-sum : tie.Need-slice-aggregate-read-sum
+slice-aggregate-read-sum c = search needs
 
-sum-requires : tie.Need-sum-requires
-sum-requires c κs = search needs
+read-sum-requires : tie.Need-read-sum-requires
+read-sum-requires c κs = search needs
 
 enum-told : tie.Need-enum-told
 enum-told c = search needs
@@ -24,7 +24,7 @@ returns : tie.Need-returns
 returns c =
     let a = c .before .before .before .before .before .before .before .before .args in
     let s = a .text .now in
-    left-over s (a .k) _ _ _ (rw (c .before .before .e .given .1) at (c .before .before .before .before .before .sum .ensures)) (c .if1 .taken)
+    left-over s (a .k) _ _ _ (rw (c .before .before .e .given .1) at (c .before .before .before .before .before .read-sum .ensures)) (c .if1 .taken)
 
 blocks-read-requires : tie.Need-blocks-read-requires
 blocks-read-requires c κs = search needs
@@ -36,28 +36,28 @@ returns-2 : tie.Need-returns-2
 returns-2 c =
     let a = c .before .before .before .before .before .before .args in
     let s = a .text .now in
-    no-form s (a .k) (rw (c .enum-told .given .1) at (c .before .before .before .sum .ensures))
+    no-form s (a .k) (rw (c .enum-told .given .1) at (c .before .before .before .read-sum .ensures))
 
 returns-3 : tie.Need-returns-3
 returns-3 c =
     let a = c .before .before .before .before .before .before .before .before .before .args in
     let s = a .text .now in
     let blocks = c .blocks-read in
-    let read = rw (c .before .before .before .e .given .1) at (c .before .before .before .before .before .before .sum .ensures) in
+    let read = rw (c .before .before .before .e .given .1) at (c .before .before .before .before .before .before .read-sum .ensures) in
     by-blocks s (a .k) _ _ _ (blocks .result) read (c .before .if1 .left) (blocks .ensures)
 
 returns-4 : tie.Need-returns-4
 returns-4 c =
     let a = c .before .before .before .before .before .before .args in
     let s = a .text .now in
-    never-grouped s 0 (a .k) _ _ _ (rw (c .enum-told2 .given .1) at (c .before .before .before .sum .ensures))
+    never-grouped s 0 (a .k) _ _ _ (rw (c .enum-told2 .given .1) at (c .before .before .before .read-sum .ensures))
 
 pub is-form-spec : {M : Type 1} → statement M
 is-form-spec =
     tie.close
     (tie.spec
-    slice-aggregate-sum
-    sum-requires
+    slice-aggregate-read-sum
+    read-sum-requires
     enum-told
     enum-known-e
     returns

@@ -11,7 +11,8 @@ use Rattle.paper_text.specs.Text as paper
 use Rattle.paper_text.proofs.PlaceLaws.{sign-inside}
 use Rattle.parse.specs.declared.Member.{Member}
 use Rattle.parse.specs.Parsed.{Laid, ItemIs, nextOf}
-use Rattle.parse.proofs.ItemLaws.{bound, MemberIs, FitIs, member, placed, after-no, after-yes}
+use Rattle.parse.specs.Joined.{bound}
+use Rattle.parse.proofs.ItemLaws.{MemberIs, FitIs, member, placed, after-no, after-yes}
 use Rattle.parse.proofs.ItemLaws.{not-raised, unfit-raised, no-exponent, exponent-nought, is-raised}
 use Rattle.parse.proofs.LaidLaws.{power-laid}
 use borrow.Author.Needs.{needs}

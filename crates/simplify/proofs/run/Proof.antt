@@ -133,6 +133,12 @@ note-all-requires c κs =
     let m = moved .copy-bytes in
     (_, whole-table h (m .ensures) (m .kept .0))
 
+array-write-st : tie.Need-array-write-st
+array-write-st c = search needs
+
+array-write-st-2 : tie.Need-array-write-st-2
+array-write-st-2 c = search needs
+
 drive-requires : tie.Need-drive-requires
 drive-requires c κs =
     let made = c .before .before .before .before .before .before in
@@ -281,6 +287,8 @@ run-spec =
     mul-copy-bytes
     copy-bytes-requires
     note-all-requires
+    array-write-st
+    array-write-st-2
     drive-requires
     clear-requires
     array-read-n

@@ -31,14 +31,14 @@ use Rattle.value.proofs.register_of.Reads as register-of-reads
 use Rattle.value.proofs.+value_at.{statement}
 use Rattle.value.proofs.+value_at.Tie.{close}
 
-abbrev μ-value-at : Measures 3 value-at-kinds.ps ℕ
-μ-value-at κs a = recordsIn (a .0 .now) - place (a .1 .1 .0 .now)
+abbrev μ-value-at : Measures 4 value-at-kinds.ps ℕ
+μ-value-at κs a = recordsIn (a .0 .now .now) - place (a .1 .1 .0 .now)
 
-abbrev here : ℕ → In 3 value-at-kinds.ps
-here t = and 3 value-at-kinds.ps (is 3 value-at-kinds.ps μ-value-at t) value-at.Pre
+abbrev here : ℕ → In 4 value-at-kinds.ps
+here t = and 4 value-at-kinds.ps (is 4 value-at-kinds.ps μ-value-at t) value-at.Pre
 
-abbrev below : ℕ → In 3 value-at-kinds.ps
-below t = and 3 value-at-kinds.ps (falls 3 value-at-kinds.ps _<_ μ-value-at t) value-at.Pre
+abbrev below : ℕ → In 4 value-at-kinds.ps
+below t = and 4 value-at-kinds.ps (falls 4 value-at-kinds.ps _<_ μ-value-at t) value-at.Pre
 
 -- what the calls ask and tell, at the measure t
 abbrev rs : ℕ → lts.Claims
@@ -65,7 +65,7 @@ rs t = (
 
 abbrev Inv : lts.InvT-loop
 Inv s regs at₀ i k left₀ total₀ at left total =
-    Gathering (joined (kind s i)) (gathered (held regs) (kind s i)) s (i + 1) (parts s i) total left at
+    Gathering (joined (kind (s .now) i)) (gathered (held regs) (kind (s .now) i)) (s .now) (i + 1) (parts (s .now) i) total left at
 
 abbrev μ : lts.MeasureT-loop
 μ s regs at₀ i k left₀ total₀ at left total = left
@@ -83,62 +83,62 @@ kind-requires : (t : ℕ) → lts.Need-kind-requires (rs t) (here t) value-at.Po
 kind-requires t c κs = inside (c .before .before .pre .1 .1)
 
 add-at : (t : ℕ) → lts.Need-add-at (rs t) (here t) value-at.Post Inv μ
-add-at t c = omega (arith, inside (c .before .before .before .pre .1 .1))
+add-at t c = omega (arith, inside (c .before .before .before .pre .1 .1), c .before .before .before .pre .1 .2)
 
 element-write-at : (t : ℕ) → lts.Need-element-write-at (rs t) (here t) value-at.Post Inv μ
 element-write-at t c = search needs
 
 bits-requires : (t : ℕ) → lts.Need-bits-requires (rs t) (here t) value-at.Post Inv μ
-bits-requires t c κs = inside (c .before .before .before .before .pre .1 .1)
+bits-requires t c κs = inside (c .before .before .before .before .before .pre .1 .1)
 
 returns : (t : ℕ) → lts.Need-returns (rs t) (here t) value-at.Post Inv μ
 returns t c =
-    let a = c .before .before .before .before .before in
+    let a = c .before .before .before .before .before .before in
     let i = place (a .args .at .now) in
-    let k : kind (a .args .s .now) i ≡ 0 = omega (arith, c .before .before .kind .ensures) in
+    let k : kind (a .args .s .now .now) i ≡ 0 = omega (arith, c .before .before .before .kind .ensures) in
     rw (written (a .args .at .now) (i + 1) (a .pre .1 .0)) (λ t h. integer-value (held (a .args .regs .now)) t h k _ (c .bits .ensures))
 
 symbol-requires : (t : ℕ) → lts.Need-symbol-requires (rs t) (here t) value-at.Post Inv μ
-symbol-requires t c κs = inside (c .before .before .before .before .before .pre .1 .1)
+symbol-requires t c κs = inside (c .before .before .before .before .before .before .pre .1 .1)
 
 register-of-requires : (t : ℕ) → lts.Need-register-of-requires (rs t) (here t) value-at.Post Inv μ
 register-of-requires t c κs = search needs
 
 returns-2 : (t : ℕ) → lts.Need-returns-2 (rs t) (here t) value-at.Post Inv μ
 returns-2 t c =
-    let a = c .before .before .before .before .before .before .before in
+    let a = c .before .before .before .before .before .before .before .before in
     let i = place (a .args .at .now) in
-    let k : kind (a .args .s .now) i ≡ 1 = omega (arith, c .before .before .before .before .kind .ensures) in
+    let k : kind (a .args .s .now .now) i ≡ 1 = omega (arith, c .before .before .before .before .before .kind .ensures) in
     let regs = held (a .args .regs .now) in
     let v = c .register-of .ensures ∙ ap regs (c .before .symbol .ensures) in
     rw (written (a .args .at .now) (i + 1) (a .pre .1 .0)) (λ t h. symbol-value regs t h k _ v (c .register-of .ok))
 
 parts-requires : (t : ℕ) → lts.Need-parts-requires (rs t) (here t) value-at.Post Inv μ
-parts-requires t c κs = inside (c .before .before .before .before .before .pre .1 .1)
+parts-requires t c κs = inside (c .before .before .before .before .before .before .pre .1 .1)
 
 neutral-requires : (t : ℕ) → lts.Need-neutral-requires (rs t) (here t) value-at.Post Inv μ
 neutral-requires t c κs = search needs
 
 loop-holds : (t : ℕ) → lts.Need-loop-holds (rs t) (here t) value-at.Post Inv μ
 loop-holds t c =
-    let a = c .before .before .before .before .before .before .before in
-    let s = a .args .s .now in
+    let a = c .before .before .before .before .before .before .before .before in
+    let s = a .args .s .now .now in
     let i = place (a .args .at .now) in
     let from = begins (gathers (held (a .args .regs .now)) (kind s i)) (parts s i) (neutral-small (kind s i)) in
-    let unit = c .neutral .ensures ∙ ap neutral (c .before .before .before .before .kind .ensures) in
+    let unit = c .neutral .ensures ∙ ap neutral (c .before .before .before .before .before .kind .ensures) in
     rw (written (a .args .at .now) (i + 1) (a .pre .1 .0), c .before .parts .ensures, unit) from
 
 value-at-requires : (t : ℕ) → lts.Need-value-at-requires (rs t) (here t) value-at.Post Inv μ
 unfolding recordsIn
 value-at-requires t c κs =
-    let a = c .before .before .before .before .before .before .before .before .before .before in
-    let s = a .args .s .now in
+    let a = c .before .before .before .before .before .before .before .before .before .before .before in
+    let s = a .args .s .now .now in
     let i = place (a .args .at .now) in
     let l = c .before .before .loop .inv in
-    let node : 2 ≤ kind s i = omega (arith, c .before .before .before .before .before .before .before .kind .ensures) in
+    let node : 2 ≤ kind s i = omega (arith, c .before .before .before .before .before .before .before .before .kind .ensures) in
     let members = parts-there (a .pre .1 .1) node in
     let there = member-there (gathers (held (a .args .regs .now)) (kind s i)) l members (c .before .loop-test .taken) in
-    (omega (arith, l .ahead, inside (a .pre .1 .1)), (ap length (l .cell), there))
+    (omega (arith, l .ahead, inside (a .pre .1 .1)), (ap length (l .cell), there, a .pre .1 .2))
 
 joined-requires : (t : ℕ) → lts.Need-joined-requires (rs t) (here t) value-at.Post Inv μ
 joined-requires t c κs = search needs
@@ -151,11 +151,11 @@ loop-less t c = omega arith
 
 loop-again : (t : ℕ) → lts.Need-loop-again (rs t) (here t) value-at.Post Inv μ
 loop-again t c =
-    let a = c .before .before .before .before .before .before .before .before .before .before .before .before in
-    let s = a .args .s .now in
+    let a = c .before .before .before .before .before .before .before .before .before .before .before .before .before in
+    let s = a .args .s .now .now in
     let i = place (a .args .at .now) in
     let l = c .before .before .before .before .loop in
-    let k = c .before .before .before .before .before .before .before .before .before .kind in
+    let k = c .before .before .before .before .before .before .before .before .before .before .kind in
     let node : 2 ≤ kind s i = omega (arith, k .ensures) in
     let members = parts-there (a .pre .1 .1) node in
     let member = c .before .value-at in
@@ -167,21 +167,21 @@ abbrev Gathered : ℕ → Type 0
 Gathered t = lts.After-loop (rs t) (here t) value-at.Post Inv μ
 
 abbrev entry-of : (t : ℕ) → Gathered t → lts.Start (rs t) (here t) value-at.Post Inv μ
-entry-of t c = c .before .before .before .before .before .before .before .before .before
+entry-of t c = c .before .before .before .before .before .before .before .before .before .before
 
-all : (t : ℕ) (c : Gathered t) → let a = entry-of t c .args in let s = a .s .now in let i = place (a .at .now) in (f : Forest)
+all : (t : ℕ) (c : Gathered t) → let a = entry-of t c .args in let s = a .s .now .now in let i = place (a .at .now) in (f : Forest)
     → TreesIn s (i + 1) (parts s i) f → Evaluated (i + 1) (recordses f) (gathered (held (a .regs .now)) (kind s i) f) (c .before .loop .total) (c .before .loop .at)
 all t c =
     let a = entry-of t c .args in
-    ends (gathers (held (a .regs .now)) (kind (a .s .now) (place (a .at .now)))) (c .before .loop .inv) (c .loop-test .left)
+    ends (gathers (held (a .regs .now)) (kind (a .s .now .now) (place (a .at .now)))) (c .before .loop .inv) (c .loop-test .left)
 
-last : (t : ℕ) (c : lts.Else3 (rs t) (here t) value-at.Post Inv μ) → let a = entry-of t (c .before) .args in kind (a .s .now) (place (a .at .now)) ≡ 4
+last : (t : ℕ) (c : lts.Else3 (rs t) (here t) value-at.Post Inv μ) → let a = entry-of t (c .before) .args in kind (a .s .now .now) (place (a .at .now)) ≡ 4
 last t c =
-    let k = c .before .before .before .before .before .before .before .kind in
+    let k = c .before .before .before .before .before .before .before .before .kind in
     last-kind (entry-of t (c .before) .pre .1 .1) (omega (arith, k .ensures))
 
 exponent : (t : ℕ) (c : lts.Else3 (rs t) (here t) value-at.Post Inv μ)
-    → place (c .before .before .loop .at) * 16 + 16 ≤ length (entry-of t (c .before) .args .s .now)
+    → place (c .before .before .loop .at) * 16 + 16 ≤ length (entry-of t (c .before) .args .s .now .now)
 exponent t c =
     let a = entry-of t (c .before) in
     let l = c .before .before .loop in
@@ -191,30 +191,30 @@ returns-3 : (t : ℕ) → lts.Need-returns-3 (rs t) (here t) value-at.Post Inv �
 returns-3 t c =
     let a = entry-of t (c .before) in
     let l = c .before .before .loop in
-    let k = c .before .before .before .before .before .before .before .kind in
+    let k = c .before .before .before .before .before .before .before .before .kind in
     let i = place (a .args .at .now) in
-    let node : 2 ≤ kind (a .args .s .now) i = omega (arith, k .ensures) in
-    let members : kind (a .args .s .now) i < 4 = omega (arith, k .ensures) in
+    let node : 2 ≤ kind (a .args .s .now .now) i = omega (arith, k .ensures) in
+    let members : kind (a .args .s .now .now) i < 4 = omega (arith, k .ensures) in
     λ t′ h. members-value (held (a .args .regs .now)) (l .total) (l .at) (all t (c .before)) t′ h node members
 
 element-copy-out-e : (t : ℕ) → lts.Need-element-copy-out-e (rs t) (here t) value-at.Post Inv μ
 element-copy-out-e t c = search needs
 
 add-at-2 : (t : ℕ) → lts.Need-add-at-2 (rs t) (here t) value-at.Post Inv μ
-add-at-2 t c = omega (arith, exponent t (c .before))
+add-at-2 t c = omega (arith, exponent t (c .before), entry-of t (c .before .before) .pre .1 .2)
 
 element-write-at-2 : (t : ℕ) → lts.Need-element-write-at-2 (rs t) (here t) value-at.Post Inv μ
 element-write-at-2 t c = search needs
 
 bits-requires-2 : (t : ℕ) → lts.Need-bits-requires-2 (rs t) (here t) value-at.Post Inv μ
-bits-requires-2 t c κs = exponent t (c .before)
+bits-requires-2 t c κs = exponent t (c .before .before)
 
 wrapping-pow-requires : (t : ℕ) → lts.Need-wrapping-pow-requires (rs t) (here t) value-at.Post Inv μ
 wrapping-pow-requires t c κs = search needs
 
 returns-4 : (t : ℕ) → lts.Need-returns-4 (rs t) (here t) value-at.Post Inv μ
 returns-4 t c =
-    let power = c .before .before .before in
+    let power = c .before .before .before .before in
     let regs = held (entry-of t (power .before) .args .regs .now) in
     let l = power .before .before .loop in
     let v = c .wrapping-pow .ensures ∙ ap (λ (x : ℕ). l .total ^ x % modulus) (c .before .bits2 .ensures) in

@@ -38,29 +38,29 @@ fill-requires c κs = search needs
 
 value-at-requires : tie.Need-value-at-requires
 value-at-requires c κs =
-    let fault = c .before .before .before .before .before .before .fault-of in
-    let known = c .before .before .before .before .before .before .before .before .before in
-    let limit = known .before .args .limit in
-    let s = known .before .args .s .now in
-    let told = fault .ensures ∙ c .before .before .before .before .before .before .before .check .ensures in
-    let fine = told-accepted limit s (fault .result .number) (fault .result .place) _ told (omega arith) in
-    let h = accepted-holds limit s (are-bytes s (known .shared-slice-known .given)) fine in
-    (refl, record { tree = h .tree; there = holds-tree limit s h })
-
-returns-3 : tie.Need-returns-3
-returns-3 c =
     let fault = c .before .before .before .before .before .before .before .fault-of in
     let known = c .before .before .before .before .before .before .before .before .before .before in
     let limit = known .before .args .limit in
     let s = known .before .args .s .now in
-    let registers = known .before .args .registers .now in
     let told = fault .ensures ∙ c .before .before .before .before .before .before .before .before .check .ensures in
     let fine = told-accepted limit s (fault .result .number) (fault .result .place) _ told (omega arith) in
     let h = accepted-holds limit s (are-bytes s (known .shared-slice-known .given)) fine in
+    (refl, record { tree = h .tree; there = holds-tree limit s h }, omega arith)
+
+returns-3 : tie.Need-returns-3
+returns-3 c =
+    let fault = c .before .before .before .before .before .before .before .before .fault-of in
+    let known = c .before .before .before .before .before .before .before .before .before .before .before in
+    let limit = known .before .args .limit in
+    let s = known .before .args .s .now in
+    let registers = known .before .args .registers .now in
+    let told = fault .ensures ∙ c .before .before .before .before .before .before .before .before .before .check .ensures in
+    let fine = told-accepted limit s (fault .result .number) (fault .result .place) _ told (omega arith) in
+    let h = accepted-holds limit s (are-bytes s (known .shared-slice-known .given)) fine in
     let v = c .value-at .ensures (h .tree) (holds-tree limit s h) .value in
-    let regs = c .before .before .before .fill in
+    let regs = c .before .before .before .before .fill in
     let told-value = v ∙ same-value (held (regs .result)) (register registers) (regs .ensures) (h .tree) (h .wf) in
-    value-told limit s registers h fine (c .before .before .before .before .if2 .left) (c .value-at .result) told-value
+    value-told limit s registers h fine (c .before .before .before .before .before .if2 .left) (c .value-at .result) told-value
 
 pub value-spec : {M : Type 1} → statement M
 value-spec =
