@@ -19,7 +19,7 @@ use Rattle.stretch.specs.Put.{put}
 use Rattle.stretch.proofs.Laws.{drop-put-at, getD-put-before, getD-put-after}
 use Rattle.note.specs.Note.{keys}
 use Rattle.note.specs.Still.{among}
-use Rattle.note.specs.Keys.{flagOf, Kept, KeptIn, keeping}
+use Rattle.note.specs.Keys.{flagOf, Kept, KeysIn, KeptIn, keeping}
 
 -- ---- looking through
 module _ (ks : List ℕ) (k j : ℕ) (l : j < length ks) where
@@ -99,6 +99,22 @@ among-last q k (x ∷ ks) e = go (eqb q x) (among-last q k ks) e
         → ((b || among q ks) ≡ true) ⊎ (q ≡ k)
     go true h e = inl refl
     go false h e = h e
+
+pub keys-in : {d : List ℕ} {o n m : ℕ} {ks : List ℕ} → KeptIn d o n m ks → KeysIn d o m ks
+keys-in h = record { keys-there = h .kept .keys-there; many = h .many; few = omega (arith, h .place, h .few); room = omega (arith, h .place, h .room) }
+
+-- without flags
+pub keys-more : {d : List ℕ} {o m : ℕ} {ks : List ℕ} → KeysIn d o m ks → (k : ℕ) → k < modulus → o + m * 8 + 8 ≤ length d → (c : List ℕ) → c ≡ put d (o + m * 8) (bytes 8 k)
+    → (j : ℕ) → j < length (ks ++ (k ∷ [])) → le8 c (o + j * 8) ≡ getD (ks ++ (k ∷ [])) j 0
+keys-more {d} {o} {m} {ks} h k b room c q j l = rw q (go (eq-or-lt-of-le {n = j} {m = m} (omega (arith, length-append ks (k ∷ []), h .many, l))))
+  where
+    go : (j ≡ m) ⊎ (j < m) → le8 (put d (o + m * 8) (bytes 8 k)) (o + j * 8) ≡ getD (ks ++ (k ∷ [])) j 0
+    go (inl x) =
+        ap (λ y. le8 (put d (o + m * 8) (bytes 8 k)) (o + y * 8)) x ∙ le8-put d (o + m * 8) k (omega arith) b ∙ sym (getD-last ks k j (x ∙ sym (h .many)))
+    go (inr x) =
+        le8-same (put d (o + m * 8) (bytes 8 k)) d (o + j * 8)
+        (λ y u v. getD-put-before d (o + m * 8) (bytes 8 k) y (omega arith) (omega arith))
+        ∙ h .keys-there j (omega (arith, h .many)) ∙ sym (List·getD-append ks (k ∷ []) 0 j (omega (arith, h .many)))
 
 module _ {d : List ℕ} {o n m : ℕ} {ks : List ℕ} (h : KeptIn d o n m ks) (k : ℕ) (b : k < modulus) where
   abbrev f : ℕ

@@ -22,6 +22,13 @@ pub record Kept (d : List ℕ) (o n : ℕ) (ks : List ℕ) : Type 0 where
   pub keys-there : (j : ℕ) → j < length ks → le8 d (o + j * 8) ≡ getD ks j 0
   pub flagged : (k : ℕ) → among k ks ≡ true → getD d (o + n * 8 + flagOf n k) 0 ≡ 1
 
+-- m keys are kept, wherever their flags are
+pub record KeysIn (d : List ℕ) (o m : ℕ) (ks : List ℕ) : Type 0 where
+  pub keys-there : (j : ℕ) → j < length ks → le8 d (o + j * 8) ≡ getD ks j 0
+  pub many : length ks ≡ m
+  pub few : m < 65536
+  pub room : o + m * 8 ≤ length d
+
 -- m keys are kept, fewer than there are places, and there is room
 pub record KeptIn (d : List ℕ) (o n m : ℕ) (ks : List ℕ) : Type 0 where
   pub kept : Kept d o n ks
