@@ -20,11 +20,11 @@ use Rattle.note.specs.Note.{note}
 use Rattle.note.specs.Part.{partKey}
 use Rattle.note.specs.Noted.{TreeBy, TreesBy, Known}
 use Rattle.note.specs.Still.{among, sought, apart}
-use Rattle.note.specs.Keys.{flagOf, Kept, KeysIn, KeptIn, keeping, Scratched}
+use Rattle.note.specs.Keys.{turnedKey, firstFlag, secondFlag, Kept, KeysIn, KeptIn, keeping, Scratched}
 use Rattle.note.proofs.KeyLaws.{note-records}
 use Rattle.note.proofs.ToldLaws.{note-tells, noted-told, kind-number, none-of}
 use Rattle.note.proofs.LightLaws.{told-all, FirstBy, first-by}
-use Rattle.note.proofs.KeysLaws.{flag-lt, keeping-kept}
+use Rattle.note.proofs.KeysLaws.{flag-lt, turned-lt, keeping-kept}
 
 -- ---- what lies around scratch stays
 pub scratched-none : (d : List ℕ) (o n : ℕ) → Scratched d d o n
@@ -65,11 +65,15 @@ module _ {d : List ℕ} {o n m : ℕ} {ks : List ℕ} (h : KeptIn d o n m ks) (k
   key-scratched : Scratched d (keeping d o n m k) o (n * 40)
   unfolding keeping
   key-scratched =
-      let f = o + n * 8 + flagOf n k in
+      let f = firstFlag o n k in
+      let g = secondFlag o n k in
+      let once = set d f 1 in
       let c = flag-lt n k b (omega (arith, h .place)) in
-      scratched-both (scratched-set d o (n * 40) f 1 (omega arith) (omega arith))
-      (scratched-put (set d f 1) o (n * 40) (o + m * 8) (bytes 8 k) (omega arith) (omega (arith, length-bytes 8 k, h .place))
-      (omega (arith, length-set d f 1, h .room)))
+      let q = flag-lt n (turnedKey k) (turned-lt k) (omega (arith, h .place)) in
+      scratched-both
+      (scratched-both (scratched-set d o (n * 40) f 1 (omega arith) (omega arith)) (scratched-set once o (n * 40) g 1 (omega arith) (omega arith)))
+      (scratched-put (set once g 1) o (n * 40) (o + m * 8) (bytes 8 k) (omega arith) (omega (arith, length-bytes 8 k, h .place))
+      (omega (arith, length-set d f 1, length-set once g 1, h .room)))
 
   pub keeping-scratched : (e : List ℕ) → e ≡ keeping d o n m k → Scratched d e o (n * 40)
   keeping-scratched e q = rw q key-scratched
