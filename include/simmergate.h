@@ -199,16 +199,16 @@ extern "C" {
    the other. Of memcpy and its like the return address alone is counted; a loader that binds them at their first call
    may take some 2,000 bytes more, which the names below have room for.
 
-     simmergate_check                2,328        2,328   whatever the depth
+     simmergate_check                2,344        2,344   whatever the depth
      simmergate_weight               2,344        2,344   whatever the depth
      simmergate_value              100,496      526,480
-     simmergate_equal              126,328      672,120
-     simmergate_differ               2,424        2,424   whatever the depth
+     simmergate_equal              126,280      672,072
+     simmergate_differ               2,408        2,408   whatever the depth
      simmergate_simplify           125,048      657,528   by either edition
      simmergate_batch              125,176      657,656   by either edition
      simmergate_receive                 32           32   whatever the piece
      simmergate_receive_finish       2,360        2,360   whatever the depth
-     simmergate_open                 4,120        4,120   whatever the depth
+     simmergate_open                 4,104        4,104   whatever the depth
      simmergate_simplify_shared    125,672      658,152   by either edition
      simmergate_write_text          98,488      524,472
      simmergate_read_text          123,448      655,928   for any text
