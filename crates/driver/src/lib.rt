@@ -402,6 +402,17 @@ fn first(out: &mut [u8], work: &mut [u8], steps: &mut [u8], s: Stand, g: usize) 
     }
 }
 
+// Copies record j of src to record i of dst, by its two halves.
+fn copy_record(dst: &mut [u8], i: usize, src: &[u8], j: usize)
+    requires { ⌜ (i * 16 + 16 ≤ length (now dst)) × (j * 16 + 16 ≤ length (now src)) ⌝ }
+    ensures { λ _. ⌜ now (dst .exit) ≡ put (now (dst .entry)) (i * 16) (part (now (src .entry)) (j * 16) 16) ⌝ }
+{
+    let a = number::read8(src, j * 16);
+    let b = number::read8(src, j * 16 + 8);
+    number::write8(dst, i * 16, a);
+    number::write8(dst, i * 16 + 8, b);
+}
+
 // Begins a pass over the members of the tree at record q of work: its first record goes to done.
 fn begin(out: &mut [u8], work: &[u8], s: Stand, q: usize, n: usize, tries: usize) -> Stand
     requires { ⌜ (s .node * 16 + 16 ≤ length (now out)) × (q * 16 + 16 ≤ length (now work)) × (n + s .openings < 65536) ⌝ }
@@ -409,7 +420,7 @@ fn begin(out: &mut [u8], work: &[u8], s: Stand, q: usize, n: usize, tries: usize
         × (now (out .exit) ≡ put (now (out .entry)) (s .node * 16) (part (now (work .entry)) (q * 16) 16)) ⌝ }
 {
     let d = s.node;
-    stretch::copy_bytes(out, d * 16, work, q * 16, 16);
+    copy_record(out, d, work, q);
     let mut t = s;
     t.place = q + 1;
     t.noted = n;
@@ -462,7 +473,7 @@ fn keep_leaves(out: &mut [u8], work: &[u8], s: Stand) -> Stand
         if 1 < j {
             return kept(s, i);
         }
-        stretch::copy_bytes(out, (s.end + i) * 16, work, q * 16, 16);
+        copy_record(out, s.end + i, work, q);
         i += 1;
     }
     kept(s, i)

@@ -15,7 +15,7 @@ use Rattle.driver.proofs.keep_leaves.Reads as reads
 use Rattle.driver.proofs.keep_leaves.Lts as lts
 use Rattle.driver.proofs.kept.Reads as kept-reads
 use Rattle.record.proofs.kind.Reads as kind-reads
-use Rattle.stretch.proofs.copy_bytes.Reads as copy-bytes-reads
+use Rattle.driver.proofs.copy_record.Reads as copy-record-reads
 
 -- i members are kept
 record Kept (out₀ work : List ℕ) (s : Stand) (out : List ℕ) (i : ℕ) : Type 0 where
@@ -31,7 +31,7 @@ abbrev μ-loop : tie.MeasureT-loop
 
 -- places on the way through the code, and from each the one before it: the entry, the head of the loop, a turn of it
 abbrev claims : lts.Claims
-claims = (kind-reads.Asked, kind-reads.Learnt, kept-reads.Asked, kept-reads.Learnt, copy-bytes-reads.Asked, copy-bytes-reads.Learnt)
+claims = (kind-reads.Asked, kind-reads.Learnt, kept-reads.Asked, kept-reads.Learnt, copy-record-reads.Asked, copy-record-reads.Learnt)
 
 abbrev Entry : Type 0
 Entry = lts.Start claims reads.Pre reads.Post Inv-loop μ-loop
@@ -85,24 +85,13 @@ returns c =
     let e : c .kept .result ≡ keptBy s (head .loop .i) = c .kept .ensures in
     (onward s e refl (omega arith), ap (λ x. x .noted) e, λ x steps v. subst (λ y. Midway x (head .loop .out) (entry-of head .args .work .now) steps y) (sym e) (head .loop .inv .midway x steps v))
 
-add-copy-bytes : tie.Need-add-copy-bytes Inv-loop μ-loop
-add-copy-bytes c =
+add-copy-record : tie.Need-add-copy-record Inv-loop μ-loop
+add-copy-record c =
     let f = fits (c .before .before .before .before .before .before .before) in
     omega (arith, f .end)
 
-mul-copy-bytes : tie.Need-mul-copy-bytes Inv-loop μ-loop
-mul-copy-bytes c =
-    let f = fits (c .before .before .before .before .before .before .before) in
-    omega (arith, f .end)
-
-mul-copy-bytes-2 : tie.Need-mul-copy-bytes-2 Inv-loop μ-loop
-mul-copy-bytes-2 c =
-    let head = c .before .before .before .before .before .before .before in
-    let f = fits head in
-    omega (arith, f .place, entry-of head .good)
-
-copy-bytes-requires : tie.Need-copy-bytes-requires Inv-loop μ-loop
-copy-bytes-requires c κs =
+copy-record-requires : tie.Need-copy-record-requires Inv-loop μ-loop
+copy-record-requires c κs =
     let f = room (c .before .before .before .before .before .before .before) (c .before .before .before .before .before .if1 .taken) in
     (f .1, f .0)
 
@@ -123,7 +112,7 @@ loop-again c =
     let i = head .loop .i in
     let t = c .before .before .before .before .before .before .before .before .if1 .taken in
     let kinded = c .before .before .before .before .before .before in
-    let copied = c .before .before .copy-bytes in
+    let copied = c .before .before .copy-record in
     let leaf : kind (entry-of head .args .work .now) (s .place + i) < 2
     = subst (λ (j : ℕ). j < 2) (kinded .kind .ensures) (omega (arith, c .before .before .before .before .before .if2 .left)) in
     record {
@@ -161,10 +150,8 @@ keep-leaves-spec =
     kept-requires
     same-length
     returns
-    add-copy-bytes
-    mul-copy-bytes
-    mul-copy-bytes-2
-    copy-bytes-requires
+    add-copy-record
+    copy-record-requires
     add-i
     loop-less
     loop-again
