@@ -12,7 +12,7 @@ pub mod Taking
 pub mod Driving
 pub mod FirstRecords
 pub mod Opening
-pub mod Leaves
+pub mod Keeping
 pub mod Membering
 pub mod Passing
 pub mod Between
