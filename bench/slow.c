@@ -1,0 +1,230 @@
+/* slow NAME WEIGHT: the largest formula of that name that weighs at most WEIGHT, as a line of hexadecimal digits; two lines for a name of two tables, and a line of text
+   for a name of a text. slow list: the names. What each is for: bench/README.md, "How slow can it get?". */
+#include "../tests/c/key.h"
+#include "../tests/c/text.h"
+#include "../tests/c/tables.h"
+
+static uint8_t table[2 * 16 * TABLE_RECORDS];
+static uint64_t heaviest;
+
+static void symbol(uint64_t i) { put_record(1, 0, i % 256); }
+static void integer(uint64_t n) { put_record(0, 0, n); }
+static void power(uint64_t base, uint64_t exponent) { put_record(4, 0, 0); integer(base); integer(exponent); }
+static void cube(uint64_t i) { power(i + 2, 3); }
+static void symbol_power(uint64_t i) { put_record(4, 0, 0); symbol(i); integer(2 + i / 256); }
+
+/* ---- Numbers whose keys agree, found by searching ---- */
+
+#define MOST 4096 /* as many members as a formula of these rows has at the weight 16,384 */
+static struct { uint64_t base, exponent; } numbers[MOST];
+
+/* Exponents of 2 with which the powers agree in these bits of the key. */
+static void agree_in(uint32_t bits) {
+    uint64_t e = 1;
+    uint32_t wanted = exponent_share(123456789) & bits;
+    for (size_t i = 0; i < MOST; i++) {
+        do e++;
+        while ((exponent_share(e) & bits) != wanted);
+        numbers[i].base = 2, numbers[i].exponent = e;
+    }
+}
+static void agree_in_15(void) { agree_in(0x7FFF); }           /* what the walk compares */
+static void agree_at_flags(void) { agree_in(0xFFFF8000); }    /* what the test for like members looks at first */
+
+/* Two numbers x and y with f(x) + g(y) = sum, so many times: f is listed for four million x by its upper 20 bits, and what g lacks of the sum is looked up for each y.
+   Four million y are enough, whatever stirs f and g. */
+#define LISTED (1 << 22)
+#define LISTS (1 << 20)
+static uint32_t listed[LISTED], begins[LISTS + 1];
+typedef uint32_t (*share)(uint64_t);
+
+static void list(share f) {
+    for (uint32_t x = 0; x < LISTED; x++) begins[f(x + 2) >> 12]++;
+    for (uint32_t k = 1; k <= LISTS; k++) begins[k] += begins[k - 1];
+    for (uint32_t x = LISTED; x > 0; x--) listed[--begins[f(x + 1) >> 12]] = x + 1;
+}
+static void agree_in_sum(share f, share g, uint32_t sum, void (*keep)(size_t, uint64_t, uint64_t)) {
+    size_t found = 0;
+    list(f);
+    for (uint64_t y = 2; found < MOST && y < 1 << 26; y++) {
+        uint32_t wanted = sum - g(y);
+        for (uint32_t i = begins[wanted >> 12]; i < begins[(wanted >> 12) + 1] && found < MOST; i++)
+            if (f(listed[i]) == wanted) keep(found++, listed[i], y);
+    }
+    if (found < MOST) { printf("too few numbers whose keys agree\n"); exit(1); }
+}
+
+/* Exponents of 2 that agree in the whole key, by their halves: this holds as long as `folded` adds up what it makes of each, and `keep_exponent` looks whether it does. */
+static uint32_t lower_half(uint64_t x) { return folded(x); }
+static uint32_t upper_half(uint64_t y) { return folded(y << 32) - folded(0); }
+static void keep_exponent(size_t i, uint64_t x, uint64_t y) {
+    numbers[i].base = 2, numbers[i].exponent = x + (y << 32);
+    if (exponent_share(numbers[i].exponent) != exponent_share(numbers[0].exponent)) { printf("`folded` does not add up halves: search otherwise\n"); exit(1); }
+}
+static void agree_in_all(void) { agree_in_sum(lower_half, upper_half, lower_half(123456) + upper_half(7), keep_exponent); }
+
+/* Bases and exponents with which the powers agree in the whole key, whatever `folded` is. */
+static void keep_power(size_t i, uint64_t x, uint64_t y) { numbers[i].base = x, numbers[i].exponent = y; }
+static void agree_by_twos(void) { agree_in_sum(integer_key, exponent_share, 0x12345678, keep_power); }
+
+/* ---- The formulas ---- */
+
+/* Levels for a third of the weight: -1*(-1*(.., or 1+(-1+(1+(.. */
+static void minus_levels(void) {
+    for (uint64_t i = 0; i < heaviest / 6; i++) { put_record(3, 2, 0); integer((uint64_t)-1); }
+}
+static void plus_levels(void) {
+    for (uint64_t i = 0; i < heaviest / 6; i++) { put_record(2, 2, 0); integer(i % 2 == 0 ? 1 : (uint64_t)-1); }
+}
+
+static void minus_powers(unsigned n) { /* -1*(-1*(.. (2^2*3^3*..)) */
+    minus_levels();
+    put_record(3, n, 0);
+    for (unsigned i = 0; i < n; i++) power(i + 2, i + 2);
+}
+static void minus_sums(unsigned n) { /* -1*(-1*(.. ((s0+v)*(s0+w)*..)), the numbers agreeing in the sum of their halves */
+    minus_levels();
+    put_record(3, n, 0);
+    for (unsigned i = 0; i < n; i++) { put_record(2, 2, 0); symbol(0); integer(5 + i * 0xFFFFFFFFull); }
+}
+static void plus_powers(unsigned n) { /* 1+(-1+(1+(.. (2^2+3^3+..)) */
+    plus_levels();
+    put_record(2, n, 0);
+    for (unsigned i = 0; i < n; i++) power(i + 2, i + 2);
+}
+static void plus_numbers(unsigned n) { /* the same of the powers that were searched for */
+    plus_levels();
+    put_record(2, n, 0);
+    for (unsigned i = 0; i < n; i++) power(numbers[i].base, numbers[i].exponent);
+}
+
+/* A chain of nodes of two members, which all open. */
+static void chain(unsigned kind, unsigned n, void (*member)(uint64_t)) {
+    for (unsigned i = 0; i + 1 < n; i++) { put_record(kind, 2, 0); member(i); }
+    member(n - 1);
+}
+static void own_power(uint64_t i) { power(i + 2, i + 2); }
+static void halves(uint64_t i) { power(2, (i << 32) + (105000 - i)); }
+static void squared(uint64_t i) { power(2, (i + 2) * (i + 2)); }
+static void consecutive(uint64_t i) { power(2, i + 2); }
+static void equal_sums(uint64_t i) { power(2, (i % 64 + 1) + ((i / 64 + 1) << 16) + ((100 - i % 64) << 32) + ((100 - i / 64) << 48)); }
+static void searched(uint64_t i) { power(numbers[i].base, numbers[i].exponent); }
+
+static void nested_powers(unsigned n) { chain(3, n, own_power); }       /* 2^2*(3^3*(4^4*(.. */
+static void chain_halves(unsigned n) { chain(2, n, halves); }           /* 2^d+(2^e+(2^f+(.. */
+static void chain_squares(unsigned n) { chain(2, n, squared); }
+static void chain_consecutive(unsigned n) { chain(2, n, consecutive); }
+static void chain_equal_sums(unsigned n) { chain(2, n, equal_sums); }
+static void chain_searched(unsigned n) { chain(2, n, searched); }
+
+/* (S)*(S), the second sum in reverse order. */
+static void by_itself_reversed(unsigned n, void (*member)(uint64_t)) {
+    put_record(3, 2, 0);
+    put_record(2, n, 0);
+    for (unsigned i = 0; i < n; i++) member(i);
+    put_record(2, n, 0);
+    for (unsigned i = n; i > 0; i--) member(i - 1);
+}
+static void reversed_symbols(unsigned n) { by_itself_reversed(n, symbol_power); }
+static void reversed_cubes(unsigned n) { by_itself_reversed(n, cube); }
+
+/* ---- Tables for equality: the second of two, told from the first by `second` ---- */
+
+static int second;
+
+static void wide(unsigned n) { /* 2*s0*s0+3*s1*s7+.. */
+    put_record(2, n, 0);
+    for (unsigned i = 0; i < n; i++) { put_record(3, 3, 0); integer(i + 2); symbol(i); symbol(7 * i); }
+}
+static void deep(unsigned n) { /* ((s0+1)+2)+3.. */
+    for (unsigned i = 0; i < n; i++) put_record(2, 2, 0);
+    symbol(0);
+    for (unsigned i = 0; i < n; i++) integer(i + 1);
+}
+/* The same, but that in the second table the last product, or the innermost sum, has two members in the other order. */
+static void turned(size_t i) {
+    uint8_t kept[16], *r = making.at + 16 * i;
+    if (second) memcpy(kept, r, 16), memcpy(r, r + 16, 16), memcpy(r + 16, kept, 16);
+}
+static void wide_turned(unsigned n) { wide(n); turned(making.records - 2); }
+static void deep_turned(unsigned n) { deep(n); turned(n); }
+static void reversed_integers(unsigned n) {
+    put_record(2, n, 0);
+    for (unsigned i = 0; i < n; i++) integer(second ? n - i : i + 1);
+}
+static void shuffled_integers(unsigned n) {
+    uint8_t *first = making.at + 16 * (making.records + 1), kept[16];
+    random_state = 1;
+    put_record(2, n, 0);
+    for (unsigned i = 0; i < n; i++) integer(i + 1);
+    for (unsigned i = n; second && i > 1; i--) {
+        uint8_t *a = first + 16 * (i - 1), *b = first + 16 * below(i);
+        memcpy(kept, a, 16), memcpy(a, b, 16), memcpy(b, kept, 16);
+    }
+}
+
+/* ---- Texts ---- */
+
+static void groups(uint64_t n, const char *inner, const char *after) {
+    for (uint64_t i = 0; i < n; i++) putchar('(');
+    fputs(inner, stdout);
+    for (uint64_t i = 0; i < n; i++) fputs(after, stdout);
+}
+static void text_first(void) { groups((heaviest - 3) / 2 - 1, "s0+1", ")+1"); }         /* ((s0+1)+1)+1.. */
+static void text_nested(void) { groups((21 * heaviest - 3) / 4, "1+1", ")+1"); }        /* as long as an accepted text may be, and too heavy */
+
+static const struct { const char *name; void (*find)(void); void (*make)(unsigned); int tables; void (*write)(void); } rows[] = {
+    {"minus-powers", NULL, minus_powers, 1, NULL}, {"nested-powers", NULL, nested_powers, 1, NULL}, {"minus-sums", NULL, minus_sums, 1, NULL},
+    {"plus-powers", NULL, plus_powers, 1, NULL},
+    {"halves-agree", NULL, chain_halves, 1, NULL}, {"squares", NULL, chain_squares, 1, NULL}, {"consecutive", NULL, chain_consecutive, 1, NULL},
+    {"equal-sums", NULL, chain_equal_sums, 1, NULL},
+    {"reversed-symbols", NULL, reversed_symbols, 1, NULL}, {"reversed-cubes", NULL, reversed_cubes, 1, NULL},
+    {"15-bits-agree", agree_in_15, chain_searched, 1, NULL}, {"plus-15-bits", agree_in_15, plus_numbers, 1, NULL},
+    {"flags-agree", agree_at_flags, chain_searched, 1, NULL}, {"plus-flags", agree_at_flags, plus_numbers, 1, NULL},
+    {"whole-key-agrees", agree_in_all, chain_searched, 1, NULL}, {"plus-whole-key", agree_in_all, plus_numbers, 1, NULL},
+    {"powers-agree", agree_by_twos, chain_searched, 1, NULL},
+    {"equal-wide", NULL, wide, 2, NULL}, {"equal-deep", NULL, deep, 2, NULL},
+    {"equal-wide-turned", NULL, wide_turned, 2, NULL}, {"equal-deep-turned", NULL, deep_turned, 2, NULL},
+    {"equal-reversed", NULL, reversed_integers, 2, NULL}, {"equal-shuffled", NULL, shuffled_integers, 2, NULL},
+    {"read-first", NULL, NULL, 0, text_first}, {"read-nested", NULL, NULL, 0, text_nested},
+};
+#define ROWS (sizeof rows / sizeof rows[0])
+
+static uint64_t weight_of(size_t row, unsigned n) {
+    making.records = 0;
+    rows[row].make(n);
+    return weight_of_records(table, making.records);
+}
+
+/* The largest formula of the row, and for equality the second table besides. */
+static int put_tables(size_t row) {
+    unsigned n = 2;
+    if (rows[row].find != NULL) rows[row].find();
+    if (weight_of(row, n) > heaviest) { printf("no formula of this name is so light\n"); return 2; }
+    while (weight_of(row, n + 1) <= heaviest) n++;
+    for (second = 0; second < rows[row].tables; second++) {
+        weight_of(row, n);
+        put_hex(table, 16 * making.records);
+        putchar('\n');
+    }
+    return 0;
+}
+
+int main(int argc, char **argv) {
+    making.at = table;
+    if (argc == 2 && strcmp(argv[1], "list") == 0) {
+        for (size_t i = 0; i < ROWS; i++) printf("%s\n", rows[i].name);
+        return 0;
+    }
+    for (size_t i = 0; argc == 3 && i < ROWS; i++) {
+        if (strcmp(argv[1], rows[i].name) != 0) continue;
+        heaviest = decimal(argv[2]);
+        if (heaviest < 24 || heaviest > 16384) { printf("not a weight from 24 to 16384\n"); return 2; }
+        if (rows[i].write == NULL) return put_tables(i);
+        rows[i].write();
+        putchar('\n');
+        return 0;
+    }
+    printf("usage: slow NAME WEIGHT | list\n");
+    return 2;
+}

@@ -1,0 +1,14 @@
+/* Keys, as crate `note` defines them (crates/note/specs/Note.antt): tests/definitions_keys holds these functions to the definitions. */
+#include <stdint.h>
+
+static inline uint32_t stirred(uint32_t x, uint32_t c) {
+    uint32_t y = x * 0x9e3779b1u + c;
+    return (uint32_t)((uint64_t)y * y >> 16);
+}
+static inline uint32_t mixed(uint32_t x, uint32_t c) { return stirred(stirred(x, c), c); }
+
+/* 64 bits as 32. */
+static inline uint32_t folded(uint64_t v) { return (uint32_t)v + (uint32_t)(v >> 32); }
+
+static inline uint32_t integer_key(uint64_t n) { return mixed(folded(n), 0); }
+static inline uint32_t exponent_share(uint64_t e) { return mixed(folded(e), 5); }
