@@ -44,22 +44,18 @@ passes() {
     echo "$each"
 }
 
-# carried NAME WEIGHT: the last two counts of a program carried on to this weight by their growth, which is taken to be at most the power $steepest; `-` where an
-# earlier weight was left out, and nothing where there are no two.
+# carried NAME WEIGHT: the last two counts of a program carried on to this weight by their growth, which is taken to be at most the power $steepest; nothing
+# where there are no two.
 carried() {
-    [ ! -f "$b/last-$1" ] || tail -n 2 "$b/last-$1" | awk -v to="$2" -v steepest="${steepest:-9}" '
-        $2 == "-" { cut = 1 }
-        { w[NR] = $1; n[NR] = $2 }
-        END {
-            if (cut) print "-"
-            else if (NR == 2) { p = log(n[2] / n[1]) / log(w[2] / w[1]); printf "%.0f\n", n[2] * (to / w[2]) ^ (p < steepest ? p : steepest) }
-        }'
+    [ ! -f "$b/last-$1" ] || awk -v to="$2" -v steepest="${steepest:-9}" '
+        $2 != "-" { w[1] = w[2]; n[1] = n[2]; w[2] = $1; n[2] = $2; counts++ }
+        END { if (counts > 1) { p = log(n[2] / n[1]) / log(w[2] / w[1]); printf "%.0f\n", n[2] * (to / w[2]) ^ (p < steepest ? p : steepest) } }' "$b/last-$1"
 }
 
 # too_long NAME WEIGHT: whether that is over $most million.
 too_long() {
     expected=$(carried "$1" "$2")
-    [ "$expected" = - ] || awk -v n="${expected:-0}" -v most="$most" 'BEGIN { exit !(n > most * 1000000) }'
+    awk -v n="${expected:-0}" -v most="$most" 'BEGIN { exit !(n > most * 1000000) }'
 }
 
 # measured PROGRAM NAME WEIGHT: the count, or `-` where it is left out; remembers what was counted, for the growth.

@@ -12,3 +12,6 @@ static inline uint32_t folded(uint64_t v) { return (uint32_t)v + (uint32_t)(v >>
 
 static inline uint32_t integer_key(uint64_t n) { return mixed(folded(n), 0); }
 static inline uint32_t exponent_share(uint64_t e) { return mixed(folded(e), 5); }
+
+/* Of a power of two integers. */
+static inline uint32_t power_key(uint64_t base, uint64_t exponent) { return 4 + integer_key(base) + exponent_share(exponent); }
