@@ -129,9 +129,9 @@ static const struct { const char *name; void (*find)(void); void (*make)(unsigne
     {"flags-agree", agree_at_flags, chain_searched, 1, NULL}, {"plus-flags", agree_at_flags, plus_numbers, 1, NULL},
     {"whole-key-agrees", agree_in_all, chain_searched, 1, NULL}, {"plus-whole-key", agree_in_all, plus_numbers, 1, NULL},
     {"powers-agree", agree_by_twos, chain_searched, 1, NULL},
-    {"equal-wide", NULL, wide, 2, NULL}, {"equal-deep", NULL, deep, 2, NULL},
-    {"equal-wide-turned", NULL, wide_turned, 2, NULL}, {"equal-deep-turned", NULL, deep_turned, 2, NULL},
-    {"equal-reversed", NULL, reversed_integers, 2, NULL}, {"equal-shuffled", NULL, shuffled_integers, 2, NULL},
+    {"same-wide", NULL, wide, 2, NULL}, {"same-deep", NULL, deep, 2, NULL},
+    {"same-wide-turned", NULL, wide_turned, 2, NULL}, {"same-deep-turned", NULL, deep_turned, 2, NULL},
+    {"same-reversed", NULL, reversed_integers, 2, NULL}, {"same-shuffled", NULL, shuffled_integers, 2, NULL},
     {"read-first", NULL, NULL, 0, text_first}, {"read-nested", NULL, NULL, 0, text_nested},
 };
 #define ROWS (sizeof rows / sizeof rows[0])
