@@ -5,52 +5,57 @@
 
 #define MOST 4096 /* as many members as a formula of these rows has at the weight 16,384 */
 static struct { uint64_t base, exponent; } numbers[MOST];
+typedef uint32_t (*key_of)(uint64_t);
 
-/* Exponents of 2 with which the powers agree in these bits of the key. */
-static inline void agree_in(uint32_t bits) {
-    uint64_t e = 1;
-    uint32_t wanted = power_key(2, 123456789) & bits;
-    for (size_t i = 0; i < MOST; i++) {
-        do e++;
-        while ((power_key(2, e) & bits) != wanted);
-        numbers[i].base = 2, numbers[i].exponent = e;
+/* Positive numbers that agree in the whole key, stirred with c: to each lower half there is one upper half. */
+static inline void agree_in_all(key_of key, uint32_t c) {
+    size_t found = 0;
+    for (uint32_t lower = 2; found < MOST; lower++) {
+        uint32_t upper = 0x12345678 - before(lower, c);
+        if (upper >> 31 == 0) numbers[found].base = 2, numbers[found++].exponent = (uint64_t)upper << 32 | lower;
+    }
+    for (size_t i = 0; i < MOST; i++)
+        if (key(numbers[i].exponent) != key(numbers[0].exponent)) { printf("the keys do not agree: tests/c/key.h wants another search\n"); exit(1); }
+}
+
+/* Numbers that agree in these bits of the key with the first of those: from the one of this number on. */
+static inline void agree_in(key_of key, uint32_t bits, size_t from) {
+    uint64_t x = 1;
+    for (size_t i = from; i < MOST; i++) {
+        do x++;
+        while (((key(x) ^ key(numbers[0].exponent)) & bits) != 0);
+        numbers[i].base = 2, numbers[i].exponent = x;
     }
 }
-static inline void agree_in_15(void) { agree_in(0x7FFF); }        /* what the walk compares */
-static inline void agree_at_flags(void) { agree_in(0xFFFF8000); } /* where the test for like members looks first */
 
-/* Two numbers x and y with f(x) + g(y) = sum, so many times: f is listed for four million x by its upper 20 bits, and what g lacks of the sum is looked up for each y.
-   Four million y are enough, whatever stirs f and g. */
+static inline uint32_t power_of_two(uint64_t e) { return power_key(2, e); }
+static inline uint32_t sum_with(uint64_t n) { return 2 + strewn(0, 1) + integer_key(n); } /* s0+n */
+static inline void powers_in_all(void) { agree_in_all(power_of_two, 5); }
+static inline void sums_in_all(void) { agree_in_all(sum_with, 0); }
+/* In the 15 bits that the walk compares, two of them in all: so the test for like members, which comes first, never says that there are none. */
+static inline void powers_in_15(void) { powers_in_all(); agree_in(power_of_two, 0x7FFF, 2); }
+static inline void sums_in_15(void) { sums_in_all(); agree_in(sum_with, 0x7FFF, 2); }
+/* In the bits by which that test looks, and no two in all. */
+static inline void powers_at_flags(void) { powers_in_all(); agree_in(power_of_two, 0xFFFF8000, 1); }
+
+/* Bases and exponents with which the powers agree in the whole key, whatever `strewn` is: four million bases are listed by the upper 20 bits of their keys, and what an exponent
+   lacks of one sum is looked up; four million exponents are enough. */
 #define LISTED (1 << 22)
 #define LISTS (1 << 20)
 static uint32_t listed[LISTED], begins[LISTS + 1];
-typedef uint32_t (*share)(uint64_t);
 
-static inline void list(share f) {
-    for (uint32_t x = 0; x < LISTED; x++) begins[f(x + 2) >> 12]++;
+static inline void list_bases(void) {
+    for (uint32_t x = 0; x < LISTED; x++) begins[integer_key(x + 2) >> 12]++;
     for (uint32_t k = 1; k <= LISTS; k++) begins[k] += begins[k - 1];
-    for (uint32_t x = LISTED; x > 0; x--) listed[--begins[f(x + 1) >> 12]] = x + 1;
+    for (uint32_t x = LISTED; x > 0; x--) listed[--begins[integer_key(x + 1) >> 12]] = x + 1;
 }
-static inline void agree_in_sum(share f, share g, uint32_t sum, void (*keep)(size_t, uint64_t, uint64_t)) {
+static inline void powers_by_twos(void) {
     size_t found = 0;
-    list(f);
-    for (uint64_t y = 2; found < MOST && y < 1 << 26; y++) {
-        uint32_t wanted = sum - g(y);
+    list_bases();
+    for (uint64_t e = 2; found < MOST && e < 1 << 26; e++) {
+        uint32_t wanted = 0x12345678 - exponent_share(e);
         for (uint32_t i = begins[wanted >> 12]; i < begins[(wanted >> 12) + 1] && found < MOST; i++)
-            if (f(listed[i]) == wanted) keep(found++, listed[i], y);
+            if (integer_key(listed[i]) == wanted) numbers[found].base = listed[i], numbers[found++].exponent = e;
     }
-    if (found < MOST) { printf("too few numbers whose keys agree\n"); exit(1); }
+    if (found < MOST) { printf("too few powers whose keys agree\n"); exit(1); }
 }
-
-/* Exponents of 2 that agree in the whole key, by their halves: this holds as long as `folded` adds up what it makes of each, and `keep_exponent` looks whether it does. */
-static inline uint32_t lower_half(uint64_t x) { return folded(x); }
-static inline uint32_t upper_half(uint64_t y) { return folded(y << 32) - folded(0); }
-static inline void keep_exponent(size_t i, uint64_t x, uint64_t y) {
-    numbers[i].base = 2, numbers[i].exponent = x + (y << 32);
-    if (exponent_share(numbers[i].exponent) != exponent_share(numbers[0].exponent)) { printf("`folded` does not add up halves: search otherwise\n"); exit(1); }
-}
-static inline void agree_in_all(void) { agree_in_sum(lower_half, upper_half, lower_half(123456) + upper_half(7), keep_exponent); }
-
-/* Bases and exponents with which the powers agree in the whole key, whatever `folded` is. */
-static inline void keep_power(size_t i, uint64_t x, uint64_t y) { numbers[i].base = x, numbers[i].exponent = y; }
-static inline void agree_by_twos(void) { agree_in_sum(integer_key, exponent_share, 0x12345678, keep_power); }

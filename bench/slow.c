@@ -33,6 +33,11 @@ static void minus_sums(unsigned n) { /* -1*(-1*(.. ((s0+v)*(s0+w)*..)), the numb
     put_record(3, n, 0);
     for (unsigned i = 0; i < n; i++) { put_record(2, 2, 0); symbol(0); integer(5 + i * 0xFFFFFFFFull); }
 }
+static void minus_searched(unsigned n) { /* the same, the numbers being searched for */
+    minus_levels();
+    put_record(3, n, 0);
+    for (unsigned i = 0; i < n; i++) { put_record(2, 2, 0); symbol(0); integer(numbers[i].exponent); }
+}
 static void plus_powers(unsigned n) { /* 1+(-1+(1+(.. (2^2+3^3+..)) */
     plus_levels();
     put_record(2, n, 0);
@@ -54,14 +59,15 @@ static void halves(uint64_t i) { power(2, (i << 32) + (105000 - i)); }
 static void squared(uint64_t i) { power(2, (i + 2) * (i + 2)); }
 static void consecutive(uint64_t i) { power(2, i + 2); }
 static void equal_sums(uint64_t i) { power(2, (i % 64 + 1) + ((i / 64 + 1) << 16) + ((100 - i % 64) << 32) + ((100 - i / 64) << 48)); }
-static void searched(uint64_t i) { power(numbers[i].base, numbers[i].exponent); }
+static unsigned members; /* of the chain: the first numbers go to its inner end */
+static void searched(uint64_t i) { power(numbers[members - 1 - i].base, numbers[members - 1 - i].exponent); }
 
 static void nested_powers(unsigned n) { chain(3, n, own_power); }       /* 2^2*(3^3*(4^4*(.. */
 static void chain_halves(unsigned n) { chain(2, n, halves); }           /* 2^d+(2^e+(2^f+(.. */
 static void chain_squares(unsigned n) { chain(2, n, squared); }
 static void chain_consecutive(unsigned n) { chain(2, n, consecutive); }
 static void chain_equal_sums(unsigned n) { chain(2, n, equal_sums); }
-static void chain_searched(unsigned n) { chain(2, n, searched); }
+static void chain_searched(unsigned n) { members = n; chain(2, n, searched); }
 
 /* (S)*(S), the second sum in reverse order. */
 static void by_itself_reversed(unsigned n, void (*member)(uint64_t)) {
@@ -125,10 +131,11 @@ static const struct { const char *name; void (*find)(void); void (*make)(unsigne
     {"halves-agree", NULL, chain_halves, 1, NULL}, {"squares", NULL, chain_squares, 1, NULL}, {"consecutive", NULL, chain_consecutive, 1, NULL},
     {"equal-sums", NULL, chain_equal_sums, 1, NULL},
     {"reversed-symbols", NULL, reversed_symbols, 1, NULL}, {"reversed-cubes", NULL, reversed_cubes, 1, NULL},
-    {"15-bits-agree", agree_in_15, chain_searched, 1, NULL}, {"plus-15-bits", agree_in_15, plus_numbers, 1, NULL},
-    {"flags-agree", agree_at_flags, chain_searched, 1, NULL}, {"plus-flags", agree_at_flags, plus_numbers, 1, NULL},
-    {"whole-key-agrees", agree_in_all, chain_searched, 1, NULL}, {"plus-whole-key", agree_in_all, plus_numbers, 1, NULL},
-    {"powers-agree", agree_by_twos, chain_searched, 1, NULL},
+    {"15-bits-agree", powers_in_15, chain_searched, 1, NULL}, {"plus-15-bits", powers_in_15, plus_numbers, 1, NULL},
+    {"flags-agree", powers_at_flags, chain_searched, 1, NULL}, {"plus-flags", powers_at_flags, plus_numbers, 1, NULL},
+    {"whole-key-agrees", powers_in_all, chain_searched, 1, NULL}, {"plus-whole-key", powers_in_all, plus_numbers, 1, NULL},
+    {"minus-15-bits", sums_in_15, minus_searched, 1, NULL}, {"minus-whole-key", sums_in_all, minus_searched, 1, NULL},
+    {"powers-agree", powers_by_twos, chain_searched, 1, NULL},
     {"same-wide", NULL, wide, 2, NULL}, {"same-deep", NULL, deep, 2, NULL},
     {"same-wide-turned", NULL, wide_turned, 2, NULL}, {"same-deep-turned", NULL, deep_turned, 2, NULL},
     {"same-reversed", NULL, reversed_integers, 2, NULL}, {"same-shuffled", NULL, shuffled_integers, 2, NULL},
