@@ -18,12 +18,26 @@ static inline void agree_in_all(key_of key, uint32_t c) {
         if (key(numbers[i].exponent) != key(numbers[0].exponent)) { printf("the keys do not agree: tests/c/key.h wants another search\n"); exit(1); }
 }
 
-/* Numbers that agree in these bits of the key with the first of those: from the one of this number on. */
-static inline void agree_in(key_of key, uint32_t bits, size_t from) {
+/* Numbers that agree in 15 bits of the key, the first two in all: so the test for like members, which comes before the walk, never says that there are none. */
+static inline void agree_in_15(key_of key) {
     uint64_t x = 1;
-    for (size_t i = from; i < MOST; i++) {
+    for (size_t i = 2; i < MOST; i++) {
         do x++;
-        while (((key(x) ^ key(numbers[0].exponent)) & bits) != 0);
+        while ((key(x) ^ key(numbers[0].exponent)) % 0x8000 != 0);
+        numbers[i].exponent = x;
+    }
+}
+
+/* Numbers whose keys are crowded, and no two alike: that test then looks through all keys that it has kept, and finds none. */
+static inline int is_taken(key_of key, uint32_t k, size_t found) {
+    while (found > 0 && key(numbers[found - 1].exponent) != k) found--;
+    return found > 0;
+}
+static inline void crowd(key_of key) {
+    uint64_t x = 1;
+    for (size_t i = 0; i < MOST; i++) {
+        do x++;
+        while (!is_crowded(key(x)) || is_taken(key, key(x), i));
         numbers[i].base = 2, numbers[i].exponent = x;
     }
 }
@@ -32,11 +46,9 @@ static inline uint32_t power_of_two(uint64_t e) { return power_key(2, e); }
 static inline uint32_t sum_with(uint64_t n) { return 2 + strewn(0, 1) + integer_key(n); } /* s0+n */
 static inline void powers_in_all(void) { agree_in_all(power_of_two, 5); }
 static inline void sums_in_all(void) { agree_in_all(sum_with, 0); }
-/* In the 15 bits that the walk compares, two of them in all: so the test for like members, which comes first, never says that there are none. */
-static inline void powers_in_15(void) { powers_in_all(); agree_in(power_of_two, 0x7FFF, 2); }
-static inline void sums_in_15(void) { sums_in_all(); agree_in(sum_with, 0x7FFF, 2); }
-/* In the bits by which that test looks, and no two in all. */
-static inline void powers_at_flags(void) { powers_in_all(); agree_in(power_of_two, 0xFFFF8000, 1); }
+static inline void powers_in_15(void) { powers_in_all(); agree_in_15(power_of_two); }
+static inline void sums_in_15(void) { sums_in_all(); agree_in_15(sum_with); }
+static inline void powers_at_flags(void) { crowd(power_of_two); }
 
 /* Bases and exponents with which the powers agree in the whole key, whatever `strewn` is: four million bases are listed by the upper 20 bits of their keys, and what an exponent
    lacks of one sum is looked up; four million exponents are enough. */
