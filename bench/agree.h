@@ -1,0 +1,73 @@
+/* Numbers whose keys agree, found by searching; of the key only what tests/c/key.h says is used. */
+#include "../tests/c/key.h"
+#include <stdio.h>
+#include <stdlib.h>
+
+#define MOST 4096 /* as many members as a formula of these rows has at the weight 16,384 */
+static struct { uint64_t base, exponent; } numbers[MOST];
+typedef uint32_t (*key_of)(uint64_t);
+
+/* Positive numbers that agree in the whole key, stirred with c: to each lower half there is one upper half. */
+static inline void agree_in_all(key_of key, uint32_t c) {
+    size_t found = 0;
+    for (uint32_t lower = 2; found < MOST; lower++) {
+        uint32_t upper = 0x12345678 - before(lower, c);
+        if (upper >> 31 == 0) numbers[found].base = 2, numbers[found++].exponent = (uint64_t)upper << 32 | lower;
+    }
+    for (size_t i = 0; i < MOST; i++)
+        if (key(numbers[i].exponent) != key(numbers[0].exponent)) { printf("the keys do not agree: tests/c/key.h wants another search\n"); exit(1); }
+}
+
+/* Numbers that agree in 15 bits of the key, the first two in all: so the test for like members, which comes before the walk, never says that there are none. */
+static inline void agree_in_15(key_of key) {
+    uint64_t x = 1;
+    for (size_t i = 2; i < MOST; i++) {
+        do x++;
+        while ((key(x) ^ key(numbers[0].exponent)) % 0x8000 != 0);
+        numbers[i].exponent = x;
+    }
+}
+
+/* Numbers whose keys are crowded, and no two alike: that test then looks through all keys that it has kept, and finds none. */
+static inline int is_taken(key_of key, uint32_t k, size_t found) {
+    while (found > 0 && key(numbers[found - 1].exponent) != k) found--;
+    return found > 0;
+}
+static inline void crowd(key_of key) {
+    uint64_t x = 1;
+    for (size_t i = 0; i < MOST; i++) {
+        do x++;
+        while (!is_crowded(key(x)) || is_taken(key, key(x), i));
+        numbers[i].base = 2, numbers[i].exponent = x;
+    }
+}
+
+static inline uint32_t power_of_two(uint64_t e) { return power_key(2, e); }
+static inline uint32_t sum_with(uint64_t n) { return 2 + strewn(0, 1) + integer_key(n); } /* s0+n */
+static inline void powers_in_all(void) { agree_in_all(power_of_two, 5); }
+static inline void sums_in_all(void) { agree_in_all(sum_with, 0); }
+static inline void powers_in_15(void) { powers_in_all(); agree_in_15(power_of_two); }
+static inline void sums_in_15(void) { sums_in_all(); agree_in_15(sum_with); }
+static inline void powers_at_flags(void) { crowd(power_of_two); }
+
+/* Bases and exponents with which the powers agree in the whole key, whatever `strewn` is: four million bases are listed by the upper 20 bits of their keys, and what an exponent
+   lacks of one sum is looked up; four million exponents are enough. */
+#define LISTED (1 << 22)
+#define LISTS (1 << 20)
+static uint32_t listed[LISTED], begins[LISTS + 1];
+
+static inline void list_bases(void) {
+    for (uint32_t x = 0; x < LISTED; x++) begins[integer_key(x + 2) >> 12]++;
+    for (uint32_t k = 1; k <= LISTS; k++) begins[k] += begins[k - 1];
+    for (uint32_t x = LISTED; x > 0; x--) listed[--begins[integer_key(x + 1) >> 12]] = x + 1;
+}
+static inline void powers_by_twos(void) {
+    size_t found = 0;
+    list_bases();
+    for (uint64_t e = 2; found < MOST && e < 1 << 26; e++) {
+        uint32_t wanted = 0x12345678 - exponent_share(e);
+        for (uint32_t i = begins[wanted >> 12]; i < begins[(wanted >> 12) + 1] && found < MOST; i++)
+            if (integer_key(listed[i]) == wanted) numbers[found].base = listed[i], numbers[found++].exponent = e;
+    }
+    if (found < MOST) { printf("too few powers whose keys agree\n"); exit(1); }
+}
