@@ -16,15 +16,15 @@ use Rattle.paper.proofs.EncodeLaws.{count-records, recordses-weights}
 use Rattle.paper.proofs.Tests.{never}
 use Rattle.stretch.specs.Put.{put}
 use Rattle.stretch.proofs.Laws.{length-put, take-put, drop-put}
-use Rattle.note.specs.Note.{note}
+use Rattle.note.specs.Note.{keys, note}
 use Rattle.note.specs.Part.{partKey}
 use Rattle.note.specs.Noted.{TreeBy, TreesBy, Known}
 use Rattle.note.specs.Still.{among, sought, apart}
-use Rattle.note.specs.Keys.{turnedKey, firstFlag, secondFlag, Kept, KeysIn, KeptIn, keeping, Scratched}
+use Rattle.note.specs.Keys.{turned, firstFlag, secondFlag, Kept, KeysIn, KeptIn, keeping, Scratched}
 use Rattle.note.proofs.KeyLaws.{note-records}
 use Rattle.note.proofs.ToldLaws.{note-tells, noted-told, kind-number, none-of}
 use Rattle.note.proofs.LightLaws.{told-all, FirstBy, first-by}
-use Rattle.note.proofs.KeysLaws.{flag-lt, turned-lt, keeping-kept}
+use Rattle.note.proofs.KeysLaws.{flag-lt, keeping-kept}
 
 -- ---- what lies around scratch stays
 pub scratched-none : (d : List ℕ) (o n : ℕ) → Scratched d d o n
@@ -61,21 +61,21 @@ scratched-set d o n a v l k =
     record { long = length-set d a v; before = take-set-le o d a v l; past = drop-set-lt (o + n) d a v k }
 
 -- one key more
-module _ {d : List ℕ} {o n m : ℕ} {ks : List ℕ} (h : KeptIn d o n m ks) (k : ℕ) (b : k < modulus) where
-  key-scratched : Scratched d (keeping d o n m k) o (n * 40)
+module _ {d : List ℕ} {o n x m : ℕ} {ks : List ℕ} (h : KeptIn d o n x m ks) (k : ℕ) (b : k < modulus) where
+  key-scratched : Scratched d (keeping d o n x m k) o (n * 40)
   unfolding keeping
   key-scratched =
-      let f = firstFlag o n k in
-      let g = secondFlag o n k in
+      let f = firstFlag o n x k in
+      let g = secondFlag o n x k in
       let once = set d f 1 in
-      let c = flag-lt n k b (omega (arith, h .place)) in
-      let q = flag-lt n (turnedKey k) (turned-lt k) (omega (arith, h .place)) in
+      let c = flag-lt n x k (omega (arith, h .place)) in
+      let q = flag-lt n (turned x) k (omega (arith, h .place)) in
       scratched-both
       (scratched-both (scratched-set d o (n * 40) f 1 (omega arith) (omega arith)) (scratched-set once o (n * 40) g 1 (omega arith) (omega arith)))
       (scratched-put (set once g 1) o (n * 40) (o + m * 8) (bytes 8 k) (omega arith) (omega (arith, length-bytes 8 k, h .place))
       (omega (arith, length-set d f 1, length-set once g 1, h .room)))
 
-  pub keeping-scratched : (e : List ℕ) → e ≡ keeping d o n m k → Scratched d e o (n * 40)
+  pub keeping-scratched : (e : List ℕ) → e ≡ keeping d o n x m k → Scratched d e o (n * 40)
   keeping-scratched e q = rw q key-scratched
 
 -- ---- the test, member by member: the keys `before` are kept, as K says, and the members of `rest` are to come
@@ -91,9 +91,9 @@ pub members-few : {s : List ℕ} {i n : ℕ} {f : Forest} → TreesBy note s i n
 members-few {f = f} h = omega (arith, h .counted, count-records f, recordses-weights f, h .light)
 
 -- no key is kept
-pub kept-none : (d : List ℕ) (o n : ℕ) → Kept d o n []
+pub kept-none : (d : List ℕ) (o n x : ℕ) → Kept d o n x []
 unfolding among
-kept-none d o n = record { keys-there = λ j l. absurd (omega arith); flagged = λ k e. never e }
+kept-none d o n x = record { keys-there = λ j l. absurd (omega arith); flagged = λ k e. never e }
 
 pub testing-start : {s : List ℕ} {i n : ℕ} {f : Forest} {terms : Bool} {K : List ℕ → Type 0} → K [] → TreesBy note s i n f → Testing s f terms K n i 0
 testing-start {s} {i} {n} {f} none h =
@@ -172,11 +172,11 @@ module _ {s : List ℕ} {f : Forest} {terms : Bool} {K : List ℕ → Type 0} {n
         }
 
 -- ---- the keys of the members passed, with flags and without
-pub testing-kept : {s : List ℕ} {f : Forest} {terms : Bool} {d : List ℕ} {o n at m : ℕ} (a : Testing s f terms (Kept d o n) n at m) → m < n → n < 65536 → o + n * 40 ≤ length d
-    → KeptIn d o n m (a .before)
-testing-kept a p few room = record { kept = a .kept; many = a .many; place = p; few = few; room = room }
+pub testing-kept : {s : List ℕ} {f : Forest} {terms : Bool} {d : List ℕ} {o n x at m : ℕ} (a : Testing s f terms (Kept d o n x) n at m) → x < keys → m < n → n < 65536 → o + n * 40 ≤ length d
+    → KeptIn d o n x m (a .before)
+testing-kept a f p few room = record { kept = a .kept; factor = f; many = a .many; place = p; few = few; room = room }
 
-pub kept-more : {d : List ℕ} {o n m : ℕ} {ks : List ℕ} → KeptIn d o n m ks → (k : ℕ) → k < modulus → (c : List ℕ) → c ≡ keeping d o n m k → Kept c o n (ks ++ (k ∷ []))
+pub kept-more : {d : List ℕ} {o n x m : ℕ} {ks : List ℕ} → KeptIn d o n x m ks → (k : ℕ) → k < modulus → (c : List ℕ) → c ≡ keeping d o n x m k → Kept c o n x (ks ++ (k ∷ []))
 kept-more h k b c w = rw w (keeping-kept h k b)
 
 abbrev pub KeysAt : List ℕ → ℕ → List ℕ → Type 0

@@ -16,8 +16,8 @@ flag-at-requires c κs = search needs
 slice-write-d : tie.Need-slice-write-d
 slice-write-d c = search needs
 
-turned-key-requires : tie.Need-turned-key-requires
-turned-key-requires c κs = search needs
+turned-requires : tie.Need-turned-requires
+turned-requires c κs = search needs
 
 flag-at-requires-2 : tie.Need-flag-at-requires-2
 flag-at-requires-2 c κs = search needs
@@ -58,10 +58,10 @@ returns c =
     let second = c .before .before .before .before in
     let first = second .before .before in
     let a = first .before .before .args in
-    let place = second .flag-at2 .ensures .0 ∙ ap (λ k. a .o + a .n * 8 + flagOf (a .n) k) (second .before .turned-key .ensures) in
+    let place = second .flag-at2 .ensures .0 ∙ ap (λ y. a .o + a .n * 8 + flagOf (a .n) y (a .key)) (second .before .turned .ensures .0) in
     c .before .before .write8 .ensures
     ∙ ap (λ x. put (set (set (a .d .now) x 1) (second .flag-at2 .result) 1) (a .o + a .m * 8) (bytes 8 (a .key))) (first .flag-at .ensures .0)
-    ∙ ap (λ x. put (set (set (a .d .now) (a .o + a .n * 8 + flagOf (a .n) (a .key)) 1) x 1) (a .o + a .m * 8) (bytes 8 (a .key))) place
+    ∙ ap (λ x. put (set (set (a .d .now) (a .o + a .n * 8 + flagOf (a .n) (a .x) (a .key)) 1) x 1) (a .o + a .m * 8) (bytes 8 (a .key))) place
 
 pub keep-key-spec : {M : Type 1} → statement M
 keep-key-spec =
@@ -69,7 +69,7 @@ keep-key-spec =
     (tie.spec
     flag-at-requires
     slice-write-d
-    turned-key-requires
+    turned-requires
     flag-at-requires-2
     slice-write-d-2
     mul-write8

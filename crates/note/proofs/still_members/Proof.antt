@@ -103,35 +103,38 @@ clear-requires c κs =
 add-members-apart : tie.Need-add-members-apart
 add-members-apart c = omega (arith, record-within (noted-told (c .before .before .before .before .before .before .before .before .before .before .pre .1 .1 .there)))
 
+factor-requires : tie.Need-factor-requires
+factor-requires c κs = record-within (noted-told (c .before .before .before .before .before .before .before .before .before .before .before .pre .1 .1 .there))
+
 members-apart-requires : tie.Need-members-apart-requires
 members-apart-requires c κs =
-    let b = c .before .before .before .before .before .before .before .before .before .before .before .pre .0 in
-    let t = c .before .before .before .before .before .before .before .before .before .before .before .pre .1 .0 in
-    let h = c .before .before .before .before .before .before .before .before .before .before .before .pre .1 .1 in
+    let b = c .before .before .before .before .before .before .before .before .before .before .before .before .pre .0 in
+    let t = c .before .before .before .before .before .before .before .before .before .before .before .before .pre .1 .0 in
+    let h = c .before .before .before .before .before .before .before .before .before .before .before .before .pre .1 .1 in
     let two : 2 ≤ kindNumber t = omega (arith, h .kind-known, b .0) in
     let four : kindNumber t < 4 = omega (arith, h .kind-known, b .1) in
-    let n = c .before .before .before .before .before .before .before .before .count in
-    let v = c .before .before .before .before .before .before .before .bits in
-    let r = room-lies (h .there) two four (n .result) (v .result) (n .ensures .0) (v .ensures) (c .before .before .before .before .before .before .if1 .left) in
-    let e = c .before .before .before .clear .kept .0 in
-    ((inner t, members-by t note-tells (h .there) two four (n .result) (n .ensures .0)), omega (arith, r, h .scratch, e))
+    let n = c .before .before .before .before .before .before .before .before .before .count in
+    let v = c .before .before .before .before .before .before .before .before .bits in
+    let r = room-lies (h .there) two four (n .result) (v .result) (n .ensures .0) (v .ensures) (c .before .before .before .before .before .before .before .if1 .left) in
+    let e = c .before .before .before .before .clear .kept .0 in
+    ((inner t, members-by t note-tells (h .there) two four (n .result) (n .ensures .0)), (omega (arith, r, h .scratch, e), c .factor .ensures))
 
 same-length-2 : tie.Need-same-length-2
 same-length-2 c = search needs
 
 returns-3 : tie.Need-returns-3
 returns-3 c =
-    let b = c .before .before .before .before .before .before .before .before .before .before .before .before .before .before .pre .0 in
-    let t = c .before .before .before .before .before .before .before .before .before .before .before .before .before .before .pre .1 .0 in
-    let h = c .before .before .before .before .before .before .before .before .before .before .before .before .before .before .pre .1 .1 in
+    let b = c .before .before .before .before .before .before .before .before .before .before .before .before .before .before .before .pre .0 in
+    let t = c .before .before .before .before .before .before .before .before .before .before .before .before .before .before .before .pre .1 .0 in
+    let h = c .before .before .before .before .before .before .before .before .before .before .before .before .before .before .before .pre .1 .1 in
     let two : 2 ≤ kindNumber t = omega (arith, h .kind-known, b .0) in
     let four : kindNumber t < 4 = omega (arith, h .kind-known, b .1) in
-    let n = c .before .before .before .before .before .before .before .before .before .before .before .count in
-    let v = c .before .before .before .before .before .before .before .before .before .before .bits in
-    let g = c .before .before .before .before .before .before .before .before .before .before .before .before .before .before .args in
-    let p = c .before .before .before .before .before .before .before .before .before .if1 .left in
+    let n = c .before .before .before .before .before .before .before .before .before .before .before .before .count in
+    let v = c .before .before .before .before .before .before .before .before .before .before .before .bits in
+    let g = c .before .before .before .before .before .before .before .before .before .before .before .before .before .before .before .args in
+    let p = c .before .before .before .before .before .before .before .before .before .before .if1 .left in
     let m = c .before .before .members-apart in
-    let clear = c .before .before .before .before .before .before .clear in
+    let clear = c .before .before .before .before .before .before .before .clear in
     let r = room-lies (h .there) two four (n .result) (v .result) (n .ensures .0) (v .ensures) p in
     let cleared : Scratched (g .d .now) (clear .last .0) (g .o) (n .result * 40) =
     subst (λ y. Scratched (g .d .now) y (g .o) (n .result * 40)) (sym (clear .ensures))
@@ -166,6 +169,7 @@ still-members-spec =
     mul-clear-2
     clear-requires
     add-members-apart
+    factor-requires
     members-apart-requires
     same-length-2
     returns-3)
