@@ -26,8 +26,11 @@ abbrev μ-loop : tie.MeasureT-loop
 
 loop-holds : tie.Need-loop-holds Inv-loop μ-loop
 loop-holds c =
-    let a = c .before .args in
-    (omega arith, length-replicate {A = ℕ} 128 0, ap (λ xs. twice (inPart (a .part)) (keysIn xs)) (rest-all (a .area .now)) ∙ again-start (a .part) (keysIn (rest (a .area .now) 0)))
+    let a = c .before .args in (
+      omega arith,
+      length-replicate {A = ℕ} 128 0,
+      ap (λ xs. twice (inPart (a .part)) (keysIn xs)) (rest-all (a .area .now)) ∙ again-start (a .part) (keysIn (rest (a .area .now) 0)),
+    )
 
 is-free-requires : tie.Need-is-free-requires Inv-loop μ-loop
 is-free-requires c κs = search needs
@@ -70,6 +73,8 @@ add-i c = search needs
 loop-less : tie.Need-loop-less Inv-loop μ-loop
 loop-less c = search needs
 
+-- by the way that the turn went: a key of the part that was not seen (its test w .0, the answer w .2 and its test w .3, the bit set w .5 and
+-- w .6); or one of another part (the test w .0, the bits as they were w .1)
 loop-again : tie.Need-loop-again Inv-loop μ-loop
 loop-again c =
     let turn = c .before .before .before .before in
@@ -84,8 +89,11 @@ loop-again c =
     ⊎-elim
     (λ w.
     let bit = not-set _ _ (eqb-false _ _ (sym (w .2 .ensures) ∙ w .3 .left)) in
-    let set = w .6 ∙ w .5 .ensures in
-    (omega arith, rw set (turned-length (at .loop .seen) _ ∙ at .loop .inv .1), rw set (first ∙ again-set (at .loop .seen) (a .part) k ks (at .loop .inv .1) (w .0 .taken) bit)))
+    let set = w .6 ∙ w .5 .ensures in (
+      omega arith,
+      rw set (turned-length (at .loop .seen) _ ∙ at .loop .inv .1),
+      rw set (first ∙ again-set (at .loop .seen) (a .part) k ks (at .loop .inv .1) (w .0 .taken) bit),
+    ))
     (λ w. rw (w .1) (omega arith, at .loop .inv .1, first ∙ again-other (at .loop .seen) (a .part) k ks (w .0 .left)))
     (c .if2 .came)
 
