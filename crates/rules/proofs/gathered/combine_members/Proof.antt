@@ -1,16 +1,19 @@
--- `rules::gathered::combine_members` meets its contract: the members are listed and walked over; where nothing is removed no rule applies, and
--- there, and where the range is left, what is pending and done is as it was; else a node is made of what came out, and what is said of that is said of the step (Gathering). Assumes nothing.
+-- `rules::gathered::combine_members` meets its contract: the members are listed and walked over; where nothing is removed, or the range is left, what
+-- is pending and done is as it was, and where nothing is removed no rule applies; else a node is made of what came out, and what is said of that is
+-- said of the step (Gathering). Assumes nothing.
 use Prim.Native.Nat.{ℕ}
 use mathlib.Core.Path.{_≡_, _∙_, subst}
 use mathlib.Core.List.{List}
 use borrow.Author.Needs.{needs}
 use Rattle.paper.specs.Tree.{Tree, toList}
+use Rattle.paper.specs.Rules.{rulesOf}
 use Rattle.note.proofs.ToldLaws.{record-within}
 use Rattle.walk.specs.Listed.{ListedIs}
 use Rattle.walk.specs.Walked.{cameOut, Says, WalkedIs}
 use Rattle.walk.specs.declared.Walked.{Walked as Answer}
 use Rattle.walk.specs.declared.Walked.the-variants.{Done}
-use Rattle.rules.specs.Asked.{Ready}
+use Rattle.rules.specs.Asked.{Ready, CombinedIs}
+use Rattle.rules.specs.declared.Combined.the-variants.{No}
 use Rattle.rules.specs.Quiet.{Emerged}
 use Rattle.rules.proofs.RuleLaws.{ready-tree, IsNode, is-node}
 use Rattle.rules.proofs.CombineLaws.{listable, walkable}
@@ -66,6 +69,12 @@ walked c h =
     let list = listed-of c in
     let s = node (entry-of list) h in
     c .walk .ensures (toList (s .members)) (walkable (s .held) (listed list h) _ (list .before .before .before .before .count .ensures .0))
+
+-- so what is pending and done is as it was
+as-it-was : (c : Walked) {t : Tree} {rest : List ℕ} (h : Pending (entry-of (listed-of c)) t rest)
+    → let g = entry-of (listed-of c) .args in
+    CombinedIs (rulesOf (g .edition)) t rest (g .out .now) (c .walk .last .0) (c .walk .last .1 .0) (g .d) (g .p) No
+as-it-was c h = let v = walked c h in (v .pending ∙ listed (listed-of c) h .pending ∙ h .stands, v .done)
 
 -- what the walk's answer x says
 says : (c : Walked) {t : Tree} {rest : List ℕ} (h : Pending (entry-of (listed-of c)) t rest) (x : Answer)
@@ -143,11 +152,8 @@ returns c =
     let walk = c .before .before .before .before .before .before in
     let entry = entry-of (listed-of walk) in
     λ t rest h none.
-    let v = walked walk h in (
-      no-rule-applies h (node entry h) (entry .args .edition) (entry .pre .1) none (says walk h _ (c .enum-told .given .1)),
-      v .pending ∙ listed (listed-of walk) h .pending ∙ h .stands,
-      v .done,
-    )
+    let same = as-it-was walk h in
+    (no-rule-applies h (node entry h) (entry .args .edition) (entry .pre .1) none (says walk h _ (c .enum-told .given .1)), same .0, same .1)
 
 same-length-3 : tie.Need-same-length-3
 same-length-3 c = search needs
@@ -158,7 +164,7 @@ same-length-4 c = search needs
 returns-2 : tie.Need-returns-2
 returns-2 c =
     let walk = c .before .before .before .before .before .before in
-    λ t rest h none. let v = walked walk h in (v .pending ∙ listed (listed-of walk) h .pending ∙ h .stands, v .done)
+    λ t rest h none. as-it-was walk h
 
 same-length-5 : tie.Need-same-length-5
 same-length-5 c = search needs
