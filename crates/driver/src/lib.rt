@@ -93,6 +93,7 @@ fn ease(
             let x = settle(out, work, steps, d, p, s, edition);
             as_settled(x)
         }
+        rules::Combined::Nothing => Eased::At(p, s),
         rules::Combined::Pending(k, q) => {
             steps[s] = k;
             let x = settle(out, work, steps, d, q, s + 1, edition);
