@@ -202,7 +202,7 @@ extern "C" {
      simmergate_check                2,344        2,344   whatever the depth
      simmergate_weight               2,344        2,344   whatever the depth
      simmergate_value              100,496      526,480
-     simmergate_equal              126,280      672,072
+     simmergate_equal              126,472      672,264
      simmergate_differ               2,408        2,408   whatever the depth
      simmergate_simplify           125,048      657,528   by either edition
      simmergate_batch              125,176      657,656   by either edition
