@@ -7,12 +7,13 @@
 static struct { uint64_t base, exponent; } numbers[MOST];
 typedef uint32_t (*key_of)(uint64_t);
 
-/* Positive numbers that agree in the whole key, stirred with c: to each lower half there is one upper half. */
-static inline void agree_in_all(key_of key, uint32_t c) {
+/* Positive numbers that agree in the whole key, stirred with c: to each lower half there is one upper half; of them those that `also` takes. */
+static inline void agree_in_all(key_of key, uint32_t c, int (*also)(uint64_t)) {
     size_t found = 0;
     for (uint32_t lower = 2; found < MOST; lower++) {
         uint32_t upper = 0x12345678 - before(lower, c);
-        if (upper >> 31 == 0) numbers[found].base = 2, numbers[found++].exponent = (uint64_t)upper << 32 | lower;
+        uint64_t x = (uint64_t)upper << 32 | lower;
+        if (x >> 63 == 0 && also(x)) numbers[found].base = 2, numbers[found++].exponent = x;
     }
     for (size_t i = 0; i < MOST; i++)
         if (key(numbers[i].exponent) != key(numbers[0].exponent)) { printf("the keys do not agree: tests/c/key.h wants another search\n"); exit(1); }
@@ -44,11 +45,23 @@ static inline void crowd(key_of key) {
 
 static inline uint32_t power_of_two(uint64_t e) { return power_key(2, e); }
 static inline uint32_t sum_with(uint64_t n) { return 2 + strewn(0, 1) + integer_key(n); } /* s0+n */
-static inline void powers_in_all(void) { agree_in_all(power_of_two, 5); }
-static inline void sums_in_all(void) { agree_in_all(sum_with, 0); }
+static inline int every(uint64_t x) { (void)x; return 1; }
+static inline int is_near_power(uint64_t e) { return is_near(power_spread(2, e)); }
+static inline void powers_in_all(void) { agree_in_all(power_of_two, 5, every); }
+static inline void sums_in_all(void) { agree_in_all(sum_with, 0, every); }
 static inline void powers_in_15(void) { powers_in_all(); agree_in_15(power_of_two); }
 static inline void sums_in_15(void) { sums_in_all(); agree_in_15(sum_with); }
 static inline void powers_at_flags(void) { crowd(power_of_two); }
+/* And near each other in the walk's first round. */
+static inline void powers_in_all_near(void) { agree_in_all(power_of_two, 5, is_near_power); }
+static inline void exponents_near(void) {
+    uint64_t x = 1;
+    for (size_t i = 0; i < MOST; i++) {
+        do x++;
+        while (!is_near(x));
+        numbers[i].base = i + 2, numbers[i].exponent = x;
+    }
+}
 
 /* Bases and exponents with which the powers agree in the whole key, whatever `strewn` is: four million bases are listed by the upper 20 bits of their keys, and what an exponent
    lacks of one sum is looked up; four million exponents are enough. */
