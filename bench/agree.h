@@ -1,7 +1,19 @@
-/* Numbers whose keys agree, found by searching; of the key only what tests/c/key.h says is used. */
+/* Numbers whose keys agree, found by searching, by the key as tests/c/key.h has it and by flags as they are here: where note::still or the walk choose theirs
+   otherwise, the next four functions follow. */
 #include "../tests/c/key.h"
 #include <stdio.h>
 #include <stdlib.h>
+
+/* Keys that share few flags in the test for like members (note::still), however many members there are. */
+static inline int is_crowded(uint32_t key) { return key >> 15 == 1; }
+
+/* The same of the walk (walk::numbers): numbers that share few flags in its first round, and what a power of two integers goes by there. */
+static inline int is_near(uint64_t v) { return v * 0x9e3779b97f4a7c15u >> 54 == 0; }
+static inline uint64_t spread_share(uint64_t v) {
+    uint64_t y = v * 0x9e3779b97f4a7c15u, low = (uint32_t)y, high = y >> 32;
+    return (uint32_t)(low + high) * high + low;
+}
+static inline uint64_t power_spread(uint64_t base, uint64_t exponent) { return 4 * 0x5a827999507d31u + spread_share(base) + spread_share(exponent); }
 
 #define MOST 4096 /* as many members as a formula of these rows has at the weight 16,384 */
 static struct { uint64_t base, exponent; } numbers[MOST];

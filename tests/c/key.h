@@ -15,14 +15,3 @@ static inline uint32_t strewn(uint64_t v, uint32_t c) { return mixed(before((uin
 static inline uint32_t integer_key(uint64_t n) { return strewn(n, 0); }
 static inline uint32_t exponent_share(uint64_t e) { return strewn(e, 5); }
 static inline uint32_t power_key(uint64_t base, uint64_t exponent) { return 4 + integer_key(base) + exponent_share(exponent); }
-
-/* Keys that share few flags in the test for like members (note::still), however many members there are. */
-static inline int is_crowded(uint32_t key) { return key >> 15 == 1; }
-
-/* The same of the walk (walk::numbers): numbers that share few flags in its first round, and what a power of two integers goes by there. */
-static inline int is_near(uint64_t v) { return v * 0x9e3779b97f4a7c15u >> 54 == 0; }
-static inline uint64_t spread_share(uint64_t v) {
-    uint64_t y = v * 0x9e3779b97f4a7c15u, low = (uint32_t)y, high = y >> 32;
-    return (uint32_t)(low + high) * high + low;
-}
-static inline uint64_t power_spread(uint64_t base, uint64_t exponent) { return 4 * 0x5a827999507d31u + spread_share(base) + spread_share(exponent); }
