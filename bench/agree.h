@@ -5,7 +5,7 @@
 #include <stdlib.h>
 
 /* Keys that share few flags in the test for like members (note::still), however many members there are. */
-static inline int is_crowded(uint32_t key) { return key >> 15 == 1; }
+static inline int is_crowded(uint32_t key) { return key >> 23 == 0 && key * 0x85ebca6bu >> 23 == 0; }
 
 /* The same of the walk (walk::numbers): numbers that share few flags in its first round, and what a power of two integers goes by there. */
 static inline int is_near(uint64_t v) { return v * 0x9e3779b97f4a7c15u >> 54 == 0; }

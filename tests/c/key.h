@@ -8,8 +8,8 @@ static inline uint32_t stirred(uint32_t x, uint32_t c) {
 static inline uint32_t mixed(uint32_t x, uint32_t c) { return stirred(stirred(x, c), c); }
 
 /* 64 bits as 32, stirred with c: the upper half is added to what `before` makes of the lower one. */
-static inline uint32_t before(uint32_t lower, uint32_t c) { (void)c; return lower; }
-static inline uint32_t strewn(uint64_t v, uint32_t c) { return mixed(before((uint32_t)v, c) + (uint32_t)(v >> 32), c); }
+static inline uint32_t before(uint32_t lower, uint32_t c) { return stirred(lower, c); }
+static inline uint32_t strewn(uint64_t v, uint32_t c) { return stirred(before((uint32_t)v, c) + (uint32_t)(v >> 32), c); }
 
 /* Of an integer; what an exponent adds; of a power of two integers. */
 static inline uint32_t integer_key(uint64_t n) { return strewn(n, 0); }

@@ -8,23 +8,23 @@ use Rattle.paper.specs.Tree.{Forest}
 use Rattle.note.specs.Note.{note}
 use Rattle.note.specs.Noted.{TreesBy}
 use Rattle.note.specs.Still.{among}
-use Rattle.note.specs.Keys.{Scratched}
+use Rattle.note.specs.Keys.{Kept, Scratched}
 use Rattle.note.proofs.ToldLaws.{noted-told, record-within, kind-number}
 use Rattle.note.proofs.StillLaws.{not-true, not-false}
 use Rattle.note.proofs.KeepLaws.{scratched-none, scratched-both, keeping-scratched, Testing, members-few, testing-start, testing-end}
-use Rattle.note.proofs.KeepLaws.{testing-first, testing-known, testing-kept, testing-sought, testing-seen, testing-step}
+use Rattle.note.proofs.KeepLaws.{testing-first, testing-known, testing-kept, kept-none, kept-more, testing-sought, testing-seen, testing-step}
 use Rattle.note.proofs.members_apart.Statement.{statement}
 use Rattle.note.proofs.members_apart.Tie as tie
 
 abbrev Inv-loop : tie.InvT-loop
 Inv-loop s i n d₀ o terms at₀ m₀ d at m =
-    (m ≤ n) × Scratched d₀ d o (n * 40) × ((f : Forest) → TreesBy note s i n f → Testing s f terms d o n at m)
+    (m ≤ n) × Scratched d₀ d o (n * 40) × ((f : Forest) → TreesBy note s i n f → Testing s f terms (Kept d o n) n at m)
 
 abbrev μ-loop : tie.MeasureT-loop
 μ-loop s i n d₀ o terms at₀ m₀ d at m = n - m
 
 loop-holds : tie.Need-loop-holds Inv-loop μ-loop
-loop-holds c = (omega arith, scratched-none _ _ _, λ f h. testing-start h)
+loop-holds c = (omega arith, scratched-none _ _ _, λ f h. testing-start (kept-none _ _ _) h)
 
 kind-requires : tie.Need-kind-requires Inv-loop μ-loop
 kind-requires c κs =
@@ -162,8 +162,7 @@ loop-again c =
           let not-among = ap (λ m. not (among m (x .before))) (sym e)
           ∙ sym (new .is-new .ensures (x .before) w)
           ∙ not-false (new .is-new .result) (c .before .before .before .before .if2 .left) in
-          testing-step x t z not-among (members-few q) (w .room) v (noted .note-at .result) e (omega (arith, b)) (k .note-known)
-          (kept .last .0) (kept .ensures),
+          testing-step x t z not-among v (noted .note-at .result) e (k .note-known) (kept-more w v (omega (arith, b)) (kept .last .0) (kept .ensures)),
     )
 
 same-length-3 : tie.Need-same-length-3 Inv-loop μ-loop
