@@ -67,6 +67,7 @@ static void minus_sums(unsigned n) { minus(n, halves_sum); }
 static void minus_searched(unsigned n) { minus(n, searched_sum); }
 static void plus_powers(unsigned n) { plus(n, own_power); }
 static void plus_searched(unsigned n) { plus(n, searched_power); }
+static void minus_searched_powers(unsigned n) { minus(n, searched_power); }
 static void nested_powers(unsigned n) { chain(3, n, own_power); }
 static void chain_halves(unsigned n) { chain(2, n, halves_power); }
 static void chain_quarters(unsigned n) { chain(2, n, quarters_power); }
@@ -126,7 +127,8 @@ static const struct { const char *name; void (*find)(void), (*make)(unsigned); i
     {"minus-15-bits", sums_in_15, minus_searched, 1, NULL}, {"flags-agree", powers_at_flags, chain_searched, 1, NULL},
     {"plus-flags", powers_at_flags, plus_searched, 1, NULL}, {"whole-key-agrees", powers_in_all, chain_searched, 1, NULL},
     {"plus-whole-key", powers_in_all, plus_searched, 1, NULL}, {"minus-whole-key", sums_in_all, minus_searched, 1, NULL},
-    {"powers-agree", powers_by_twos, chain_searched, 1, NULL},
+    {"powers-agree", powers_by_twos, chain_searched, 1, NULL}, {"minus-near", exponents_near, minus_searched_powers, 1, NULL},
+    {"whole-key-near", powers_in_all_near, chain_searched, 1, NULL}, {"plus-whole-key-near", powers_in_all_near, plus_searched, 1, NULL},
     {"same-wide", NULL, wide, 2, NULL}, {"same-deep", NULL, deep, 2, NULL},
     {"same-wide-turned", NULL, wide_turned, 2, NULL}, {"same-deep-turned", NULL, deep_turned, 2, NULL},
     {"same-wide-reversed", NULL, wide_reversed, 2, NULL}, {"same-reversed", NULL, reversed_integers, 2, NULL},

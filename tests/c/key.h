@@ -15,6 +15,3 @@ static inline uint32_t strewn(uint64_t v, uint32_t c) { return stirred(before((u
 static inline uint32_t integer_key(uint64_t n) { return strewn(n, 0); }
 static inline uint32_t exponent_share(uint64_t e) { return strewn(e, 5); }
 static inline uint32_t power_key(uint64_t base, uint64_t exponent) { return 4 + integer_key(base) + exponent_share(exponent); }
-
-/* Keys that share few flags in the test for like members (note::still), however many members there are. */
-static inline int is_crowded(uint32_t key) { return key >> 23 == 0 && key * 0x85ebca6bu >> 23 == 0; }
