@@ -462,8 +462,11 @@ fn joined(s: Stand, f: usize, o: usize, m: usize) -> Stand
     t
 }
 
+// The most members of a member that is looked at before it is driven: at one that has more, a look in vain costs too much.
+const FEW: usize = 8;
+
 // Keeps the member at record q of work, of the node at record d of out, where it is finished as it stands: a leaf; or a node that is not opened there, that
-// has no members but leaves, and whose notes tell that no rule applies. It goes to record e of out, from which on there is scratch. Answers the number of its
+// has few members and all of them leaves, and whose notes tell that no rule applies. It goes to record e of out, from which on there is scratch. Answers the number of its
 // records, 0 where it is to be driven.
 fn keep_member(out: &mut [u8], work: &[u8], e: usize, q: usize, d: usize, edition: usize) -> usize
     requires { ⌜ (d < e) × ((t : Tree) × (rest : List ℕ) × Ready (now out) (now work) e q t rest) ⌝ }
@@ -479,6 +482,9 @@ fn keep_member(out: &mut [u8], work: &[u8], e: usize, q: usize, d: usize, editio
         return 0;
     }
     if record::arity(work, q) + 1 < (record::bits(work, q) % 0x1_0000) as usize {
+        return 0;
+    }
+    if FEW < record::arity(work, q) {
         return 0;
     }
     if note::still(work, q, out, e * 16, edition) {

@@ -37,7 +37,7 @@ abbrev read-of : Counted → Read
 read-of c = c .before .before .before .before .before .before .before
 
 abbrev counted-of : Looked → Counted
-counted-of c = c .before .before .before
+counted-of c = c .before .before .before .before .before
 
 -- the tree t stands there
 abbrev There : Entry → Tree → List ℕ → Type 0
@@ -65,7 +65,7 @@ few : (c : Looked) {t : Tree} {rest : List ℕ}
 few c h =
     let counted = counted-of c in
     let size = size-of counted h in
-    omega (arith, c .before .before .if3 .left, counted .before .arity .ensures .0)
+    omega (arith, c .before .before .before .before .if3 .left, counted .before .arity .ensures .0)
 
 kind-requires : tie.Need-kind-requires
 kind-requires c κs = record-within (noted-told (tree-pending (c .before .before .pre .1 .2)))
@@ -119,16 +119,27 @@ returns-3 c =
     let g = entry-of (read-of (c .before)) .args in
     λ t rest h. not-kept h (g .edition) (kind (g .out .now) (g .d)) _ refl
 
+arity-requires-2 : tie.Need-arity-requires-2
+arity-requires-2 c κs = record-within (noted-told (tree-pending (entry-of (read-of (c .before)) .pre .1 .2)))
+
+same-length-4 : tie.Need-same-length-4
+same-length-4 c = search needs
+
+returns-4 : tie.Need-returns-4
+returns-4 c =
+    let g = entry-of (read-of (c .before .before .before)) .args in
+    λ t rest h. not-kept h (g .edition) (kind (g .out .now) (g .d)) _ refl
+
 mul-still : tie.Need-mul-still
 mul-still c = search needs
 
 still-requires : tie.Need-still-requires
 still-requires c κs =
-    let q = entry-of (read-of (c .before .before)) .pre .1 in
+    let q = entry-of (read-of (c .before .before .before .before)) .pre .1 in
     (q .0, tree-pending (q .2), omega (arith, q .2 .out-room))
 
-arity-requires-2 : tie.Need-arity-requires-2
-arity-requires-2 c κs = record-within (noted-told (tree-pending (entry-of (read-of (counted-of (c .before .before .before))) .pre .1 .2)))
+arity-requires-3 : tie.Need-arity-requires-3
+arity-requires-3 c κs = record-within (noted-told (tree-pending (entry-of (read-of (counted-of (c .before .before .before))) .pre .1 .2)))
 
 add-n : tie.Need-add-n
 add-n c = search needs
@@ -150,28 +161,28 @@ copy-bytes-requires c κs =
     let q = entry-of (read-of (counted-of looked)) .pre .1 in
     let scratch = looked .still .ensures .1 (q .0) (tree-pending (q .2)) in
     let size = calm-size (q .2) (few looked (q .2)) in
-    let many = c .before .arity2 .ensures .0 in
+    let many = c .before .arity3 .ensures .0 in
     (omega (arith, room (q .2) .0, scratch .long), omega (arith, pending-ends (q .2)))
-
-same-length-4 : tie.Need-same-length-4
-same-length-4 c = search needs
-
-returns-4 : tie.Need-returns-4
-returns-4 c =
-    let looked = c .before .before .before .before .before .before .before .before in
-    let g = entry-of (read-of (counted-of looked)) .args in
-    λ t rest h.
-    let still = looked .still .ensures in
-    let there = tree-pending h in
-    calm-kept h (g .edition) (kind (g .out .now) (g .d)) (shut (counted-of looked)) _
-    (ap (λ a. a + 1) (c .before .before .before .before .arity2 .ensures .0) ∙ calm-size h (few looked h)) (few looked h)
-    (sym (still .0 t there) ∙ c .before .before .before .before .before .if4 .taken) (still .1 t there) _ (c .before .before .copy-bytes .ensures)
 
 same-length-5 : tie.Need-same-length-5
 same-length-5 c = search needs
 
 returns-5 : tie.Need-returns-5
 returns-5 c =
+    let looked = c .before .before .before .before .before .before .before .before in
+    let g = entry-of (read-of (counted-of looked)) .args in
+    λ t rest h.
+    let still = looked .still .ensures in
+    let there = tree-pending h in
+    calm-kept h (g .edition) (kind (g .out .now) (g .d)) (shut (counted-of looked)) _
+    (ap (λ a. a + 1) (c .before .before .before .before .arity3 .ensures .0) ∙ calm-size h (few looked h)) (few looked h)
+    (sym (still .0 t there) ∙ c .before .before .before .before .before .if5 .taken) (still .1 t there) _ (c .before .before .copy-bytes .ensures)
+
+same-length-6 : tie.Need-same-length-6
+same-length-6 c = search needs
+
+returns-6 : tie.Need-returns-6
+returns-6 c =
     let looked = c .before .before .before in
     let g = entry-of (read-of (counted-of looked)) .args in
     λ t rest h. not-kept h (g .edition) (kind (g .out .now) (g .d)) _ (looked .still .ensures .1 t (tree-pending h) .before)
@@ -193,15 +204,18 @@ keep-member-spec =
     bits-requires
     same-length-3
     returns-3
+    arity-requires-2
+    same-length-4
+    returns-4
     mul-still
     still-requires
-    arity-requires-2
+    arity-requires-3
     add-n
     mul-copy-bytes
     mul-copy-bytes-2
     mul-copy-bytes-3
     copy-bytes-requires
-    same-length-4
-    returns-4
     same-length-5
-    returns-5)
+    returns-5
+    same-length-6
+    returns-6)
