@@ -2,3 +2,4 @@ pub mod Listed
 pub mod Stays
 pub mod Walked
 pub mod Lone
+pub mod Numbers
