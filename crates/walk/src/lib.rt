@@ -21,6 +21,7 @@ ghost use Rattle.walk.specs.Walked.{keyOf, Meeting, Keepable, KeptIs, Tu
 
 mod lone;
 mod numbers;
+mod spread;
 
 // What the walk answers: nothing was removed; the range is left; how many members came out, where they end, and the record of the
 // only one of them that was no member before, or 0.

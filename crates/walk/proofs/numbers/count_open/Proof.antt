@@ -1,46 +1,45 @@
--- `walk::numbers::count_open` meets its contract: after k turns the first k entries are counted (`counted-more`). Assumes nothing.
-use Prim.Native.Nat.{ℕ, _+_, _-_, _*_, _%_, _≤_, _<_}
-use mathlib.Core.Path.{_≡_, refl, sym, ap, _∙_, subst}
+-- `walk::numbers::count_open` meets its contract: after k turns at most k entries are counted. Assumes nothing.
+use Prim.Native.Nat.{_-_, _≤_}
 use native.Mathlib.Omega.{arith}
-use Rattle.walk.specs.Numbers.{Counted}
-use Rattle.walk.proofs.NumbersLaws.{counted-begins, counted-more}
+use borrow.Author.Needs.{needs}
 use Rattle.walk.proofs.numbers.count_open.Statement.{statement}
 use Rattle.walk.proofs.numbers.count_open.Tie as tie
 
 abbrev Inv-loop : tie.InvT-loop
-Inv-loop out₀ work at p n f k₀ many₀ out k many = (k ≤ n) × (many ≤ k) × Counted out₀ out work p at n f k
+Inv-loop work n many₀ k₀ many k = (many ≤ k) × (k ≤ n)
 
 abbrev μ-loop : tie.MeasureT-loop
-μ-loop out₀ work at p n f k₀ many₀ out k many = n - k
+μ-loop work n many₀ k₀ many k = n - k
 
 loop-holds : tie.Need-loop-holds Inv-loop μ-loop
-loop-holds c = (omega arith, omega arith, counted-begins _ _ _ _ _ _)
+loop-holds c = search needs
 
-count-one-requires : tie.Need-count-one-requires Inv-loop μ-loop
-count-one-requires c κs = let q = c .before .before .before .before .before .pre in (q .0, c .before .loop-test .taken, omega (arith, q .1, c .before .before .loop .inv .2 .long), q .2)
+mul-is-open : tie.Need-mul-is-open Inv-loop μ-loop
+mul-is-open c = search needs
+
+add-is-open : tie.Need-add-is-open Inv-loop μ-loop
+add-is-open c = search needs
+
+shared-slice-read-is-open : tie.Need-shared-slice-read-is-open Inv-loop μ-loop
+shared-slice-read-is-open c = search needs
+
+is-open-requires : tie.Need-is-open-requires Inv-loop μ-loop
+is-open-requires c κs = search needs
 
 add-many : tie.Need-add-many Inv-loop μ-loop
-add-many c = record { fits = omega (arith, c .before .before .before .before .before .loop .inv .1, c .before .before .before .before .loop-test .taken, c .before .before .before .before .before .before .before .before .pre .0 .few, c .before .before .count-one .ensures .0) }
+add-many c = search needs
 
 add-k : tie.Need-add-k Inv-loop μ-loop
-add-k c = record { fits = omega (arith, c .before .before .before .before .loop-test .taken, c .before .before .before .before .before .before .before .before .pre .0 .few) }
+add-k c = search needs
 
 loop-less : tie.Need-loop-less Inv-loop μ-loop
-loop-less c = omega (arith, c .before .before .before .before .loop-test .taken)
+loop-less c = search needs
 
 loop-again : tie.Need-loop-again Inv-loop μ-loop
-loop-again c =
-    let v = c .before .before .before .before .before .loop .inv in
-    let q = c .before .before .before .before .before .before .before .before .pre in
-    let less = c .before .before .before .before .loop-test .taken in
-    let one = c .before .before .count-one in
-    (omega (arith, less), omega (arith, v .1, one .ensures .0), counted-more (v .2) (q .0) less (q .1) _ (one .ensures .1))
-
-same-length : tie.Need-same-length Inv-loop μ-loop
-same-length c = c .before .loop .inv .2 .long
+loop-again c = search needs
 
 returns : tie.Need-returns Inv-loop μ-loop
-returns c = let e : c .before .loop .k ≡ c .before .before .before .before .args .n = omega (arith, c .before .loop .inv .0, c .loop-test .left) in rw e at (c .before .loop .inv .2)
+returns c = search needs
 
 pub count-open-spec : {M : Type 1} → statement M
 count-open-spec =
@@ -49,10 +48,12 @@ count-open-spec =
     Inv-loop
     μ-loop
     loop-holds
-    count-one-requires
+    mul-is-open
+    add-is-open
+    shared-slice-read-is-open
+    is-open-requires
     add-many
     add-k
     loop-less
     loop-again
-    same-length
     returns)
