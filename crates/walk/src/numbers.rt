@@ -8,6 +8,7 @@ ghost use mathlib.Core.Bool.{Bool, true};
 ghost use mathlib.Core.List.{List};
 ghost use Prim.Native.Nat.{ℕ, _+_, _*_, _≤_, _<_};
 ghost use lib.ListN.{length};
+ghost use Rattle.paper.specs.Limits.{modulus};
 ghost use Rattle.paper.specs.Tree.{Tree};
 ghost use Rattle.split.specs.Standing.{Told, SomeTold};
 ghost use Rattle.walk.specs.Listed.{Entry, Listed};
@@ -21,14 +22,14 @@ const ROUNDS: usize = 5;
 // So many open entries at least are worth a round, and so many pairs of one of them and another.
 const FEW: usize = 3;
 
-const PAIRS: usize = 1024;
+const PAIRS: usize = 512;
 
 // So many entries about are tried first, and so many of them that share a flag say that a round is in vain.
 const TRIES: usize = 32;
 
 const VAIN: usize = 8;
 
-// The factor of the first round, and that of factors.
+// What makes the factor of the first round of a number, and that of factors.
 const FACTOR: u64 = 0x9e37_79b9_7f4a_7c15;
 
 const NEXT: u64 = 0xd6e8_feb8_6659_fd93;
@@ -252,6 +253,15 @@ fn pays(m: usize, n: usize) -> bool
     PAIRS <= m * n
 }
 
+// The factor of the first round for the members of the node at record p, which the node's own key names: any number is right.
+fn factor(work: &[u8], p: usize) -> u64
+    requires { ⌜ p * 16 + 16 ≤ length (now work) ⌝ }
+    ensures { λ r. ⌜ r < modulus ⌝ }
+{
+    let odd = record::bits(work, p) / 0x1_0000_0000 * 2 + 1;
+    number::wrapping_mul(odd, FACTOR)
+}
+
 // Tells of more members that they are like no other, where the keys are told: about twice as many are open after a round as share a flag in it.
 pub fn tell_numbers(out: &mut [u8], work: &mut [u8], d: usize, p: usize, n: usize, terms: bool)
     requires { ⌜ ((l : List Tree) × Listed terms (now work) p n l) × (0 < n) × (n < 65536) × ((d + 1) * 16 + n * 16 ≤ length (now out)) ⌝ }
@@ -261,7 +271,7 @@ pub fn tell_numbers(out: &mut [u8], work: &mut [u8], d: usize, p: usize, n: usiz
     if !pays(m, n) {
         return;
     }
-    let mut f = FACTOR;
+    let mut f = factor(work, p);
     if VAIN <= put_down(out, work, d, p, n, m, f, false, terms) {
         return;
     }

@@ -4,6 +4,7 @@ use mathlib.Core.Path.{_≡_, refl, sym, ap, _∙_, subst}
 use native.Mathlib.Omega.{arith}
 use borrow.Author.Needs.{needs}
 use borrow.Author.Tests.{not-true, not-false}
+use Rattle.note.proofs.ToldLaws.{record-within}
 use Rattle.walk.specs.Numbers.{Numbered, ToldMore}
 use Rattle.walk.proofs.NumbersLaws.{listed-numbered, numbered-still, told-none, told-both}
 use Rattle.walk.proofs.numbers.tell_numbers.Statement.{statement}
@@ -27,12 +28,19 @@ same-length c = search needs
 returns : tie.Need-returns Inv-loop μ-loop
 returns c = told-none _ _ _ _ _ _
 
+factor-requires : tie.Need-factor-requires Inv-loop μ-loop
+factor-requires c κs =
+    let g = c .before .before .before .before .before .before .before .args in
+    let q = c .before .before .before .before .before .before .before .pre in
+    let first = listed-numbered (g .terms) (g .work .now) (g .p) (g .n) (q .0 .0) (q .0 .1) (q .1) (q .2) .there 0 (q .1) in
+    omega (arith, record-within (first .1 .there))
+
 put-down-requires : tie.Need-put-down-requires Inv-loop μ-loop
 put-down-requires c κs =
-    let g = c .before .before .before .before .before .before .before .before .args in
-    let q = c .before .before .before .before .before .before .before .before .pre in
-    let paid = c .before .before .before .pays in
-    (listed-numbered (g .terms) (g .work .now) (g .p) (g .n) (q .0 .0) (q .0 .1) (q .1) (q .2), paid .ensures (not-false (paid .result) (c .before .before .if1 .left)), c .before .before .before .before .count-open .ensures, q .3)
+    let g = c .before .before .before .before .before .before .before .before .before .before .args in
+    let q = c .before .before .before .before .before .before .before .before .before .before .pre in
+    let paid = c .before .before .before .before .before .pays in
+    (listed-numbered (g .terms) (g .work .now) (g .p) (g .n) (q .0 .0) (q .0 .1) (q .1) (q .2), paid .ensures (not-false (paid .result) (c .before .before .before .before .if1 .left)), c .before .before .before .before .before .before .count-open .ensures, q .3)
 
 same-length-2 : tie.Need-same-length-2 Inv-loop μ-loop
 same-length-2 c = search needs
@@ -45,13 +53,13 @@ returns-2 c = c .before .before .before .before .before .put-down .ensures .1
 
 loop-holds : tie.Need-loop-holds Inv-loop μ-loop
 loop-holds c =
-    let paid = c .before .before .before .before .before .before .before .before .before .pays in
-    (paid .ensures (not-false (paid .result) (c .before .before .before .before .before .before .before .before .if1 .left)), c .before .before .before .before .before .before .before .before .before .before .count-open .ensures, told-none _ _ _ _ _ _)
+    let paid = c .before .before .before .before .before .before .before .before .before .before .before .pays in
+    (paid .ensures (not-false (paid .result) (c .before .before .before .before .before .before .before .before .before .before .if1 .left)), c .before .before .before .before .before .before .before .before .before .before .before .before .count-open .ensures, told-none _ _ _ _ _ _)
 
 put-down-requires-2 : tie.Need-put-down-requires-2 Inv-loop μ-loop
 put-down-requires-2 c κs =
-    let g = c .before .before .before .before .before .before .before .before .before .before .before .before .before .before .before .before .before .before .args in
-    let q = c .before .before .before .before .before .before .before .before .before .before .before .before .before .before .before .before .before .before .pre in
+    let g = c .before .before .before .before .before .before .before .before .before .before .before .before .before .before .before .before .before .before .before .before .args in
+    let q = c .before .before .before .before .before .before .before .before .before .before .before .before .before .before .before .before .before .before .before .before .pre in
     let v = c .before .before .before .loop .inv in
     let first = c .before .before .before .before .before .before .before .before .before .put-down .ensures .1 in
     let begun = listed-numbered (g .terms) (g .work .now) (g .p) (g .n) (q .0 .0) (q .0 .1) (q .1) (q .2) in
@@ -124,6 +132,7 @@ tell-numbers-spec =
     pays-requires
     same-length
     returns
+    factor-requires
     put-down-requires
     same-length-2
     same-length-3
