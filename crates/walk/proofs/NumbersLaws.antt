@@ -33,7 +33,7 @@ use Rattle.stretch.specs.Put.{put}
 use Rattle.stretch.proofs.Laws.{length-put, take-put, drop-put-at, getD-put-before, getD-put-after}
 use Rattle.walk.specs.Listed.{shortKey, bitsOf, Entry, Entries, Listed}
 use Rattle.walk.specs.Stays.{isInteger}
-use Rattle.walk.specs.Spread.{spread, restSpread}
+use Rattle.walk.specs.Spread.{stirred, spread, restSpread}
 use Rattle.walk.specs.Numbers.{wordOf, placeOf, exponentFlag, baseFlag, restFlag, firstFlag, secondFlag, heldAt, highOf, filled, Meets}
 use Rattle.walk.specs.Numbers.{Numbered, Put, BitsOnly, Unmarked, MarkedIf, Visited, PutDown, Passed, Lonely, ToldMore, AfterTelling}
 use Rattle.walk.proofs.SpreadLaws.{same-spread, same-integer, same-rest}
@@ -160,7 +160,7 @@ keyed-lonely b w p n h i j hi hj apart bit t u et eu = (
 pub place-lt : (f n v : ℕ) → 0 < n → placeOf f n v < n
 unfolding placeOf
 place-lt f n v h =
-    let x = v * f % modulus / 4294967296 in
+    let x = stirred v * f % modulus / 4294967296 in
     let a : x < 4294967296 = omega arith in
     let b : x * n < 4294967296 * n = mul-lt-mul-of-pos-right a h in
     omega (arith, b)

@@ -17,7 +17,7 @@ use Rattle.stretch.specs.Put.{put}
 use Rattle.part.specs.Like.{split, merge}
 use Rattle.walk.specs.Listed.{bitsOf, Entry}
 use Rattle.walk.specs.Stays.{isInteger}
-use Rattle.walk.specs.Spread.{spread, restSpread}
+use Rattle.walk.specs.Spread.{stirred, spread, restSpread}
 
 -- the bits of an integer
 unfoldable pub wordOf : Tree → ℕ
@@ -27,9 +27,9 @@ wordOf (sum μ f) = 0
 wordOf (product μ f) = 0
 wordOf (power μ b ξ e) = 0
 
--- which of n flags the number v has, by the factor f
+-- which of n flags the number v has, by the factor f: v is stirred first, for a factor that suits all numbers in a row there is none
 unfoldable pub placeOf : ℕ → ℕ → ℕ → ℕ
-placeOf f n v = v * f % modulus / 4294967296 * n / 4294967296
+placeOf f n v = stirred v * f % modulus / 4294967296 * n / 4294967296
 
 -- the flags of a base with an exponent: where it is an integer, one for the exponent and one for the base, else one for the base
 unfoldable pub exponentFlag : (f m : ℕ) → Tree → ℕ → ℕ

@@ -17,7 +17,7 @@ fn flag_of(work: &[u8], k: usize, n: usize) -> usize
 }
 
 // A count with one more.
-pub fn more(count: u8) -> u8
+fn more(count: u8) -> u8
     ensures { λ r. ⌜ r ≡ oneMore count ⌝ }
 {
     if count < 1 {

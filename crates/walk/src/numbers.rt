@@ -24,10 +24,12 @@ const FEW: usize = 3;
 
 const PAIRS: usize = 512;
 
-// So many entries about are tried first, and so many of them that share a flag say that a round is in vain.
-const TRIES: usize = 32;
+// So many entries about are tried first, at so many times 8 flags, and so many of them that share a flag say that a round is in vain.
+const TRIES: usize = 16;
 
-const VAIN: usize = 8;
+const ROOM: usize = 64;
+
+const VAIN: usize = 4;
 
 // What makes the factor of the first round of a number, and that of factors.
 const FACTOR: u64 = 0x9e37_79b9_7f4a_7c15;
@@ -51,7 +53,8 @@ fn place(v: u64, n: usize, f: u64) -> usize
     requires { ⌜ (0 < n) × (n < 1048576) ⌝ }
     ensures { λ r. ⌜ (r ≡ placeOf f n v) × (r < n) ⌝ }
 {
-    (number::wrapping_mul(v, f) / 0x1_0000_0000 * n as u64 / 0x1_0000_0000) as usize
+    let x = number::wrapping_mul(spread::stirred(v), f);
+    (x / 0x1_0000_0000 * n as u64 / 0x1_0000_0000) as usize
 }
 
 // The flags of the member at record i, of a sum (terms) or of a product, among 8 m.
@@ -262,6 +265,16 @@ fn factor(work: &[u8], p: usize) -> u64
     number::wrapping_mul(odd, FACTOR)
 }
 
+// Eighths of the flags for the entries that are tried first, of which m are open.
+fn tried(m: usize) -> usize
+    ensures { λ r. ⌜ (r ≤ m) × (0 < m → 0 < r) ⌝ }
+{
+    if m < ROOM {
+        return m;
+    }
+    ROOM
+}
+
 // Tells of more members that they are like no other, where the keys are told: about twice as many are open after a round as share a flag in it.
 pub fn tell_numbers(out: &mut [u8], work: &mut [u8], d: usize, p: usize, n: usize, terms: bool)
     requires { ⌜ ((l : List Tree) × Listed terms (now work) p n l) × (0 < n) × (n < 65536) × ((d + 1) * 16 + n * 16 ≤ length (now out)) ⌝ }
@@ -272,7 +285,8 @@ pub fn tell_numbers(out: &mut [u8], work: &mut [u8], d: usize, p: usize, n: usiz
         return;
     }
     let mut f = factor(work, p);
-    if VAIN <= put_down(out, work, d, p, n, m, f, false, terms) {
+    let few = tried(m);
+    if VAIN <= put_down(out, work, d, p, n, few, f, false, terms) {
         return;
     }
     let mut r = 0;

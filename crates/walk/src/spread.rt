@@ -13,7 +13,7 @@ ghost use Rattle.walk.specs.Spread.{stirred, shareIn, spread, restSpread
 const KIND: u64 = 0x5a_8279_9950_7d31;
 
 // v stirred, so that no simple relation brings sums of such numbers to agree.
-fn stirred(v: u64) -> u64
+pub fn stirred(v: u64) -> u64
     ensures { λ r. ⌜ r ≡ stirred v ⌝ }
 {
     let y = number::wrapping_mul(v, 0x9e37_79b9_7f4a_7c15);

@@ -11,10 +11,10 @@ use Rattle.walk.proofs.numbers.tell_numbers.Statement.{statement}
 use Rattle.walk.proofs.numbers.tell_numbers.Tie as tie
 
 abbrev Inv-loop : tie.InvT-loop
-Inv-loop out₀ work₀ d p n terms m₀ f₀ r₀ out work m f r = (0 < m) × (m ≤ n) × ToldMore terms out₀ out work₀ work d p n
+Inv-loop out₀ work₀ d p n terms few m₀ f₀ r₀ out work m f r = (0 < m) × (m ≤ n) × ToldMore terms out₀ out work₀ work d p n
 
 abbrev μ-loop : tie.MeasureT-loop
-μ-loop out₀ work₀ d p n terms m₀ f₀ r₀ out work m f r = 5 - r
+μ-loop out₀ work₀ d p n terms few m₀ f₀ r₀ out work m f r = 5 - r
 
 count-open-requires : tie.Need-count-open-requires Inv-loop μ-loop
 count-open-requires c κs = let q = c .before .before .before .pre in (q .2, omega (arith, q .0 .1 .low, q .0 .1 .within))
@@ -35,12 +35,20 @@ factor-requires c κs =
     let first = listed-numbered (g .terms) (g .work .now) (g .p) (g .n) (q .0 .0) (q .0 .1) (q .1) (q .2) .there 0 (q .1) in
     omega (arith, record-within (first .1 .there))
 
+tried-requires : tie.Need-tried-requires Inv-loop μ-loop
+tried-requires c κs = search needs
+
 put-down-requires : tie.Need-put-down-requires Inv-loop μ-loop
 put-down-requires c κs =
-    let g = c .before .before .before .before .before .before .before .before .before .before .args in
-    let q = c .before .before .before .before .before .before .before .before .before .before .pre in
-    let paid = c .before .before .before .before .before .pays in
-    (listed-numbered (g .terms) (g .work .now) (g .p) (g .n) (q .0 .0) (q .0 .1) (q .1) (q .2), paid .ensures (not-false (paid .result) (c .before .before .before .before .if1 .left)), c .before .before .before .before .before .before .count-open .ensures, q .3)
+    let g = c .before .before .before .before .before .before .before .before .before .before .before .args in
+    let q = c .before .before .before .before .before .before .before .before .before .before .before .pre in
+    let few = c .before .before .tried .ensures in
+    let paid = c .before .before .before .before .before .before .pays in (
+      listed-numbered (g .terms) (g .work .now) (g .p) (g .n) (q .0 .0) (q .0 .1) (q .1) (q .2),
+      few .1 (paid .ensures (not-false (paid .result) (c .before .before .before .before .before .if1 .left))),
+      omega (arith, few .0, c .before .before .before .before .before .before .before .count-open .ensures),
+      q .3,
+    )
 
 same-length-2 : tie.Need-same-length-2 Inv-loop μ-loop
 same-length-2 c = search needs
@@ -53,13 +61,13 @@ returns-2 c = c .before .before .before .before .before .put-down .ensures .1
 
 loop-holds : tie.Need-loop-holds Inv-loop μ-loop
 loop-holds c =
-    let paid = c .before .before .before .before .before .before .before .before .before .before .before .pays in
-    (paid .ensures (not-false (paid .result) (c .before .before .before .before .before .before .before .before .before .before .if1 .left)), c .before .before .before .before .before .before .before .before .before .before .before .before .count-open .ensures, told-none _ _ _ _ _ _)
+    let paid = c .before .before .before .before .before .before .before .before .before .before .before .before .pays in
+    (paid .ensures (not-false (paid .result) (c .before .before .before .before .before .before .before .before .before .before .before .if1 .left)), c .before .before .before .before .before .before .before .before .before .before .before .before .before .count-open .ensures, told-none _ _ _ _ _ _)
 
 put-down-requires-2 : tie.Need-put-down-requires-2 Inv-loop μ-loop
 put-down-requires-2 c κs =
-    let g = c .before .before .before .before .before .before .before .before .before .before .before .before .before .before .before .before .before .before .before .before .args in
-    let q = c .before .before .before .before .before .before .before .before .before .before .before .before .before .before .before .before .before .before .before .before .pre in
+    let g = c .before .before .before .before .before .before .before .before .before .before .before .before .before .before .before .before .before .before .before .before .before .args in
+    let q = c .before .before .before .before .before .before .before .before .before .before .before .before .before .before .before .before .before .before .before .before .before .pre in
     let v = c .before .before .before .loop .inv in
     let first = c .before .before .before .before .before .before .before .before .before .put-down .ensures .1 in
     let begun = listed-numbered (g .terms) (g .work .now) (g .p) (g .n) (q .0 .0) (q .0 .1) (q .1) (q .2) in
@@ -133,6 +141,7 @@ tell-numbers-spec =
     same-length
     returns
     factor-requires
+    tried-requires
     put-down-requires
     same-length-2
     same-length-3
