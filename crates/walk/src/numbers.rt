@@ -17,12 +17,15 @@ use crate::lone;
 use crate::spread;
 
 // So many rounds at most.
-const ROUNDS: usize = 5;
+const ROUNDS: usize = 4;
 
 // So many open entries at least are worth a round, and so many pairs of one of them and another.
-const FEW: usize = 3;
+const FEW: usize = 2;
 
 const PAIRS: usize = 512;
+
+// So many entries at the front, where all of them are open, are enough to take all for open.
+const FRONT: usize = 64;
 
 // So many entries about are tried first, at so many times 8 flags, and so many of them that share a flag say that a round is in vain.
 const TRIES: usize = 16;
@@ -245,6 +248,20 @@ fn count_open(work: &[u8], n: usize) -> usize
     many
 }
 
+// The same of so many that it is seen at the front: where all there are open all n are taken for it.
+fn many_open(work: &[u8], n: usize) -> usize
+    requires { ⌜ (n < 65536) × (n * 4 ≤ length (now work)) ⌝ }
+    ensures { λ r. ⌜ r ≤ n ⌝ }
+{
+    if n <= FRONT {
+        return count_open(work, n);
+    }
+    if count_open(work, FRONT) == FRONT {
+        return n;
+    }
+    count_open(work, n)
+}
+
 // A round over n entries of which m are open pays.
 fn pays(m: usize, n: usize) -> bool
     requires { ⌜ (m < 65536) × (n < 65536) ⌝ }
@@ -280,7 +297,7 @@ pub fn tell_numbers(out: &mut [u8], work: &mut [u8], d: usize, p: usize, n: usiz
     requires { ⌜ ((l : List Tree) × Listed terms (now work) p n l) × (0 < n) × (n < 65536) × ((d + 1) * 16 + n * 16 ≤ length (now out)) ⌝ }
     ensures { λ _. ⌜ ToldMore terms (now (out .entry)) (now (out .exit)) (now (work .entry)) (now (work .exit)) d p n ⌝ }
 {
-    let mut m = count_open(work, n);
+    let mut m = many_open(work, n);
     if !pays(m, n) {
         return;
     }

@@ -14,10 +14,10 @@ abbrev Inv-loop : tie.InvT-loop
 Inv-loop out₀ work₀ d p n terms few m₀ f₀ r₀ out work m f r = (0 < m) × (m ≤ n) × ToldMore terms out₀ out work₀ work d p n
 
 abbrev μ-loop : tie.MeasureT-loop
-μ-loop out₀ work₀ d p n terms few m₀ f₀ r₀ out work m f r = 5 - r
+μ-loop out₀ work₀ d p n terms few m₀ f₀ r₀ out work m f r = 4 - r
 
-count-open-requires : tie.Need-count-open-requires Inv-loop μ-loop
-count-open-requires c κs = let q = c .before .before .before .pre in (q .2, omega (arith, q .0 .1 .low, q .0 .1 .within))
+many-open-requires : tie.Need-many-open-requires Inv-loop μ-loop
+many-open-requires c κs = let q = c .before .before .before .pre in (q .2, omega (arith, q .0 .1 .low, q .0 .1 .within))
 
 pays-requires : tie.Need-pays-requires Inv-loop μ-loop
 pays-requires c κs = search needs
@@ -46,7 +46,7 @@ put-down-requires c κs =
     let paid = c .before .before .before .before .before .before .pays in (
       listed-numbered (g .terms) (g .work .now) (g .p) (g .n) (q .0 .0) (q .0 .1) (q .1) (q .2),
       few .1 (paid .ensures (not-false (paid .result) (c .before .before .before .before .before .if1 .left))),
-      omega (arith, few .0, c .before .before .before .before .before .before .before .count-open .ensures),
+      omega (arith, few .0, c .before .before .before .before .before .before .before .many-open .ensures),
       q .3,
     )
 
@@ -62,7 +62,7 @@ returns-2 c = c .before .before .before .before .before .put-down .ensures .1
 loop-holds : tie.Need-loop-holds Inv-loop μ-loop
 loop-holds c =
     let paid = c .before .before .before .before .before .before .before .before .before .before .before .before .pays in
-    (paid .ensures (not-false (paid .result) (c .before .before .before .before .before .before .before .before .before .before .before .if1 .left)), c .before .before .before .before .before .before .before .before .before .before .before .before .before .count-open .ensures, told-none _ _ _ _ _ _)
+    (paid .ensures (not-false (paid .result) (c .before .before .before .before .before .before .before .before .before .before .before .if1 .left)), c .before .before .before .before .before .before .before .before .before .before .before .before .before .many-open .ensures, told-none _ _ _ _ _ _)
 
 put-down-requires-2 : tie.Need-put-down-requires-2 Inv-loop μ-loop
 put-down-requires-2 c κs =
@@ -136,7 +136,7 @@ tell-numbers-spec =
     (tie.spec
     Inv-loop
     μ-loop
-    count-open-requires
+    many-open-requires
     pays-requires
     same-length
     returns
