@@ -284,8 +284,8 @@ fn answer(count: usize, n: usize, e: usize, late: bool, new: usize, f: usize) ->
     Walked::Done(n, e, 0)
 }
 
-// Tells which of the n listed members are like no other, unless they are too few for that to pay: by their keys, and those whose bases are integers, in a
-// product, by exponents and bases.
+// Tells which of the n listed members are like no other, unless they are too few for that to pay: by their keys, and those that keys do not tell apart by
+// exponents, bases and spreads.
 fn tell_lone(out: &mut [u8], work: &mut [u8], d: usize, p: usize, n: usize, terms: bool) -> bool
     requires { ⌜ ((l : List Tree) × Listed terms (now work) p n l) × (n < 65536) × ((d + 1) * 16 + n * 16 ≤ length (now out)) ⌝ }
     ensures { λ r. ⌜ AfterTelling terms (now (out .entry)) (now (out .exit)) (now (work .entry)) (now (work .exit)) d p n r ⌝ }

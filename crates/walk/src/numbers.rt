@@ -27,12 +27,13 @@ const PAIRS: usize = 512;
 // So many entries at the front, where all of them are open, are enough to take all for open.
 const FRONT: usize = 64;
 
-// So many entries about are tried first, at so many times 8 flags, and so many of them that share a flag say that a round is in vain.
+// So many entries about are tried first, and so many of them that share a flag say that a round is in vain.
 const TRIES: usize = 16;
 
-const ROOM: usize = 64;
-
 const VAIN: usize = 4;
+
+// So many eighths of the flags for each open entry.
+const SPARSE: usize = 8;
 
 // What makes the factor of the first round of a number, and that of factors.
 const FACTOR: u64 = 0x9e37_79b9_7f4a_7c15;
@@ -282,14 +283,16 @@ fn factor(work: &[u8], p: usize) -> u64
     number::wrapping_mul(odd, FACTOR)
 }
 
-// Eighths of the flags for the entries that are tried first, of which m are open.
-fn tried(m: usize) -> usize
-    ensures { λ r. ⌜ (r ≤ m) × (0 < m → 0 < r) ⌝ }
+// Eighths of the flags for n entries of which m are open: the fewer they are the less they share one.
+fn room(m: usize, n: usize) -> usize
+    requires { ⌜ (m < 65536) × (0 < m) × (m ≤ n) ⌝ }
+    ensures { λ r. ⌜ (r ≤ n) × (0 < r) ⌝ }
 {
-    if m < ROOM {
-        return m;
+    let w = m * SPARSE;
+    if n < w {
+        return n;
     }
-    ROOM
+    w
 }
 
 // Tells of more members that they are like no other, where the keys are told: about twice as many are open after a round as share a flag in it.
@@ -302,13 +305,13 @@ pub fn tell_numbers(out: &mut [u8], work: &mut [u8], d: usize, p: usize, n: usiz
         return;
     }
     let mut f = factor(work, p);
-    let few = tried(m);
-    if VAIN <= put_down(out, work, d, p, n, few, f, false, terms) {
+    if VAIN <= put_down(out, work, d, p, n, m, f, false, terms) {
         return;
     }
     let mut r = 0;
     while r < ROUNDS {
-        let shared = put_down(out, work, d, p, n, m, f, true, terms);
+        let wide = room(m, n);
+        let shared = put_down(out, work, d, p, n, wide, f, true, terms);
         if m < shared * 3 {
             return;
         }

@@ -1,4 +1,4 @@
--- `walk::tell_lone` meets its contract: what the keys tell, and of members whose bases are integers what their exponents and bases tell. Assumes nothing.
+-- `walk::tell_lone` meets its contract: what the keys tell, and of members that they do not tell apart what the flags tell. Assumes nothing.
 use Prim.Native.Nat.{ℕ, _+_, _-_, _*_, _%_, _≤_, _<_}
 use mathlib.Core.Path.{_≡_, refl, sym, ap, _∙_, subst}
 use native.Mathlib.Omega.{arith}

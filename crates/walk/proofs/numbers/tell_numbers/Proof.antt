@@ -11,10 +11,10 @@ use Rattle.walk.proofs.numbers.tell_numbers.Statement.{statement}
 use Rattle.walk.proofs.numbers.tell_numbers.Tie as tie
 
 abbrev Inv-loop : tie.InvT-loop
-Inv-loop out₀ work₀ d p n terms few m₀ f₀ r₀ out work m f r = (0 < m) × (m ≤ n) × ToldMore terms out₀ out work₀ work d p n
+Inv-loop out₀ work₀ d p n terms m₀ f₀ r₀ out work m f r = (0 < m) × (m ≤ n) × ToldMore terms out₀ out work₀ work d p n
 
 abbrev μ-loop : tie.MeasureT-loop
-μ-loop out₀ work₀ d p n terms few m₀ f₀ r₀ out work m f r = 4 - r
+μ-loop out₀ work₀ d p n terms m₀ f₀ r₀ out work m f r = 4 - r
 
 many-open-requires : tie.Need-many-open-requires Inv-loop μ-loop
 many-open-requires c κs = let q = c .before .before .before .pre in (q .2, omega (arith, q .0 .1 .low, q .0 .1 .within))
@@ -35,20 +35,12 @@ factor-requires c κs =
     let first = listed-numbered (g .terms) (g .work .now) (g .p) (g .n) (q .0 .0) (q .0 .1) (q .1) (q .2) .there 0 (q .1) in
     omega (arith, record-within (first .1 .there))
 
-tried-requires : tie.Need-tried-requires Inv-loop μ-loop
-tried-requires c κs = search needs
-
 put-down-requires : tie.Need-put-down-requires Inv-loop μ-loop
 put-down-requires c κs =
-    let g = c .before .before .before .before .before .before .before .before .before .before .before .args in
-    let q = c .before .before .before .before .before .before .before .before .before .before .before .pre in
-    let few = c .before .before .tried .ensures in
-    let paid = c .before .before .before .before .before .before .pays in (
-      listed-numbered (g .terms) (g .work .now) (g .p) (g .n) (q .0 .0) (q .0 .1) (q .1) (q .2),
-      few .1 (paid .ensures (not-false (paid .result) (c .before .before .before .before .before .if1 .left))),
-      omega (arith, few .0, c .before .before .before .before .before .before .before .many-open .ensures),
-      q .3,
-    )
+    let g = c .before .before .before .before .before .before .before .before .before .before .args in
+    let q = c .before .before .before .before .before .before .before .before .before .before .pre in
+    let paid = c .before .before .before .before .before .pays in
+    (listed-numbered (g .terms) (g .work .now) (g .p) (g .n) (q .0 .0) (q .0 .1) (q .1) (q .2), paid .ensures (not-false (paid .result) (c .before .before .before .before .if1 .left)), c .before .before .before .before .before .before .many-open .ensures, q .3)
 
 same-length-2 : tie.Need-same-length-2 Inv-loop μ-loop
 same-length-2 c = search needs
@@ -61,17 +53,23 @@ returns-2 c = c .before .before .before .before .before .put-down .ensures .1
 
 loop-holds : tie.Need-loop-holds Inv-loop μ-loop
 loop-holds c =
-    let paid = c .before .before .before .before .before .before .before .before .before .before .before .before .pays in
-    (paid .ensures (not-false (paid .result) (c .before .before .before .before .before .before .before .before .before .before .before .if1 .left)), c .before .before .before .before .before .before .before .before .before .before .before .before .before .many-open .ensures, told-none _ _ _ _ _ _)
+    let paid = c .before .before .before .before .before .before .before .before .before .before .before .pays in
+    (paid .ensures (not-false (paid .result) (c .before .before .before .before .before .before .before .before .before .before .if1 .left)), c .before .before .before .before .before .before .before .before .before .before .before .before .many-open .ensures, told-none _ _ _ _ _ _)
+
+room-requires : tie.Need-room-requires Inv-loop μ-loop
+room-requires c κs =
+    let v = c .before .loop .inv in
+    let q = c .before .before .before .before .before .before .before .before .before .before .before .before .before .before .before .before .before .before .pre in
+    (omega (arith, v .1, q .2), v .0, v .1)
 
 put-down-requires-2 : tie.Need-put-down-requires-2 Inv-loop μ-loop
 put-down-requires-2 c κs =
     let g = c .before .before .before .before .before .before .before .before .before .before .before .before .before .before .before .before .before .before .before .before .before .args in
     let q = c .before .before .before .before .before .before .before .before .before .before .before .before .before .before .before .before .before .before .before .before .before .pre in
-    let v = c .before .before .before .loop .inv in
-    let first = c .before .before .before .before .before .before .before .before .before .put-down .ensures .1 in
+    let v = c .before .before .before .before .loop .inv in
+    let first = c .before .before .before .before .before .before .before .before .before .before .put-down .ensures .1 in
     let begun = listed-numbered (g .terms) (g .work .now) (g .p) (g .n) (q .0 .0) (q .0 .1) (q .1) (q .2) in
-    (numbered-still (v .2 .only) (numbered-still (first .only) begun), v .0, v .1, omega (arith, q .3, first .long, v .2 .long))
+    (numbered-still (v .2 .only) (numbered-still (first .only) begun), c .before .before .room .ensures .1, c .before .before .room .ensures .0, omega (arith, q .3, first .long, v .2 .long))
 
 mul-if3 : tie.Need-mul-if3 Inv-loop μ-loop
 mul-if3 c = search needs
@@ -83,7 +81,7 @@ same-length-5 : tie.Need-same-length-5 Inv-loop μ-loop
 same-length-5 c = search needs
 
 returns-3 : tie.Need-returns-3 Inv-loop μ-loop
-returns-3 c = told-both (c .before .before .before .before .before .before .before .before .before .before .before .before .before .before .before .put-down .ensures .1) (told-both (c .before .before .before .before .before .before .before .before .before .loop .inv .2) (c .before .before .before .before .before .put-down2 .ensures .1))
+returns-3 c = told-both (c .before .before .before .before .before .before .before .before .before .before .before .before .before .before .before .before .put-down .ensures .1) (told-both (c .before .before .before .before .before .before .before .before .before .before .loop .inv .2) (c .before .before .before .before .before .put-down2 .ensures .1))
 
 mul-pays : tie.Need-mul-pays Inv-loop μ-loop
 mul-pays c = search needs
@@ -98,7 +96,7 @@ same-length-7 : tie.Need-same-length-7 Inv-loop μ-loop
 same-length-7 c = search needs
 
 returns-4 : tie.Need-returns-4 Inv-loop μ-loop
-returns-4 c = told-both (c .before .before .before .before .before .before .before .before .before .before .before .before .before .before .before .before .before .put-down .ensures .1) (told-both (c .before .before .before .before .before .before .before .before .before .before .before .loop .inv .2) (c .before .before .before .before .before .before .before .put-down2 .ensures .1))
+returns-4 c = told-both (c .before .before .before .before .before .before .before .before .before .before .before .before .before .before .before .before .before .before .put-down .ensures .1) (told-both (c .before .before .before .before .before .before .before .before .before .before .before .before .loop .inv .2) (c .before .before .before .before .before .before .before .put-down2 .ensures .1))
 
 mul-m : tie.Need-mul-m Inv-loop μ-loop
 mul-m c = search needs
@@ -114,7 +112,7 @@ loop-less c = search needs
 
 loop-again : tie.Need-loop-again Inv-loop μ-loop
 loop-again c =
-    let v = c .before .before .before .before .before .before .before .before .before .before .before .before .loop .inv in
+    let v = c .before .before .before .before .before .before .before .before .before .before .before .before .before .loop .inv in
     let paid = c .before .before .pays2 in (
       paid .ensures (not-false (paid .result) (c .before .if4 .left)),
       omega (arith, v .1, c .before .before .before .if3 .left),
@@ -141,12 +139,12 @@ tell-numbers-spec =
     same-length
     returns
     factor-requires
-    tried-requires
     put-down-requires
     same-length-2
     same-length-3
     returns-2
     loop-holds
+    room-requires
     put-down-requires-2
     mul-if3
     same-length-4
