@@ -1,13 +1,13 @@
-/* Numbers whose keys agree, found by searching, by the key as tests/c/key.h has it and by flags as they are here: where note::still or the walk choose theirs
-   otherwise, the next four functions follow. */
+/* Numbers whose keys agree, found by searching, by the key as tests/c/key.h has it. Flags are chosen by a factor that the node's own key names, in note::still and in
+   the walk, so that numbers which share few flags in every node cannot be searched for by themselves; the next four functions go by the flags without that factor. */
 #include "../tests/c/key.h"
 #include <stdio.h>
 #include <stdlib.h>
 
-/* Keys that share few flags in the test for like members (note::still), however many members there are. */
+/* Keys that would share few flags in the test for like members (note::still), however many members there are. */
 static inline int is_crowded(uint32_t key) { return key >> 23 == 0 && key * 0x85ebca6bu >> 23 == 0; }
 
-/* The same of the walk (walk::numbers): numbers that share few flags in its first round, and what a power of two integers goes by there. */
+/* The same of the walk (walk::numbers): numbers that would share few flags in its first round, and what a power of two integers goes by there. */
 static inline int is_near(uint64_t v) { return v * 0x9e3779b97f4a7c15u >> 54 == 0; }
 static inline uint64_t spread_share(uint64_t v) {
     uint64_t y = v * 0x9e3779b97f4a7c15u, low = (uint32_t)y, high = y >> 32;
