@@ -205,9 +205,9 @@ extern "C" {
      simmergate_check                2,344        2,344   whatever the depth
      simmergate_weight               2,344        2,344   whatever the depth
      simmergate_value              100,496      526,480
-     simmergate_equal              126,472      672,264
+     simmergate_equal              126,440      672,232
      simmergate_differ               2,408        2,408   whatever the depth
-     simmergate_simplify           125,048      657,528   by either edition
+     simmergate_simplify           125,064      657,544   by either edition
      simmergate_batch              125,176      657,656   by either edition
      simmergate_receive                 32           32   whatever the piece
      simmergate_receive_finish       2,360        2,360   whatever the depth
