@@ -22,7 +22,7 @@ const ROUNDS: usize = 4;
 // So many open entries at least are worth a round, and so many pairs of one of them and another.
 const FEW: usize = 2;
 
-const PAIRS: usize = 512;
+const PAIRS: usize = 128;
 
 // So many entries at the front, where all of them are open, are enough to take all for open.
 const FRONT: usize = 64;
