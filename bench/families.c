@@ -1,5 +1,6 @@
-/* families NAME WEIGHT: the largest tree of a family that weighs at most WEIGHT, as a line of hexadecimal digits; the family `site` is
-   200 formulas of weight 20 to 150, whatever the WEIGHT. families list: the names. families deepest: the deepest tables there are. */
+/* families NAME WEIGHT: the largest tree of a family that weighs at most WEIGHT, as a line of hexadecimal digits. families list: the names.
+   families deepest: the deepest tables there are. Sites, a formula a line: families site, 200 formulas of weight 20 to 150; families small, 200 of weight 10 to 50;
+   families unlike, 200 sums in which nothing is to be done; families tiny, 60 of weight up to 11. */
 #include "../tests/c/text.h"
 #include "../tests/c/tables.h"
 
@@ -168,6 +169,71 @@ static void site(void) {
     }
 }
 
+/* A term of a small formula: a symbol or two, a number, a square or a cube, now and then a sum. */
+static void small_term(unsigned symbols) {
+    unsigned a = (unsigned)below(symbols), b = (unsigned)below(symbols);
+    switch (below(10)) {
+    case 0: case 1: symbol(a); return;
+    case 2: case 3: case 4: put_record(3, 2, 0); integer(below(80) - 20); symbol(a); return;
+    case 5: put_record(3, 2, 0); integer(1 + below(9)); put_record(4, 0, 0); symbol(a); integer(2 + below(2)); return;
+    case 6: integer(below(1100) - 100); return;
+    case 7: put_record(3, 2, 0); symbol(a); symbol(b); return;
+    case 8: put_record(3, 2, 0); put_record(2, 2, 0); symbol(a); integer(below(11) - 5); symbol(b); return;
+    default: put_record(2, 2, 0); symbol(a); symbol(b); return;
+    }
+}
+
+/* Sums of two to five such terms, some of them times a number. */
+static void small(void) {
+    random_state = 10;
+    for (unsigned formulas = 0; formulas < 200;) {
+        unsigned terms = 2 + (unsigned)below(4), symbols = 2 + (unsigned)below(3);
+        making.records = 0;
+        if (chance(7)) { put_record(3, 2, 0); integer(2 + below(8)); }
+        put_record(2, terms, 0);
+        for (unsigned i = 0; i < terms; i++) small_term(symbols);
+        uint64_t w = weight_of_records(table, making.records);
+        if (w < 10 || w > 50) continue;
+        put_line();
+        formulas++;
+    }
+}
+
+/* 7*a^2*b + 9*c^2*d + .., three to ten terms, no two of them like. */
+static void unlike_sums(void) {
+    random_state = 20;
+    for (unsigned formulas = 0; formulas < 200; formulas++) {
+        unsigned terms = 3 + (unsigned)below(8), first = (unsigned)below(30);
+        making.records = 0;
+        put_record(2, terms, 0);
+        for (unsigned i = 0; i < terms; i++) {
+            put_record(3, 3, 0);
+            integer(2 + below(98));
+            put_record(4, 0, 0); symbol(first + i); integer(2);
+            symbol(100 + (unsigned)below(30));
+        }
+        put_line();
+    }
+}
+
+/* Six formulas, ten times: s0+s1, s0+s0, 3*s7, s0*(s1*s0), 2*s3+40, 3*s9^2+40. */
+static void tiny(void) {
+    for (unsigned i = 0; i < 60; i++) {
+        making.records = 0;
+        switch (i % 6) {
+        case 0: put_record(2, 2, 0); symbol(0); symbol(1); break;
+        case 1: put_record(2, 2, 0); symbol(0); symbol(0); break;
+        case 2: put_record(3, 2, 0); integer(3); symbol(7); break;
+        case 3: put_record(3, 2, 0); symbol(0); put_record(3, 2, 0); symbol(1); symbol(0); break;
+        case 4: put_record(2, 2, 0); put_record(3, 2, 0); integer(2); symbol(3); integer(40); break;
+        default: put_record(2, 2, 0); put_record(3, 2, 0); integer(3); put_record(4, 0, 0); symbol(9); integer(2); integer(40); break;
+        }
+        put_line();
+    }
+}
+
+static const struct { const char *name; void (*make)(void); } sites[] = {{"site", site}, {"small", small}, {"unlike", unlike_sums}, {"tiny", tiny}};
+
 /* As deep as 3,072 records go: nested powers, sums and products. */
 static void deepest(void) {
     for (unsigned kind = 2; kind <= 4; kind++) {
@@ -195,7 +261,8 @@ int main(int argc, char **argv) {
         return 0;
     }
     if (argc == 2 && strcmp(argv[1], "deepest") == 0) { deepest(); return 0; }
-    if (argc >= 2 && strcmp(argv[1], "site") == 0) { site(); return 0; }
+    for (size_t i = 0; argc >= 2 && i < sizeof sites / sizeof sites[0]; i++)
+        if (strcmp(argv[1], sites[i].name) == 0) { sites[i].make(); return 0; }
     for (size_t i = 0; argc == 3 && i < FAMILIES; i++) {
         if (strcmp(argv[1], families[i].name) != 0) continue;
         uint64_t most = decimal(argv[2]);
@@ -211,6 +278,6 @@ int main(int argc, char **argv) {
         put_line();
         return 0;
     }
-    printf("usage: families NAME WEIGHT | site | deepest | list\n");
+    printf("usage: families NAME WEIGHT | site | small | unlike | tiny | deepest | list\n");
     return 2;
 }

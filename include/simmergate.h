@@ -44,11 +44,14 @@
      receive_finish, write_text
      receive                          with the bytes of the piece
      open                             with the records handed in and those of the opened table
-     equal                            little more than with n for most tables, at the worst with the square of n
+     equal                            with n where the records are the same but for marks, and for most others; where
+                                      members stand in another order at the worst with the square of n, but for the
+                                      integers of a wide tree, which are sorted
      simplify                         little more than with W for most formulas, with the square of W for long chains
-                                      that all open; a formula made to be slow can take more. SIMMERGATE_WORK_BYTES(L)
-                                      bytes are cleared besides, however short the table
-     batch                            what its items would take one by one
+                                      that all open; what the slowest formulas known take stands in README, "How slow
+                                      can it get?". SIMMERGATE_WORK_BYTES(L) bytes are cleared besides, however short
+                                      the table
+     batch                            what its items would take one by one, but `work` is cleared once
      simplify_shared                  what opening takes, and simplifying the opened table
      read_text, settings              as told there
 
@@ -199,23 +202,23 @@ extern "C" {
    the other. Of memcpy and its like the return address alone is counted; a loader that binds them at their first call
    may take some 2,000 bytes more, which the names below have room for.
 
-     simmergate_check                2,328        2,328   whatever the depth
+     simmergate_check                2,344        2,344   whatever the depth
      simmergate_weight               2,344        2,344   whatever the depth
      simmergate_value              100,496      526,480
-     simmergate_equal              126,328      672,120
-     simmergate_differ               2,424        2,424   whatever the depth
-     simmergate_simplify           125,048      657,528   by either edition
+     simmergate_equal              126,440      672,232
+     simmergate_differ               2,408        2,408   whatever the depth
+     simmergate_simplify           125,064      657,544   by either edition
      simmergate_batch              125,176      657,656   by either edition
      simmergate_receive                 32           32   whatever the piece
      simmergate_receive_finish       2,360        2,360   whatever the depth
-     simmergate_open                 4,120        4,120   whatever the depth
+     simmergate_open                 4,104        4,104   whatever the depth
      simmergate_simplify_shared    125,672      658,152   by either edition
      simmergate_write_text          98,488      524,472
      simmergate_read_text          123,448      655,928   for any text
-     simmergate_settings_store         216          216   whatever the area
-     simmergate_settings_fetch         216          216   whatever the area
-     simmergate_settings_fetch_1       216          216   whatever the area
-     simmergate_settings_remove        216          216   whatever the area
+     simmergate_settings_store       1,192        1,192   whatever the area
+     simmergate_settings_fetch       1,192        1,192   whatever the area
+     simmergate_settings_fetch_1     1,192        1,192   whatever the area
+     simmergate_settings_remove      1,192        1,192   whatever the area
      simmergate_release                 32           32
 
    On 64-bit Arm equality, reading and writing a text take up to 96 bytes a level in place of 80, so that the names are
@@ -540,7 +543,10 @@ uint32_t simmergate_simplify_shared(size_t limit, size_t edition, const uint8_t 
    A text of any length and nesting is judged, within SIMMERGATE_STACK bytes of stack, or SIMMERGATE_STACK_16384.
    The time grows with its length; besides, where first members or bases stand
    nested, with their depth, since each such level moves the records inside it on by one; and for a text nested deeper
-   than half the limit with how often that goes into its depth. */
+   than half the limit with how often that goes into its depth. No text of more than SIMMERGATE_TEXT_BYTES(L) bytes is
+   ever accepted, so a longer one need not be handed in. On x86-64 the slowest known within that length is judged in some
+   14 million instructions at the limit 3,072, and in 110 million at 16,384; beyond it the time of a text of nothing but
+   parentheses grows with the square of its length, and 16 million bytes of them take minutes. */
 
 /* Reads a text and writes its records to the front of `table`, all or none; SIMMERGATE_TABLE_BYTES(L) are always
    enough. The answer: refusal number, place (0), records written. */
@@ -572,8 +578,11 @@ uint32_t simmergate_write_text(size_t limit, const uint8_t *table, size_t table_
    any sequence of stores, fetches and removes answers as a plain map from key to setting and unit does, but that a new
    key is refused by 13 where no slot is free.
 
-   What a call costs: judging compares the key of each record with those of all later ones, n x (n - 1) / 2
-   comparisons for n records (1,000 settings: half a million), at every call.
+   What a call costs: nothing is kept between calls, so each goes over the slots a few times: for the versions, for the
+   bytes of each slot, for the greatest key, for keys that are there twice once for every 8,192 keys up to the greatest,
+   which is eight times at the most, and in search of the key. The time grows with the number of slots. On x86-64 a
+   fetch from 2,000 settings takes some 400,000 to 550,000 instructions, by how far their keys are apart, and one from
+   65,536, where every key is there, some 18 million.
 
    Settings in flash memory: copy the area to RAM, hand the copy to the call, and after 0 write it back whole. A store
    or a remove changes the lent bytes one after the other; it is not safe against a loss of power, and does not claim

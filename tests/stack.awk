@@ -140,6 +140,7 @@ function step_x86(f, n, h, m, o,    a, t) {
         after = m == "subq" ? h + hex(a) : h - hex(a)
     }
     else if (m == "leaq" && o ~ /^-0x[0-9a-f]+\(%rsp\), %r11$/) { a = o; sub(/^-/, "", a); sub(/\(.*/, "", a); probe = h + hex(a) }
+    else if (m == "subq" && o ~ /^\$0x[0-9a-f]+, %r11$/ && operands[f, n - 1] == "%rsp, %r11") { a = o; sub(/^\$/, "", a); sub(/,.*/, "", a); probe = h + hex(a) }
     else if (o ~ /%[er]?spl?$/ && m !~ /^(cmp|test)/ || o ~ /%[er]?spl?,/ && m ~ /xchg|xadd/ || m ~ /^(leave|enter|push|pop[^c]|sys|int|iret)/)
         fault("the stack pointer set by " m " " o " in " f)
     if (m ~ /^ret/ && o == "") returns(f, h)
@@ -167,6 +168,13 @@ function step_arm(f, n, h, m, o,    a, pages, t) {
         a = hex(a) * (pages ? 4096 : 1)
         after = m == "sub" ? h + a : h - a
     }
+    # a long frame is reached a page at a time, up to x9
+    else if (m == "sub" && o ~ /^x9, sp, #0x[0-9a-f]+(, lsl #12)?$/) {
+        a = o
+        sub(/^x9, sp, #/, "", a)
+        pages = sub(/, lsl #12$/, "", a)
+        probe = h + hex(a) * (pages ? 4096 : 1)
+    }
     # moved by a store or a load: before it, or behind it
     else if (match(o, /\[sp, #-?0x[0-9a-f]+\]!$/)) after = h - hex(substr(o, RSTART + 6, RLENGTH - 8))
     else if (match(o, /\[sp\], #-?0x[0-9a-f]+$/)) after = h - hex(substr(o, RSTART + 7))
@@ -180,7 +188,8 @@ function step_arm(f, n, h, m, o,    a, pages, t) {
             t = o
             sub(/ <.*/, "", t)
             sub(/.*, /, "", t)
-            reach(f, hex(t), h)
+            if (m == "b.ne" && operands[f, n - 2] == "sp, x9") after = probe
+            else reach(f, hex(t), h)
         }
         if (m == "b") follows = 0
     }

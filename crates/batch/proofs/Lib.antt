@@ -2,6 +2,7 @@ pub mod LengthsLaws
 pub mod FitLaws
 pub mod StillLaws
 pub mod ItemLaws
+pub mod WorkLaws
 pub mod TurnLaws
 pub mod Unique
 pub mod ToldLaws

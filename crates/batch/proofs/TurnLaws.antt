@@ -1,6 +1,6 @@
 -- A turn of the loop. What the item is lent is what remains of the areas, and comes back behind what was used up before; the item keeps the
--- lengths and uses up no more than there is, as any call of the simplifier does; so what is still to do afterwards is what was before.
--- Assumes nothing.
+-- lengths and uses up no more than there is, as any call of the simplifier does; so what is still to do afterwards is what was before. So it is
+-- too where `work` is not cleared between the items (WorkLaws). Assumes nothing.
 use Prim.Native.Nat.{ℕ, _+_, _-_, _*_, _≤_, _<_}
 use mathlib.Core.Path.{_≡_, refl, sym, ap, _∙_}
 use mathlib.Core.List.{List, [], _++_, append-nil}
@@ -8,6 +8,7 @@ use native.Mathlib.Omega.{arith}
 use lib.ListN.{length, take, drop, length-append, length-drop, drop-of-length-le}
 use lib.Seq.{length-take-le, take-all, drop-drop}
 use borrow.Rule.Slice.PartMut.{putMid}
+use Rattle.paper.specs.Limits.{workBytes}
 use Rattle.paper.specs.Bytes.{Bytes, le8}
 use Rattle.paper.specs.Answers.{Lent, simplified}
 use Rattle.paper.specs.Calls.{eights, answerNumbers}
@@ -15,9 +16,10 @@ use Rattle.paper.proofs.BytesLaws.{take-bytes, drop-bytes}
 use Rattle.simplify.specs.Answer.{lent}
 use Rattle.paper_batch.specs.Batch.{remaining, inFront}
 use Rattle.paper_batch.proofs.Orderly.{simplified-orderly}
-use Rattle.batch.specs.Turn.{Turn, turn, lengthsFrom, still}
+use Rattle.batch.specs.Turn.{Turn, turn, turned, cleared, lengthsFrom, still}
 use Rattle.batch.proofs.LengthsLaws.{from-turn}
 use Rattle.batch.proofs.StillLaws.{numbers-size, still-turn}
+use Rattle.batch.proofs.WorkLaws.{room-so-far, as-cleared}
 
 -- ---- the rest of a slice, lent, and back as x
 rest-lent : (d : List ℕ) (a : ℕ) → take (length d - a) (drop a d) ≡ drop a d
@@ -112,4 +114,30 @@ module _ (lim ed : ℕ) (tables lengths answers : List ℕ) (l : Lent) (n i at u
         work-kept = stays .work-kept;
         answers-kept = ap length a ∙ stays .answers-kept;
         goes-on = rw (o, s, a) on;
+      }
+
+-- ---- the turn of an item that is handed `work` as the items before it left it, and does not clear it
+pub record Passed (lim ed : ℕ) (tables lengths answers out steps work : List ℕ) (n i at used len w : ℕ) (out' steps' work' answer' : List ℕ) : Type 0 where
+  pub gone : Gone lim ed tables lengths answers (lent out steps (cleared lim used work)) n i at used len (turned w out' steps' (cleared lim (used + w) work') answer')
+  pub room : 1 ≤ used + w → workBytes lim ≤ length work
+
+module _ (lim ed : ℕ) (tables lengths answers out steps work : List ℕ) (n i at used len w : ℕ) (out' steps' work' answer' : List ℕ) (bytes : Bytes tables)
+    (more : i < n) (out-room : 16 * used ≤ length out) (steps-room : used ≤ length steps) (places : 80 * n ≤ length answers) (told : len ≡ le8 lengths (i * 8))
+    (room : 1 ≤ used → workBytes lim ≤ length work)
+    (ran : turned w out' steps' (cleared lim w work') answer'
+    ≡ turn lim ed (take ((at + len) - at) (drop at tables))
+    (lent (take (length out - 16 * used) (drop (16 * used) out)) (take (length steps - used) (drop used steps)) work)
+    (take (length answers - 80 * i) (drop (80 * i) answers))) where
+  pub passed : Passed lim ed tables lengths answers out steps work n i at used len w out' steps' work' answer'
+  passed =
+      let s = take ((at + len) - at) (drop at tables) in
+      let b = take-bytes ((at + len) - at) (drop at tables) (drop-bytes at tables bytes) in
+      let o = take (length out - 16 * used) (drop (16 * used) out) in
+      let z = take (length steps - used) (drop used steps) in
+      let a = take (length answers - 80 * i) (drop (80 * i) answers) in
+      record {
+        gone =
+            turn-gone lim ed tables lengths answers (lent out steps (cleared lim used work)) n i at used len (turned w out' steps' (cleared lim (used + w) work') answer')
+            bytes more out-room steps-room places told (as-cleared lim ed s b o z work a w out' steps' work' answer' ran used room);
+        room = room-so-far lim ed s b o z work a w out' steps' work' answer' ran used room;
       }

@@ -1,7 +1,9 @@
 -- What an item answers and leaves, what is still to do with items left, and the call's return and slices in the paper's terms.
-use Prim.Native.Nat.{ℕ, _+_, _-_, _*_}
-use mathlib.Core.List.{List, _++_}
+use Prim.Native.Nat.{ℕ, zero, suc, _+_, _-_, _*_}
+use mathlib.Core.List.{List, [], _++_}
 use lib.ListN.{length, take, drop}
+use Rattle.paper.specs.Limits.{workBytes}
+use Rattle.paper.specs.Bytes.{stretch}
 use Rattle.paper.specs.Answers.{Lent, simplified}
 use Rattle.paper.specs.Calls.{answerNumbers, eights}
 use Rattle.paper_batch.specs.Batch.{placeBytes, usedUp, remaining, inFront, inTurn, numbersIn, allNumbers, SiteCall}
@@ -14,6 +16,11 @@ pub record Turn : Type 0 where
 
 abbrev pub turned : ℕ → List ℕ → List ℕ → List ℕ → List ℕ → Turn
 turned w out steps work answer = record { used = w; lent = record { out = out; steps = steps; work = work }; answer = answer }
+
+-- `work` where W was used up, once it is cleared: zeros in front; where none was, as it is
+unfoldable pub cleared : ℕ → ℕ → List ℕ → List ℕ
+cleared lim zero work = work
+cleared lim (suc w) work = stretch (workBytes lim) [] work
 
 -- the call's return, and what it was lent, afterwards
 abbrev pub called : ℕ → List ℕ → List ℕ → List ℕ → List ℕ → SiteCall

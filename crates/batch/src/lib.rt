@@ -5,7 +5,7 @@ ghost use lib.ListN.{length};
 ghost use lib.Dec.{eqb};
 ghost use Rattle.simplify.specs.Answer.{lent};
 ghost use Rattle.paper_batch.specs.Batch.{lengthsIn, total, turnsDown, siteNumber, siteCalled};
-ghost use Rattle.batch.specs.Turn.{turn, turned, called, still};
+ghost use Rattle.batch.specs.Turn.{turn, turned, cleared, called, still};
 
 // The lengths add up to the bytes given. What is left of these is counted down, so that no sum wraps.
 fn adds_up(lengths: &[u8], given: usize) -> bool
@@ -58,7 +58,7 @@ fn judge(limit: usize, edition: usize, tables: &[u8], lengths: &[u8], answers: &
 }
 
 // One item: its numbers go to the front of the slice for its answer. Answers W that it used up: all of it where it ran, to its end or
-// to 7, and none where it was refused.
+// to 7, and none where it was refused. `work` is cleared yet, where W was used up.
 fn item(
     limit: usize,
     edition: usize,
@@ -69,10 +69,10 @@ fn item(
     answer: &mut [u8],
 ) -> usize
     requires { ⌜ 80 ≤ length (now answer) ⌝ }
-    ensures { λ r. ⌜ turned r (now (out .exit)) (now (steps .exit)) (now (work .exit)) (now (answer .exit))
+    ensures { λ r. ⌜ turned r (now (out .exit)) (now (steps .exit)) (cleared limit r (now (work .exit))) (now (answer .exit))
         ≡ turn limit edition (now (table .entry)) (lent (now (out .entry)) (now (steps .entry)) (now (work .entry))) (now (answer .entry)) ⌝ }
 {
-    let a = simplify::simplify(limit, edition, table, out, steps, work);
+    let a = simplify::simplify_in(limit, edition, table, out, steps, work);
     let flaw = a.flaw;
     let wrong = record::flaw_numbers(flaw);
     let numbers = [
@@ -95,7 +95,7 @@ fn item(
 }
 
 // The items one after the other: the next one's bytes begin at `at`, and it is handed what is past the first 16 x `used` bytes of `out`
-// and `used` of `steps`.
+// and `used` of `steps`. No item looks at what the one before it left in `work`, so that is cleared once, at the end, where an item ran.
 fn in_turn(
     limit: usize,
     edition: usize,
@@ -131,6 +131,9 @@ fn in_turn(
         );
         at = end;
         i += 1;
+    }
+    if 0 < used {
+        stretch::clear(work, 0, simplify::work_bytes(limit));
     }
 }
 

@@ -1,5 +1,5 @@
 -- The driver between two members. Its numbers stay small, since all that is done and noted was paid for by the weight of the tree that it was called on.
--- A pass begins with all members pending; a leaf, and then a member's result, is gathered; the next member weighs less than the tree; and where
+-- A pass begins with all members pending; a member that is kept at once, and then a member's result, is gathered; the next member weighs less than the tree; and where
 -- none is left the pass ends: finished, refused, or with the gathered node to be taken up. Each is a law of Driving, Membering or Passing for
 -- the numbers as the driver holds them. Assumes nothing.
 use Prim.Native.Nat.{ℕ, _+_, _-_, _*_, _^_, _<_, _≤_}
@@ -17,13 +17,14 @@ use Rattle.paper.specs.Verdict.{tableWeight}
 use Rattle.paper.specs.Driver.{over, each, members}
 use Rattle.paper.specs.Cost.{cost}
 use Rattle.paper.proofs.EncodeLaws.{recordses-weights, records-pos, records-weight}
+use Rattle.rules.specs.Asked.{Ready}
 use Rattle.stretch.specs.Put.{part, put}
 use Rattle.driver.specs.declared.Stand.{Stand}
 use Rattle.driver.specs.declared.Taken.{Taken}
 use Rattle.driver.specs.declared.Taken.the-variants as taken
 use Rattle.driver.specs.declared.Turn.the-variants as turn
 use Rattle.driver.specs.Driven.{kindNumber, withNotes, encodeAll, weightAll, firstRecord, inside, openedRuns, passed, closedOver}
-use Rattle.driver.specs.Driven.{Set, Back, TakenIs, Drove, Gave, Gathers, Closed}
+use Rattle.driver.specs.Driven.{Set, Back, TakenIs, KeptWhole, KeptIs, Drove, Gave, Gathers, Closed}
 use Rattle.driver.specs.Paused.{begunAt, joinedTo, keptBy, endedAt, entered, returned, Onward, Call, call, runOf, Called, Fell, Reached, Come, Gathering}
 use Rattle.driver.specs.Paused.{Midway, Resumed, Begun, WentOn, TurnIs}
 use Rattle.driver.proofs.Forests.{members-weigh, front-long}
@@ -33,7 +34,7 @@ use Rattle.driver.proofs.Runs.{drives, drives-kept, run-lighter}
 use Rattle.driver.proofs.Counting.{cost-both, cost-steps}
 use Rattle.driver.proofs.FirstRecords.{kind-there-first}
 use Rattle.driver.proofs.Opening.{one-over, member-fits, as-it-is, opened-up}
-use Rattle.driver.proofs.Leaves.{leaf-kept}
+use Rattle.driver.proofs.Keeping.{kept-gathered}
 use Rattle.driver.proofs.Membering as membering
 use Rattle.driver.proofs.Passing as passing
 use Rattle.driver.proofs.Driving as driving
@@ -145,6 +146,32 @@ module _ {c : Call} {out work steps : List ℕ} {s : Stand} (v : Midway c out wo
   pub next-of : 1 ≤ s .left → membering.First (v .gathering .r)
   next-of h = membering.first (v .gathering .r) (omega (arith, v .gathering .to-go))
 
+  -- ---- what stands past the gathered members does not matter
+  pub past-changed : (out' : List ℕ) → take (s .end * 16) out' ≡ take (s .end * 16) out → length out' ≡ length out → Midway c out' work steps s
+  past-changed out' same lo =
+      record {
+        called = v .called;
+        out₁ = v .out₁;
+        work₁ = v .work₁;
+        steps₁ = v .steps₁;
+        at = v .at;
+        n = v .n;
+        o = v .o;
+        τ = v .τ;
+        come = v .come;
+        out₂ = v .out₂;
+        copied = v .copied;
+        out-kept = v .out-kept;
+        b = v .b;
+        υ = v .υ;
+        gathering = membering.past-changed (v .gathering) same lo;
+        openings-are = v .openings-are;
+        tries-are = v .tries-are;
+        prior-is = v .prior-is;
+        node-is = v .node-is;
+        edition-is = v .edition-is;
+      }
+
   -- ---- the next member
   module _ {x : Tree} {later : List Tree} (is : v .gathering .r ≡ x ∷ later) where
     pub some-left : 1 ≤ s .left
@@ -208,14 +235,17 @@ module _ {c : Call} {out work steps : List ℕ} {s : Stand} (v : Midway c out wo
           edition-is = edi ∙ v .edition-is;
         }
 
-    -- a leaf
-    pub leaf-fits : (s .place * 16 + 16 ≤ length work) × (s .end * 16 + 16 ≤ length out)
-    leaf-fits = passing.record-fits (membering.set-next (v .gathering) is)
+    -- a member is kept at once
+    pub next-ready : Ready out work (s .end) (s .place) x (encodeAll later ++ c .rest)
+    next-ready = membering.set-next (v .gathering) is .ready
 
-    pub leaf-gathered : kind work (s .place) < 2 → (out' : List ℕ) → out' ≡ put out (s .end * 16) (part work (s .place * 16) 16) → length out' ≡ length out
-        → Midway c out' work steps (keptBy s 1)
-    leaf-gathered l out' w lo =
-        gathered-one (leaf-kept ed (membering.set-next (v .gathering) is) l out' w lo (kindNumber u)) lo refl refl (keptBy s 1)
+    pub next-kept : {out' : List ℕ} {n : ℕ} → KeptWhole (rulesOf (s .edition)) (kind out (s .node)) x out out' (s .end) n → length out' ≡ length out
+        → Midway c out' work steps (keptBy s 1 n)
+    next-kept {out'} {n} a lo =
+        let whole : KeptWhole (rulesOf ed) (kindNumber u) x out out' (s .end) n
+        = subst (λ k. KeptWhole (rulesOf ed) k x out out' (s .end) n) node-kind
+        (subst (λ i. KeptWhole (rulesOf i) (kind out (s .node)) x out out' (s .end) n) (v .edition-is) a) in
+        gathered-one (kept-gathered ed (membering.set-next (v .gathering) is) whole lo) lo refl refl (keptBy s 1 n)
         refl refl (omega arith) refl refl refl refl refl refl refl
 
 -- ---- the member that the driver waited for
@@ -429,42 +459,52 @@ module _ {c : Call} {out work steps : List ℕ} {s : Stand} (v : Midway c out wo
         pub turned-again : TurnIs c out'' work'' steps'' s (turn.Again r m (s .tries + 1 + (m - s .noted)))
         turned-again = (v .o + v .b, v .τ + (v .υ + 1) + (m - s .noted), again-come, v .openings-are, omega (arith, v .tries-are), y .2, omega arith)
 
--- ---- leaves kept one after the other
+-- ---- members kept one after the other
 same-stand : {ed₁ pl₁ nt₁ op₁ ti₁ nd₁ en₁ le₁ ga₁ pr₁ pl₂ ti₂ en₂ le₂ ga₂ : ℕ} → pl₁ ≡ pl₂ → ti₁ ≡ ti₂ → en₁ ≡ en₂ → le₁ ≡ le₂ → ga₁ ≡ ga₂
     → _≡_ {A = Stand}
     (record { edition = ed₁; place = pl₁; noted = nt₁; openings = op₁; tries = ti₁; node = nd₁; end = en₁; left = le₁; gathered = ga₁; prior = pr₁ })
     (record { edition = ed₁; place = pl₂; noted = nt₁; openings = op₁; tries = ti₂; node = nd₁; end = en₂; left = le₂; gathered = ga₂; prior = pr₁ })
 same-stand a b c d e = cc
 
-pub kept-none : (s : Stand) → s ≡ keptBy s 0
+pub kept-none : (s : Stand) → s ≡ keptBy s 0 0
 kept-none s = same-stand (omega arith) (omega arith) (omega arith) (omega arith) (omega arith)
 
-pub kept-more : (s : Stand) (i : ℕ) → keptBy (keptBy s i) 1 ≡ keptBy s (i + 1)
-kept-more s i = same-stand (omega arith) (omega arith) (omega arith) (omega arith) (omega arith)
+pub kept-more : (s : Stand) (i r n : ℕ) → keptBy (keptBy s i r) 1 n ≡ keptBy s (i + 1) (r + n)
+kept-more s i r n = same-stand (omega arith) (omega arith) (omega arith) (omega arith) (omega arith)
 
 pub place-fits : {c : Call} {out work steps : List ℕ} {s : Stand} → Midway c out work steps s → s .place * 16 ≤ length work
 place-fits v = omega (arith, v .gathering .place)
 
--- where i members are kept the numbers are small
-pub record KeptFits (s : Stand) (i : ℕ) (out work : List ℕ) : Type 0 where
-  pub place : (s .place + i) * 16 ≤ length work
-  pub tries : s .tries + i < 2 ^ 63
-  pub end : s .end + i < 65536
+-- where i members are kept, of r records, the numbers are small
+pub record KeptFits (s : Stand) (i r : ℕ) (out work : List ℕ) : Type 0 where
+  pub place : (s .place + r) * 16 ≤ length work
+  pub tries : s .tries + r < 2 ^ 63
+  pub end : s .end + r < 65536
   pub gathered : s .gathered + i < 65536
 
-pub kept-fits : {c : Call} {out work steps : List ℕ} (s : Stand) (i : ℕ) → Midway c out work steps (keptBy s i) → KeptFits s i out work
-kept-fits s i v =
+pub kept-fits : {c : Call} {out work steps : List ℕ} (s : Stand) (i r : ℕ) → Midway c out work steps (keptBy s i r) → KeptFits s i r out work
+kept-fits s i r v =
     record { place = place-fits v; tries = omega (arith, tries-now v); end = omega (arith, few-now v); gathered = membering.small (v .gathering) .1 }
 
-pub kept-next : {c : Call} {out work steps : List ℕ} (s : Stand) (i : ℕ) → Midway c out work steps (keptBy s i) → i < s .left → kind work (s .place + i) < 2
-    → (out' : List ℕ) → out' ≡ put out ((s .end + i) * 16) (part work ((s .place + i) * 16) 16) → length out' ≡ length out → Midway c out' work steps (keptBy s (i + 1))
-kept-next {c} {work = work} {steps = steps} s i v h l out' e lo =
-    let next = next-of v (omega arith) in
-    subst (λ x. Midway c out' work steps x) (kept-more s i) (leaf-gathered v (next .is) l out' e lo)
+-- the next member is asked of, and the answer n is given
+module _ {c : Call} {out work steps : List ℕ} (s : Stand) (i r : ℕ) (v : Midway c out work steps (keptBy s i r)) (h : i < s .left) where
+  more : membering.First (v .gathering .r)
+  more = next-of v (omega arith)
 
-pub kept-room : {c : Call} {out work steps : List ℕ} (s : Stand) (i : ℕ) → Midway c out work steps (keptBy s i) → i < s .left
-    → ((s .place + i) * 16 + 16 ≤ length work) × ((s .end + i) * 16 + 16 ≤ length out)
-kept-room s i v h = leaf-fits v (next-of v (omega arith) .is)
+  pub kept-ready : (s .node < s .end + r) × ((t : Tree) × (rest : List ℕ) × Ready out work (s .end + r) (s .place + r) t rest)
+  kept-ready = (omega (arith, node-fits v), (more .x, encodeAll (more .xs) ++ c .rest, next-ready v (more .is)))
+
+  module _ {out' : List ℕ} {n : ℕ} (lo : length out' ≡ length out)
+      (says : (t : Tree) (rest : List ℕ) → Ready out work (s .end + r) (s .place + r) t rest → KeptIs (rulesOf (s .edition)) (kind out (s .node)) t out out' (s .end + r) n) where
+    answer : KeptIs (rulesOf (s .edition)) (kind out (s .node)) (more .x) out out' (s .end + r) n
+    answer = says (more .x) (encodeAll (more .xs) ++ c .rest) (next-ready v (more .is))
+
+    pub kept-next : 1 ≤ n → Midway c out' work steps (keptBy s (i + 1) (r + n))
+    kept-next some = subst (λ x. Midway c out' work steps x) (kept-more s i r n) (next-kept v (more .is) (answer .whole some) lo)
+
+    -- it is to be driven: scratch alone has changed
+    pub kept-still : Midway c out' work steps (keptBy s i r)
+    kept-still = past-changed v out' (answer .before) lo
 
 pub at-node : {c : Call} {out work steps : List ℕ} {s : Stand} → Midway c out work steps s → Begun c out work steps s
 at-node v = record { refused = λ h. absurd (omega (arith, node-fits v)); midway = λ h. v }

@@ -1,18 +1,19 @@
--- A gathered node whose like members are combined first: where that says nothing, the node is settled as it stands; where it is a step, what is settled
--- after it comes after that step. Assumes nothing.
+-- A gathered node whose like members are combined first: where that says nothing, the node is settled as it stands; where it says that no rule applies,
+-- the node is settled already; where it is a step, what is settled after it comes after that step. Assumes nothing.
 use Prim.Native.Nat.{ℕ, _+_, _<_}
-use mathlib.Core.Path.{_≡_, ap, _∙_}
-use mathlib.Core.List.{List, [], _∷_, _++_, append-assoc}
+use mathlib.Core.Path.{_≡_, sym, ap, _∙_}
+use mathlib.Core.List.{List, [], _∷_, _++_, append-nil, append-assoc}
 use native.Mathlib.Omega.{arith}
 use lib.ListN.{length, take, set, length-set}
 use Rattle.paper.specs.Tree.{Tree}
 use Rattle.paper.specs.Rules.{rulesOf}
 use Rattle.paper.proofs.Value.{weight-pos}
-use Rattle.rules.specs.declared.Combined.the-variants.{No, Pending}
+use Rattle.rules.specs.declared.Combined.the-variants.{No, Nothing, Pending}
 use Rattle.rules.specs.Asked.{CombinedIs}
 use Rattle.driver.specs.declared.Settled.{Settled}
 use Rattle.driver.specs.declared.Settled.the-variants as settled
-use Rattle.driver.specs.Driven.{Set, easedOf, SettledIs, EasedIs}
+use Rattle.driver.specs.declared.Eased.the-variants as eased
+use Rattle.driver.specs.Driven.{no-step, Set, easedOf, SettledIs, EasedIs}
 use Rattle.driver.proofs.Places.{noted-one}
 use Rattle.driver.proofs.Runs.{step-kept}
 use Rattle.driver.proofs.Stepping.{step-first}
@@ -38,6 +39,11 @@ module _ (ed : ℕ) {out work steps : List ℕ} {d p s : ℕ} {t : Tree} {rest :
           let c = y .1 in
           (y .0, record { ks = c .ks; taken = c .taken; stands = c .stands; kept = c .kept ∙ a .1; noted-end = c .noted-end; noted = c .noted }, y .2)
       eased-same out'' work'' steps'' (settled.Over n) y = y
+
+    -- no rule applies
+    pub eased-none : CombinedIs (rulesOf ed) t rest out out' work' d p Nothing → EasedIs (rulesOf ed) t rest out out' work' steps steps d p s (eased.At p s)
+    eased-none a =
+        (t, record { ks = []; taken = no-step; stands = a .1; kept = a .2; noted-end = omega arith; noted = sym (append-nil (take s steps)) }, a .0)
 
     -- it is a step
     module _ (k q : ℕ) (a : CombinedIs (rulesOf ed) t rest out out' work' d p (Pending k q)) where

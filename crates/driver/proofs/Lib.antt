@@ -4,6 +4,7 @@ pub mod Weighs
 pub mod Finishing
 pub mod Counting
 pub mod Places
+pub mod Halves
 pub mod Cells
 pub mod Stepping
 pub mod Easing
@@ -11,7 +12,7 @@ pub mod Taking
 pub mod Driving
 pub mod FirstRecords
 pub mod Opening
-pub mod Leaves
+pub mod Keeping
 pub mod Membering
 pub mod Passing
 pub mod Between

@@ -82,6 +82,32 @@ module _ {ed : ℕ} {l : List Tree} {rest out₀ work₀ steps₀ : List ℕ} {k
   pub no-heavier : tableWeight (drop (q * 16) work) ≤ tableWeight (drop (p * 16) work₀)
   no-heavier = omega (arith, weighs-now, weighs-then, v .lighter)
 
+  -- what stands past the gathered members does not matter
+  pub past-changed : {out' : List ℕ} → take (e * 16) out' ≡ take (e * 16) out → length out' ≡ length out
+      → Gathering ed l rest out₀ work₀ steps₀ k d p s out' work steps left e q n o m τ
+  past-changed same lo =
+      record {
+        set-up = v .set-up;
+        g = v .g;
+        r = v .r;
+        ks = v .ks;
+        wf = v .wf;
+        stands = v .stands;
+        place = v .place;
+        to-go = v .to-go;
+        gathered = v .gathered;
+        end = v .end;
+        wrote = same ∙ v .wrote;
+        noted-end = v .noted-end;
+        noted = v .noted;
+        goes-on = v .goes-on;
+        lighter = v .lighter;
+        tried-bound = v .tried-bound;
+        out-long = lo ∙ v .out-long;
+        work-long = v .work-long;
+        steps-long = v .steps-long;
+      }
+
   -- the next member
   module _ {x : Tree} {xs : List Tree} (is : v .r ≡ x ∷ xs) where
     abbrev pub rest-after : List ℕ

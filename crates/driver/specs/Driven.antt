@@ -3,7 +3,7 @@
 -- have their notes in them.
 use Prim.Native.Nat.{ℕ, _+_, _*_, _≤_, _<_, _^_}
 use mathlib.Core.Path.{_≡_}
-use mathlib.Core.Bool.{cond}
+use mathlib.Core.Bool.{false, cond, _&&_}
 use mathlib.Core.List.{List, [], _∷_, _++_}
 use mathlib.Core.Option.{Option, none}
 use lib.ListN.{length, take, drop}
@@ -13,6 +13,7 @@ unfoldable pub use Rattle.paper.specs.Standing.{kindNumber}
 use Rattle.paper.specs.Bytes.{word}
 use Rattle.paper.specs.Tree.{Tree, integer, symbol, sum, product, power, ofList, count, markOf, records, recordses, weight, weights}
 use Rattle.paper.specs.WellFormed.{Mark, WF, WFl}
+use Rattle.paper.specs.Record.{isNode}
 use Rattle.paper.specs.Table.{recordOf}
 use Rattle.paper.specs.Rules.{Rule}
 use Rattle.paper.specs.Admits.{openingsAt, AdmitsNone, AllAdmitNone}
@@ -153,6 +154,19 @@ TakenIs rs g rest out out' work' steps steps' d e s (taken.Quiet f q) =
 TakenIs rs g rest out out' work' steps steps' d e s (taken.Stepped q n) =
     (u : Tree) × Came rs g u rest out out' work' steps steps' d s q n × (s < n) × (ask rs u ≡ no-rule)
 TakenIs rs g rest out out' work' steps steps' d e s (taken.Over n) = Burst rs g s n
+
+-- of the pending tree t, a member of a node of kind k, and its n records: it admits no rule and no opening, is not opened in that node, and stands after what is
+-- done, e records
+pub record KeptWhole (rs : List Rule) (k : ℕ) (t : Tree) (out out' : List ℕ) (e n : ℕ) : Type 0 where
+  pub none : AdmitsNone rs t
+  pub shut : (eqb (kindNumber t) k && isNode k) ≡ false
+  pub size : n ≡ records t
+  pub wrote : take ((e + n) * 16) out' ≡ take (e * 16) out ++ withNotes t
+
+-- what the answer n says: 0, t is to be driven; else it is kept so. What is done stays.
+pub record KeptIs (rs : List Rule) (k : ℕ) (t : Tree) (out out' : List ℕ) (e n : ℕ) : Type 0 where
+  pub before : take (e * 16) out' ≡ take (e * 16) out
+  pub whole : 1 ≤ n → KeptWhole rs k t out out' e n
 
 -- the run r is done, after o openings and τ tries: its tree stands at the end of what is done, rest is what is pending, and its
 -- steps are noted

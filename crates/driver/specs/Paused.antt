@@ -68,17 +68,17 @@ joinedTo s f o m =
       prior = s .prior;
     }
 
--- i leaves are kept
-abbrev pub keptBy : Stand → ℕ → Stand
-keptBy s i =
+-- i members are kept, of r records
+abbrev pub keptBy : Stand → (i r : ℕ) → Stand
+keptBy s i r =
     record {
       edition = s .edition;
-      place = s .place + i;
+      place = s .place + r;
       noted = s .noted;
       openings = s .openings;
-      tries = s .tries + i;
+      tries = s .tries + r;
       node = s .node;
-      end = s .end + i;
+      end = s .end + r;
       left = s .left - i;
       gathered = s .gathered + i;
       prior = s .prior;

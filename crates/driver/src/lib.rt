@@ -5,11 +5,12 @@ ghost use Prim.Native.Nat.{ℕ, _+_, _*_, _^_, _≤_, _<_};
 ghost use mathlib.Core.Bool.{_&&_};
 ghost use lib.ListN.{length, getD};
 ghost use lib.Dec.{eqb};
-ghost use Rattle.paper.specs.Record.{isNode, arity};
+ghost use Rattle.paper.specs.Record.{kind, isNode, arity};
 ghost use Rattle.paper.specs.Tree.{Tree};
 ghost use Rattle.paper.specs.Rules.{rulesOf};
 ghost use Rattle.stretch.specs.Put.{part, put};
-ghost use Rattle.driver.specs.Driven.{closedOver, Set, Back, easedOf, SettledIs, EasedIs, TakenIs, Gathers, Closed};
+ghost use Rattle.rules.specs.Asked.{Ready};
+ghost use Rattle.driver.specs.Driven.{closedOver, Set, Back, easedOf, SettledIs, EasedIs, TakenIs, KeptIs, Gathers, Closed};
 ghost use Rattle.driver.specs.Paused.{standOf, cells, begunAt, joinedTo, keptBy, endedAt, entered, returned, Onward};
 ghost use Rattle.driver.specs.Paused.{Call, call, Called, DrivenTo, Drivable, Drives, Midway, Resumed, GoesOn, Begun, WentOn, TurnIs};
 
@@ -92,6 +93,7 @@ fn ease(
             let x = settle(out, work, steps, d, p, s, edition);
             as_settled(x)
         }
+        rules::Combined::Nothing => Eased::At(p, s),
         rules::Combined::Pending(k, q) => {
             steps[s] = k;
             let x = settle(out, work, steps, d, q, s + 1, edition);
@@ -360,7 +362,7 @@ fn to_cells(st: &mut [usize; 10], s: Stand) -> usize
 }
 
 // Goes on with the tree, from its beginning where g is 0, else from the result of the member that it waited for, which ends at g: up to the next member
-// that is a node, or to the end.
+// that is to be driven, or to the end.
 fn go_on(
     out: &mut &mut [u8],
     work: &mut &mut [u8],
@@ -402,6 +404,17 @@ fn first(out: &mut [u8], work: &mut [u8], steps: &mut [u8], s: Stand, g: usize) 
     }
 }
 
+// Copies record j of src to record i of dst, by its two halves.
+fn copy_record(dst: &mut [u8], i: usize, src: &[u8], j: usize)
+    requires { ⌜ (i * 16 + 16 ≤ length (now dst)) × (j * 16 + 16 ≤ length (now src)) ⌝ }
+    ensures { λ _. ⌜ now (dst .exit) ≡ put (now (dst .entry)) (i * 16) (part (now (src .entry)) (j * 16) 16) ⌝ }
+{
+    let a = number::read8(src, j * 16);
+    let b = number::read8(src, j * 16 + 8);
+    number::write8(dst, i * 16, a);
+    number::write8(dst, i * 16 + 8, b);
+}
+
 // Begins a pass over the members of the tree at record q of work: its first record goes to done.
 fn begin(out: &mut [u8], work: &[u8], s: Stand, q: usize, n: usize, tries: usize) -> Stand
     requires { ⌜ (s .node * 16 + 16 ≤ length (now out)) × (q * 16 + 16 ≤ length (now work)) × (n + s .openings < 65536) ⌝ }
@@ -409,7 +422,7 @@ fn begin(out: &mut [u8], work: &[u8], s: Stand, q: usize, n: usize, tries: usize
         × (now (out .exit) ≡ put (now (out .entry)) (s .node * 16) (part (now (work .entry)) (q * 16) 16)) ⌝ }
 {
     let d = s.node;
-    stretch::copy_bytes(out, d * 16, work, q * 16, 16);
+    copy_record(out, d, work, q);
     let mut t = s;
     t.place = q + 1;
     t.noted = n;
@@ -449,40 +462,73 @@ fn joined(s: Stand, f: usize, o: usize, m: usize) -> Stand
     t
 }
 
-// Keeps the members up to the next one that is a node: each is a leaf, and finished after one try.
-fn keep_leaves(out: &mut [u8], work: &[u8], s: Stand) -> Stand
+// The most members of a member that is looked at before it is driven: at one that has more, a look in vain costs too much.
+const FEW: usize = 8;
+
+// Keeps the member at record q of work, of the node at record d of out, where it is finished as it stands: a leaf; or a node that is not opened there, that
+// has few members and all of them leaves, and whose notes tell that no rule applies. It goes to record e of out, from which on there is scratch. Answers the number of its
+// records, 0 where it is to be driven.
+fn keep_member(out: &mut [u8], work: &[u8], e: usize, q: usize, d: usize, edition: usize) -> usize
+    requires { ⌜ (d < e) × ((t : Tree) × (rest : List ℕ) × Ready (now out) (now work) e q t rest) ⌝ }
+    ensures { λ n. ⌜ ((t : Tree) (rest : List ℕ) → Ready (now (out .entry)) (now (work .entry)) e q t rest
+        → KeptIs (rulesOf edition) (kind (now (out .entry)) d) t (now (out .entry)) (now (out .exit)) e n) ⌝ }
+{
+    let j = record::kind(work, q);
+    if j < 2 {
+        copy_record(out, e, work, q);
+        return 1;
+    }
+    if opens(record::kind(out, d), j) {
+        return 0;
+    }
+    if record::arity(work, q) + 1 < (record::bits(work, q) % 0x1_0000) as usize {
+        return 0;
+    }
+    if FEW < record::arity(work, q) {
+        return 0;
+    }
+    if note::still(work, q, out, e * 16, edition) {
+        let n = record::arity(work, q) + 1;
+        stretch::copy_bytes(out, e * 16, work, q * 16, n * 16);
+        return n;
+    }
+    0
+}
+
+// Keeps the members up to the next one that is to be driven: each is finished after as many tries as it has records.
+fn keep_members(out: &mut [u8], work: &[u8], s: Stand) -> Stand
     requires { ⌜ ((c : Call) × (steps : List ℕ) × Midway c (now out) (now work) steps s) ⌝ }
     ensures { λ r. ⌜ Onward s r × (r .noted ≡ s .noted) × ((c : Call) (steps : List ℕ) → Midway c (now (out .entry)) (now (work .entry)) steps s
         → Midway c (now (out .exit)) (now (work .entry)) steps r) ⌝ }
 {
     let mut i = 0;
+    let mut r = 0;
     while i < s.left {
-        let q = s.place + i;
-        let j = record::kind(work, q);
-        if 1 < j {
-            return kept(s, i);
+        let n = keep_member(out, work, s.end + r, s.place + r, s.node, s.edition);
+        if n < 1 {
+            return kept(s, i, r);
         }
-        stretch::copy_bytes(out, (s.end + i) * 16, work, q * 16, 16);
         i += 1;
+        r += n;
     }
-    kept(s, i)
+    kept(s, i, r)
 }
 
-// Members are kept, i of them, each one record and one try.
-fn kept(s: Stand, i: usize) -> Stand
-    requires { ⌜ (i ≤ s .left) × (s .place + i < 2 ^ 63) × (s .tries + i < 2 ^ 63) × (s .end + i < 2 ^ 63) × (s .gathered + i < 2 ^ 63) ⌝ }
-    ensures { λ r. ⌜ r ≡ keptBy s i ⌝ }
+// Members are kept, i of them, of r records, one try for each record.
+fn kept(s: Stand, i: usize, r: usize) -> Stand
+    requires { ⌜ (i ≤ s .left) × (s .place + r < 2 ^ 63) × (s .tries + r < 2 ^ 63) × (s .end + r < 2 ^ 63) × (s .gathered + i < 2 ^ 63) ⌝ }
+    ensures { λ t. ⌜ t ≡ keptBy s i r ⌝ }
 {
     let mut t = s;
-    t.place = s.place + i;
-    t.tries = s.tries + i;
-    t.end = s.end + i;
+    t.place = s.place + r;
+    t.tries = s.tries + r;
+    t.end = s.end + r;
     t.left = s.left - i;
     t.gathered = s.gathered + i;
     t
 }
 
-// Goes on with a pass: up to the next member that is a node, or, beginning again while anything changes, to the end.
+// Goes on with a pass: up to the next member that is to be driven, or, beginning again while anything changes, to the end.
 fn pass_on(out: &mut [u8], work: &mut [u8], steps: &mut [u8], from: Stand) -> Stand
     requires { ⌜ ((c : Call) × Midway c (now out) (now work) (now steps) from) ⌝ }
     ensures { λ r. ⌜ Onward from r × ((c : Call) → Midway c (now (out .entry)) (now (work .entry)) (now (steps .entry)) from
@@ -490,7 +536,7 @@ fn pass_on(out: &mut [u8], work: &mut [u8], steps: &mut [u8], from: Stand) -> St
 {
     let mut s = from;
     loop {
-        let k = keep_leaves(out, work, s);
+        let k = keep_members(out, work, s);
         if 0 < k.left {
             return k;
         }

@@ -10,5 +10,9 @@ pub mod TickOutLaws
 pub mod ViewLaws
 pub mod RestLaws
 pub mod RunLaws
+pub mod NumberLaws
+pub mod IntegerLaws
+pub mod GatherLaws
+pub mod RootLaws
 pub mod ComparedLaws
 pub mod Unique

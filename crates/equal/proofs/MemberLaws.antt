@@ -132,7 +132,7 @@ module _ {how : Tree → ℕ} {a : List ℕ} {i : ℕ} {b : List ℕ} {j : ℕ} 
       by (product μ f) e = let q = seen-product (seen g) (sym kinds ∙ e) in rw (q .2) (matched-bag f (toList (q .1)))
       by (power μ z ξ x) e = absurd (omega arith)
 
-  all-match : kind a i < 4 → equal t u ≡ sameMembers t u
+  pub all-match : kind a i < 4 → equal t u ≡ sameMembers t u
   all-match m = by (decLe 2 (kind a i))
     where
       by : Dec (2 ≤ kind a i) → equal t u ≡ sameMembers t u

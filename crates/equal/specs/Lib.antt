@@ -3,3 +3,4 @@ pub mod Views
 pub mod Compared
 pub mod Head
 pub mod Run
+pub mod Numbers

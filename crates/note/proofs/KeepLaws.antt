@@ -5,10 +5,10 @@ use mathlib.Core.Path.{_≡_, refl, sym, ap, _∙_, subst}
 use mathlib.Core.Bool.{Bool, true, false, not}
 use mathlib.Core.List.{List, [], _∷_, _++_}
 use native.Mathlib.Omega.{arith}
-use lib.ListN.{length, drop, set, length-append, length-set}
+use lib.ListN.{length, getD, drop, set, length-append, length-set}
 use lib.Seq.{take-set-le, drop-set-lt, drop-drop}
 use Rattle.paper.specs.Limits.{modulus}
-use Rattle.paper.specs.Bytes.{bytes}
+use Rattle.paper.specs.Bytes.{le8, bytes}
 use Rattle.paper.specs.Tree.{Tree, Forest, toList, records}
 use Rattle.paper.specs.Record.{kind}
 use Rattle.paper.proofs.BytesLaws.{length-bytes}
@@ -16,11 +16,11 @@ use Rattle.paper.proofs.EncodeLaws.{count-records, recordses-weights}
 use Rattle.paper.proofs.Tests.{never}
 use Rattle.stretch.specs.Put.{put}
 use Rattle.stretch.proofs.Laws.{length-put, take-put, drop-put}
-use Rattle.note.specs.Note.{note}
+use Rattle.note.specs.Note.{keys, note}
 use Rattle.note.specs.Part.{partKey}
 use Rattle.note.specs.Noted.{TreeBy, TreesBy, Known}
 use Rattle.note.specs.Still.{among, sought, apart}
-use Rattle.note.specs.Keys.{flagOf, Kept, KeptIn, keeping, Scratched}
+use Rattle.note.specs.Keys.{turned, firstFlag, secondFlag, Kept, KeysIn, KeptIn, keeping, Scratched}
 use Rattle.note.proofs.KeyLaws.{note-records}
 use Rattle.note.proofs.ToldLaws.{note-tells, noted-told, kind-number, none-of}
 use Rattle.note.proofs.LightLaws.{told-all, FirstBy, first-by}
@@ -61,40 +61,48 @@ scratched-set d o n a v l k =
     record { long = length-set d a v; before = take-set-le o d a v l; past = drop-set-lt (o + n) d a v k }
 
 -- one key more
-module _ {d : List ℕ} {o n m : ℕ} {ks : List ℕ} (h : KeptIn d o n m ks) (k : ℕ) (b : k < modulus) where
-  key-scratched : Scratched d (keeping d o n m k) o (n * 40)
+module _ {d : List ℕ} {o n x m : ℕ} {ks : List ℕ} (h : KeptIn d o n x m ks) (k : ℕ) (b : k < modulus) where
+  key-scratched : Scratched d (keeping d o n x m k) o (n * 40)
   unfolding keeping
   key-scratched =
-      let f = o + n * 8 + flagOf n k in
-      let c = flag-lt n k b (omega (arith, h .place)) in
-      scratched-both (scratched-set d o (n * 40) f 1 (omega arith) (omega arith))
-      (scratched-put (set d f 1) o (n * 40) (o + m * 8) (bytes 8 k) (omega arith) (omega (arith, length-bytes 8 k, h .place))
-      (omega (arith, length-set d f 1, h .room)))
+      let f = firstFlag o n x k in
+      let g = secondFlag o n x k in
+      let once = set d f 1 in
+      let c = flag-lt n x k (omega (arith, h .place)) in
+      let q = flag-lt n (turned x) k (omega (arith, h .place)) in
+      scratched-both
+      (scratched-both (scratched-set d o (n * 40) f 1 (omega arith) (omega arith)) (scratched-set once o (n * 40) g 1 (omega arith) (omega arith)))
+      (scratched-put (set once g 1) o (n * 40) (o + m * 8) (bytes 8 k) (omega arith) (omega (arith, length-bytes 8 k, h .place))
+      (omega (arith, length-set d f 1, length-set once g 1, h .room)))
 
-  pub keeping-scratched : (e : List ℕ) → e ≡ keeping d o n m k → Scratched d e o (n * 40)
+  pub keeping-scratched : (e : List ℕ) → e ≡ keeping d o n x m k → Scratched d e o (n * 40)
   keeping-scratched e q = rw q key-scratched
 
--- ---- the test, member by member: the keys `before` are kept, and the members of `rest` are to come
-pub record Testing (s : List ℕ) (f : Forest) (terms : Bool) (d : List ℕ) (o n at m : ℕ) : Type 0 where
+-- ---- the test, member by member: the keys `before` are kept, as K says, and the members of `rest` are to come
+pub record Testing (s : List ℕ) (f : Forest) (terms : Bool) (K : List ℕ → Type 0) (n at m : ℕ) : Type 0 where
   pub before : List ℕ
   pub rest : Forest
   pub there : TreesBy note s at (n - m) rest
-  pub kept : Kept d o n before
+  pub kept : K before
   pub many : length before ≡ m
   pub left : apart terms before (toList rest) ≡ apart terms [] (toList f)
 
 pub members-few : {s : List ℕ} {i n : ℕ} {f : Forest} → TreesBy note s i n f → n < 65536
 members-few {f = f} h = omega (arith, h .counted, count-records f, recordses-weights f, h .light)
 
-pub testing-start : {s d : List ℕ} {i o n : ℕ} {f : Forest} {terms : Bool} → TreesBy note s i n f → Testing s f terms d o n i 0
+-- no key is kept
+pub kept-none : (d : List ℕ) (o n x : ℕ) → Kept d o n x []
 unfolding among
-testing-start {s} {d} {i} {o} {n} {f} h =
+kept-none d o n x = record { keys-there = λ j l. absurd (omega arith); flagged = λ k e. never e }
+
+pub testing-start : {s : List ℕ} {i n : ℕ} {f : Forest} {terms : Bool} {K : List ℕ → Type 0} → K [] → TreesBy note s i n f → Testing s f terms K n i 0
+testing-start {s} {i} {n} {f} none h =
     let z : n ≡ n - 0 = omega arith in
     record {
       before = [];
       rest = f;
       there = subst (λ c. TreesBy note s i c f) z h;
-      kept = record { keys-there = λ j l. absurd (omega arith); flagged = λ k e. never e };
+      kept = none;
       many = refl;
       left = refl;
     }
@@ -114,7 +122,7 @@ module _ (terms : Bool) (before : List ℕ) (t : Tree) (l : List Tree) where
   unfolding apart
   member-new e k = rw (e, k)
 
-module _ {s : List ℕ} {f : Forest} {terms : Bool} {d : List ℕ} {o n at m : ℕ} (a : Testing s f terms d o n at m) where
+module _ {s : List ℕ} {f : Forest} {terms : Bool} {K : List ℕ → Type 0} {n at m : ℕ} (a : Testing s f terms K n at m) where
   -- no member to come
   pub testing-end : n ≤ m → true ≡ apart terms [] (toList f)
   unfolding apart toList
@@ -136,9 +144,6 @@ module _ {s : List ℕ} {f : Forest} {terms : Bool} {d : List ℕ} {o n at m : �
     testing-known k v e h =
         let there = testing-first .there in record { there = there; kind-known = e ∙ kind-number (noted-told there); note-known = h u there }
 
-    pub testing-kept : n < 65536 → o + n * 40 ≤ length d → KeptIn d o n m (a .before)
-    testing-kept few room = record { kept = a .kept; many = a .many; place = p; few = few; room = room }
-
     pub testing-sought : sought terms u ≡ true → false ≡ apart terms [] (toList f)
     testing-sought e = sym (member-sought terms (a .before) u (toList (testing-first .others)) e) ∙ first-left
 
@@ -146,10 +151,9 @@ module _ {s : List ℕ} {f : Forest} {terms : Bool} {d : List ℕ} {o n at m : �
     testing-seen e k = sym (member-seen terms (a .before) u (toList (testing-first .others)) e k) ∙ first-left
 
     -- the member is passed, its key kept
-    pub testing-step : sought terms u ≡ false → not (among (partKey terms u) (a .before)) ≡ true → n < 65536 → o + n * 40 ≤ length d
-        → (k v : ℕ) → k ≡ partKey terms u → k < modulus → v ≡ note u → (c : List ℕ) → c ≡ keeping d o n m k
-        → Testing s f terms c o n (at + v % 65536) (m + 1)
-    testing-step e q few room k v x b y c w =
+    pub testing-step : sought terms u ≡ false → not (among (partKey terms u) (a .before)) ≡ true → (k v : ℕ) → k ≡ partKey terms u → v ≡ note u
+        → {K′ : List ℕ → Type 0} → K′ (a .before ++ (k ∷ [])) → Testing s f terms K′ n (at + v % 65536) (m + 1)
+    testing-step e q k v x y w =
         let size : v % 65536 ≡ records u = ap (λ r. r % 65536) y ∙ note-records u (testing-first .there .light) in
         let less : n - m - 1 ≡ n - (m + 1) = omega arith in
         let after : TreesBy note s (at + v % 65536) (n - (m + 1)) (testing-first .others) =
@@ -159,10 +163,32 @@ module _ {s : List ℕ} {f : Forest} {terms : Bool} {d : List ℕ} {o n at m : �
           before = a .before ++ (k ∷ []);
           rest = testing-first .others;
           there = after;
-          kept = rw w (keeping-kept (testing-kept few room) k b);
+          kept = w;
           many = length-append (a .before) (k ∷ []) ∙ omega (arith, a .many);
           left =
               ap (λ r. apart terms (a .before ++ (r ∷ [])) (toList (testing-first .others))) x
               ∙ sym (member-new terms (a .before) u (toList (testing-first .others)) e q)
               ∙ first-left;
         }
+
+-- ---- the keys of the members passed, with flags and without
+pub testing-kept : {s : List ℕ} {f : Forest} {terms : Bool} {d : List ℕ} {o n x at m : ℕ} (a : Testing s f terms (Kept d o n x) n at m) → x < keys → m < n → n < 65536 → o + n * 40 ≤ length d
+    → KeptIn d o n x m (a .before)
+testing-kept a f p few room = record { kept = a .kept; factor = f; many = a .many; place = p; few = few; room = room }
+
+pub kept-more : {d : List ℕ} {o n x m : ℕ} {ks : List ℕ} → KeptIn d o n x m ks → (k : ℕ) → k < modulus → (c : List ℕ) → c ≡ keeping d o n x m k → Kept c o n x (ks ++ (k ∷ []))
+kept-more h k b c w = rw w (keeping-kept h k b)
+
+abbrev pub KeysAt : List ℕ → ℕ → List ℕ → Type 0
+KeysAt d o ks = (j : ℕ) → j < length ks → le8 d (o + j * 8) ≡ getD ks j 0
+
+pub keys-none : (d : List ℕ) (o : ℕ) → KeysAt d o []
+keys-none d o j l = absurd (omega arith)
+
+pub testing-keys : {s : List ℕ} {f : Forest} {terms : Bool} {d : List ℕ} {o n at m : ℕ} (a : Testing s f terms (KeysAt d o) n at m) → m < n → n < 65536 → o + n * 8 ≤ length d
+    → KeysIn d o m (a .before)
+testing-keys a p few room = record { keys-there = a .kept; many = a .many; few = omega arith; room = omega arith }
+
+pub key-put-scratched : (d : List ℕ) (o n m k : ℕ) → m < n → o + n * 8 ≤ length d → (e : List ℕ) → e ≡ put d (o + m * 8) (bytes 8 k) → Scratched d e o (n * 8)
+key-put-scratched d o n m k p room e q =
+    rw q (scratched-put d o (n * 8) (o + m * 8) (bytes 8 k) (omega arith) (omega (arith, length-bytes 8 k)) room)

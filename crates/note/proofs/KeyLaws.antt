@@ -1,5 +1,5 @@
 -- Equal trees have equal keys and equal notes, and a note tells records, weight and key. What members add to a key is a total over
--- them, and taking a member out of a list lowers a total by its part, whatever the part is; so nothing is asked of `mix`. Assumes nothing.
+-- them, and taking a member out of a list lowers a total by its part, whatever the part is; so nothing is asked of `mix` and `strewn`. Assumes nothing.
 use Prim.Native.Nat.{ℕ, _+_, _*_, _/_, _%_, _<_}
 use mathlib.Core.Path.{_≡_, refl, sym, ap, _∙_}
 use mathlib.Core.Bool.{Bool, true, false, cond}
@@ -18,7 +18,7 @@ use Rattle.paper.proofs.Value.{total}
 use Rattle.paper.proofs.EqualView.{Same, Sames, s-integer, s-symbol, s-sum, s-product, s-power, s-nil, s-cons, taken-total}
 use Rattle.paper.proofs.EqualView.{same-view, same-weight, same-records}
 use Rattle.paper.specs.Standing.{kindNumber}
-use Rattle.note.specs.Note.{keys, stir, mix, leafKey, shareOf, exponentShare, nodeKey, key, shares, share}
+use Rattle.note.specs.Note.{keys, stir, mix, strewn, leafKey, shareOf, exponentShare, nodeKey, key, shares, share}
 use Rattle.note.specs.Note.{noteOf, note, leafNote, added, addedExponent}
 
 -- what members add is a total over them
@@ -80,14 +80,18 @@ pub note-equal : (t u : Tree) → equal t u ≡ true → note t ≡ note u
 note-equal t u e = same-note (same-view t u e)
 
 -- ---- what a note tells
-mix-lt : (x c : ℕ) → mix x c < keys
-unfolding mix stir
-mix-lt x c = let y = (stir x c * 0x9e3779b1 + c) % keys in mod-lt (y * y / 65536) {m = keys} (lit< tt)
+stir-lt : (x c : ℕ) → stir x c < keys
+unfolding stir
+stir-lt x c = let y = (x * 0x9e3779b1 + c) % keys in mod-lt (y * y / 65536) {m = keys} (lit< tt)
+
+strewn-lt : (v c : ℕ) → strewn v c < keys
+unfolding strewn
+strewn-lt v c = stir-lt ((stir (v % keys) c + v / keys) % keys) c
 
 pub key-lt : (t : Tree) → key t < keys
 unfolding key leafKey nodeKey
-key-lt (integer μ z) = mix-lt _ _
-key-lt (symbol μ s) = mix-lt _ _
+key-lt (integer μ z) = strewn-lt _ _
+key-lt (symbol μ s) = strewn-lt _ _
 key-lt (sum μ f) = mod-lt (2 + shares f) {m = keys} (lit< tt)
 key-lt (product μ f) = mod-lt (3 + shares f) {m = keys} (lit< tt)
 key-lt (power μ b ξ e) = mod-lt (4 + (shareOf (kindNumber b) (key b) + exponentShare e)) {m = keys} (lit< tt)

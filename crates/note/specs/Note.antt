@@ -1,5 +1,5 @@
 -- The note of a tree: its number of records, its weight, and "a key that adds up over members with wrap-around". Equal trees have equal
--- notes; nothing else is claimed of a key, and no proof looks inside `mix`. Marks are not looked at, as equality does not compare them.
+-- notes; nothing else is claimed of a key, and no proof looks inside `mix` and `strewn`. Marks are not looked at, as equality does not compare them.
 use Prim.Native.Nat.{ℕ, _+_, _*_, _/_, _%_, _^_}
 use mathlib.Core.Bool.{cond}
 use lib.Dec.{ltb}
@@ -21,13 +21,14 @@ stir x c = let y = (x * 0x9e3779b1 + c) % keys in y * y / 65536 % keys
 unfoldable pub mix : ℕ → ℕ → ℕ
 mix x c = stir (stir x c) c
 
--- 64 bits as 32
-unfoldable pub folded : ℕ → ℕ
-folded v = (v % keys + v / keys) % keys
+-- 64 bits as 32, stirred twice: the lower half is stirred before the upper one joins it, so that no simple relation of the two, as one sum, gives many
+-- numbers one key; a number below 2^32 is mixed
+unfoldable pub strewn : ℕ → ℕ → ℕ
+strewn v c = stir ((stir (v % keys) c + v / keys) % keys) c
 
 -- the key of a leaf of kind k with the bits v
 unfoldable pub leafKey : ℕ → ℕ → ℕ
-leafKey k v = mix (folded v) k
+leafKey k v = strewn v k
 
 -- what a member of kind k adds to its node's key: a leaf its key, a node its key stirred once more
 unfoldable pub shareOf : ℕ → ℕ → ℕ
@@ -35,7 +36,7 @@ shareOf k x = cond (ltb k 2) x (mix x k)
 
 -- what an exponent adds: with a constant of its own, else 2^3 and 3^2 would have one key
 unfoldable pub exponentShare : ℕ → ℕ
-exponentShare e = mix (folded e) 5
+exponentShare e = strewn e 5
 
 -- the key of a node of kind k whose members add n
 unfoldable pub nodeKey : ℕ → ℕ → ℕ

@@ -143,15 +143,18 @@ pub ends : {ed : ℕ} {t : Tree} {rest o w : List ℕ} {d p i : ℕ} {o₁ w₁ 
     → Going ed t rest o d p i o₁ w₁ → AskedIs (rulesOf ed) t rest o o₁ w₁ d p Nothing
 ends {ed} {t} h e g = (g .same ∙ ap (λ n. ask (drop n (rulesOf ed)) t) e ∙ only-its-own ed (ready-seen h) .1, g .ready .stands, g .done)
 
+-- what is asked when the first rule, of the step k, gave the outcome x and the rules rs are left
+abbrev pub told : paper.Tried → ℕ → List paper.Rule → Tree → Asked
+told x k rs t = elim x [ paper.does-not-apply ↦ ask rs t | paper.applies u ↦ step k u | paper.range-exceeded ↦ out-of-range ]
+
+first-asked : (r : paper.Rule) (rs : List paper.Rule) (t : Tree) (x : paper.Tried) → r .try t ≡ x → ask (r ∷ rs) t ≡ told x (r .number) rs t
+unfolding ask
+first-asked r rs t x e = ap (λ y. told y (r .number) rs t) e
+
 -- the i-th is asked
 module _ {ed : ℕ} {t : Tree} {rest o : List ℕ} {d p i : ℕ} {o₁ w₁ : List ℕ} (g : Going ed t rest o d p i o₁ w₁) (l : i < rulesIn ed) where
-  abbrev chosen : paper.Tried → Asked
-  chosen x =
-      elim x [ paper.does-not-apply ↦ ask (drop (i + 1) (rulesOf ed)) t | paper.applies u ↦ step (stepAt i) u | paper.range-exceeded ↦ out-of-range ]
-
-  answered : (x : paper.Tried) → ruleOf (stepAt i) t ≡ x → ask (rulesOf ed) t ≡ chosen x
-  unfolding ask
-  answered x e = g .same ∙ ap (λ rs. ask rs t) (first-left ed i l) ∙ ap chosen e
+  answered : (x : paper.Tried) → ruleOf (stepAt i) t ≡ x → ask (rulesOf ed) t ≡ told x (stepAt i) (drop (i + 1) (rulesOf ed)) t
+  answered x e = g .same ∙ ap (λ rs. ask rs t) (first-left ed i l) ∙ first-asked _ _ t x e
 
   pub leaves : ruleOf (stepAt i) t ≡ paper.range-exceeded → ask (rulesOf ed) t ≡ out-of-range
   leaves e = answered paper.range-exceeded e
@@ -171,36 +174,39 @@ module _ {ed : ℕ} {t : Tree} {rest o : List ℕ} {d p i : ℕ} {o₁ w₁ : Li
 
 -- ---- step 2 at a sum, step 6 at a product, where no rule before it applies
 passes : (r : paper.Rule) (rs : List paper.Rule) (t : Tree) → r .try t ≡ paper.does-not-apply → ask (r ∷ rs) t ≡ ask rs t
-unfolding ask
-passes r rs t e = rw e refl
+passes r rs t e = first-asked r rs t paper.does-not-apply e
 
-takes : (r : paper.Rule) (rs : List paper.Rule) (t u : Tree) → r .try t ≡ paper.applies u → ask (r ∷ rs) t ≡ step (r .number) u
-unfolding ask
-takes r rs t u e = rw e refl
-
-module _ (ed : ℕ) (t u : Tree) where
-  second : addZero t ≡ paper.does-not-apply → combineLikeTerms t ≡ paper.applies u → ask (rulesOf ed) t ≡ step 2 u
+module _ (ed : ℕ) (t : Tree) (x : paper.Tried) where
+  second : addZero t ≡ paper.does-not-apply → combineLikeTerms t ≡ x → ask (rulesOf ed) t ≡ told x 2 (drop 2 (rulesOf ed)) t
   unfolding rulesOf editionOne editionTwo
   second a c = go (eqb ed 2)
     where
-      go : (x : Bool) → ask (chosenBy x) t ≡ step 2 u
-      go true = passes _ _ t a ∙ takes _ _ t u c
-      go false = passes _ _ t a ∙ takes _ _ t u c
+      go : (y : Bool) → ask (chosenBy y) t ≡ told x 2 (drop 2 (chosenBy y)) t
+      go true = passes _ _ t a ∙ first-asked _ _ t x c
+      go false = passes _ _ t a ∙ first-asked _ _ t x c
 
   fifth : addZero t ≡ paper.does-not-apply → combineLikeTerms t ≡ paper.does-not-apply → multiplyZero t ≡ paper.does-not-apply
-      → multiplyOne t ≡ paper.does-not-apply → combineLikeFactors t ≡ paper.applies u → ask (rulesOf ed) t ≡ step 6 u
+      → multiplyOne t ≡ paper.does-not-apply → combineLikeFactors t ≡ x → ask (rulesOf ed) t ≡ told x 6 (drop 5 (rulesOf ed)) t
   unfolding rulesOf editionOne editionTwo
   fifth a b c d e = go (eqb ed 2)
     where
-      go : (x : Bool) → ask (chosenBy x) t ≡ step 6 u
-      go true = passes _ _ t a ∙ passes _ _ t b ∙ passes _ _ t c ∙ passes _ _ t d ∙ takes _ _ t u e
-      go false = passes _ _ t a ∙ passes _ _ t b ∙ passes _ _ t c ∙ passes _ _ t d ∙ takes _ _ t u e
+      go : (y : Bool) → ask (chosenBy y) t ≡ told x 6 (drop 5 (chosenBy y)) t
+      go true = passes _ _ t a ∙ passes _ _ t b ∙ passes _ _ t c ∙ passes _ _ t d ∙ first-asked _ _ t x e
+      go false = passes _ _ t a ∙ passes _ _ t b ∙ passes _ _ t c ∙ passes _ _ t d ∙ first-asked _ _ t x e
 
-pub combine-asked : (ed : ℕ) (b : Bool) {o w : List ℕ} {d p : ℕ} {t : Tree} {rest : List ℕ} → Ready o w d p t rest → kind w p ≡ nodeKind b
-    → (s : IsNode b o w d p t rest) → anyEarlier b (toList (s .members)) ≡ false → (u : Tree) → combineLike b t ≡ paper.applies u
-    → ask (rulesOf ed) t ≡ step (stepOf b) u
-combine-asked ed true {t = t} h k s e u c = second ed t u (finds-none s (drops true) e) c
-combine-asked ed false {w = w} {p = p} {t = t} h k s e u c =
-    let none = or-neither _ _ e in
-    let other : kind w p ≡ 2 → ⊥ = λ z. omega (arith, k, z) in
-    fifth ed t u (looks-elsewhere h (drops true) other) (combine-other h true other) (finds-none s zeroes (none .0)) (finds-none s (drops false) (none .1)) c
+module _ (ed : ℕ) {o w : List ℕ} {d p : ℕ} {t : Tree} {rest : List ℕ} (h : Ready o w d p t rest) where
+  pub combine-asked : (b : Bool) → kind w p ≡ nodeKind b → (s : IsNode b o w d p t rest) → anyEarlier b (toList (s .members)) ≡ false → (x : paper.Tried)
+      → combineLike b t ≡ x → ask (rulesOf ed) t ≡ told x (stepOf b) (drop (endFor (nodeKind b) ed) (rulesOf ed)) t
+  combine-asked true k s e x c = second ed t x (finds-none s (drops true) e) c
+  combine-asked false k s e x c =
+      let none = or-neither _ _ e in
+      let other : kind w p ≡ 2 → ⊥ = λ z. omega (arith, k, z) in
+      fifth ed t x (looks-elsewhere h (drops true) other) (combine-other h true other) (finds-none s zeroes (none .0)) (finds-none s (drops false) (none .1)) c
+
+  -- where it does not apply either, none does: those after it are for other trees
+  pub combine-none : (b : Bool) → kind w p ≡ nodeKind b → (s : IsNode b o w d p t rest) → anyEarlier b (toList (s .members)) ≡ false
+      → combineLike b t ≡ paper.does-not-apply → ask (rulesOf ed) t ≡ no-rule
+  combine-none b k s e c =
+      combine-asked b k s e paper.does-not-apply c
+      ∙ ap (λ i. ask (drop (endFor i ed) (rulesOf ed)) t) (sym k)
+      ∙ only-its-own ed (ready-seen h) .1

@@ -157,7 +157,7 @@ module _ (ed : ℕ) where
   leaves-none (t ∷ l) h = and-more (leaf-none t (h .0)) (leaves-none l (h .1))
 
   -- ---- a calm tree
-  few-none : (t : Tree) → WF t → ask (rulesOf ed) t ≡ no-rule → records t ≤ length (members t) + 1 → AdmitsNone (rulesOf ed) t
+  pub few-none : (t : Tree) → WF t → ask (rulesOf ed) t ≡ no-rule → records t ≤ length (members t) + 1 → AdmitsNone (rulesOf ed) t
   unfolding records members openingsAt gather
   few-none (integer μ z) w a l = admits-none a refl no-more
   few-none (symbol μ s) w a l = admits-none a refl no-more

@@ -1,6 +1,6 @@
 -- A gathered node whose like members are combined. What came out of the walk stands in `out`, and the node of it is lighter than the one it is in
 -- place of, so that there is scratch before what is pending; and what is said of the node that is made of it is what is said of the step, which
--- is the first that applies where no rule before it does. Assumes nothing.
+-- is the first that applies where no rule before it does; and where the walk removes nothing, no rule applies. Assumes nothing.
 use Prim.Native.Nat.{ℕ, zero, suc, _+_, _*_, _<_, _≤_}
 use mathlib.Core.Path.{_≡_, refl, sym, ap, _∙_, subst}
 use mathlib.Core.Bool.{Bool, false}
@@ -12,21 +12,21 @@ use Rattle.paper.specs.Tree.{Tree, toList, records, recordses}
 use Rattle.paper.specs.Record.{kind, markIn}
 use Rattle.paper.specs.Rules as paper
 use Rattle.paper.specs.Rules.{rulesOf}
-use Rattle.paper.specs.Driver.{ask, step, members, opened}
+use Rattle.paper.specs.Driver.{ask, no-rule, step, members, opened}
 use Rattle.paper.specs.Admits.{openingsAt, AllAdmitNone}
 use Rattle.note.specs.Note.{note}
 use Rattle.note.specs.Noted.{encodeBy}
 use Rattle.part.specs.Like.{nodeKind, nodeOf}
 use Rattle.walk.specs.Listed.{ListedIs}
-use Rattle.walk.specs.Walked.{cameOut, CameOut, OneNew}
+use Rattle.walk.specs.Walked.{combined, cameOut, CameOut, OneNew}
 use Rattle.rules.specs.Alike.{combineLike, stepOf, anyEarlier, insideOf}
 use Rattle.rules.specs.Asked.{Ready, CombinedIs}
 use Rattle.rules.specs.Quiet.{Emerged, EmergedIs}
 use Rattle.rules.specs.declared.Combined.{Combined}
-use Rattle.rules.specs.declared.Combined.the-variants.{No, Pending, Quiet}
+use Rattle.rules.specs.declared.Combined.the-variants.{No, Nothing, Pending, Quiet}
 use Rattle.rules.proofs.RuleLaws.{ready-length, combine-light, combine-lighter, IsNode, combine-at}
 use Rattle.rules.proofs.CombineLaws.{after-walk, came-built, end-within}
-use Rattle.rules.proofs.AskLaws.{combine-asked}
+use Rattle.rules.proofs.AskLaws.{combine-asked, combine-none}
 use Rattle.rules.proofs.Emerging.{node-records, node-members, node-openings}
 
 -- a sum's kind, or a product's, by one flag
@@ -49,6 +49,14 @@ module _ {o w : List ℕ} {d p : ℕ} {t : Tree} {rest : List ℕ} (h : Ready o 
 
   own-openings : openingsAt t ≡ opened (insideOf b) (toList (s .members)) .1
   own-openings = ap openingsAt (s .is) ∙ node-openings (s .mark) (s .members) b
+
+  none-earlier : anyEarlier b (members t) ≡ false → anyEarlier b (toList (s .members)) ≡ false
+  none-earlier none = ap (anyEarlier b) (sym own-members) ∙ none
+
+  -- the walk removes nothing
+  pub no-rule-applies : (ed : ℕ) → kind w p ≡ nodeKind b → anyEarlier b (members t) ≡ false
+      → ((μ : ℕ) → combined b μ (toList (s .members)) ≡ paper.does-not-apply) → ask (rulesOf ed) t ≡ no-rule
+  no-rule-applies ed kinded none idle = combine-none ed h b kinded s (none-earlier none) (combine-at s ∙ idle (markIn w p))
 
   abbrev came : List Tree
   came = cameOut b (toList (s .members))
@@ -80,11 +88,12 @@ module _ {o w : List ℕ} {d p : ℕ} {t : Tree} {rest : List ℕ} (h : Ready o 
     module _ (kinded : kind w p ≡ nodeKind b) (none : anyEarlier b (members t) ≡ false) (ed : ℕ) (done : take (d * 16) o₁ ≡ take (d * 16) o) where
       asked : (j : ℕ) → j ≡ stepOf b → ask (rulesOf ed) t ≡ step j (nodeOf b μ came)
       asked j e =
-          combine-asked ed b h kinded s (ap (anyEarlier b) (sym own-members) ∙ none) (nodeOf b μ came) applies ∙ ap (λ i. step i (nodeOf b μ came)) (sym e)
+          combine-asked ed h b kinded s (none-earlier none) (paper.applies (nodeOf b μ came)) applies ∙ ap (λ i. step i (nodeOf b μ came)) (sym e)
 
       pub combines : (o' w' : List ℕ) (r : Combined) → EmergedIs b μ ed (toList (s .members)) came rest o₁ o' w' d end r
           → CombinedIs (rulesOf ed) t rest o o' w' d p r
       combines o' w' No x = absurd x
+      combines o' w' Nothing x = absurd x
       combines o' w' (Pending j q) x = (nodeOf b μ came, asked j (x .0), x .1 .stands, x .1 .done ∙ done)
       combines o' w' (Quiet j e) x =
           let u = nodeOf b μ came in

@@ -13,7 +13,7 @@ use Rattle.note.specs.Noted.{encodeBy}
 use Rattle.rules.specs.declared.Asked.{Asked}
 use Rattle.rules.specs.declared.Asked.the-variants.{Nothing, Step, Over}
 use Rattle.rules.specs.declared.Combined.{Combined}
-use Rattle.rules.specs.declared.Combined.the-variants.{No, Pending, Quiet}
+use Rattle.rules.specs.declared.Combined.the-variants as combined
 
 -- a well-formed tree t stands, noted, at the head of what is pending, from record p of `work` on, and `rest` after it; d records of `out`
 -- are done, and there is room for all that a rule may write: for each unit of the weight one record, and one entry of four bytes in the
@@ -34,12 +34,13 @@ AskedIs rs t rest out out' work' d p (Step k q) =
     (u : Tree) × (ask rs t ≡ step k u) × (drop (q * 16) work' ≡ encodeBy note u ++ rest) × (take (d * 16) out' ≡ take (d * 16) out)
 AskedIs rs t rest out out' work' d p Over = ask rs t ≡ out-of-range
 
--- what each answer says of a gathered node t: `No`, nothing, and t is pending as it was; `Pending k q`, the step k applies and its result is pending
--- from record q on; `Quiet k e`, the step k applies, its result stands after what is done, up to record e, and what followed t is pending; and where
--- t's members admit no rule and no opening, and none of them opens, neither does the result
+-- what each answer says of a gathered node t: `No`, nothing, and t is pending as it was; `Nothing`, no rule applies; `Pending k q`, the step k applies
+-- and its result is pending from record q on; `Quiet k e`, the step k applies, its result stands after what is done, up to record e, and what followed t
+-- is pending; and where t's members admit no rule and no opening, and none of them opens, neither does the result
 abbrev pub CombinedIs : (rs : List Rule) (t : Tree) (rest out out' work' : List ℕ) (d p : ℕ) → Combined → Type 0
-CombinedIs rs t rest out out' work' d p No = (drop (p * 16) work' ≡ encodeBy note t ++ rest) × (take (d * 16) out' ≡ take (d * 16) out)
-CombinedIs rs t rest out out' work' d p (Pending k q) = AskedIs rs t rest out out' work' d p (Step k q)
-CombinedIs rs t rest out out' work' d p (Quiet k e) =
+CombinedIs rs t rest out out' work' d p combined.No = (drop (p * 16) work' ≡ encodeBy note t ++ rest) × (take (d * 16) out' ≡ take (d * 16) out)
+CombinedIs rs t rest out out' work' d p combined.Nothing = AskedIs rs t rest out out' work' d p Nothing
+CombinedIs rs t rest out out' work' d p (combined.Pending k q) = AskedIs rs t rest out out' work' d p (Step k q)
+CombinedIs rs t rest out out' work' d p (combined.Quiet k e) =
     (u : Tree) × (ask rs t ≡ step k u) × (e ≡ d + records u) × (take (e * 16) out' ≡ take (d * 16) out ++ encodeBy note u)
     × (drop ((p + records t) * 16) work' ≡ rest) × (AllAdmitNone rs (members t) → openingsAt t ≡ 0 → AdmitsNone rs u)

@@ -20,7 +20,7 @@ use Rattle.walk.specs.Walked.{OneNew}
 use Rattle.rules.specs.Alike.{stepOf, insideOf}
 use Rattle.rules.specs.Tried.{Built, PutBack}
 use Rattle.rules.specs.declared.Combined.{Combined}
-use Rattle.rules.specs.declared.Combined.the-variants.{No, Pending, Quiet}
+use Rattle.rules.specs.declared.Combined.the-variants.{No, Nothing, Pending, Quiet}
 
 -- a tree that has one record for each member and its own, so that its members are leaves, if it has any; and its keys tell that no rule applies
 unfoldable pub calm : ℕ → Tree → Bool
@@ -50,9 +50,10 @@ pub record Emerged (b : Bool) (μ : ℕ) (l m : List Tree) (rest out work : List
   pub within : end * 16 ≤ length work
 
 -- what each answer says of the node of m: `Pending k q`, it is pending from record q on; `Quiet k e`, it stands after what is done, up to record e, and
--- is finished where all of l are and none of them is opened. `No` is no answer.
+-- is finished where all of l are and none of them is opened. `No` and `Nothing` are no answers.
 abbrev pub EmergedIs : (b : Bool) (μ ed : ℕ) (l m : List Tree) (rest out out' work' : List ℕ) (d end : ℕ) → Combined → Type 0
 EmergedIs b μ ed l m rest out out' work' d end No = ⊥
+EmergedIs b μ ed l m rest out out' work' d end Nothing = ⊥
 EmergedIs b μ ed l m rest out out' work' d end (Pending k q) = (k ≡ stepOf b) × PutBack b μ m rest out out' work' d q
 EmergedIs b μ ed l m rest out out' work' d end (Quiet k e) =
     (k ≡ stepOf b) × (e ≡ d + records (nodeOf b μ m)) × (take (e * 16) out' ≡ take (d * 16) out ++ encodeBy note (nodeOf b μ m))

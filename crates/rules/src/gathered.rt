@@ -122,7 +122,7 @@ pub fn combine_members(
     let end = walk::list_members(work, p, terms);
     let walked = walk::walk(out, work, d, p, n, terms);
     match walked {
-        walk::Walked::Idle => Combined::No,
+        walk::Walked::Idle => Combined::Nothing,
         walk::Walked::Over => Combined::No,
         walk::Walked::Done(count, e, f) => make_node(
             out,

@@ -30,10 +30,11 @@ pub enum Tried {
     Over,
 }
 
-// What became of a gathered node: nothing, and the rules are to be asked; the step that applies, and the record that its result is pending
-// from; the step that applies, its result standing finished in out, up to a record.
+// What became of a gathered node: nothing, and the rules are to be asked; nothing, for none of them applies; the step that applies, and the
+// record that its result is pending from; the step that applies, its result standing finished in out, up to a record.
 pub enum Combined {
     No,
+    Nothing,
     Pending(u8, usize),
     Quiet(u8, usize),
 }
@@ -116,8 +117,8 @@ pub fn ask(out: &mut [u8], work: &mut [u8], d: usize, p: usize, edition: usize) 
 }
 
 // Combines the like members of the gathered node at record p of work, whose members are finished: step 2 or 6, where no rule before it
-// applies. Nothing is said of a node at which another rule applies, or none, or the range is left. The result is built in out, from record d
-// on.
+// applies. Nothing is said of a leaf, of a power, and of a node at which a rule before it applies or the range is left. The result is built in
+// out, from record d on.
 pub fn combine_gathered(
     out: &mut [u8],
     work: &mut [u8],

@@ -1,4 +1,4 @@
--- What the code's searches say of an area: order is judged slot by slot; the first slot with the key shows the setting; the first that is
+-- What the code's searches say of an area: order but for the keys is judged slot by slot; the first slot with the key shows the setting; the first that is
 -- free or has the key takes the record; and the bytes after a store and a remove. Each is an induction on the slots that are left.
 -- Assumes nothing.
 use Prim.Native.Nat.{ℕ, zero, suc, _+_, _-_, _*_, _/_, _%_, _<_, _≤_}
@@ -13,38 +13,33 @@ use lib.Dec.{eqb, ltb}
 use lib.ListN.{length, take, drop, length-drop}
 use lib.Seq.{take-add, drop-drop}
 use Rattle.paper_settings.specs.Settings.{keyIn, isMalformed, isFree, holds, freeSlot, settingOf, joined, slotsOf, shown, known, used}
-use Rattle.paper_settings.specs.Settings.{allFree, inOrder, isFull, takeOut}
+use Rattle.paper_settings.specs.Settings.{allFree, isFull, takeOut}
 use Rattle.paper_settings.specs.Settings as paper
 use Rattle.paper_settings.proofs.SlotLaws.{hasPlace, full-place}
 use Rattle.paper_settings.proofs.SettingsLaws.{joined-slots, slots-length}
 use Rattle.paper_settings.proofs.SettingsUpgrade.{joined-append}
 use Rattle.stretch.specs.Put.{put}
-use Rattle.settings.specs.Slots.{slotAt, rest, firstIn, takes, closedUp}
+use Rattle.settings.specs.Slots.{slotAt, rest, firstIn, takes, closedUp, inPlace}
 use Rattle.settings.proofs.StepLaws.{rest-all, rest-step, rest-done}
 
--- ---- order, slot by slot
+-- ---- order but for the keys, slot by slot
 module _ (a : List ℕ) (i : ℕ) where
-  pub order-free : i < length a / 32 → isFree (slotAt a i) ≡ true → inOrder (rest a i) ≡ allFree (rest a (i + 1))
-  unfolding inOrder
-  order-free h f = rw (rest-step a i h, f)
+  pub place-free : i < length a / 32 → isFree (slotAt a i) ≡ true → inPlace (rest a i) ≡ allFree (rest a (i + 1))
+  unfolding inPlace
+  place-free h f = rw (rest-step a i h, f)
 
-  pub order-bad : i < length a / 32 → isFree (slotAt a i) ≡ false → isMalformed (slotAt a i) ≡ true → inOrder (rest a i) ≡ false
-  unfolding inOrder
-  order-bad h f m = rw (rest-step a i h, f, m)
+  pub place-bad : i < length a / 32 → isFree (slotAt a i) ≡ false → isMalformed (slotAt a i) ≡ true → inPlace (rest a i) ≡ false
+  unfolding inPlace
+  place-bad h f m = rw (rest-step a i h, f, m)
 
-  pub order-twice : i < length a / 32 → isFree (slotAt a i) ≡ false → isMalformed (slotAt a i) ≡ false
-      → known (shown (rest a (i + 1)) (keyIn (slotAt a i))) ≡ true → inOrder (rest a i) ≡ false
-  unfolding inOrder
-  order-twice h f m k = rw (rest-step a i h, f, m, k)
+  pub place-later : i < length a / 32 → isFree (slotAt a i) ≡ false → isMalformed (slotAt a i) ≡ false
+      → inPlace (rest a i) ≡ inPlace (rest a (i + 1))
+  unfolding inPlace
+  place-later h f m = rw (rest-step a i h, f, m)
 
-  pub order-later : i < length a / 32 → isFree (slotAt a i) ≡ false → isMalformed (slotAt a i) ≡ false
-      → known (shown (rest a (i + 1)) (keyIn (slotAt a i))) ≡ false → inOrder (rest a i) ≡ inOrder (rest a (i + 1))
-  unfolding inOrder
-  order-later h f m k = rw (rest-step a i h, f, m, k)
-
-  pub order-done : length a / 32 ≤ i → inOrder (rest a i) ≡ true
-  unfolding inOrder
-  order-done h = rw (rest-done a i h)
+  pub place-done : length a / 32 ≤ i → inPlace (rest a i) ≡ true
+  unfolding inPlace
+  place-done h = rw (rest-done a i h)
 
 -- ---- the first slot with the key
 pub known-first : (k : ℕ) (xs : List (List ℕ)) (i : ℕ) → known (shown xs k) ≡ ltb (firstIn (holds k) i xs) (i + length xs)

@@ -1,12 +1,15 @@
 // Settings that survive an upgrade: an area of slots of 32 bytes, judged whole at every call; store, fetch and remove of the new release,
 // and the reader of the old one.
 ghost use mathlib.Core.Path.{_≡_};
-ghost use Prim.Native.Nat.{_+_, _*_, _/_, _≤_};
+ghost use Prim.Native.Nat.{_+_, _*_, _/_, _<_, _≤_};
+ghost use lib.Dec.{eqb};
 ghost use lib.ListN.{length};
 ghost use Rattle.paper_settings.specs.Settings.{version, keyIn, isMalformed, isFree, holds, slotsOf, slotOf, anyNewer, allFree, inOrder, areaVerdict};
 ghost use Rattle.paper_settings.specs.Settings.{to-store, to-remove, called, fetched, fetchedOld};
 ghost use Rattle.stretch.specs.Put.{put};
-ghost use Rattle.settings.specs.Slots.{slotAt, rest, firstIn, takes, closedUp};
+ghost use Rattle.table.specs.Due.{dueAt, turned};
+ghost use Rattle.settings.specs.Slots.{slotAt, rest, firstIn, takes, closedUp, inPlace, keysIn};
+ghost use Rattle.settings.specs.Keys.{twice, inPart, partFrom, partsOf};
 ghost use Rattle.settings.specs.Shown.{says, says-1, stores};
 
 // The newest version that the new release knows, and the one that it writes; and the newest that the old release knows.
@@ -20,6 +23,9 @@ const MAY: [[u8; 16]; 3] = [
     [1, 0, 1, 1, 0, 0, 0, 0, 1, 1, 1, 1, 1, 1, 1, 1],
     [1, 0, 1, 1, 1, 1, 0, 0, 1, 1, 1, 1, 1, 1, 1, 1],
 ];
+
+// A part of the keys is so many that come one after the other; a pass over the records has a bit for each of them.
+const PART: usize = 8192;
 
 // What a fetch answers: 0 or a refusal's number, the 64 bits of the setting, and its unit; zeros after a refusal.
 pub struct Shown {
@@ -66,13 +72,14 @@ fn is_malformed(area: &[u8], i: usize) -> bool
     if 2 < v {
         return true;
     }
+    let may = MAY[v];
     let mut byte = 0;
     while byte < 32 {
         if area[32 * i + byte] != 0 {
             if 15 < byte {
                 return true;
             }
-            if MAY[v][byte] == 0 {
+            if may[byte] == 0 {
                 return true;
             }
         }
@@ -142,13 +149,12 @@ fn all_free(area: &[u8], from: usize) -> bool
     true
 }
 
-// The first slot from `from` on that has a record of the key; the number of slots where none has.
-fn find(area: &[u8], from: usize, key: usize) -> usize
-    requires { ⌜ from ≤ length (now area) / 32 ⌝ }
-    ensures { λ r. ⌜ (r ≡ firstIn (holds key) from (rest (now (area .entry)) from)) × (r ≤ length (now (area .entry)) / 32) ⌝ }
+// The first slot that has a record of the key; the number of slots where none has.
+fn find(area: &[u8], key: usize) -> usize
+    ensures { λ r. ⌜ (r ≡ firstIn (holds key) 0 (rest (now (area .entry)) 0)) × (r ≤ length (now (area .entry)) / 32) ⌝ }
 {
     let n = area.len() / 32;
-    let mut i = from;
+    let mut i = 0;
     while i < n {
         if holds(area, i, key) {
             return i;
@@ -173,9 +179,9 @@ fn room_for(area: &[u8], key: usize) -> usize
     i
 }
 
-// No record is malformed, no key is there twice, and free slots come last.
-fn in_order(area: &[u8]) -> bool
-    ensures { λ r. ⌜ r ≡ inOrder (slotsOf (now (area .entry))) ⌝ }
+// No record is malformed, and free slots come last.
+fn in_place(area: &[u8]) -> bool
+    ensures { λ r. ⌜ r ≡ inPlace (slotsOf (now (area .entry))) ⌝ }
 {
     let n = area.len() / 32;
     let mut i = 0;
@@ -186,12 +192,93 @@ fn in_order(area: &[u8]) -> bool
         if is_malformed(area, i) {
             return false;
         }
-        if find(area, i + 1, key_of(area, i)) < n {
-            return false;
-        }
         i += 1;
     }
     true
+}
+
+// How many parts of the keys there are up to the last one that a record before the first free slot has its key in.
+fn parts(area: &[u8]) -> usize
+    ensures { λ r. ⌜ r ≡ partsOf 0 (keysIn (slotsOf (now (area .entry)))) ⌝ }
+{
+    let n = area.len() / 32;
+    let mut most = 0;
+    let mut i = 0;
+    while i < n {
+        if is_free(area, i) {
+            return most;
+        }
+        let part = key_of(area, i) / PART;
+        if most <= part {
+            most = part + 1;
+        }
+        i += 1;
+    }
+    most
+}
+
+// Key k of the part at hand was seen: its bit is 1. The bits are told as those of crate `table`, 64 to a word.
+fn is_seen(seen: &[u64; 128], k: usize) -> bool
+    requires { ⌜ k < 8192 ⌝ }
+    ensures { λ r. ⌜ r ≡ eqb (dueAt (now (seen .entry)) k) 1 ⌝ }
+{
+    (seen[k / 64] >> (k % 64)) % 2 == 1
+}
+
+// Turns the bit of key k of the part at hand: 0 to 1.
+fn see(seen: &mut [u64; 128], k: usize)
+    requires { ⌜ k < 8192 ⌝ }
+    ensures { λ _. ⌜ now (seen .exit) ≡ turned (now (seen .entry)) k ⌝ }
+{
+    seen[k / 64] = seen[k / 64] ^ (1u64 << (k % 64));
+}
+
+// Of the records before the first free slot two have one key, and it is of this part: one pass, with a bit for each key of the part.
+fn twice_in(area: &[u8], part: usize) -> bool
+    ensures { λ r. ⌜ r ≡ twice (inPart part) (keysIn (slotsOf (now (area .entry)))) ⌝ }
+{
+    let n = area.len() / 32;
+    let mut seen = [0u64; 128];
+    let mut i = 0;
+    while i < n {
+        if is_free(area, i) {
+            return false;
+        }
+        let key = key_of(area, i);
+        if key / PART == part {
+            if is_seen(&seen, key % PART) {
+                return true;
+            }
+            see(&mut seen, key % PART);
+        }
+        i += 1;
+    }
+    false
+}
+
+// Of the records before the first free slot two have one key: a pass for each part up to the last one that has keys.
+fn any_twice(area: &[u8]) -> bool
+    ensures { λ r. ⌜ r ≡ twice (partFrom 0) (keysIn (slotsOf (now (area .entry)))) ⌝ }
+{
+    let n = parts(area);
+    let mut part = 0;
+    while part < n {
+        if twice_in(area, part) {
+            return true;
+        }
+        part += 1;
+    }
+    false
+}
+
+// No record is malformed, no key is there twice, and free slots come last.
+fn in_order(area: &[u8]) -> bool
+    ensures { λ r. ⌜ r ≡ inOrder (slotsOf (now (area .entry))) ⌝ }
+{
+    if in_place(area) {
+        return !any_twice(area);
+    }
+    false
 }
 
 // What a release that knows the versions up to `newest` says of the area: 0, 10 or 11.
@@ -222,7 +309,7 @@ pub fn fetch(area: &[u8], key: u16) -> Shown
             unit: 0,
         };
     }
-    let i = find(area, 0, key as usize);
+    let i = find(area, key as usize);
     if i < area.len() / 32 {
         let unit = number::read2(area, 32 * i + 4);
         let setting = number::read8(area, 32 * i + 8);
@@ -250,7 +337,7 @@ pub fn fetch_1(area: &[u8], key: u16) -> Shown1
             setting: 0,
         };
     }
-    let i = find(area, 0, key as usize);
+    let i = find(area, key as usize);
     if i < area.len() / 32 {
         let setting = number::read8(area, 32 * i + 8);
         return Shown1 {
@@ -346,7 +433,7 @@ pub fn remove(area: &mut [u8], key: u16) -> u32
     if 0 < number {
         return number;
     }
-    let i = find(area, 0, key as usize);
+    let i = find(area, key as usize);
     if i < area.len() / 32 {
         close_up(area, i);
         return 0;

@@ -1,31 +1,34 @@
 -- The public call: what the checker's answer and the tests of the areas say of the paper's judgement, and how a run in stretches of
 -- the areas gives the areas afterwards. Assumes nothing.
-use Prim.Native.Nat.{ℕ, _-_, _*_, _<_, _≤_}
+use Prim.Native.Nat.{ℕ, _+_, _-_, _*_, _<_, _≤_}
 use mathlib.Core.Path.{_≡_, refl, sym, ap, _∙_}
-use mathlib.Core.Bool.{true, false}
+use mathlib.Core.Bool.{true, false, _||_}
 use mathlib.Core.List.{List, [], _++_, append-assoc}
 use native.Mathlib.Omega.{arith}
-use lib.ListN.{length, take, drop, replicate}
-use lib.Seq.{length-take-le}
-use lib.Dec.{eqb}
-use borrow.Author.Tests.{eq-eqb, ne-eqb, lt-ltb, le-ltb}
+use lib.ListN.{length, take, drop, replicate, length-replicate}
+use lib.Seq.{length-take-le, drop-at}
+use lib.Dec.{eqb, ltb}
+use borrow.Author.Tests.{eq-eqb, ne-eqb, lt-ltb, le-ltb, ltb-false}
 use borrow.Rule.Slice.PartMut.{putMid, mid-len}
 use Rattle.paper.specs.Limits.{isLimit, workBytes}
 use Rattle.paper.specs.Bytes.{Bytes, stretch}
 use Rattle.paper.specs.Tree.{Tree, weight}
 use Rattle.paper.specs.Verdict.{accepted, told, isAccepted, tableWeight, verdict}
+use Rattle.paper.specs.Driver.{Ran, done, over}
 use Rattle.paper.specs.Answers as paper
 use Rattle.paper.specs.Rules.{isEdition}
 use Rattle.paper.specs.Answers.{simplifiedBy, outcomeOf, judgedCall, judgement, answerOf, lentAfter, outAfter, stepsAfter, workAfter}
+use Rattle.paper.proofs.Tests.{or-neither, true-not-false}
 use Rattle.paper.proofs.LimitLaws.{limit-small, limit-work}
 use Rattle.paper.proofs.AcceptedLaws.{Holds, accepted-holds}
 use Rattle.paper.proofs.Editions.{unknown-edition, another-limit}
-use Rattle.paper.proofs.CallLaws.{verdict-accepted, accepted-judgement, Call, is-turned-down, is-run, RunOn, call}
+use Rattle.paper.proofs.CallLaws.{verdict-accepted, judgement-accepted, accepted-judgement, Call, is-turned-down, is-run, RunOn, call}
+use Rattle.stretch.specs.Put.{put}
 use Rattle.record.specs.Flaw.{flawOf}
 use Rattle.table.specs.declared.Measured.{Measured}
 use Rattle.table.specs.Measured as table
 use Rattle.simplify.specs.declared.Answer.{Answer}
-use Rattle.simplify.specs.Answer.{says, lent, gives, filled, Lending, Leaves}
+use Rattle.simplify.specs.Answer.{says, lent, gives, hasRun, cleaned, filled, Lending, Leaves}
 use Rattle.driver.proofs.Runs.{drives}
 
 -- a stretch that was lent and filled
@@ -110,6 +113,85 @@ module _ (lim : ℕ) (limited : isLimit lim ≡ true) (s : List ℕ) (m : Measur
         let k : paper.cramped lim (tableWeight s) (lent out steps work) ≡ true = ap (λ i. paper.cramped lim i (lent out steps work)) (sym weight-is) ∙ c in
         rw (limited, known, fine, k) (same-given q refl)
 
+-- ---- `work`, cleared where there was a run
+ran-number : (w : ℕ) (r : Ran) → hasRun (paper.ranAnswer w r .number) ≡ true
+unfolding hasRun paper.ranAnswer paper.refusedBy
+ran-number w (done u ks o n) = refl
+ran-number w (over k) = refl
+
+down-number : (k : ℕ) → 1 ≤ k → ¬ (k ≡ 7) → hasRun k ≡ false
+unfolding hasRun
+down-number k g h = rw (ne-eqb k 0 (λ e. omega arith), ne-eqb k 7 h)
+
+cleaned-ran : (lim k : ℕ) (work : List ℕ) → hasRun k ≡ true → cleaned lim k work ≡ stretch (workBytes lim) [] work
+unfolding cleaned
+cleaned-ran lim k work e = rw e
+
+cleaned-down : (lim k : ℕ) (work : List ℕ) → hasRun k ≡ false → cleaned lim k work ≡ work
+unfolding cleaned
+cleaned-down lim k work e = rw e
+
+-- clearing looks at nothing that it clears: a stretch of `work` that came back with other bytes is cleared to the same
+cleans : (lim k : ℕ) (r : Ran) (w : ℕ) → k ≡ paper.ranAnswer w r .number → (need : ℕ) (work work' : List ℕ) → need ≡ workBytes lim → need ≤ length work
+    → length work' ≡ length (take (need - 0) (drop 0 work)) → cleaned lim k (putMid 0 (need - 0) work work') ≡ stretch (workBytes lim) [] work
+unfolding stretch
+cleans lim k r w e need work work' asks room long =
+    let z : need - 0 ≡ need = omega arith in
+    let l : length work' ≡ need = long ∙ ap (λ i. length (take i work)) z ∙ length-take-le need work room in
+    let past : drop need (work' ++ drop (need - 0) work) ≡ drop need work = drop-at work' (drop (need - 0) work) need l ∙ ap (λ i. drop i work) z in
+    cleaned-ran lim k (putMid 0 (need - 0) work work') (ap hasRun e ∙ ran-number w r)
+    ∙ ap (λ i. replicate (workBytes lim - 0) 0 ++ drop i (work' ++ drop (need - 0) work)) (sym asks)
+    ∙ ap (λ (d : List ℕ). replicate (workBytes lim - 0) 0 ++ d) (past ∙ ap (λ i. drop i work) asks)
+
+-- a call's answer, by its two cases
+module _ (lim ed : ℕ) (s : List ℕ) (b : Bytes s) (a : Answer) (out steps work out' steps' : List ℕ) where
+  -- where the areas are as the simplifier leaves them, clearing changes nothing
+  pub as-left : gives a out' steps' work ≡ paper.simplified lim ed s (lent out steps work)
+      → gives a out' steps' (cleaned lim (a .number) work) ≡ paper.simplified lim ed s (lent out steps work)
+  unfolding paper.simplified lentAfter workAfter paper.refusedBy
+  as-left e = ap (λ (x : List ℕ). gives a out' steps' x) (go (call lim ed (drives ed) s (lent out steps work) b)) ∙ e
+    where
+      go : Call lim ed (drives ed) s (lent out steps work) → cleaned lim (a .number) work ≡ work
+      go (is-turned-down d) =
+          let k : a .number ≡ paper.judgement lim ed s (lent out steps work) .number = ap (λ (g : paper.Given). g .answer .number) e ∙ ap (λ (x : paper.Answer). x .number) (d .answer) in
+          cleaned-down lim (a .number) work (ap hasRun k ∙ down-number _ (d .number) (d .not-7))
+      go (is-run r) =
+          let k : a .number ≡ paper.ranAnswer (weight (r .holds .tree)) (drives ed (r .holds .tree)) .number
+          = ap (λ (g : paper.Given). g .answer .number) e ∙ ap (λ (x : paper.Answer). x .number) (r .answer) in
+          cleaned-ran lim (a .number) work (ap hasRun k ∙ ran-number (weight (r .holds .tree)) (drives ed (r .holds .tree)))
+          ∙ sym (ap (λ (g : paper.Given). g .lent .work) e ∙ ap (λ (x : paper.Lent). x .work) (r .lent))
+
+  -- after a run `work` has the bytes that the limit asks for
+  pub run-room : says a ≡ paper.simplified lim ed s (lent out steps work) .answer → hasRun (a .number) ≡ true → workBytes lim ≤ length work
+  unfolding paper.simplified paper.cramped paper.refusedBy
+  run-room e h = go (call lim ed (drives ed) s (lent out steps work) b)
+    where
+      go : Call lim ed (drives ed) s (lent out steps work) → workBytes lim ≤ length work
+      go (is-turned-down d) =
+          let k : a .number ≡ paper.judgement lim ed s (lent out steps work) .number = ap (λ (x : paper.Answer). x .number) (e ∙ d .answer) in
+          absurd (true-not-false h (ap hasRun k ∙ down-number _ (d .number) (d .not-7)))
+      go (is-run r) =
+          let w = tableWeight s in
+          ltb-false (length work) (workBytes lim)
+          (or-neither (ltb (length out) (16 * w) || ltb (length steps) w) (ltb (length work) (workBytes lim))
+          (judgement-accepted lim ed s (lent out steps work) (r .accepts) .1) .1)
+
+-- zeros put in front are a stretch of zeros
+pub put-zeros : (n : ℕ) (d : List ℕ) → put d 0 (replicate n 0) ≡ stretch n [] d
+unfolding put stretch
+put-zeros n d =
+    let zeros : List ℕ = replicate n 0 in
+    let l : 0 + length zeros ≡ n = omega (arith, length-replicate {A = ℕ} n 0) in
+    let z : n ≡ n - 0 = omega arith in
+    ap (λ i. zeros ++ drop i d) l ∙ ap (λ i. replicate i 0 ++ drop n d) z
+
+-- and cleared it is as the simplifier leaves it
+pub cleared : (lim k need : ℕ) (work work' : List ℕ) → hasRun k ≡ true → need ≡ workBytes lim → work' ≡ put work 0 (replicate need 0) → work' ≡ cleaned lim k work
+cleared lim k need work work' h asks e = e ∙ put-zeros need work ∙ ap (λ i. stretch i [] work) asks ∙ sym (cleaned-ran lim k work h)
+
+pub uncleared : (lim k : ℕ) (work : List ℕ) → hasRun k ≡ false → work ≡ cleaned lim k work
+uncleared lim k work h = sym (cleaned-down lim k work h)
+
 -- a call that is accepted: limit and edition are known, the table is fine, and the areas have room
 pub record Accepted (lim ed : ℕ) (s : List ℕ) (m : Measured) (need : ℕ) (out steps work : List ℕ) : Type 0 where
   pub limited : isLimit lim ≡ true
@@ -171,19 +253,19 @@ module _ {lim ed : ℕ} {s : List ℕ} {m : Measured} {need : ℕ} {out steps wo
         work-records = omega arith;
       }
 
-  -- the run's answer, and the areas with their stretches back
+  -- the run's answer, and the areas with their stretches back; that of `work` is cleared yet
   pub ran : (a : Answer) (out' steps' work' : List ℕ)
       → Leaves (drives ed tree) (m .result) a (take (16 * m .result - 0) (drop 0 out)) out' (take (m .result - 0) (drop 0 steps)) steps'
-      (take (need - 0) (drop 0 work)) work'
-      → gives a (putMid 0 (16 * m .result - 0) out out') (putMid 0 (m .result - 0) steps steps') (putMid 0 (need - 0) work work')
+      → length work' ≡ length (take (need - 0) (drop 0 work))
+      → gives a (putMid 0 (16 * m .result - 0) out out') (putMid 0 (m .result - 0) steps steps') (cleaned lim (a .number) (putMid 0 (need - 0) work work'))
       ≡ paper.simplified lim ed s (lent out steps work)
   unfolding paper.simplified simplifiedBy lentAfter outAfter stepsAfter workAfter
-  ran a out' steps' work' r =
+  ran a out' steps' work' r long =
       let w : m .result ≡ weight tree = weighs ∙ on .holds .weighs in
       same-given
       (r .answer ∙ ap (λ i. paper.ranAnswer i (drives ed tree)) w ∙ sym (on .answer))
       (same-lent
       (lent-stretch (16 * m .result) out out' (paper.written (drives ed tree)) (c .out-room) (r .out-is))
       (lent-stretch (m .result) steps steps' (paper.noted (drives ed tree)) (c .steps-room) (r .steps-is))
-      (lent-stretch need work work' [] (c .work-room) (r .work-is) ∙ ap (λ n. stretch n [] work) (c .asks))
+      (cleans lim (a .number) (drives ed tree) (m .result) (ap (λ (x : paper.Answer). x .number) (r .answer)) need work work' (c .asks) (c .work-room) long)
       ∙ ap (λ i. paper.lentAfter lim (paper.ran i (drives ed tree)) (lent out steps work)) w ∙ sym (on .lent))

@@ -110,21 +110,19 @@ module _ {table out steps work : List ℕ} {w : ℕ} {t : Tree} (h : Lending tab
         }
 
   -- the run was refused, k steps being completed
-  pub left-over : (ed : ℕ) (a : Answer) (k : ℕ) (out' steps' work' : List ℕ) {out'' steps'' work'' : List ℕ}
+  pub left-over : (ed : ℕ) (a : Answer) (k : ℕ) (out' steps' : List ℕ) {out'' steps'' : List ℕ}
       → (b : ℕ) × (drives ed t ≡ over b) × (k ≡ 0 + b) → says a ≡ paper.refusal 7 k
       → out'' ≡ put out' 0 (replicate (length out') 0) → steps'' ≡ put steps' 0 (replicate (length steps') 0)
-      → work'' ≡ put work' 0 (replicate (length work') 0)
-      → length out' ≡ length out → length steps' ≡ length steps → length work' ≡ length work
-      → Leaves (drives ed t) w a out out'' steps steps'' work work''
+      → length out' ≡ length out → length steps' ≡ length steps
+      → Leaves (drives ed t) w a out out'' steps steps''
   unfolding paper.ranAnswer paper.written paper.noted
-  left-over ed a k out' steps' work' b s o z x lo lz lw =
+  left-over ed a k out' steps' b s o z lo lz =
       let b2 = b .2 in
       let kb : k ≡ b .0 = omega arith in
       record {
         answer = s ∙ ap (paper.refusal 7) kb ∙ ap (paper.ranAnswer w) (sym (b .1));
         out-is = o ∙ clear-all out' ∙ ap (λ i. filled i []) lo ∙ ap (λ r. filled (length out) (paper.written r)) (sym (b .1));
         steps-is = z ∙ clear-all steps' ∙ ap (λ i. filled i []) lz ∙ ap (λ r. filled (length steps) (paper.noted r)) (sym (b .1));
-        work-is = x ∙ clear-all work' ∙ ap (λ i. filled i []) lw;
       }
 
   -- the run is done
@@ -165,14 +163,14 @@ module _ {table out steps work : List ℕ} {w : ℕ} {t : Tree} (h : Lending tab
           clear-end out₁ (encode (a .to)) (e * 16) stripped (omega (arith, encode-length (a .to), a .end)) (omega (arith, done-fits .0))
           ∙ ap (λ i. filled i (encode (a .to))) (l₁ ∙ lo)
 
-      pub left-done : (out'' steps'' work'' : List ℕ) (x o' τ' : ℕ)
+      pub left-done : (out'' steps'' : List ℕ) (x o' τ' : ℕ)
           → out'' ≡ put out₁ (e * 16) (replicate (length out₁ - e * 16) 0) → steps'' ≡ put steps' n (replicate (length steps' - n) 0)
-          → work'' ≡ put work' 0 (replicate (length work') 0) → x ≡ note (a .to) / 65536 % 65536 → o' ≡ 0 + o → τ' ≡ 0 + τ
+          → x ≡ note (a .to) / 65536 % 65536 → o' ≡ 0 + o → τ' ≡ 0 + τ
           → Leaves (drives ed t) w
           (record { number = 0; place = 0; flaw = Sound; records = e; steps = n; openings = o'; «weight_in» = w; «weight_out» = x; tries = τ' })
-          out out'' steps steps'' work work''
+          out out'' steps steps''
       unfolding paper.ranAnswer paper.written paper.noted
-      left-done out'' steps'' work'' x o' τ' co cz cw cx eo et =
+      left-done out'' steps'' x o' τ' co cz cx eo et =
           let z : e ≡ records (a .to) = omega (arith, a .end) in
           let k : n ≡ length (a .ks) = omega (arith, a .noted-end) in
           let i : o' ≡ o = omega arith in
@@ -184,5 +182,4 @@ module _ {table out steps work : List ℕ} {w : ℕ} {t : Tree} (h : Lending tab
             steps-is =
                 cz ∙ clear-end steps' (a .ks) n (a .noted) (sym k) (done-fits .1) ∙ ap (λ i. filled i (a .ks)) lz
                 ∙ ap (λ r. filled (length steps) (paper.noted r)) (sym (a .ran));
-            work-is = cw ∙ clear-all work' ∙ ap (λ i. filled i []) lw;
           }

@@ -1,6 +1,8 @@
--- Two answers that meet the contract of `simplify`, of `refusal`, of `is_edition` or of `work_bytes`, as the check reads it from the source, are the same, and so
--- are the areas afterwards: each contract is an equation with a function of what is handed in. Assumes nothing.
+-- Two answers that meet the contract of `simplify`, of `refusal`, of `is_edition`, of `work_bytes` or of `has_run`, as the check reads it from the source, are the same, and
+-- so are the areas afterwards: each contract is an equation with a function of what is handed in. Of `simplify_in` so are the answer, `out` and `steps`. Assumes nothing.
+use Prim.Native.Nat.{ℕ}
 use mathlib.Core.Path.{_≡_, sym, ap, _∙_}
+use mathlib.Core.List.{List}
 use borrow.Fn.Kinds.{endedOf}
 use contract.Lifetimes.{Lfts}
 use denote.Triple.Clauses.{AtExit}
@@ -19,6 +21,10 @@ use Rattle.simplify.proofs.is_edition.Reads as is-edition-reads
 use Rattle.simplify.proofs.is_edition.Kinds as is-edition-kinds
 use Rattle.simplify.proofs.work_bytes.Reads as work-bytes-reads
 use Rattle.simplify.proofs.work_bytes.Kinds as work-bytes-kinds
+use Rattle.simplify.proofs.has_run.Reads as has-run-reads
+use Rattle.simplify.proofs.has_run.Kinds as has-run-kinds
+use Rattle.simplify.proofs.simplify_in.Reads as in-reads
+use Rattle.simplify.proofs.simplify_in.Kinds as in-kinds
 
 -- the paper's answer, as the code's
 abbrev pub answerOf : paper.Answer → Answer
@@ -78,6 +84,18 @@ is-edition-once κs a v v' x x' q p p' = p ∙ sym p'
 
 pub work-bytes-once : Once 0 work-bytes-kinds.ps work-bytes-kinds.r work-bytes-reads.Pre work-bytes-reads.Post
 work-bytes-once κs a v v' x x' q p p' = p ∙ sym p'
+
+pub has-run-once : Once 0 has-run-kinds.ps has-run-kinds.r has-run-reads.Pre has-run-reads.Post
+has-run-once κs a v v' x x' q p p' = p ∙ sym p'
+
+-- the two areas that `simplify_in` leaves as they shall be
+abbrev pub writtenLeft : (κs : Lfts 4) → AtExit (endedOf 4 in-kinds.ps in-kinds.r) κs → List ℕ × List ℕ
+writtenLeft κs x = (x .1 .1 .1 .0 .now, x .1 .1 .1 .1 .0 .now)
+
+pub simplify-in-once : OnceLeft 4 in-kinds.ps in-kinds.r in-reads.Pre in-reads.Post (List ℕ × List ℕ) writtenLeft
+simplify-in-once κs a v v' x x' q p p' =
+    let e = p ∙ sym p' in
+    (says-once v v' (ap (λ (g : paper.Given). g .answer) e), ap (λ (g : paper.Given). (g .lent .out, g .lent .steps)) e)
 
 -- the three areas at exit
 abbrev pub areasLeft : (κs : Lfts 4) → AtExit (endedOf 4 kinds.ps kinds.r) κs → paper.Lent

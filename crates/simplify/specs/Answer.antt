@@ -1,8 +1,12 @@
 -- The simplifier's answer in the paper's terms, and what a run leaves in the areas that it is lent.
 use Prim.Native.Nat.{ℕ, _-_, _*_, _/_, _≤_, _<_}
 use mathlib.Core.Path.{_≡_}
+use mathlib.Core.Bool.{Bool, cond, _||_}
 use mathlib.Core.List.{List, [], _++_}
 use lib.ListN.{length, replicate}
+use lib.Dec.{eqb}
+use Rattle.paper.specs.Limits.{workBytes}
+use Rattle.paper.specs.Bytes.{stretch}
 use Rattle.paper.specs.Tree.{Tree, weight}
 use Rattle.paper.specs.WellFormed.{WF}
 use Rattle.paper.specs.Table.{encode}
@@ -33,6 +37,14 @@ lent out steps work = record { out = out; steps = steps; work = work }
 abbrev pub gives : Answer → List ℕ → List ℕ → List ℕ → paper.Given
 gives a out steps work = record { answer = says a; lent = lent out steps work }
 
+-- the number of an answer after a run, to its end or to 7
+unfoldable pub hasRun : ℕ → Bool
+hasRun k = eqb k 0 || eqb k 7
+
+-- `work` after an answer with the number k, once it is cleared: zeros in front where there was a run, else as it is
+unfoldable pub cleaned : ℕ → ℕ → List ℕ → List ℕ
+cleaned lim k work = cond (hasRun k) (stretch (workBytes lim) [] work) work
+
 -- an area of n bytes: xs, and zeros up to its end
 unfoldable pub filled : ℕ → List ℕ → List ℕ
 filled n xs = xs ++ replicate (n - length xs) 0
@@ -48,9 +60,8 @@ pub record Lending (table out steps work : List ℕ) (w : ℕ) (t : Tree) : Type
   pub work-room : 20 * w ≤ length work
   pub work-records : length work ≡ 16 * (length work / 16)
 
--- what the run r, on a tree of weight w, answers and leaves in areas that are its own from end to end
-pub record Leaves (r : Ran) (w : ℕ) (a : Answer) (out out' steps steps' work work' : List ℕ) : Type 0 where
+-- what the run r, on a tree of weight w, answers and leaves in `out` and `steps`, which are its own from end to end
+pub record Leaves (r : Ran) (w : ℕ) (a : Answer) (out out' steps steps' : List ℕ) : Type 0 where
   pub answer : says a ≡ paper.ranAnswer w r
   pub out-is : out' ≡ filled (length out) (paper.written r)
   pub steps-is : steps' ≡ filled (length steps) (paper.noted r)
-  pub work-is : work' ≡ filled (length work) []

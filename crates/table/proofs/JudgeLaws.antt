@@ -1,15 +1,26 @@
 -- The cases of the checker's definitions, one law for each answer of the code: what was found so far decides each test of the
 -- definition before the last. Assumes nothing.
 use Prim.Native.Nat.{ℕ, _*_, _/_, _%_, _<_, _≤_, min}
-use mathlib.Core.Path.{_≡_, refl}
-use mathlib.Core.Bool.{true, false}
+use mathlib.Core.Path.{_≡_, refl, sym, ap, _∙_}
+use mathlib.Core.Bool.{Bool, true, false, cond}
 use mathlib.Core.List.{List}
 use native.Mathlib.Omega.{arith}
 use borrow.Author.Tests.{eq-eqb, ne-eqb, lt-ltb, le-ltb}
 use lib.ListN.{length}
 use Rattle.paper.specs.Limits.{isLimit, maxBytes}
 use Rattle.paper.specs.Record.{Flaw, flaw, weightFrom}
-use Rattle.paper.specs.Verdict.{accepted, refused, flawed, recordsIn, badLength, firstFlawed, treeEnd, firstBadExponent, judgeRecords, judgedTable, verdict}
+use Rattle.paper.specs.Verdict.{Verdict, accepted, refused, flawed, isAccepted, recordsIn, badLength, firstFlawed, treeEnd, firstBadExponent, judgeRecords, judgedTable, verdict}
+use Rattle.table.specs.Judged.{standsFor, Finds}
+use Rattle.table.specs.declared.Judged.{Judged}
+use Rattle.table.specs.declared.Found.{Found}
+
+-- what is found, by the verdict
+pub finds-refused : (v : Verdict) (w : ℕ) (j : Judged) (r : Found) → (r .judged ≡ j) × (r .weight ≡ 0) → standsFor j ≡ v → isAccepted (standsFor j) ≡ false → Finds v w r
+finds-refused v w j r (e, z) s n = (ap standsFor e ∙ s, z ∙ sym (ap (λ (b : Bool). cond b w 0) (ap isAccepted (sym s) ∙ n)))
+
+pub finds-weight : (v : Verdict) (w x : ℕ) → v ≡ accepted → x ≡ w → x ≡ cond (isAccepted v) w 0
+unfolding isAccepted
+finds-weight v w x a e = rw a e
 
 -- refusal 19
 pub limit-unknown : (lim : ℕ) (s : List ℕ) → isLimit lim ≡ false → verdict lim s ≡ refused 19 0

@@ -7,10 +7,10 @@ use mathlib.Core.Bool.{Bool, true, false, cond, _&&_, not}
 use mathlib.Core.List.{List}
 use native.Mathlib.Decide.{ℕ-discrete}
 use native.Mathlib.Omega.{arith}
-use borrow.Author.Tests.{eq-eqb, ne-eqb, lt-ltb, eqb-true}
+use borrow.Author.Tests.{eq-eqb, ne-eqb, lt-ltb, le-ltb, eqb-true}
 use lib.Dec.{eqb, ltb}
 use lib.ListN.{length}
-use Rattle.paper.specs.Record.{kind, arity}
+use Rattle.paper.specs.Record.{kind, countIn, arity}
 use Rattle.paper.specs.Verdict.{skip, treeEnd, isPositive, badExponent, firstBadExponent}
 use Rattle.paper.proofs.SkipLaws.{skip-none, skip-out, skip-one, skip-step, skip-more, end-step}
 use Rattle.table.specs.Due.{dueAt, turned, owing}
@@ -23,9 +23,13 @@ module _ (s : List ℕ) (i : ℕ) where
   unfolding arity
   arity-power p = rw p
 
-  arity-integer : kind s i ≡ 0 → arity s i ≡ 0
+  pub arity-leaf : kind s i < 2 → arity s i ≡ 0
   unfolding arity
-  arity-integer p = rw p
+  arity-leaf h = rw (lt-ltb (kind s i) 2 h)
+
+  pub arity-node : 2 ≤ kind s i → kind s i ≤ 3 → arity s i ≡ countIn s i
+  unfolding arity
+  arity-node h l = rw (le-ltb (kind s i) 2 h, ne-eqb (kind s i) 4 (λ e. omega arith)) refl
 
 and-first : (a b c : Bool) → (a && b && c) ≡ true → a ≡ true
 and-first true b c h = refl
@@ -185,8 +189,9 @@ module _ {s : List ℕ} {n : ℕ} where
     pub good-taken : dueAt due k ≡ 1 → isPositive s i ≡ true → Owing s n (i + 1) k (turned due k)
     good-taken z h =
         let integer = positive-integer s i h in
-        let none : k + arity s i ≡ k = omega (arith, arity-integer s i integer) in
-        let end : treeEnd s n i ≡ i + 1 = end-step s n i l ∙ rw (arity-integer s i integer) (skip-none s n (n - (i + 1)) (i + 1)) in
+        let leaf = arity-leaf s i (omega (arith, integer)) in
+        let none : k + arity s i ≡ k = omega (arith, leaf) in
+        let end : treeEnd s n i ≡ i + 1 = end-step s n i l ∙ rw leaf (skip-none s n (n - (i + 1)) (i + 1)) in
         let own = bad-good s n i h in
         let most = owed-most s n (dueAt due) k (treeEnd s n i) in
         let top : owedBad s n (dueAt due) (suc k) i ≡ owedBad s n (dueAt due) k (treeEnd s n i) = owed-exponent s n (dueAt due) k i z ∙ omega arith in

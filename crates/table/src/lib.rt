@@ -1,16 +1,26 @@
 // The checker of tables, which judges refusals 19 and 1 to 5, and the weight of a table.
 use record::Flaw;
 ghost use mathlib.Core.Path.{_≡_};
+ghost use mathlib.Core.Bool.{false};
 ghost use Prim.Native.Nat.{_+_, _*_, _<_, _≤_};
 ghost use lib.ListN.{length};
 ghost use lib.Dec.{eqb};
 ghost use Rattle.paper.specs.Limits.{isLimit};
 ghost use Rattle.paper.specs.Record.{arity, weightFrom};
-ghost use Rattle.paper.specs.Verdict.{recordsIn, firstFlawed, treeEnd, firstBadExponent, judgeRecords, verdict};
+ghost use Rattle.paper.specs.Verdict.{recordsIn, firstFlawed, treeEnd, firstBadExponent, tableWeight, isAccepted, judgeRecords, verdict};
 ghost use Rattle.paper.specs.Answers.{weighed};
-ghost use Rattle.table.specs.Judged.{standsFor, verdictOf};
+ghost use Rattle.table.specs.Judged.{standsFor, verdictOf, Finds};
 ghost use Rattle.table.specs.Measured.{says};
-ghost use Rattle.table.specs.Due.{hasPower, dueAt, turned, owing};
+ghost use Rattle.table.specs.Due.{dueAt, turned, owing};
+ghost use Rattle.table.specs.Look.{Sees, Looks};
+
+// What bytes 2, 4 and 6 of a record count in the number that its bytes 0-7 are: there its number of members and its mark begin, and the
+// bytes that are zero in every kind.
+const BYTE_2: usize = 0x1_0000;
+
+const BYTE_4: u64 = 0x1_0000_0000;
+
+const BYTE_6: u64 = 0x1_0000_0000_0000;
 
 // The checker's answer: nothing is refused, or which refusal it is, with the record where it has one, and what is wrong with it.
 pub enum Judged {
@@ -36,6 +46,27 @@ pub struct Measured {
     pub place: usize,
     pub flaw: Flaw,
     pub result: u64,
+}
+
+// What the checker finds: its answer, and the weight of the table, 0 where it is refused.
+struct Found {
+    judged: Judged,
+    weight: usize,
+}
+
+// A record at a glance: something is wrong with it, or nothing is and it is of this kind; a sum or a product has so many members.
+enum Seen {
+    Flawed,
+    Integer,
+    Symbol,
+    Members(usize),
+    Power,
+}
+
+// All records of a table at a look: refusal 2 or 4 applies, or they are one tree of this weight, in which there is a power or none.
+enum Looked {
+    Odd,
+    Whole(usize, bool),
 }
 
 // The first flawed record of the n; n where there is none.
@@ -92,21 +123,6 @@ fn tree_end(s: &[u8], n: usize) -> usize
     n + 1
 }
 
-// One of the n records is a power.
-fn has_power(s: &[u8], n: usize) -> bool
-    requires { ⌜ n * 16 ≤ length (now s) ⌝ }
-    ensures { λ r. ⌜ r ≡ hasPower (now (s .entry)) 0 n ⌝ }
-{
-    let mut i = 0;
-    while i < n {
-        if record::kind(s, i) == 4 {
-            return true;
-        }
-        i += 1;
-    }
-    false
-}
-
 // Tree k of those that are owed is an exponent: its bit is 1.
 fn is_due(due: &[u64; 256], k: usize) -> bool
     requires { ⌜ k < 16384 ⌝ }
@@ -160,21 +176,89 @@ fn first_bad(s: &[u8], n: usize) -> usize
     n
 }
 
-// The same, with a look first: most tables have no power, or an early one.
-fn bad_exponent(s: &[u8], n: usize) -> usize
-    requires { ⌜ (n * 16 ≤ length (now s)) × (n ≤ 16384) × (treeEnd (now s) n 0 ≡ n) ⌝ }
-    ensures { λ r. ⌜ r ≡ firstBadExponent (now (s .entry)) n 0 n ⌝ }
+// Record i at a glance, by its two halves as numbers.
+fn glance(s: &[u8], i: usize) -> Seen
+    requires { ⌜ i * 16 + 16 ≤ length (now s) ⌝ }
+    ensures { λ r. ⌜ Sees (now (s .entry)) i r ⌝ }
 {
-    if has_power(s, n) {
-        return first_bad(s, n);
+    let h = number::read8(s, i * 16);
+    let v = record::bits(s, i);
+    if BYTE_6 <= h {
+        return Seen::Flawed;
     }
-    n
+    let front = (h % BYTE_4) as usize;
+    if front < 1 {
+        return Seen::Integer;
+    }
+    if front < 2 {
+        if 255 < v {
+            return Seen::Flawed;
+        }
+        return Seen::Symbol;
+    }
+    if 0 < v {
+        return Seen::Flawed;
+    }
+    if front < 2 * BYTE_2 {
+        if front == 4 {
+            return Seen::Power;
+        }
+        return Seen::Flawed;
+    }
+    let kind = front % BYTE_2;
+    if kind < 2 {
+        return Seen::Flawed;
+    }
+    if 3 < kind {
+        return Seen::Flawed;
+    }
+    Seen::Members(front / BYTE_2)
 }
 
-// Refusals 2 to 5 of the n records of a table, the lowest number first; 3 is over the limit.
-fn judge_records(limit: usize, s: &[u8], n: usize) -> Judged
-    requires { ⌜ (n ≡ recordsIn (now s)) × (n ≤ 16384) ⌝ }
-    ensures { λ r. ⌜ standsFor r ≡ judgeRecords limit (now (s .entry)) n ⌝ }
+// The n records at a look, each of them read once. Each weighs 1 at least, so the weight is counted from n on.
+fn look(s: &[u8], n: usize) -> Looked
+    requires { ⌜ (n * 16 ≤ length (now s)) × (n ≤ 16384) ⌝ }
+    ensures { λ r. ⌜ Looks (now (s .entry)) n r ⌝ }
+{
+    let mut i = 0;
+    let mut owed = 1;
+    let mut w = n;
+    let mut power = false;
+    while i < n {
+        if owed < 1 {
+            return Looked::Odd;
+        }
+        match glance(s, i) {
+            Seen::Flawed => {
+                return Looked::Odd;
+            }
+            Seen::Integer => {
+                owed -= 1;
+            }
+            Seen::Symbol => {
+                w += 2;
+                owed -= 1;
+            }
+            Seen::Members(c) => {
+                owed = owed - 1 + c;
+            }
+            Seen::Power => {
+                owed += 1;
+                power = true;
+            }
+        }
+        i += 1;
+    }
+    if 0 < owed {
+        return Looked::Odd;
+    }
+    Looked::Whole(w, power)
+}
+
+// Refusals 2 to 4 of the n records of a table, where 2 or 4 applies, the lowest number first; 3 is over the limit.
+fn judge_odd(limit: usize, s: &[u8], n: usize) -> Judged
+    requires { ⌜ (n ≡ recordsIn (now s)) × (n ≤ 16384) × (n ≤ firstFlawed (now s) 0 n → treeEnd (now s) n 0 ≡ n → ⊥) ⌝ }
+    ensures { λ r. ⌜ (standsFor r ≡ judgeRecords limit (now (s .entry)) n) × (isAccepted (standsFor r) ≡ false) ⌝ }
 {
     let f = first_flawed(s, n);
     if f < n {
@@ -187,14 +271,40 @@ fn judge_records(limit: usize, s: &[u8], n: usize) -> Judged
     if e < n {
         return Judged::Shape(e);
     }
-    if n < e {
-        return Judged::Shape(n);
+    Judged::Shape(n)
+}
+
+// What is found where a table is refused.
+fn refused(j: Judged) -> Found
+    ensures { λ r. ⌜ (r .judged ≡ j) × (r .weight ≡ 0) ⌝ }
+{
+    Found {
+        judged: j,
+        weight: 0,
     }
-    let x = bad_exponent(s, n);
-    if x < n {
-        return Judged::Exponent(x);
+}
+
+// Refusals 2 to 5 of the n records of a table, the lowest number first; 3 is over the limit.
+fn judge_records(limit: usize, s: &[u8], n: usize) -> Found
+    requires { ⌜ (n ≡ recordsIn (now s)) × (n ≤ 16384) ⌝ }
+    ensures { λ r. ⌜ Finds (judgeRecords limit (now (s .entry)) n) (tableWeight (now (s .entry))) r ⌝ }
+{
+    let Looked::Whole(w, power) = look(s, n) else {
+        return refused(judge_odd(limit, s, n));
+    };
+    if limit < w {
+        return refused(Judged::Heavy);
     }
-    Judged::Fine
+    if power {
+        let x = first_bad(s, n);
+        if x < n {
+            return refused(Judged::Exponent(x));
+        }
+    }
+    Found {
+        judged: Judged::Fine,
+        weight: w,
+    }
 }
 
 // There is such a limit.
@@ -207,23 +317,31 @@ pub fn is_limit(limit: usize) -> bool
     limit == 16384
 }
 
+// Refusal 19 of the limit, and then 1 to 5, the lowest number first.
+fn judge(limit: usize, s: &[u8]) -> Found
+    ensures { λ r. ⌜ Finds (verdict limit (now (s .entry))) (tableWeight (now (s .entry))) r ⌝ }
+{
+    if !is_limit(limit) {
+        return refused(Judged::Limit);
+    }
+    if s.len() < 1 {
+        return refused(Judged::Length);
+    }
+    if 0 < s.len() % 16 {
+        return refused(Judged::Length);
+    }
+    if 16 * limit < s.len() {
+        return refused(Judged::Length);
+    }
+    judge_records(limit, s, s.len() / 16)
+}
+
 // The checker of tables: refusal 19 of the limit, and then 1 to 5, the lowest number first.
 pub fn check(limit: usize, s: &[u8]) -> Judged
     ensures { λ r. ⌜ standsFor r ≡ verdict limit (now (s .entry)) ⌝ }
 {
-    if !is_limit(limit) {
-        return Judged::Limit;
-    }
-    if s.len() < 1 {
-        return Judged::Length;
-    }
-    if 0 < s.len() % 16 {
-        return Judged::Length;
-    }
-    if 16 * limit < s.len() {
-        return Judged::Length;
-    }
-    judge_records(limit, s, s.len() / 16)
+    let found = judge(limit, s);
+    found.judged
 }
 
 // The paper's number and place of the checker's answer, and what is wrong with the record.
@@ -273,20 +391,15 @@ pub fn fault_of(j: Judged) -> Fault
 pub fn weight(limit: usize, s: &[u8]) -> Measured
     ensures { λ r. ⌜ says r ≡ weighed limit (now (s .entry)) ⌝ }
 {
-    let f = fault_of(check(limit, s));
+    let found = judge(limit, s);
+    let w = found.weight;
+    let judged = found.judged;
+    let f = fault_of(judged);
     let flaw = f.flaw;
-    if 0 < f.number {
-        return Measured {
-            number: f.number,
-            place: f.place,
-            flaw: flaw,
-            result: 0,
-        };
-    }
     Measured {
         number: f.number,
         place: f.place,
         flaw: flaw,
-        result: weight_of(s, s.len() / 16) as u64,
+        result: w as u64,
     }
 }

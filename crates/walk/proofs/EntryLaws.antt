@@ -54,7 +54,7 @@ module _ (w w' : List ℕ) (p : ℕ) (same : drop (p * 16) w' ≡ drop (p * 16) 
   Kept j = (le2 w' (j * 4) ≡ le2 w (j * 4)) × (bitsOf w' j ≡ bitsOf w j)
 
   -- an entry that is copied from entry j to entry k
-  moved : (b : Bool) (j k : ℕ) (t : Tree) → le2 w' (k * 4) ≡ le2 w (j * 4) → bitsOf w' k ≡ bitsOf w j
+  pub moved : (b : Bool) (j k : ℕ) (t : Tree) → le2 w' (k * 4) ≡ le2 w (j * 4) → bitsOf w' k ≡ bitsOf w j
       → Entry b w p j t → Entry b w' p k t
   moved b j k t start key h =
       record {

@@ -13,13 +13,13 @@ use Rattle.paper.proofs.EncodeLaws.{records-pos}
 use Rattle.paper.proofs.Tests.{and-both}
 use Rattle.note.specs.Note.{note}
 use Rattle.note.specs.Noted.{encodeBy}
-use Rattle.note.proofs.ApartLaws.{Free}
 use Rattle.stretch.specs.Put.{put}
-use Rattle.part.specs.Like.{split}
-use Rattle.walk.specs.Listed.{shortKey, bitsOf, Entries}
+use Rattle.part.specs.Like.{split, merge}
+use Rattle.walk.specs.Listed.{Entry, Entries}
 use Rattle.walk.specs.Lone.{isLone}
-use Rattle.walk.specs.Walked.{keyOf, KeptIs}
-use Rattle.walk.proofs.KeyedLaws.{member-key}
+use Rattle.walk.specs.Numbers.{Unlike}
+use Rattle.walk.specs.Walked.{KeptIs}
+use Rattle.walk.proofs.TurnLaws.{Refuses}
 
 pub kept-where : (b : Bool) (t : Tree) (o o' : List ℕ) (e r : ℕ) → KeptIs b t o o' e r → 0 < r
     → (b ≡ true) × (r ≡ e + records t) × (o' ≡ put o (e * 16) (encodeBy note t))
@@ -30,14 +30,12 @@ pub new-where : (b : Bool) (t : Tree) (o o' : List ℕ) (e r : ℕ) → KeptIs b
 new-where true t o o' e r h l = absurd (omega (arith, h .0, records-pos t))
 new-where false t o o' e r h l = (refl, h .1)
 
--- no later part has the key of the member at entry i, where no later entry, from x on, has its 15 bits
-pub lone-free : (b : Bool) (w : List ℕ) (p i n : ℕ) (key : ℕ) (l : List Tree) (x : ℕ) → bitsOf w i ≡ shortKey key → Entries b w p x l → x + length l ≤ n
-    → ((y : ℕ) → x ≤ y → y < n → bitsOf w i ≡ bitsOf w y → ⊥) → Free (keyOf b) key (map (split b) l)
-lone-free b w p i n key [] x own e few h = tt
-lone-free b w p i n key (t ∷ l) x own e few h = (
-  λ same. h x (omega arith) (omega arith) (own ∙ ap shortKey (same ∙ sym (member-key b t)) ∙ sym (e .0 .key)),
-  lone-free b w p i n key l (x + 1) own (e .1) (omega arith) (λ y g u. h y (omega arith) u),
-)
+-- the member at entry i takes up none of the later ones, where those of later entries, from x on, are all unlike it
+pub lone-refuses : (b : Bool) (w : List ℕ) (p i n : ℕ) (t : Tree) (l : List Tree) (x : ℕ) → Entry b w p i t → Entries b w p x l → x + length l ≤ n
+    → ((y : ℕ) → x ≤ y → y < n → Unlike b w p i y) → Refuses (merge b) (split b t) (map (split b) l)
+lone-refuses b w p i n t [] x own e few h = tt
+lone-refuses b w p i n t (u ∷ l) x own e few h =
+    (h x (omega arith) (omega arith) t u own (e .0) .0, lone-refuses b w p i n t l (x + 1) own (e .1) (omega arith) (λ y g. h y (omega arith)))
 
 -- the bit of an entry that is said to be alone with its key
 pub lone-bit : (high : ℕ) (told : Bool) → isLone high told ≡ true → (told ≡ true) × (128 ≤ high)

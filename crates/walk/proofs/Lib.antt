@@ -3,6 +3,8 @@ pub mod RoomLaws
 pub mod EntryLaws
 pub mod LoneLaws
 pub mod KeyedLaws
+pub mod SpreadLaws
+pub mod NumbersLaws
 pub mod StaysLaws
 pub mod SeenStays
 pub mod NewLaws

@@ -1,10 +1,11 @@
 -- Members that are alone with their keys. Counting never lowers a flag, and counting an entry raises its flag to 1, or to 2 where it was raised before: so a flag
--- that counts 1 is that of one entry alone, and an entry that gets its bit shares its 15 bits with no other (Lonely). The bits change neither the 15
+-- that counts 1 is that of one entry alone, and an entry that gets its bit shares its 15 bits with no other (OneKeyed). The bits change neither the 15
 -- bits nor the starts. Where the last entry moves into the place of another, this stays. By induction on the entries. Assumes nothing.
 use Prim.Native.Nat.{ℕ, zero, suc, _+_, _*_, _/_, _%_, _<_, _≤_}
 use mathlib.Core.Path.{_≡_, refl, sym, ap, _∙_}
 use mathlib.Core.Bool.{Bool, true, false}
 use mathlib.Core.List.{List}
+use mathlib.Core.Option.{none}
 use native.Mathlib.Nat.{mul-le-mul-right}
 use native.Mathlib.Decide.{ℕ-discrete, decLt}
 use native.Mathlib.Omega.{arith}
@@ -14,6 +15,9 @@ use Rattle.paper.specs.Bytes.{le, le2}
 use Rattle.stretch.specs.Put.{put, part}
 use Rattle.stretch.proofs.Laws.{length-part, length-put, take-put, drop-put-at, getD-put-before, getD-put-after}
 use Rattle.walk.specs.Listed.{bitsOf}
+use Rattle.part.specs.Like.{split, merge}
+use Rattle.walk.specs.Numbers.{Lonely}
+use Rattle.walk.proofs.EntryLaws.{moved, pending-still}
 use Rattle.walk.specs.Lone.{entryFlag, oneMore, counted, loneByte, marked, flagged, LoneTold}
 
 -- ---- one count
@@ -27,7 +31,7 @@ unfolding oneMore
 more-again zero h = absurd (omega arith)
 more-again (suc c) h = refl
 
-more-counts : (c : ℕ) → 1 ≤ oneMore c
+pub more-counts : (c : ℕ) → 1 ≤ oneMore c
 unfolding oneMore
 more-counts zero = omega arith
 more-counts (suc c) = omega arith
@@ -215,10 +219,10 @@ module _ (w o : List ℕ) (a n : ℕ) where
         by (no e) before = before (omega arith) (omega (arith, step k i e))
 
 -- ---- of n entries, one with the bit shares its 15 bits with no other
-abbrev pub Lonely : List ℕ → ℕ → Type 0
-Lonely w n = (i j : ℕ) → i < n → j < n → (i ≡ j → ⊥) → 128 ≤ getD w (i * 4 + 3) 0 → bitsOf w i ≡ bitsOf w j → ⊥
+abbrev pub OneKeyed : List ℕ → ℕ → Type 0
+OneKeyed w n = (i j : ℕ) → i < n → j < n → (i ≡ j → ⊥) → 128 ≤ getD w (i * 4 + 3) 0 → bitsOf w i ≡ bitsOf w j → ⊥
 
-counted-lonely : (o w : List ℕ) (a n : ℕ) → a + n * 16 ≤ length o → n * 4 ≤ length w → Lonely (marked w (counted o w a n n) a n n) n
+counted-lonely : (o w : List ℕ) (a n : ℕ) → a + n * 16 ≤ length o → n * 4 ≤ length w → OneKeyed (marked w (counted o w a n n) a n n) n
 counted-lonely o w a n far near i j hi hj apart bit e =
     let f = counted o w a n n in
     let same : bitsOf w i ≡ bitsOf w j = sym (marked-bits w f a n near n i (omega arith)) ∙ e ∙ marked-bits w f a n near n j (omega arith) in
@@ -238,17 +242,17 @@ unfolding flagged
 flags-there o z o' w d n cleared h = h ∙ ap (λ (y : List ℕ). counted y w ((d + 1) * 16) n n) cleared
 
 -- ---- what is told, whether or not it is
-pub record AfterTelling (o o' w w' : List ℕ) (d n : ℕ) (told : Bool) : Type 0 where
+pub record AfterKeys (o o' w w' : List ℕ) (d n : ℕ) (told : Bool) : Type 0 where
   pub long : length o' ≡ length o
   pub wide : length w' ≡ length w
   pub front : take ((d + 1) * 16) o' ≡ take ((d + 1) * 16) o
   pub starts : (i : ℕ) → le2 w' (i * 4) ≡ le2 w (i * 4)
   pub bits : (i : ℕ) → bitsOf w' i ≡ bitsOf w i
   pub behind : (m : ℕ) → n * 4 ≤ m → drop m w' ≡ drop m w
-  pub lonely : told ≡ true → Lonely w' n
+  pub lonely : told ≡ true → OneKeyed w' n
 
 pub after-telling : (o o' w w' : List ℕ) (d n : ℕ) (told : Bool) → (d + 1) * 16 + n * 16 ≤ length o → n * 4 ≤ length w → LoneTold o o' w w' d n told
-    → AfterTelling o o' w w' d n told
+    → AfterKeys o o' w w' d n told
 unfolding flagged
 after-telling o o' w w' d n true far near h =
     let a = (d + 1) * 16 in
@@ -303,10 +307,18 @@ module _ (w w' : List ℕ) (j n : ℕ) (most : j ≤ n) (room : n * 4 + 4 ≤ le
   record Source (i : ℕ) : Type 0 where
     at : ℕ
     high : getD w' (i * 4 + 3) 0 ≡ getD w (at * 4 + 3) 0
+    start : le2 w' (i * 4) ≡ le2 w (at * 4)
     bits : bitsOf w' i ≡ bitsOf w at
     place : Dec (i ≡ j)
     moved : i ≡ j → at ≡ n
     kept : (i ≡ j → ⊥) → at ≡ i
+
+  start-from : (i k : ℕ) → getD w' (i * 4 + 0) 0 ≡ getD w (k * 4 + 0) 0 → getD w' (i * 4 + 1) 0 ≡ getD w (k * 4 + 1) 0 → le2 w' (i * 4) ≡ le2 w (k * 4)
+  unfolding le2
+  start-from i k low high =
+      let none : (m : ℕ) → m * 4 + 0 ≡ m * 4 = λ m. omega arith in
+      let first : getD w' (i * 4) 0 ≡ getD w (k * 4) 0 = ap (λ x. getD w' x 0) (sym (none i)) ∙ low ∙ ap (λ x. getD w x 0) (none k) in
+      rw (first, high) refl
 
   bits-from : (i k : ℕ) → getD w' (i * 4 + 2) 0 ≡ getD w (k * 4 + 2) 0 → getD w' (i * 4 + 3) 0 ≡ getD w (k * 4 + 3) 0 → bitsOf w' i ≡ bitsOf w k
   unfolding le2
@@ -321,25 +333,31 @@ module _ (w w' : List ℕ) (j n : ℕ) (most : j ≤ n) (room : n * 4 + 4 ≤ le
       by (yes e) =
           let high : getD w' (i * 4 + 3) 0 ≡ getD w (n * 4 + 3) 0 = rw e (arrives 3 (omega arith)) in
           let low : getD w' (i * 4 + 2) 0 ≡ getD w (n * 4 + 2) 0 = rw e (arrives 2 (omega arith)) in
-          record { at = n; high = high; bits = bits-from i n low high; place = yes e; moved = λ q. refl; kept = λ q. absurd (q e) }
+          record { at = n; high = high; start = start-from i n (rw e (arrives 0 (omega arith))) (rw e (arrives 1 (omega arith))); bits = bits-from i n low high; place = yes e; moved = λ q. refl; kept = λ q. absurd (q e) }
       by (no e) =
           let high = stays i 3 e (omega arith) in
-          record { at = i; high = high; bits = bits-from i i (stays i 2 e (omega arith)) high; place = no e; moved = λ q. absurd (e q); kept = λ q. refl }
+          record { at = i; high = high; start = start-from i i (stays i 0 e (omega arith)) (stays i 1 e (omega arith)); bits = bits-from i i (stays i 2 e (omega arith)) high; place = no e; moved = λ q. absurd (e q); kept = λ q. refl }
 
-  pub lonely-moves : Lonely w (n + 1) → Lonely w' n
-  lonely-moves h i k hi hk apart bit e = at-most (f .place) (g .place)
+  pub lonely-moves : (b : Bool) (p : ℕ) → n * 4 + 4 ≤ p * 16 → Lonely b w p (n + 1) → Lonely b w' p n
+  lonely-moves b p low h i k hi hk apart bit t u et eu = at-most (f .place) (g .place)
     where
+      still : drop (p * 16) w' ≡ drop (p * 16) w
+      still = ap (drop (p * 16)) swap ∙ pending-still w (part w (n * 4) 4) j four (omega arith) p (omega arith)
+
       f : Source i
       f = source i
 
       g : Source k
       g = source k
 
-      told : f .at ≤ n → g .at ≤ n → (f .at ≡ g .at → ⊥) → ⊥
-      told l m q = h (f .at) (g .at) (omega arith) (omega arith) q (omega (arith, f .high)) (sym (f .bits) ∙ e ∙ g .bits)
+      told : f .at ≤ n → g .at ≤ n → (f .at ≡ g .at → ⊥) → (merge b (split b t) (split b u) ≡ none) × (merge b (split b u) (split b t) ≡ none)
+      told l m q =
+          h (f .at) (g .at) (omega arith) (omega arith) q (omega (arith, f .high)) t u
+          (moved w' w p (sym still) b i (f .at) t (sym (f .start)) (sym (f .bits)) et)
+          (moved w' w p (sym still) b k (g .at) u (sym (g .start)) (sym (g .bits)) eu)
 
-      at-most : Dec (i ≡ j) → Dec (k ≡ j) → ⊥
-      at-most (yes a) (yes b) = apart (a ∙ sym b)
-      at-most (yes a) (no b) = let x = f .moved a in let y = g .kept b in told (omega arith) (omega arith) (λ q. omega arith)
-      at-most (no a) (yes b) = let x = f .kept a in let y = g .moved b in told (omega arith) (omega arith) (λ q. omega arith)
-      at-most (no a) (no b) = let x = f .kept a in let y = g .kept b in told (omega arith) (omega arith) (λ q. apart (omega arith))
+      at-most : Dec (i ≡ j) → Dec (k ≡ j) → (merge b (split b t) (split b u) ≡ none) × (merge b (split b u) (split b t) ≡ none)
+      at-most (yes a) (yes c) = absurd (apart (a ∙ sym c))
+      at-most (yes a) (no c) = let x = f .moved a in let y = g .kept c in told (omega arith) (omega arith) (λ q. omega arith)
+      at-most (no a) (yes c) = let x = f .kept a in let y = g .moved c in told (omega arith) (omega arith) (λ q. omega arith)
+      at-most (no a) (no c) = let x = f .kept a in let y = g .kept c in told (omega arith) (omega arith) (λ q. apart (omega arith))

@@ -28,14 +28,13 @@ use Rattle.walk.specs.Walked.{Walkable, combined, cameOut, CameOut, OneO
 use Rattle.walk.specs.declared.Walked.the-variants.{Idle, Over, Done}
 use Rattle.paper.proofs.Tests.{true-not-false}
 use Rattle.paper.proofs.WalkFuel.{lastFirst-length, map-length}
-use Rattle.walk.proofs.TurnLaws.{map-lastFirst, map-append, resumed, resumed-none, after, turn-begins}
+use Rattle.walk.proofs.TurnLaws.{map-lastFirst, map-append, resumed, resumed-none, after, turn-begins, turn-refused}
 use Rattle.walk.proofs.TurnLaws.{passes-by, takes-up, turn-ends, turn-over, walk-ends, turn-keeps}
 use Rattle.part.proofs.PartLaws.{joins-bad}
 use Rattle.walk.proofs.RoomLaws.{stays-bad, join-first, join-grows}
-use Rattle.walk.proofs.KeyedLaws.{member-key, one-key, key-stays}
-use Rattle.walk.proofs.LoneLaws.{AfterTelling, Lonely}
-use Rattle.walk.proofs.KeptLaws.{lone-free}
-use Rattle.note.proofs.ApartLaws.{turn-apart}
+use Rattle.walk.proofs.KeyedLaws.{member-key, key-stays}
+use Rattle.walk.specs.Numbers.{AfterTelling, Lonely}
+use Rattle.walk.proofs.KeptLaws.{lone-refuses}
 use Rattle.walk.proofs.EntryLaws.{entries-still, entries-snoc, swap-pending, swap-before, swap-after}
 use Rattle.walk.proofs.NewLaws.{all-of-snoc, all-own, all-lastFirst, News, news-kept, news-new}
 use Rattle.walk.proofs.States.{walked, outs, idle-outcome, over-outcome, done-outcome, all-snoc, outs-snoc, outs-many, Came, Common}
@@ -111,11 +110,11 @@ none-left (t ∷ l) e = absurd (omega arith)
 
 module _ {b : Bool} {l : List Tree} {o₀ w₀ : List ℕ} {d p count : ℕ} where
   -- the members that are alone with their keys are told, or not
-  pub outer-begins : {o w : List ℕ} {told : Bool} → Walkable b o₀ w₀ d p count l → AfterTelling o₀ o w₀ w d count told
+  pub outer-begins : {o w : List ℕ} {told : Bool} → Walkable b o₀ w₀ d p count l → AfterTelling b o₀ o w₀ w d p count told
       → Outer b l o₀ w₀ d p count o w count 0 (d + 1) false 0 0
   unfolding allInRange ofList records encodeBy
   outer-begins {o} {w} h t =
-      let still = t .behind (p * 16) (h .listed .low) in
+      let still = t .only .behind (p * 16) (h .listed .low) in
       record {
         done = [];
         removed = 0;
@@ -123,7 +122,7 @@ module _ {b : Bool} {l : List Tree} {o₀ w₀ : List ℕ} {d p count : ℕ} whe
         whole = ap (λ n. walk (merge b) n (parts b l)) (sym (map-length (split b) l)) ∙ sym (resumed-none _);
         gone = omega arith;
         many = omega (arith, h .listed .many);
-        entries = entries-still w₀ w p still b 0 l (λ j g u. (t .starts j, t .bits j)) (h .listed .entries);
+        entries = entries-still w₀ w p still b 0 l (λ j g u. (t .only .starts j, t .only .bits j)) (h .listed .entries);
         room = omega arith;
         common = record {
           many = refl;
@@ -181,7 +180,7 @@ module _ {b : Bool} {l : List Tree} {o₀ w₀ : List ℕ} {d p count : ℕ} whe
           }
 
       -- a member that is alone with its key passes all later ones by, and comes out as it stands
-      pub outer-lone : (o' : List ℕ) (x : ℕ) → e * 16 ≤ length o → Lonely w n → 128 ≤ getD w (i * 4 + 3) 0
+      pub outer-lone : (o' : List ℕ) (x : ℕ) → e * 16 ≤ length o → Lonely b w p n → 128 ≤ getD w (i * 4 + 3) 0
           → join b (split b (first .tree)) ≡ (first .tree, true) → x ≡ e + records (first .tree) → o' ≡ put o (e * 16) (encodeBy note (first .tree))
           → Outer b l o₀ w₀ d p count o' w n (i + 1) x late new f
       unfolding total
@@ -193,9 +192,9 @@ module _ {b : Bool} {l : List Tree} {o₀ w₀ : List ℕ} {d p count : ℕ} whe
           let heavy = ap (total weight) (first .is) in
           let all = subst (AllOf l) (first .is) (v .left-of) in
           let tree : join b c .0 ≡ t = ap (λ (y : Tree × Bool). y .0) itself in
-          let free = lone-free b w p i n (keyOf b c) m (i + 1) (first .entry .key ∙ ap shortKey (member-key b t)) (first .rest) (omega (arith, v .many))
+          let free = lone-refuses b w p i n t m (i + 1) (first .entry) (first .rest) (omega (arith, v .many))
           (λ y g u. lonely i y less u (λ same. omega (arith, same, g)) bit) in
-          let turned = turn-apart (merge b) (keyOf b) (λ y z u k. one-key b y z u k .same) c (parts b m) free in
+          let turned = turn-refused (merge b) c (parts b m) free in
           record {
             done = v .done ++ (c ∷ []);
             removed = v .removed;

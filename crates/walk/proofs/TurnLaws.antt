@@ -103,6 +103,26 @@ module _ {P : Type 0} (merge : P → P → Option P) where
         ap (λ (l : List P). record { parts = l; removed = r + 0 }) (append-nil done)
         ∙ ap (λ k. record { parts = done; removed = k }) (omega arith)
 
+  -- ---- a part that takes up none of the later ones
+  abbrev pub Refuses : P → List P → Type 0
+  Refuses c [] = Unit {0}
+  Refuses c (x ∷ l) = (merge c x ≡ none) × Refuses c l
+
+  refused : (n : ℕ) (c : P) (passed l : List P) → Refuses c l → turn merge n c passed l ≡ unturned c (passed ++ l)
+  unfolding turn
+  refused zero c passed l h = refl
+  refused (suc n) c passed [] h = ap (unturned c) (sym (append-nil passed))
+  refused (suc n) c passed (x ∷ l) h =
+      ap (λ (m : Option P). elim m [
+        | none ↦ turn merge n c (passed ++ (x ∷ [])) l
+        | some d ↦ oneRemoved (turn merge n d passed (lastFirst l))
+      ]) (h .0)
+      ∙ refused n c (passed ++ (x ∷ [])) l (h .1)
+      ∙ ap (unturned c) (append-assoc passed (x ∷ []) l)
+
+  pub turn-refused : (c : P) (l : List P) → Refuses c l → turn merge (length l) c [] l ≡ unturned c l
+  turn-refused c l h = refused (length l) c [] l h
+
   -- ---- a property of the current part that merging keeps holds of it when its turn is done
   module _ (Q : P → Type 0) (kept : (c x d : P) → Q c → merge c x ≡ some d → Q d) where
     pub turn-keeps : (n : ℕ) (c : P) (passed l : List P) → Q c → Q (turn merge n c passed l .current)

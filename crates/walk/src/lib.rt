@@ -13,12 +13,15 @@ ghost use Rattle.stretch.specs.Put.{part, put};
 ghost use Rattle.split.specs.Standing.{Told, SomeTold, SomeProduct};
 ghost use Rattle.part.specs.Like.{Like, split, join};
 ghost use Rattle.part.specs.Part.{Shows, From, MergedIs, IntoFrom};
-ghost use Rattle.walk.specs.Listed.{shortKey, entryOf, Entry, Listable, ListedIs};
+ghost use Rattle.walk.specs.Listed.{shortKey, entryOf, Entry, Listed, Listable, ListedIs};
 ghost use Rattle.walk.specs.Lone.{isLone};
+ghost use Rattle.walk.specs.Numbers.{AfterTelling};
 ghost use Rattle.walk.specs.Stays.{isCoefficient, lastStays, productStays, stays};
 ghost use Rattle.walk.specs.Walked.{keyOf, Meeting, Keepable, KeptIs, Turned, Finishing, FinishedIs, answerOf, Walkable, WalkedIs};
 
 mod lone;
+mod numbers;
+mod spread;
 
 // What the walk answers: nothing was removed; the range is left; how many members came out, where they end, and the record of the
 // only one of them that was no member before, or 0.
@@ -281,6 +284,19 @@ fn answer(count: usize, n: usize, e: usize, late: bool, new: usize, f: usize) ->
     Walked::Done(n, e, 0)
 }
 
+// Tells which of the n listed members are like no other, unless they are too few for that to pay: by their keys, and those that keys do not tell apart by
+// exponents, bases and spreads.
+fn tell_lone(out: &mut [u8], work: &mut [u8], d: usize, p: usize, n: usize, terms: bool) -> bool
+    requires { ⌜ ((l : List Tree) × Listed terms (now work) p n l) × (n < 65536) × ((d + 1) * 16 + n * 16 ≤ length (now out)) ⌝ }
+    ensures { λ r. ⌜ AfterTelling terms (now (out .entry)) (now (out .exit)) (now (work .entry)) (now (work .exit)) d p n r ⌝ }
+{
+    if !lone::tell_lone(out, work, d, n) {
+        return false;
+    }
+    numbers::tell_numbers(out, work, d, p, n, terms);
+    true
+}
+
 // The walk over the `count` members that are listed. A member that is rebuilt out of range counts only if something is removed.
 pub fn walk(
     out: &mut [u8],
@@ -294,7 +310,7 @@ pub fn walk(
     ensures { λ r. ⌜ ((l : List Tree) → Walkable terms (now (out .entry)) (now (work .entry)) d p count l
         → WalkedIs terms l (now (out .entry)) (now (out .exit)) (now (work .entry)) (now (work .exit)) d p r) ⌝ }
 {
-    let told = lone::tell_lone(out, work, d, count);
+    let told = tell_lone(out, work, d, p, count, terms);
     let mut n = count;
     let mut i = 0;
     let mut e = d + 1;

@@ -40,7 +40,7 @@ fn count_flags(out: &mut [u8], work: &[u8], at: usize, n: usize)
 }
 
 // The high byte of an entry's key, with the bit for an entry that its flag counts alone.
-fn lone_byte(high: u8, count: u8) -> u8
+pub fn lone_byte(high: u8, count: u8) -> u8
     ensures { λ r. ⌜ r ≡ loneByte high count ⌝ }
 {
     if count == 1 {

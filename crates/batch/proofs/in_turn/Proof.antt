@@ -1,19 +1,20 @@
--- `batch::in_turn` meets its contract. The loop's invariant: what is still to do, from what stands there now, is what was to do at the
--- beginning; the items to come have the bytes from `at` on, and what is used up is within the areas. The measure is the number of items to
--- come. Assumes nothing.
+-- `batch::in_turn` meets its contract. The loop's invariant: what is still to do, from what stands there now and with `work` cleared where an item ran, is what was to do
+-- at the beginning; the items to come have the bytes from `at` on, and what is used up is within the areas. The measure is the number of items to come. Assumes nothing.
 use Prim.Native.Nat.{ℕ, _+_, _-_, _*_, _/_, _≤_}
 use mathlib.Core.Path.{_≡_, refl, sym, ap, _∙_}
 use mathlib.Core.List.{List}
 use native.Mathlib.Omega.{arith}
 use borrow.Author.Needs.{needs}
 use lib.ListN.{length, drop, length-take, length-drop}
+use Rattle.paper.specs.Limits.{workBytes}
 use Rattle.paper.proofs.BytesLaws.{are-bytes}
 use Rattle.simplify.specs.Answer.{lent}
 use Rattle.paper_batch.specs.Batch.{lengthsIn, total}
-use Rattle.batch.specs.Turn.{turned, lengthsFrom, still}
+use Rattle.batch.specs.Turn.{cleared, called, lengthsFrom, still}
 use Rattle.batch.proofs.LengthsLaws.{from-all, from-none, total-turn}
 use Rattle.batch.proofs.StillLaws.{still-none}
-use Rattle.batch.proofs.TurnLaws.{Gone, turn-gone}
+use Rattle.batch.proofs.WorkLaws.{cleared-once, not-cleared}
+use Rattle.batch.proofs.TurnLaws.{Passed, passed}
 use Rattle.batch.proofs.in_turn.Statement.{statement}
 use Rattle.batch.proofs.in_turn.Tie as tie
 
@@ -27,8 +28,9 @@ Inv-loop limit edition tables lengths out₀ steps₀ work₀ answers₀ n i₀ 
     × (length steps ≡ length steps₀)
     × (length work ≡ length work₀)
     × (length answers ≡ length answers₀)
-    × (still limit edition i used (lengthsFrom lengths n i) (drop at tables) (lent out steps work) answers
+    × (still limit edition i used (lengthsFrom lengths n i) (drop at tables) (lent out steps (cleared limit used work)) answers
     ≡ still limit edition 0 0 (lengthsIn lengths) tables (lent out₀ steps₀ work₀) answers₀)
+    × (1 ≤ used → workBytes limit ≤ length work)
 
 abbrev μ-loop : tie.MeasureT-loop
 μ-loop limit edition tables lengths out₀ steps₀ work₀ answers₀ n i₀ at₀ used₀ out steps work answers i at used = n - i
@@ -76,9 +78,8 @@ gone : (c : Back) → let read = read-of c in
     let g = known-of entered .before .args in
     let l = entered .loop in
     let call = c .before .before .before .before .before .before .before .before .item in
-    Gone (g .limit) (g .edition) (g .tables .now) (g .lengths .now) (l .answers) (lent (l .out) (l .steps) (l .work)) (length (g .lengths .now) / 8) (l .i) (l .at) (l .used)
-    (read .read8 .result)
-    (turned (call .result) (call .last .1 .1 .1 .0) (call .last .1 .1 .1 .1 .0) (call .last .1 .1 .1 .1 .1 .0) (call .last .1 .1 .1 .1 .1 .1 .0))
+    Passed (g .limit) (g .edition) (g .tables .now) (g .lengths .now) (l .answers) (l .out) (l .steps) (l .work) (length (g .lengths .now) / 8) (l .i) (l .at) (l .used)
+    (read .read8 .result) (call .result) (call .last .1 .1 .1 .0) (call .last .1 .1 .1 .1 .0) (call .last .1 .1 .1 .1 .1 .0) (call .last .1 .1 .1 .1 .1 .1 .0)
 gone c =
     let read = read-of c in
     let more = more-of read in
@@ -87,11 +88,10 @@ gone c =
     let g = known .before .args in
     let l = entered .loop in
     let call = c .before .before .before .before .before .before .before .before .item in
-    turn-gone (g .limit) (g .edition) (g .tables .now) (g .lengths .now) (l .answers) (lent (l .out) (l .steps) (l .work)) (length (g .lengths .now) / 8) (l .i) (l .at)
-    (l .used) (read .read8 .result)
-    (turned (call .result) (call .last .1 .1 .1 .0) (call .last .1 .1 .1 .1 .0) (call .last .1 .1 .1 .1 .1 .0) (call .last .1 .1 .1 .1 .1 .1 .0))
+    passed (g .limit) (g .edition) (g .tables .now) (g .lengths .now) (l .answers) (l .out) (l .steps) (l .work) (length (g .lengths .now) / 8) (l .i) (l .at) (l .used)
+    (read .read8 .result) (call .result) (call .last .1 .1 .1 .0) (call .last .1 .1 .1 .1 .0) (call .last .1 .1 .1 .1 .1 .0) (call .last .1 .1 .1 .1 .1 .1 .0)
     (are-bytes (g .tables .now) (known .shared-slice-known .given)) (more .loop-test .taken) (l .inv .2) (l .inv .3) (omega arith)
-    (read .read8 .ensures) (call .ensures)
+    (read .read8 .ensures) (l .inv .9) (call .ensures)
 
 loop-holds : tie.Need-loop-holds Inv-loop μ-loop
 loop-holds c =
@@ -105,7 +105,10 @@ loop-holds c =
       refl,
       refl,
       refl,
-      ap (λ (ns : List ℕ). still (g .limit) (g .edition) 0 0 ns (g .tables .now) (lent (g .out .now) (g .steps .now) (g .work .now)) (g .answers .now)) all,
+      ap (λ (x : List ℕ). still (g .limit) (g .edition) 0 0 (lengthsFrom (g .lengths .now) (length (g .lengths .now) / 8) 0) (g .tables .now) (lent (g .out .now) (g .steps .now) x) (g .answers .now))
+          (sym (not-cleared (g .limit) 0 (g .work .now) (omega arith)))
+          ∙ ap (λ (ns : List ℕ). still (g .limit) (g .edition) 0 0 ns (g .tables .now) (lent (g .out .now) (g .steps .now) (g .work .now)) (g .answers .now)) all,
+      λ h. absurd (omega arith),
     )
 
 mul-read8 : tie.Need-mul-read8 Inv-loop μ-loop
@@ -165,7 +168,7 @@ item-requires c κs = simp (length-take, length-drop) (omega arith)
 add-used : tie.Need-add-used Inv-loop μ-loop
 add-used c =
     let entered = entered-of (more-of (read-of c)) in
-    let turn = gone c in
+    let turn = gone c .gone in
     omega (arith, turn .out-fits)
 
 add-i : tie.Need-add-i Inv-loop μ-loop
@@ -178,17 +181,27 @@ loop-again : tie.Need-loop-again Inv-loop μ-loop
 loop-again c =
     let read = read-of c in
     let l = entered-of (more-of read) .loop in
-    let turn = gone c in (
+    let turn = gone c .gone in
+    let long = c .before .before .before .before .before .before .before .before .item .kept .1 .1 .1 .1 .1 .0 in (
       omega arith,
       omega (arith, length-read read),
       omega (arith, turn .out-kept, turn .out-fits),
       omega (arith, turn .steps-kept, turn .steps-fit),
       turn .out-kept ∙ l .inv .4,
       turn .steps-kept ∙ l .inv .5,
-      turn .work-kept ∙ l .inv .6,
+      long ∙ l .inv .6,
       turn .answers-kept ∙ l .inv .7,
       turn .goes-on ∙ l .inv .8,
+      λ h. omega (arith, gone c .room h, long),
     )
+
+work-bytes-requires : tie.Need-work-bytes-requires Inv-loop μ-loop
+work-bytes-requires c κs = search needs
+
+clear-requires : tie.Need-clear-requires Inv-loop μ-loop
+clear-requires c κs =
+    let l = c .before .before .before .before .loop in
+    omega (arith, l .inv .9 (c .before .before .if1 .taken), c .work-bytes .ensures)
 
 same-length : tie.Need-same-length Inv-loop μ-loop
 same-length c = omega arith
@@ -197,20 +210,61 @@ same-length-2 : tie.Need-same-length-2 Inv-loop μ-loop
 same-length-2 c = omega arith
 
 same-length-3 : tie.Need-same-length-3 Inv-loop μ-loop
-same-length-3 c = omega arith
+same-length-3 c = omega (arith, c .before .before .clear .kept .0)
 
 same-length-4 : tie.Need-same-length-4 Inv-loop μ-loop
 same-length-4 c = omega arith
 
-returns : tie.Need-returns Inv-loop μ-loop
-returns c =
-    let g = c .before .before .before .before .before .before .before .before .args in
-    let l = c .before .loop in
-    let now = lent (l .out) (l .steps) (l .work) in
+-- where no item is left
+abbrev Left : Type 0
+Left = tie.After-loop Inv-loop μ-loop
+
+ended : (c : Left) → let entered = c .before in
+    let g = known-of entered .before .args in
+    let l = entered .loop in
+    called 0 (l .out) (l .steps) (cleared (g .limit) (l .used) (l .work)) (l .answers)
+    ≡ still (g .limit) (g .edition) 0 0 (lengthsIn (g .lengths .now)) (g .tables .now) (lent (g .out .now) (g .steps .now) (g .work .now)) (g .answers .now)
+ended c =
+    let entered = c .before in
+    let g = known-of entered .before .args in
+    let l = entered .loop in
+    let now = lent (l .out) (l .steps) (cleared (g .limit) (l .used) (l .work)) in
     let none = from-none (g .lengths .now) (length (g .lengths .now) / 8) (l .i) (c .loop-test .left) in
     sym (still-none (g .limit) (g .edition) (l .i) (l .used) (drop (l .at) (g .tables .now)) now (l .answers))
     ∙ ap (λ (ns : List ℕ). still (g .limit) (g .edition) (l .i) (l .used) ns (drop (l .at) (g .tables .now)) now (l .answers)) (sym none)
     ∙ l .inv .8
+
+returns : tie.Need-returns Inv-loop μ-loop
+returns c =
+    let over = c .before .before .before .before .before .before in
+    let entered = over .before in
+    let g = known-of entered .before .args in
+    let l = entered .loop in
+    let clear = c .before .before .clear in
+    let need = c .before .before .before .work-bytes in
+    ap (λ (x : List ℕ). called 0 (l .out) (l .steps) x (l .answers))
+    (cleared-once (g .limit) (l .used) (need .result) (l .work) (clear .last .0) (c .before .before .before .before .before .if1 .taken) (need .ensures) (clear .ensures))
+    ∙ ended over
+
+same-length-5 : tie.Need-same-length-5 Inv-loop μ-loop
+same-length-5 c = omega arith
+
+same-length-6 : tie.Need-same-length-6 Inv-loop μ-loop
+same-length-6 c = omega arith
+
+same-length-7 : tie.Need-same-length-7 Inv-loop μ-loop
+same-length-7 c = omega arith
+
+same-length-8 : tie.Need-same-length-8 Inv-loop μ-loop
+same-length-8 c = omega arith
+
+returns-2 : tie.Need-returns-2 Inv-loop μ-loop
+returns-2 c =
+    let over = c .before in
+    let entered = over .before in
+    let l = entered .loop in
+    ap (λ (x : List ℕ). called 0 (l .out) (l .steps) x (l .answers)) (not-cleared (known-of entered .before .args .limit) (l .used) (l .work) (c .if1 .left))
+    ∙ ended over
 
 pub in-turn-spec : {M : Type 1} → statement M
 in-turn-spec =
@@ -241,8 +295,15 @@ in-turn-spec =
     add-i
     loop-less
     loop-again
+    work-bytes-requires
+    clear-requires
     same-length
     same-length-2
     same-length-3
     same-length-4
-    returns)
+    returns
+    same-length-5
+    same-length-6
+    same-length-7
+    same-length-8
+    returns-2)

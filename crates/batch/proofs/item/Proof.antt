@@ -1,4 +1,4 @@
--- `batch::item` meets its contract: the areas are as `simplify` leaves them, the numbers are those that it tells, and what is used up is W
+-- `batch::item` meets its contract: the areas are as `simplify_in` leaves them, the numbers are those that it tells, and what is used up is W
 -- by its own answer or by the weight function. Assumes nothing.
 use Prim.Native.Nat.{ℕ}
 use mathlib.Core.Path.{_≡_, ap, _∙_}
@@ -8,20 +8,20 @@ use lib.ListN.{drop}
 use Rattle.paper.specs.Answers.{Measured}
 use Rattle.paper.specs.Calls.{answerNumbers}
 use Rattle.paper.proofs.BytesLaws.{are-bytes}
-use Rattle.simplify.specs.Answer.{says, lent, gives}
+use Rattle.simplify.specs.Answer.{says, lent, gives, cleaned}
 use Rattle.paper_batch.specs.Batch.{usedUp}
-use Rattle.batch.specs.Turn.{turn, turned}
-use Rattle.batch.proofs.ItemLaws.{Uses, told, is-turn}
+use Rattle.batch.specs.Turn.{turn, turned, cleared}
+use Rattle.batch.proofs.ItemLaws.{Uses, cleared-used, told, is-turn}
 use Rattle.eights.proofs.EightsLaws.{with-flaw}
 use Rattle.batch.proofs.item.Statement.{statement}
 use Rattle.batch.proofs.item.Tie as tie
 
--- places on the way through the code, and from each the one before it: the table's bytes known, `simplify` back, the numbers written
+-- places on the way through the code, and from each the one before it: the table's bytes known, `simplify_in` back, the numbers written
 abbrev Known : Type 0
 Known = tie.After-shared-slice-known
 
 abbrev Called : Type 0
-Called = tie.After-simplify
+Called = tie.After-simplify-in
 
 abbrev Written : Type 0
 Written = tie.After-write-numbers
@@ -36,36 +36,38 @@ abbrev flaw-of : Written → tie.After-flaw-numbers
 flaw-of c = c .before .before .before .before
 
 -- what the answer tells of what was used up
-used : (c : Written) → let called = called-of c in Uses (known-of called .before .args .limit) (known-of called .before .args .table .now) (says (called .simplify .result))
+used : (c : Written) → let called = called-of c in Uses (known-of called .before .args .limit) (known-of called .before .args .table .now) (says (called .simplify-in .result))
 used c =
     let called = called-of c in
     let known = known-of called in
     let g = known .before .args in
-    let run = called .simplify in
+    let run = called .simplify-in in
     told (g .limit) (g .edition) (g .table .now) (lent (g .out .now) (g .steps .now) (g .work .now))
-    (gives (run .result) (run .last .1 .1 .1 .0) (run .last .1 .1 .1 .1 .0) (run .last .1 .1 .1 .1 .1 .0)) (run .ensures)
+    (gives (run .result) (run .last .1 .1 .1 .0) (run .last .1 .1 .1 .1 .0) (cleaned (g .limit) (run .result .number) (run .last .1 .1 .1 .1 .1 .0))) (run .ensures)
     (are-bytes (g .table .now) (known .shared-slice-known .given))
 
 -- the turn, from W that is used up
 turn-of : (c : Written) (w : ℕ) → let called = called-of c in
     let g = known-of called .before .args in
-    let run = called .simplify in
+    let run = called .simplify-in in
     w ≡ usedUp (g .table .now) (says (run .result))
-    → turned w (run .last .1 .1 .1 .0) (run .last .1 .1 .1 .1 .0) (run .last .1 .1 .1 .1 .1 .0) (c .write-numbers .last .0)
+    → turned w (run .last .1 .1 .1 .0) (run .last .1 .1 .1 .1 .0) (cleared (g .limit) w (run .last .1 .1 .1 .1 .1 .0)) (c .write-numbers .last .0)
     ≡ turn (g .limit) (g .edition) (g .table .now) (lent (g .out .now) (g .steps .now) (g .work .now)) (g .answer .now)
 unfolding answerNumbers
 turn-of c w e =
     let called = called-of c in
     let g = known-of called .before .args in
-    let run = called .simplify in
+    let run = called .simplify-in in
     let r = run .result in
     let before = r .number ∷ r .place ∷ r .records ∷ r .steps ∷ r .openings ∷ r .«weight_in» ∷ r .«weight_out» ∷ [] in
-    is-turn (g .limit) (g .edition) (g .table .now) (lent (g .out .now) (g .steps .now) (g .work .now))
-    (gives (run .result) (run .last .1 .1 .1 .0) (run .last .1 .1 .1 .1 .0) (run .last .1 .1 .1 .1 .1 .0)) (run .ensures) w (g .answer .now) (c .write-numbers .last .0) e
+    ap (λ (x : List ℕ). turned w (run .last .1 .1 .1 .0) (run .last .1 .1 .1 .1 .0) x (c .write-numbers .last .0))
+    (cleared-used (g .limit) (g .table .now) (says r) (used c) w e (run .last .1 .1 .1 .1 .1 .0))
+    ∙ is-turn (g .limit) (g .edition) (g .table .now) (lent (g .out .now) (g .steps .now) (g .work .now))
+    (gives (run .result) (run .last .1 .1 .1 .0) (run .last .1 .1 .1 .1 .0) (cleaned (g .limit) (run .result .number) (run .last .1 .1 .1 .1 .1 .0))) (run .ensures) w (g .answer .now) (c .write-numbers .last .0) e
     (with-flaw before (drop 80 (g .answer .now)) (ap (λ (l : List ℕ). l ++ (r .tries ∷ [])) (flaw-of c .flaw-numbers .ensures)) (c .write-numbers .ensures))
 
-simplify-requires : tie.Need-simplify-requires
-simplify-requires c κs = search needs
+simplify-in-requires : tie.Need-simplify-in-requires
+simplify-in-requires c κs = search needs
 
 flaw-numbers-requires : tie.Need-flaw-numbers-requires
 flaw-numbers-requires c κs = search needs
@@ -115,13 +117,13 @@ same-length-8 c = search needs
 returns-2 : tie.Need-returns-2
 returns-2 c =
     let written = c .before .before .before .before in
-    turn-of written (called-of written .simplify .result .«weight_in») (used written .other (c .if1 .left))
+    turn-of written (called-of written .simplify-in .result .«weight_in») (used written .other (c .if1 .left))
 
 pub item-spec : {M : Type 1} → statement M
 item-spec =
     tie.close
     (tie.spec
-    simplify-requires
+    simplify-in-requires
     flaw-numbers-requires
     cast-t18
     slice-aggregate-write-numbers

@@ -6,14 +6,8 @@ use borrow.Author.Needs.{needs}
 use Rattle.driver.proofs.begin.Statement.{statement}
 use Rattle.driver.proofs.begin.Tie as tie
 
-mul-copy-bytes : tie.Need-mul-copy-bytes
-mul-copy-bytes c = search needs
-
-mul-copy-bytes-2 : tie.Need-mul-copy-bytes-2
-mul-copy-bytes-2 c = search needs
-
-copy-bytes-requires : tie.Need-copy-bytes-requires
-copy-bytes-requires c κs = search needs
+copy-record-requires : tie.Need-copy-record-requires
+copy-record-requires c κs = search needs
 
 arity-requires : tie.Need-arity-requires
 arity-requires c κs = search needs
@@ -34,15 +28,13 @@ returns : tie.Need-returns
 returns c =
     let g = c .before .before .before .before .before .before .before .before .args in
     let members : c .before .arity .result ≡ arity (g .work .now) (g .q) = c .before .arity .ensures .0 in
-    (ap (begunAt (g .s) (g .q) (g .n) (g .tries)) members, c .before .before .before .before .copy-bytes .ensures)
+    (ap (begunAt (g .s) (g .q) (g .n) (g .tries)) members, c .before .before .before .before .copy-record .ensures)
 
 pub begin-spec : {M : Type 1} → statement M
 begin-spec =
     tie.close
     (tie.spec
-    mul-copy-bytes
-    mul-copy-bytes-2
-    copy-bytes-requires
+    copy-record-requires
     add-t
     add-t-2
     arity-requires

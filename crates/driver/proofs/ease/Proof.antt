@@ -6,11 +6,11 @@ use lib.ListN.{length-set}
 use Rattle.paper.specs.Tree.{Tree}
 use Rattle.paper.specs.Rules.{rulesOf}
 use Rattle.rules.specs.declared.Combined.{Combined as Answer}
-use Rattle.rules.specs.declared.Combined.the-variants.{No}
+use Rattle.rules.specs.declared.Combined.the-variants.{No, Nothing}
 use Rattle.rules.specs.Asked.{CombinedIs}
 use Rattle.driver.specs.Driven.{Set, EasedIs}
 use Rattle.driver.proofs.Places.{noted-one}
-use Rattle.driver.proofs.Easing.{step-room, set-same, eased-same, set-stepped, eased-step}
+use Rattle.driver.proofs.Easing.{step-room, set-same, eased-same, eased-none, set-stepped, eased-step}
 use borrow.Author.Needs.{needs}
 use Rattle.driver.proofs.ease.Statement.{statement}
 use Rattle.driver.proofs.ease.Tie as tie
@@ -62,6 +62,9 @@ settle-requires c κs =
 
 as-settled-requires : tie.Need-as-settled-requires
 as-settled-requires c κs = search needs
+
+enum-told-2 : tie.Need-enum-told-2
+enum-told-2 c = search needs
 
 enum-known-c : tie.Need-enum-known-c
 enum-known-c c = search needs
@@ -121,13 +124,27 @@ same-length-4 c = search needs
 same-length-5 : tie.Need-same-length-5
 same-length-5 c = search needs
 
+returns-2 : tie.Need-returns-2
+returns-2 c =
+    let tried = c .before .before .before .before .before .before in
+    let g = entry-of tried .args in
+    let a = tried .combine-gathered in
+    λ t r v.
+    eased-none (g .edition) v (a .last .0) (a .last .1 .0) (a .kept .0) (a .kept .1 .0) (answer tried t r v Nothing (c .enum-told2 .given .1))
+
 same-length-6 : tie.Need-same-length-6
-same-length-6 c =
+same-length-6 c = search needs
+
+same-length-7 : tie.Need-same-length-7
+same-length-7 c = search needs
+
+same-length-8 : tie.Need-same-length-8
+same-length-8 c =
     let g = entry-of (c .before .before .before .before .before .before .before .before .before .before .before .before .before .before .before .before .before .before) .args in
     c .before .before .before .before .before .before .before .settle2 .kept .1 .1 .0 ∙ length-set (g .steps .now) (g .s) (c .before .before .before .before .before .before .before .before .before .before .before .before .c .given .0 .0)
 
-returns-2 : tie.Need-returns-2
-returns-2 c =
+returns-3 : tie.Need-returns-3
+returns-3 c =
     let x = c .before .before .before .before .before .before .before .settle2 in
     let tried = c .before .before .before .before .before .before .before .before .before .before .before .before .before .before .before .before .before .before in
     let g = entry-of tried .args in
@@ -140,17 +157,17 @@ returns-2 c =
     (eased-step (g .edition) v (a .last .0) (a .last .1 .0) (a .kept .0) (a .kept .1 .0) (told .0 .0) (told .0 .1 .0) pending (x .last .0) (x .last .1 .0) (x .last .1 .1 .0) (x .result)
     (x .ensures (pending .0) r before))
 
-same-length-7 : tie.Need-same-length-7
-same-length-7 c = search needs
-
-same-length-8 : tie.Need-same-length-8
-same-length-8 c = search needs
-
 same-length-9 : tie.Need-same-length-9
 same-length-9 c = search needs
 
-returns-3 : tie.Need-returns-3
-returns-3 c =
+same-length-10 : tie.Need-same-length-10
+same-length-10 c = search needs
+
+same-length-11 : tie.Need-same-length-11
+same-length-11 c = search needs
+
+returns-4 : tie.Need-returns-4
+returns-4 c =
     let tried = c .before .before .before .before .before .before .before in
     let g = entry-of tried .args in
     let told = c .before .c2 .given in
@@ -166,6 +183,7 @@ ease-spec =
     enum-told
     settle-requires
     as-settled-requires
+    enum-told-2
     enum-known-c
     slice-write-steps
     add-settle
@@ -179,9 +197,12 @@ ease-spec =
     returns
     same-length-4
     same-length-5
-    same-length-6
     returns-2
+    same-length-6
     same-length-7
     same-length-8
+    returns-3
     same-length-9
-    returns-3)
+    same-length-10
+    same-length-11
+    returns-4)

@@ -18,7 +18,7 @@ use Rattle.driver.proofs.pass_on.Lts as lts
 use Rattle.driver.proofs.begin.Reads as begin-reads
 use Rattle.driver.proofs.end_pass.Reads as end-pass-reads
 use Rattle.driver.proofs.ended.Reads as ended-reads
-use Rattle.driver.proofs.keep_leaves.Reads as keep-leaves-reads
+use Rattle.driver.proofs.keep_members.Reads as keep-members-reads
 
 -- what a turn begins with
 record Under-way (out₀ work₀ steps₀ : List ℕ) (s₀ : Stand) (out work steps : List ℕ) (s : Stand) : Type 0 where
@@ -34,11 +34,11 @@ Inv-loop out₀ work₀ steps₀ s₀ out work steps s = Under-way out₀ work�
 abbrev μ-loop : tie.MeasureT-loop
 μ-loop out₀ work₀ steps₀ s₀ out work steps s = length steps - s .noted
 
--- places on the way through the code, and from each the one before it: the entry, the head of the loop, after the leaves were kept, after the pass ended
+-- places on the way through the code, and from each the one before it: the entry, the head of the loop, after members were kept, after the pass ended
 abbrev claims : lts.Claims
 claims = (
-  keep-leaves-reads.Asked,
-  keep-leaves-reads.Learnt,
+  keep-members-reads.Asked,
+  keep-members-reads.Learnt,
   end-pass-reads.Asked,
   end-pass-reads.Learnt,
   ended-reads.Asked,
@@ -54,7 +54,7 @@ abbrev Head : Type 0
 Head = lts.At-loop claims reads.Pre reads.Post Inv-loop μ-loop
 
 abbrev Led : Type 0
-Led = lts.After-keep-leaves claims reads.Pre reads.Post Inv-loop μ-loop
+Led = lts.After-keep-members claims reads.Pre reads.Post Inv-loop μ-loop
 
 abbrev Passed : Type 0
 Passed = lts.After-end-pass claims reads.Pre reads.Post Inv-loop μ-loop
@@ -72,28 +72,28 @@ led-of c = c .before .before .before .before .before .before .before .before
 abbrev On : Entry → Call → Type 0
 On c x = let g = c .args in Midway x (g .out .now) (g .work .now) (g .steps .now) (g .from)
 
--- and is midway on it after the leaves were kept
-led-on : (c : Led) (x : Call) → On (entry-of (head-of c)) x → let l = head-of c .loop in Midway x (c .keep-leaves .last .0) (l .work) (l .steps) (c .keep-leaves .result)
-led-on c x v = let l = head-of c .loop in c .keep-leaves .ensures .2 x (l .steps) (l .inv .midway x v)
+-- and is midway on it after members were kept
+led-on : (c : Led) (x : Call) → On (entry-of (head-of c)) x → let l = head-of c .loop in Midway x (c .keep-members .last .0) (l .work) (l .steps) (c .keep-members .result)
+led-on c x v = let l = head-of c .loop in c .keep-members .ensures .2 x (l .steps) (l .inv .midway x v)
 
 -- none is left
-none-left : (c : Passed) → led-of c .keep-leaves .result .left ≤ 0
+none-left : (c : Passed) → led-of c .keep-members .result .left ≤ 0
 none-left c = c .before .before .before .before .if1 .left
 
 -- what the answer a says of the pass
 answer : (c : Passed) (x : Call) → On (entry-of (head-of (led-of c))) x → (a : Answer)
     → let r = c .end-pass in
-    r .result ≡ a → TurnIs x (r .last .0) (r .last .1 .0) (r .last .1 .1 .0) (led-of c .keep-leaves .result) a
+    r .result ≡ a → TurnIs x (r .last .0) (r .last .1 .0) (r .last .1 .1 .0) (led-of c .keep-members .result) a
 answer c x v a e =
     let r = c .end-pass in
-    subst (TurnIs x (r .last .0) (r .last .1 .0) (r .last .1 .1 .0) (led-of c .keep-leaves .result)) e (r .ensures x (led-on (led-of c) x v))
+    subst (TurnIs x (r .last .0) (r .last .1 .0) (r .last .1 .1 .0) (led-of c .keep-members .result)) e (r .ensures x (led-on (led-of c) x v))
 
 loop-holds : tie.Need-loop-holds Inv-loop μ-loop
 loop-holds c =
     record { onward = onward-none _; out-long = refl; work-long = refl; steps-long = refl; midway = λ x v. v }
 
-keep-leaves-requires : tie.Need-keep-leaves-requires Inv-loop μ-loop
-keep-leaves-requires c κs =
+keep-members-requires : tie.Need-keep-members-requires Inv-loop μ-loop
+keep-members-requires c κs =
     let head = c .before .before in
     let entry = entry-of head in
     (entry .pre .0, head .loop .steps, head .loop .inv .midway (entry .pre .0) (entry .pre .1))
@@ -101,7 +101,7 @@ keep-leaves-requires c κs =
 same-length : tie.Need-same-length Inv-loop μ-loop
 same-length c =
     let led = c .before .before .before .before in
-    led .keep-leaves .kept .0 ∙ head-of led .loop .inv .out-long
+    led .keep-members .kept .0 ∙ head-of led .loop .inv .out-long
 
 same-length-2 : tie.Need-same-length-2 Inv-loop μ-loop
 same-length-2 c =
@@ -114,7 +114,7 @@ same-length-3 c =
 returns : tie.Need-returns Inv-loop μ-loop
 returns c =
     let led = c .before .before .before .before in
-    (onward-both (head-of led .loop .inv .onward) (led .keep-leaves .ensures .0), λ x v. waiting (led-on led x v) (c .if1 .taken))
+    (onward-both (head-of led .loop .inv .onward) (led .keep-members .ensures .0), λ x v. waiting (led-on led x v) (c .if1 .taken))
 
 end-pass-requires : tie.Need-end-pass-requires Inv-loop μ-loop
 end-pass-requires c κs =
@@ -132,7 +132,7 @@ same-length-4 : tie.Need-same-length-4 Inv-loop μ-loop
 same-length-4 c =
     let passed = c .before .before .before .before .before .before .before .before .before .before in
     let led = led-of passed in
-    passed .end-pass .kept .0 ∙ led .keep-leaves .kept .0 ∙ head-of led .loop .inv .out-long
+    passed .end-pass .kept .0 ∙ led .keep-members .kept .0 ∙ head-of led .loop .inv .out-long
 
 same-length-5 : tie.Need-same-length-5 Inv-loop μ-loop
 same-length-5 c =
@@ -148,11 +148,11 @@ returns-2 : tie.Need-returns-2 Inv-loop μ-loop
 returns-2 c =
     let passed = c .before .before .before .before .before .before .before .before .before .before in
     let led = led-of passed in
-    let k = led .keep-leaves .result in
+    let k = led .keep-members .result in
     let r = passed .end-pass in
     let told = c .before .before .t .given in
     let e : c .ended .result ≡ endedAt k 0 (k .place) (told .0 .0) (k .tries) = c .ended .ensures in (
-      onward-both (onward-both (head-of led .loop .inv .onward) (led .keep-leaves .ensures .0)) (onward k e refl (omega arith)),
+      onward-both (onward-both (head-of led .loop .inv .onward) (led .keep-members .ensures .0)) (onward k e refl (omega arith)),
       λ x v. subst (λ y. WentOn x (r .last .0) (r .last .1 .0) (r .last .1 .1 .0) y) (sym e) (fell-down (endedAt k 0 (k .place) (told .0 .0) (k .tries)) refl (omega arith) (answer passed x v _ (told .1))),
     )
 
@@ -166,7 +166,7 @@ same-length-7 : tie.Need-same-length-7 Inv-loop μ-loop
 same-length-7 c =
     let passed = c .before .before .before .before .before .before .before .before .before .before in
     let led = led-of passed in
-    passed .end-pass .kept .0 ∙ led .keep-leaves .kept .0 ∙ head-of led .loop .inv .out-long
+    passed .end-pass .kept .0 ∙ led .keep-members .kept .0 ∙ head-of led .loop .inv .out-long
 
 same-length-8 : tie.Need-same-length-8 Inv-loop μ-loop
 same-length-8 c =
@@ -183,11 +183,11 @@ returns-3 c =
     let passed = c .before .before .before .before .before .before .before .before .before .before in
     let led = led-of passed in
     let entry = entry-of (head-of led) in
-    let k = led .keep-leaves .result in
+    let k = led .keep-members .result in
     let r = passed .end-pass in
     let told = c .before .before .t2 .given in
     let e : c .ended2 .result ≡ endedAt k (told .0 .0) (told .0 .1 .0) (told .0 .1 .1 .0) (told .0 .1 .1 .1 .0) = c .ended2 .ensures in (
-      onward-both (onward-both (head-of led .loop .inv .onward) (led .keep-leaves .ensures .0)) (onward k e refl (answer passed (entry .pre .0) (entry .pre .1) _ (told .1) .1)),
+      onward-both (onward-both (head-of led .loop .inv .onward) (led .keep-members .ensures .0)) (onward k e refl (answer passed (entry .pre .0) (entry .pre .1) _ (told .1) .1)),
       λ x v. subst (λ y. WentOn x (r .last .0) (r .last .1 .0) (r .last .1 .1 .0) y) (sym e) (came-home k (told .0 .0) (told .0 .1 .0) (told .0 .1 .1 .0) (told .0 .1 .1 .1 .0) (answer passed x v _ (told .1) .0)),
     )
 
@@ -210,7 +210,7 @@ loop-less c =
     let led = led-of passed in
     let head = head-of led in
     let entry = entry-of head in
-    let k = led .keep-leaves .result in
+    let k = led .keep-members .result in
     let r = passed .end-pass in
     let told = c .before .before .before .before .before .before .t3 .given in
     let started = c .before .before .begin in
@@ -219,7 +219,7 @@ loop-less c =
     let more = turn-is .5 in
     let room = again-room (led-on led (entry .pre .0) (entry .pre .1)) (r .last .0) (r .last .1 .0) (r .last .1 .1 .0) (told .0 .0) (told .0 .1 .0) (told .0 .1 .1 .0) turn-is .3 in
     let n : started .result .noted ≡ told .0 .1 .0 = ap (λ y. y .noted) e in
-    omega (arith, led .keep-leaves .ensures .1, r .kept .1 .1 .0)
+    omega (arith, led .keep-members .ensures .1, r .kept .1 .1 .0)
 
 loop-again : tie.Need-loop-again Inv-loop μ-loop
 loop-again c =
@@ -227,16 +227,16 @@ loop-again c =
     let led = led-of passed in
     let head = head-of led in
     let entry = entry-of head in
-    let k = led .keep-leaves .result in
+    let k = led .keep-members .result in
     let r = passed .end-pass in
     let told = c .before .before .before .before .before .before .t3 .given in
     let started = c .before .before .begin in
     let e : started .result ≡ begunAt k (told .0 .0) (told .0 .1 .0) (told .0 .1 .1 .0) (arity (r .last .1 .0) (told .0 .0)) = started .ensures .0 in
     record {
       onward =
-          onward-both (onward-both (head .loop .inv .onward) (led .keep-leaves .ensures .0))
+          onward-both (onward-both (head .loop .inv .onward) (led .keep-members .ensures .0))
           (onward k e refl (answer passed (entry .pre .0) (entry .pre .1) _ (told .1) .6));
-      out-long = started .kept .0 ∙ r .kept .0 ∙ led .keep-leaves .kept .0 ∙ head .loop .inv .out-long;
+      out-long = started .kept .0 ∙ r .kept .0 ∙ led .keep-members .kept .0 ∙ head .loop .inv .out-long;
       work-long = r .kept .1 .0 ∙ head .loop .inv .work-long;
       steps-long = r .kept .1 .1 .0 ∙ head .loop .inv .steps-long;
       midway = λ x v.
@@ -252,7 +252,7 @@ pass-on-spec =
     Inv-loop
     μ-loop
     loop-holds
-    keep-leaves-requires
+    keep-members-requires
     same-length
     same-length-2
     same-length-3

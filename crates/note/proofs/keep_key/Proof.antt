@@ -1,11 +1,11 @@
--- `note::keep_key` meets its contract: one store, and eight bytes written. Assumes nothing.
+-- `note::keep_key` meets its contract: two stores, and eight bytes written. Assumes nothing.
 use Prim.Native.Nat.{_+_, _*_}
 use mathlib.Core.Path.{ap, _∙_}
 use native.Mathlib.Omega.{arith}
 use lib.ListN.{set, length-set}
 use Rattle.paper.specs.Bytes.{bytes}
 use Rattle.stretch.specs.Put.{put}
-use Rattle.note.specs.Keys.{keeping}
+use Rattle.note.specs.Keys.{flagOf, keeping}
 use borrow.Author.Needs.{needs}
 use Rattle.note.proofs.keep_key.Statement.{statement}
 use Rattle.note.proofs.keep_key.Tie as tie
@@ -16,6 +16,19 @@ flag-at-requires c κs = search needs
 slice-write-d : tie.Need-slice-write-d
 slice-write-d c = search needs
 
+turned-requires : tie.Need-turned-requires
+turned-requires c κs = search needs
+
+flag-at-requires-2 : tie.Need-flag-at-requires-2
+flag-at-requires-2 c κs = search needs
+
+slice-write-d-2 : tie.Need-slice-write-d-2
+slice-write-d-2 c =
+    let first = c .before .before in
+    let a = first .before .before .args in
+    let h = first .before .before .pre .1 in
+    omega (arith, length-set (a .d .now) (first .flag-at .result) 1, c .flag-at2 .ensures .1, h .room)
+
 mul-write8 : tie.Need-mul-write8
 mul-write8 c = search needs
 
@@ -24,21 +37,31 @@ add-write8 c = search needs
 
 write8-requires : tie.Need-write8-requires
 write8-requires c κs =
-    let a = c .before .before .before .args in
-    let h = c .before .before .before .pre .1 in
-    omega (arith, length-set (a .d .now) (c .before .flag-at .result) 1, h .place, h .room)
+    let first = c .before .before .before in
+    let d = first .before .before .args .d .now in
+    let h = first .before .before .pre .1 in
+    let once = set d (first .flag-at .result) 1 in
+    omega (arith, length-set d (first .flag-at .result) 1, length-set once (c .before .flag-at2 .result) 1, h .place, h .room)
 
 same-length : tie.Need-same-length
 same-length c =
-    let flag = c .before .before .before .before in
-    c .before .before .write8 .kept .0 ∙ length-set (flag .before .before .args .d .now) (flag .flag-at .result) 1
+    let second = c .before .before .before .before in
+    let first = second .before .before in
+    let d = first .before .before .args .d .now in
+    c .before .before .write8 .kept .0
+    ∙ length-set (set d (first .flag-at .result) 1) (second .flag-at2 .result) 1
+    ∙ length-set d (first .flag-at .result) 1
 
 returns : tie.Need-returns
 unfolding keeping
 returns c =
-    let a = c .before .before .before .before .before .before .args in
+    let second = c .before .before .before .before in
+    let first = second .before .before in
+    let a = first .before .before .args in
+    let place = second .flag-at2 .ensures .0 ∙ ap (λ y. a .o + a .n * 8 + flagOf (a .n) y (a .key)) (second .before .turned .ensures .0) in
     c .before .before .write8 .ensures
-    ∙ ap (λ x. put (set (a .d .now) x 1) (a .o + a .m * 8) (bytes 8 (a .key))) (c .before .before .before .before .flag-at .ensures .0)
+    ∙ ap (λ x. put (set (set (a .d .now) x 1) (second .flag-at2 .result) 1) (a .o + a .m * 8) (bytes 8 (a .key))) (first .flag-at .ensures .0)
+    ∙ ap (λ x. put (set (set (a .d .now) (a .o + a .n * 8 + flagOf (a .n) (a .x) (a .key)) 1) x 1) (a .o + a .m * 8) (bytes 8 (a .key))) place
 
 pub keep-key-spec : {M : Type 1} → statement M
 keep-key-spec =
@@ -46,6 +69,9 @@ keep-key-spec =
     (tie.spec
     flag-at-requires
     slice-write-d
+    turned-requires
+    flag-at-requires-2
+    slice-write-d-2
     mul-write8
     add-write8
     write8-requires

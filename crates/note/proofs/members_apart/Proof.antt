@@ -8,23 +8,23 @@ use Rattle.paper.specs.Tree.{Forest}
 use Rattle.note.specs.Note.{note}
 use Rattle.note.specs.Noted.{TreesBy}
 use Rattle.note.specs.Still.{among}
-use Rattle.note.specs.Keys.{Scratched}
+use Rattle.note.specs.Keys.{Kept, Scratched}
 use Rattle.note.proofs.ToldLaws.{noted-told, record-within, kind-number}
 use Rattle.note.proofs.StillLaws.{not-true, not-false}
 use Rattle.note.proofs.KeepLaws.{scratched-none, scratched-both, keeping-scratched, Testing, members-few, testing-start, testing-end}
-use Rattle.note.proofs.KeepLaws.{testing-first, testing-known, testing-kept, testing-sought, testing-seen, testing-step}
+use Rattle.note.proofs.KeepLaws.{testing-first, testing-known, testing-kept, kept-none, kept-more, testing-sought, testing-seen, testing-step}
 use Rattle.note.proofs.members_apart.Statement.{statement}
 use Rattle.note.proofs.members_apart.Tie as tie
 
 abbrev Inv-loop : tie.InvT-loop
-Inv-loop s i n d₀ o terms at₀ m₀ d at m =
-    (m ≤ n) × Scratched d₀ d o (n * 40) × ((f : Forest) → TreesBy note s i n f → Testing s f terms d o n at m)
+Inv-loop s i n d₀ o x terms at₀ m₀ d at m =
+    (m ≤ n) × Scratched d₀ d o (n * 40) × ((f : Forest) → TreesBy note s i n f → Testing s f terms (Kept d o n x) n at m)
 
 abbrev μ-loop : tie.MeasureT-loop
-μ-loop s i n d₀ o terms at₀ m₀ d at m = n - m
+μ-loop s i n d₀ o x terms at₀ m₀ d at m = n - m
 
 loop-holds : tie.Need-loop-holds Inv-loop μ-loop
-loop-holds c = (omega arith, scratched-none _ _ _, λ f h. testing-start h)
+loop-holds c = (omega arith, scratched-none _ _ _, λ f h. testing-start (kept-none _ _ _ _) h)
 
 kind-requires : tie.Need-kind-requires Inv-loop μ-loop
 kind-requires c κs =
@@ -82,7 +82,7 @@ is-new-requires c κs =
     let pre = head .before .before .before .pre in
     let some = pre .0 in
     let x = head .loop .inv .2 (some .0) (some .1) in
-    (x .before, testing-kept x (test .loop-test .taken) (members-few (some .1)) (omega (arith, head .loop .inv .1 .long, pre .1)))
+    (x .before, testing-kept x (pre .1 .1) (test .loop-test .taken) (members-few (some .1)) (omega (arith, head .loop .inv .1 .long, pre .1 .0)))
 
 same-length-2 : tie.Need-same-length-2 Inv-loop μ-loop
 same-length-2 c = c .before .before .before .before .before .before .before .before .before .loop .inv .1 .long
@@ -103,7 +103,7 @@ returns-2 c =
           let u = testing-first x t .tree in
           let k = testing-known x t (read .kind .result) (noted .note-at .result) (read .kind .ensures) (noted .note-at .ensures) in
           let z = sym (passed .before .is-sought .ensures u (k .there) (k .kind-known)) ∙ passed .if1 .left in
-          let w = testing-kept x t (members-few q) (omega (arith, head .loop .inv .1 .long, pre .1)) in
+          let w = testing-kept x (pre .1 .1) t (members-few q) (omega (arith, head .loop .inv .1 .long, pre .1 .0)) in
           testing-seen x t z
           (ap (λ m. not (among m (x .before))) (sym (key .part-key .ensures u k))
           ∙ sym (new .is-new .ensures (x .before) w)
@@ -118,7 +118,7 @@ keep-key-requires c κs =
     let pre = head .before .before .before .pre in
     let some = pre .0 in
     let x = head .loop .inv .2 (some .0) (some .1) in
-    (x .before, testing-kept x (test .loop-test .taken) (members-few (some .1)) (omega (arith, head .loop .inv .1 .long, pre .1)))
+    (x .before, testing-kept x (pre .1 .1) (test .loop-test .taken) (members-few (some .1)) (omega (arith, head .loop .inv .1 .long, pre .1 .0)))
 
 add-at : tie.Need-add-at Inv-loop μ-loop
 add-at c =
@@ -149,7 +149,7 @@ loop-again c =
     let v = key .part-key .result in
     let b = key .part-key .ok in
     let before = head .loop .inv .2 (some .0) (some .1) in
-    let room = testing-kept before t (members-few (some .1)) (omega (arith, head .loop .inv .1 .long, pre .1)) in (
+    let room = testing-kept before (pre .1 .1) t (members-few (some .1)) (omega (arith, head .loop .inv .1 .long, pre .1 .0)) in (
       omega arith,
       scratched-both (head .loop .inv .1) (keeping-scratched room v (omega (arith, b)) (kept .last .0) (kept .ensures)),
       λ g q.
@@ -157,13 +157,12 @@ loop-again c =
           let u = testing-first x t .tree in
           let k = testing-known x t (read .kind .result) (noted .note-at .result) (read .kind .ensures) (noted .note-at .ensures) in
           let z = sym (passed .before .is-sought .ensures u (k .there) (k .kind-known)) ∙ passed .if1 .left in
-          let w = testing-kept x t (members-few q) (omega (arith, head .loop .inv .1 .long, pre .1)) in
+          let w = testing-kept x (pre .1 .1) t (members-few q) (omega (arith, head .loop .inv .1 .long, pre .1 .0)) in
           let e = key .part-key .ensures u k in
           let not-among = ap (λ m. not (among m (x .before))) (sym e)
           ∙ sym (new .is-new .ensures (x .before) w)
           ∙ not-false (new .is-new .result) (c .before .before .before .before .if2 .left) in
-          testing-step x t z not-among (members-few q) (w .room) v (noted .note-at .result) e (omega (arith, b)) (k .note-known)
-          (kept .last .0) (kept .ensures),
+          testing-step x t z not-among v (noted .note-at .result) e (k .note-known) (kept-more w v (omega (arith, b)) (kept .last .0) (kept .ensures)),
     )
 
 same-length-3 : tie.Need-same-length-3 Inv-loop μ-loop

@@ -38,6 +38,47 @@ returns c =
       λ t q. scratched-none _ _ _,
     )
 
+add-few-apart : tie.Need-add-few-apart
+add-few-apart c = omega (arith, record-within (noted-told (c .before .before .before .before .before .before .pre .1 .1 .there)))
+
+few-apart-requires : tie.Need-few-apart-requires
+few-apart-requires c κs =
+    let b = c .before .before .before .before .before .before .before .pre .0 in
+    let t = c .before .before .before .before .before .before .before .pre .1 .0 in
+    let h = c .before .before .before .before .before .before .before .pre .1 .1 in
+    let two : 2 ≤ kindNumber t = omega (arith, h .kind-known, b .0) in
+    let four : kindNumber t < 4 = omega (arith, h .kind-known, b .1) in
+    let n = c .before .before .before .before .count in
+    let v = c .before .before .before .bits in
+    let r = room-lies (h .there) two four (n .result) (v .result) (n .ensures .0) (v .ensures) (c .before .before .if1 .left) in
+    ((inner t, members-by t note-tells (h .there) two four (n .result) (n .ensures .0)), omega (arith, r, h .scratch))
+
+same-length : tie.Need-same-length
+same-length c = search needs
+
+returns-2 : tie.Need-returns-2
+returns-2 c =
+    let b = c .before .before .before .before .before .before .before .before .before .before .pre .0 in
+    let t = c .before .before .before .before .before .before .before .before .before .before .pre .1 .0 in
+    let h = c .before .before .before .before .before .before .before .before .before .before .pre .1 .1 in
+    let g = c .before .before .before .before .before .before .before .before .before .before .args in
+    let two : 2 ≤ kindNumber t = omega (arith, h .kind-known, b .0) in
+    let four : kindNumber t < 4 = omega (arith, h .kind-known, b .1) in
+    let n = c .before .before .before .before .before .before .before .count in
+    let v = c .before .before .before .before .before .before .bits in
+    let p = c .before .before .before .before .before .if1 .left in
+    let m = c .before .before .few-apart in (
+      λ u edition q k.
+          let low : 2 ≤ kindNumber u = omega (arith, k, b .0) in
+          let high : kindNumber u < 4 = omega (arith, k, b .1) in
+          with-room q low high (n .result) (v .result) (n .ensures .0) (v .ensures) p (g .k) k (m .result)
+          (m .ensures .0 (inner u) (members-by u note-tells q low high (n .result) (n .ensures .0))) edition,
+      λ u q.
+          let same : kindNumber u ≡ kindNumber t = sym (kind-number (noted-told q)) ∙ kind-number (noted-told (h .there)) in
+          let lies = room-lies q (omega (arith, same, two)) (omega (arith, same, four)) (n .result) (v .result) (n .ensures .0) (v .ensures) p in
+          scratched-more (16 * weight u) (omega (arith, lies)) (m .ensures .1),
+    )
+
 mul-clear : tie.Need-mul-clear
 mul-clear c = search needs
 
@@ -49,48 +90,51 @@ mul-clear-2 c = search needs
 
 clear-requires : tie.Need-clear-requires
 clear-requires c κs =
-    let b = c .before .before .before .before .before .before .pre .0 in
-    let t = c .before .before .before .before .before .before .pre .1 .0 in
-    let h = c .before .before .before .before .before .before .pre .1 .1 in
+    let b = c .before .before .before .before .before .before .before .pre .0 in
+    let t = c .before .before .before .before .before .before .before .pre .1 .0 in
+    let h = c .before .before .before .before .before .before .before .pre .1 .1 in
     let two : 2 ≤ kindNumber t = omega (arith, h .kind-known, b .0) in
     let four : kindNumber t < 4 = omega (arith, h .kind-known, b .1) in
-    let n = c .before .before .before .count in
-    let v = c .before .before .bits in
-    let r = room-lies (h .there) two four (n .result) (v .result) (n .ensures .0) (v .ensures) (c .before .if1 .left) in
+    let n = c .before .before .before .before .count in
+    let v = c .before .before .before .bits in
+    let r = room-lies (h .there) two four (n .result) (v .result) (n .ensures .0) (v .ensures) (c .before .before .if1 .left) in
     omega (arith, r, h .scratch)
 
 add-members-apart : tie.Need-add-members-apart
-add-members-apart c = omega (arith, record-within (noted-told (c .before .before .before .before .before .before .before .before .before .pre .1 .1 .there)))
+add-members-apart c = omega (arith, record-within (noted-told (c .before .before .before .before .before .before .before .before .before .before .pre .1 .1 .there)))
+
+factor-requires : tie.Need-factor-requires
+factor-requires c κs = record-within (noted-told (c .before .before .before .before .before .before .before .before .before .before .before .pre .1 .1 .there))
 
 members-apart-requires : tie.Need-members-apart-requires
 members-apart-requires c κs =
-    let b = c .before .before .before .before .before .before .before .before .before .before .pre .0 in
-    let t = c .before .before .before .before .before .before .before .before .before .before .pre .1 .0 in
-    let h = c .before .before .before .before .before .before .before .before .before .before .pre .1 .1 in
+    let b = c .before .before .before .before .before .before .before .before .before .before .before .before .pre .0 in
+    let t = c .before .before .before .before .before .before .before .before .before .before .before .before .pre .1 .0 in
+    let h = c .before .before .before .before .before .before .before .before .before .before .before .before .pre .1 .1 in
     let two : 2 ≤ kindNumber t = omega (arith, h .kind-known, b .0) in
     let four : kindNumber t < 4 = omega (arith, h .kind-known, b .1) in
-    let n = c .before .before .before .before .before .before .before .count in
-    let v = c .before .before .before .before .before .before .bits in
-    let r = room-lies (h .there) two four (n .result) (v .result) (n .ensures .0) (v .ensures) (c .before .before .before .before .before .if1 .left) in
-    let e = c .before .before .before .clear .kept .0 in
-    ((inner t, members-by t note-tells (h .there) two four (n .result) (n .ensures .0)), omega (arith, r, h .scratch, e))
+    let n = c .before .before .before .before .before .before .before .before .before .count in
+    let v = c .before .before .before .before .before .before .before .before .bits in
+    let r = room-lies (h .there) two four (n .result) (v .result) (n .ensures .0) (v .ensures) (c .before .before .before .before .before .before .before .if1 .left) in
+    let e = c .before .before .before .before .clear .kept .0 in
+    ((inner t, members-by t note-tells (h .there) two four (n .result) (n .ensures .0)), (omega (arith, r, h .scratch, e), c .factor .ensures))
 
-same-length : tie.Need-same-length
-same-length c = search needs
+same-length-2 : tie.Need-same-length-2
+same-length-2 c = search needs
 
-returns-2 : tie.Need-returns-2
-returns-2 c =
-    let b = c .before .before .before .before .before .before .before .before .before .before .before .before .before .pre .0 in
-    let t = c .before .before .before .before .before .before .before .before .before .before .before .before .before .pre .1 .0 in
-    let h = c .before .before .before .before .before .before .before .before .before .before .before .before .before .pre .1 .1 in
+returns-3 : tie.Need-returns-3
+returns-3 c =
+    let b = c .before .before .before .before .before .before .before .before .before .before .before .before .before .before .before .pre .0 in
+    let t = c .before .before .before .before .before .before .before .before .before .before .before .before .before .before .before .pre .1 .0 in
+    let h = c .before .before .before .before .before .before .before .before .before .before .before .before .before .before .before .pre .1 .1 in
     let two : 2 ≤ kindNumber t = omega (arith, h .kind-known, b .0) in
     let four : kindNumber t < 4 = omega (arith, h .kind-known, b .1) in
-    let n = c .before .before .before .before .before .before .before .before .before .before .count in
-    let v = c .before .before .before .before .before .before .before .before .before .bits in
-    let g = c .before .before .before .before .before .before .before .before .before .before .before .before .before .args in
-    let p = c .before .before .before .before .before .before .before .before .if1 .left in
+    let n = c .before .before .before .before .before .before .before .before .before .before .before .before .count in
+    let v = c .before .before .before .before .before .before .before .before .before .before .before .bits in
+    let g = c .before .before .before .before .before .before .before .before .before .before .before .before .before .before .before .args in
+    let p = c .before .before .before .before .before .before .before .before .before .before .if1 .left in
     let m = c .before .before .members-apart in
-    let clear = c .before .before .before .before .before .before .clear in
+    let clear = c .before .before .before .before .before .before .before .clear in
     let r = room-lies (h .there) two four (n .result) (v .result) (n .ensures .0) (v .ensures) p in
     let cleared : Scratched (g .d .now) (clear .last .0) (g .o) (n .result * 40) =
     subst (λ y. Scratched (g .d .now) y (g .o) (n .result * 40)) (sym (clear .ensures))
@@ -116,11 +160,16 @@ still-members-spec =
     mul-if1
     mul-if1-2
     returns
+    add-few-apart
+    few-apart-requires
+    same-length
+    returns-2
     mul-clear
     add-clear
     mul-clear-2
     clear-requires
     add-members-apart
+    factor-requires
     members-apart-requires
-    same-length
-    returns-2)
+    same-length-2
+    returns-3)

@@ -10,10 +10,10 @@ use Rattle.settings.proofs.find.Statement.{statement}
 use Rattle.settings.proofs.find.Tie as tie
 
 abbrev Inv-loop : tie.InvT-loop
-Inv-loop area from key n i₀ i = (i ≤ n) × (firstIn (holds key) from (rest area from) ≡ firstIn (holds key) i (rest area i))
+Inv-loop area key n i₀ i = (i ≤ n) × (firstIn (holds key) 0 (rest area 0) ≡ firstIn (holds key) i (rest area i))
 
 abbrev μ-loop : tie.MeasureT-loop
-μ-loop area from key n i₀ i = n - i
+μ-loop area key n i₀ i = n - i
 
 loop-holds : tie.Need-loop-holds Inv-loop μ-loop
 loop-holds c = (omega arith, refl)

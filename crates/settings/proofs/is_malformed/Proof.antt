@@ -11,10 +11,10 @@ use Rattle.settings.proofs.is_malformed.Statement.{statement}
 use Rattle.settings.proofs.is_malformed.Tie as tie
 
 abbrev Inv-loop : tie.InvT-loop
-Inv-loop area i v byte₀ byte = (byte ≤ 32) × (isMalformed (slotAt area i) ≡ straysFrom area i v byte)
+Inv-loop area i v may byte₀ byte = (byte ≤ 32) × (isMalformed (slotAt area i) ≡ straysFrom area i v byte)
 
 abbrev μ-loop : tie.MeasureT-loop
-μ-loop area i v byte₀ byte = 32 - byte
+μ-loop area i v may byte₀ byte = 32 - byte
 
 version-of-requires : tie.Need-version-of-requires Inv-loop μ-loop
 version-of-requires c κs = search needs
@@ -27,10 +27,17 @@ returns c =
     let a = c .before .before .before .args in
     sym (over-malformed (a .area .now) (a .i) (omega (arith, c .before .version-of .ensures)))
 
+mul-may : tie.Need-mul-may Inv-loop μ-loop
+mul-may c = search needs
+
+array-copy-out-may : tie.Need-array-copy-out-may Inv-loop μ-loop
+array-copy-out-may c = search needs
+
 loop-holds : tie.Need-loop-holds Inv-loop μ-loop
 loop-holds c =
-    let a = c .before .before .before .args in
-    (omega arith, strays-start (a .area .now) (a .i) (c .before .version-of .result) (c .before .version-of .ensures))
+    let a = c .before .before .before .before .args in
+    let version = c .before .before .version-of in
+    (omega arith, strays-start (a .area .now) (a .i) (version .result) (version .ensures))
 
 mul-if2 : tie.Need-mul-if2 Inv-loop μ-loop
 mul-if2 c = search needs
@@ -44,30 +51,24 @@ shared-slice-read-if2 c = search needs
 returns-2 : tie.Need-returns-2 Inv-loop μ-loop
 returns-2 c =
     let at = c .before .before .before .before in
-    let a = at .before .before .before .before .args in
-    let v = at .before .before .version-of .result in
+    let a = at .before .before .before .before .before .args in
+    let v = at .before .before .before .version-of .result in
     let test = c .before .before .before .loop-test .taken in
     sym (at .loop .inv .1
     ∙ strays-here (a .area .now) (a .i) v (at .loop .byte) test (c .before .if2 .taken) (high-zero v (at .loop .byte) (c .if3 .taken)))
 
-mul-if4 : tie.Need-mul-if4 Inv-loop μ-loop
-mul-if4 c = search needs
-
-index-1-if4 : tie.Need-index-1-if4 Inv-loop μ-loop
-index-1-if4 c = search needs
-
-index-2-if4 : tie.Need-index-2-if4 Inv-loop μ-loop
-index-2-if4 c = search needs
+array-read-if4 : tie.Need-array-read-if4 Inv-loop μ-loop
+array-read-if4 c = search needs
 
 returns-3 : tie.Need-returns-3 Inv-loop μ-loop
 unfolding mayBe mayTable
 returns-3 c =
-    let at = c .before .before .before .before .before .before in
-    let a = at .before .before .before .before .args in
-    let v = at .before .before .version-of .result in
-    let test = c .before .before .before .before .before .loop-test .taken in
+    let at = c .before .before .before .before .before in
+    let a = at .before .before .before .before .before .args in
+    let v = at .before .before .before .version-of .result in
+    let test = c .before .before .before .before .loop-test .taken in
     sym (at .loop .inv .1
-    ∙ strays-here (a .area .now) (a .i) v (at .loop .byte) test (c .before .before .before .if2 .taken) (c .if4 .taken))
+    ∙ strays-here (a .area .now) (a .i) v (at .loop .byte) test (c .before .before .if2 .taken) (c .if4 .taken))
 
 add-byte : tie.Need-add-byte Inv-loop μ-loop
 add-byte c = search needs
@@ -79,21 +80,21 @@ loop-again : tie.Need-loop-again Inv-loop μ-loop
 unfolding mayBe mayTable
 loop-again c =
     let at = c .before .before .before in
-    let a = at .before .before .before .before .args in
-    let v = at .before .before .version-of .result in
+    let a = at .before .before .before .before .before .args in
+    let v = at .before .before .before .version-of .result in
     let test = c .before .before .loop-test .taken in (
       omega arith,
       at .loop .inv .1
           ∙ ⊎-elim
-          (λ w. strays-may (a .area .now) (a .i) v (at .loop .byte) test (w .3 .left))
+          (λ w. strays-may (a .area .now) (a .i) v (at .loop .byte) test (w .2 .left))
           (λ w. strays-zero (a .area .now) (a .i) v (at .loop .byte) test (w .left))
           (c .if2 .came),
     )
 
 returns-4 : tie.Need-returns-4 Inv-loop μ-loop
 returns-4 c =
-    let a = c .before .before .before .before .before .args in
-    let v = c .before .before .before .version-of .result in
+    let a = c .before .before .before .before .before .before .args in
+    let v = c .before .before .before .before .version-of .result in
     sym (c .before .loop .inv .1 ∙ strays-done (a .area .now) (a .i) v (c .before .loop .byte) (c .loop-test .left))
 
 pub is-malformed-spec : {M : Type 1} → statement M
@@ -105,14 +106,14 @@ is-malformed-spec =
     version-of-requires
     cast-v
     returns
+    mul-may
+    array-copy-out-may
     loop-holds
     mul-if2
     add-if2
     shared-slice-read-if2
     returns-2
-    mul-if4
-    index-1-if4
-    index-2-if4
+    array-read-if4
     returns-3
     add-byte
     loop-less

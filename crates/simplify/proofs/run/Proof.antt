@@ -18,7 +18,7 @@ use Rattle.simplify.proofs.run.Statement.{statement}
 use Rattle.simplify.proofs.run.Tie as tie
 
 -- places on the way through the code, and from each the one before it: the entry, after the table was copied, after it was noted, after the driver was
--- called, after work was cleared, where the run is done, and after the notes were read and taken out
+-- called, where the run is done, and after the notes were read and taken out
 abbrev Entry : Type 0
 Entry = tie.Start
 
@@ -30,9 +30,6 @@ Made = tie.After-note-all
 
 abbrev Called : Type 0
 Called = tie.After-drive
-
-abbrev Cleared : Type 0
-Cleared = tie.After-clear
 
 abbrev Finished : Type 0
 Finished = tie.Else1
@@ -49,11 +46,8 @@ moved-of c = c .before .before .before .before
 abbrev made-of : Called → Made
 made-of c = c .before .before .before .before .before .before .before
 
-abbrev called-of : Cleared → Called
-called-of c = c .before .before .before .before .before .before .before .before
-
-abbrev cleared-of : Finished → Cleared
-cleared-of c = c .before .before .before
+abbrev called-of : Finished → Called
+called-of c = c .before .before .before .before .before .before .before
 
 abbrev finished-of : Stripped → Finished
 finished-of c = c .before .before .before .before
@@ -87,26 +81,26 @@ result : (c : Called) → let r = c .drive in DrivenTo (this (made-of c)) (r .la
 result c = c .drive .ensures .1 _ [] (accepted (made-of c))
 
 reached : (c : Finished)
-    → let called = called-of (cleared-of c) in
+    → let called = called-of c in
     let r = called .drive in
     Reached (this (made-of called)) (r .last .0) (r .last .1 .0) (r .last .1 .1 .0) (standOf (r .last .1 .1 .1 .0)) (r .result)
-reached c = result (called-of (cleared-of c)) .reached (c .if1 .left)
+reached c = result (called-of c) .reached (c .if1 .left)
 
 -- the result and its steps end within the areas, and the result has few records
 done-bounds : (c : Finished)
-    → let r = called-of (cleared-of c) .drive in
+    → let r = called-of c .drive in
     (r .result * 16 ≤ length (r .last .0)) × (getD (r .last .1 .1 .1 .0) 2 0 ≤ length (r .last .1 .1 .0)) × (r .result < 65536)
 done-bounds c =
-    let called = called-of (cleared-of c) in
+    let called = called-of c in
     let made = made-of called in
     let moved = moved-of made in
     let k = called .drive .kept in
     done-fits (entry-of moved .pre .1) (entry-of moved .args .edition) (reached c .drove) (k .0) (k .1 .1 .0) (k .1 .0 ∙ made .note-all .kept .0 ∙ moved .copy-bytes .kept .0)
 
 -- the notes are taken out
-result-whole : (c : Finished) → let r = called-of (cleared-of c) .drive in Whole note (r .last .0) 0 (r .result) (reached c .drove .to)
+result-whole : (c : Finished) → let r = called-of c .drive in Whole note (r .last .0) 0 (r .result) (reached c .drove .to)
 result-whole c =
-    let called = called-of (cleared-of c) in
+    let called = called-of c in
     let made = made-of called in
     let moved = moved-of made in
     let k = called .drive .kept in
@@ -144,17 +138,14 @@ drive-requires c κs =
     let made = c .before .before .before .before .before .before in
     (refl, (entry-of (moved-of made) .pre .0, [], accepted made))
 
-clear-requires : tie.Need-clear-requires
-clear-requires c κs = search needs
-
 array-read-n : tie.Need-array-read-n
 array-read-n c = search needs
 
+clear-requires : tie.Need-clear-requires
+clear-requires c κs = search needs
+
 clear-requires-2 : tie.Need-clear-requires-2
 clear-requires-2 c κs = search needs
-
-clear-requires-3 : tie.Need-clear-requires-3
-clear-requires-3 c κs = search needs
 
 refusal-requires : tie.Need-refusal-requires
 refusal-requires c κs = search needs
@@ -167,29 +158,23 @@ same-length-2 c = search needs
 
 same-length-3 : tie.Need-same-length-3
 same-length-3 c =
-    let cleared = c .before .before .before .before .before .before .before .before .before .before .before .before in
-    let called = called-of cleared in
+    let called = c .before .before .before .before .before .before .before .before .before .before .before .before .before .before .before .before in
     let made = made-of called in
-    cleared .clear .kept .0 ∙ called .drive .kept .1 .0 ∙ made .note-all .kept .0 ∙ moved-of made .copy-bytes .kept .0
+    called .drive .kept .1 .0 ∙ made .note-all .kept .0 ∙ moved-of made .copy-bytes .kept .0
 
 returns : tie.Need-returns
 returns c =
-    let cleared = c .before .before .before .before .before .before .before .before .before .before .before .before in
-    let called = called-of cleared in
-    let made = made-of called in
-    let moved = moved-of made in
-    let entry = entry-of moved in
+    let called = c .before .before .before .before .before .before .before .before .before .before .before .before .before .before .before .before in
+    let entry = entry-of (moved-of (made-of called)) in
     let r = called .drive in
-    let long = r .kept .1 .0 ∙ made .note-all .kept .0 ∙ moved .copy-bytes .kept .0 in
     let g = entry .args in
-    let out = c .before .before .before .before .before .before .before .clear2 in
-    let steps = c .before .before .before .clear3 in
-    let work = cleared .clear in
+    let out = c .before .before .before .before .before .before .before .clear in
+    let steps = c .before .before .before .clear2 in
     for-every (entry .pre .1)
-    (λ u. Leaves (drives (entry .args .edition) u) (g .w) (c .refusal .result) (g .out .now) (out .last .0) (g .steps .now) (steps .last .0) (g .work .now) (work .last .0))
-    (left-over (entry .pre .1) (entry .args .edition) (c .refusal .result) (getD (r .last .1 .1 .1 .0) 2 0) (r .last .0) (r .last .1 .1 .0) (r .last .1 .0)
+    (λ u. Leaves (drives (entry .args .edition) u) (g .w) (c .refusal .result) (g .out .now) (out .last .0) (g .steps .now) (steps .last .0))
+    (left-over (entry .pre .1) (entry .args .edition) (c .refusal .result) (getD (r .last .1 .1 .1 .0) 2 0) (r .last .0) (r .last .1 .1 .0)
     (result called .refused (c .before .before .before .before .before .before .before .before .before .if1 .taken))
-    (c .refusal .ensures) (out .ensures) (steps .ensures) (work .ensures) (r .kept .0) (r .kept .1 .1 .0) long)
+    (c .refusal .ensures) (out .ensures) (steps .ensures) (r .kept .0) (r .kept .1 .1 .0))
 
 note-at-requires : tie.Need-note-at-requires
 note-at-requires c κs =
@@ -211,23 +196,23 @@ sub-clear : tie.Need-sub-clear
 sub-clear c =
     omega (arith, done-bounds (c .before .before .before .before .before .before .before), c .before .before .before .strip .kept .0)
 
-clear-requires-4 : tie.Need-clear-requires-4
-clear-requires-4 c κs =
+clear-requires-3 : tie.Need-clear-requires-3
+clear-requires-3 c κs =
     omega (arith, done-bounds (c .before .before .before .before .before .before .before), c .before .before .before .strip .kept .0)
 
 sub-clear-2 : tie.Need-sub-clear-2
 sub-clear-2 c =
     omega (arith, done-bounds (c .before .before .before .before .before .before .before .before .before .before .before))
 
-clear-requires-5 : tie.Need-clear-requires-5
-clear-requires-5 c κs =
+clear-requires-4 : tie.Need-clear-requires-4
+clear-requires-4 c κs =
     omega (arith, done-bounds (c .before .before .before .before .before .before .before .before .before .before .before))
 
 array-read-t13 : tie.Need-array-read-t13
 array-read-t13 c = search needs
 
-array-read-t12 : tie.Need-array-read-t12
-array-read-t12 c = search needs
+array-read-t14 : tie.Need-array-read-t14
+array-read-t14 c = search needs
 
 same-length-4 : tie.Need-same-length-4
 same-length-4 c = search needs
@@ -237,17 +222,15 @@ same-length-5 c = search needs
 
 same-length-6 : tie.Need-same-length-6
 same-length-6 c =
-    let cleared = c .before .before .before .before .before .before .before .before .before .before .before .before .before .before .before .before .before in
-    let called = called-of cleared in
+    let called = c .before .before .before .before .before .before .before .before .before .before .before .before .before .before .before .before .before .before .before .before .before in
     let made = made-of called in
-    cleared .clear .kept .0 ∙ called .drive .kept .1 .0 ∙ made .note-all .kept .0 ∙ moved-of made .copy-bytes .kept .0
+    called .drive .kept .1 .0 ∙ made .note-all .kept .0 ∙ moved-of made .copy-bytes .kept .0
 
 returns-2 : tie.Need-returns-2
 returns-2 c =
     let stripped = c .before .before .before .before .before .before .before .before .before .before in
     let finished = finished-of stripped in
-    let cleared = cleared-of finished in
-    let called = called-of cleared in
+    let called = called-of finished in
     let made = made-of called in
     let moved = moved-of made in
     let entry = entry-of moved in
@@ -256,9 +239,8 @@ returns-2 c =
     let g = entry .args in
     let done = reached finished in
     let st = r .last .1 .1 .1 .0 in
-    let out = c .before .before .before .before .before .before .clear4 in
-    let steps = c .before .before .clear5 in
-    let work = cleared .clear in
+    let out = c .before .before .before .before .before .before .clear3 in
+    let steps = c .before .before .clear4 in
     let noted = stripped .before .before .note-at in
     let x = noted .result / 65536 % 65536 in
     for-every (entry .pre .1)
@@ -274,10 +256,10 @@ returns-2 c =
       «weight_out» = x;
       tries = getD st 4 0;
     })
-    (g .out .now) (out .last .0) (g .steps .now) (steps .last .0) (g .work .now) (work .last .0))
+    (g .out .now) (out .last .0) (g .steps .now) (steps .last .0))
     (left-done (entry .pre .1) (entry .args .edition) (done .drove) (r .kept .0) (r .kept .1 .1 .0) long
-    (stripped .strip .ensures _ (result-whole finished)) (stripped .strip .kept .0) (out .last .0) (steps .last .0) (work .last .0) x (getD st 3 0) (getD st 4 0)
-    (out .ensures) (steps .ensures) (work .ensures) (ap (λ v. v / 65536 % 65536) (noted .ensures _ (result-whole finished .there))) (done .openings-are) (done .tries-are))
+    (stripped .strip .ensures _ (result-whole finished)) (stripped .strip .kept .0) (out .last .0) (steps .last .0) x (getD st 3 0) (getD st 4 0)
+    (out .ensures) (steps .ensures) (ap (λ v. v / 65536 % 65536) (noted .ensures _ (result-whole finished .there))) (done .openings-are) (done .tries-are))
 
 pub run-spec : {M : Type 1} → statement M
 run-spec =
@@ -290,10 +272,9 @@ run-spec =
     array-write-st
     array-write-st-2
     drive-requires
-    clear-requires
     array-read-n
+    clear-requires
     clear-requires-2
-    clear-requires-3
     refusal-requires
     same-length
     same-length-2
@@ -304,11 +285,11 @@ run-spec =
     mul-clear
     mul-clear-2
     sub-clear
-    clear-requires-4
+    clear-requires-3
     sub-clear-2
-    clear-requires-5
+    clear-requires-4
     array-read-t13
-    array-read-t12
+    array-read-t14
     same-length-4
     same-length-5
     same-length-6

@@ -1,117 +1,122 @@
--- `table::judge_records` meets its contract: each return is one case of the definition, by what was found before it.
--- Assumes nothing.
-use Prim.Native.Nat.{min}
-use mathlib.Core.Path.{_≡_, sym, ap, _∙_}
+-- `table::judge_records` meets its contract: a look that finds all records whole decides all but the limit and the exponents, and where there is no
+-- power there is no bad exponent; else the odd records are judged. Assumes nothing.
+use mathlib.Core.Path.{_≡_, refl, sym, ap, _∙_}
 use native.Mathlib.Omega.{arith}
-use Rattle.paper.specs.Verdict.{refused, treeEnd}
-use Rattle.table.proofs.JudgeLaws.{records-within, flawed-there, heavy, shapeless, exponent, fine}
+use borrow.Author.Needs.{needs}
+use Rattle.paper.specs.Record.{weightFrom}
+use Rattle.paper.specs.Verdict.{isAccepted, tableWeight}
+use Rattle.table.specs.Look.{Looks}
+use Rattle.table.specs.declared.Judged.the-variants.{Heavy, Exponent}
+use Rattle.table.specs.declared.Looked.the-variants.{Whole}
+use Rattle.table.proofs.BadLaws.{no-powers}
+use Rattle.table.proofs.JudgeLaws.{records-within, finds-refused, finds-weight, heavy, exponent, fine}
 use Rattle.table.proofs.judge_records.Statement.{statement}
 use Rattle.table.proofs.judge_records.Tie as tie
 
-first-flawed-requires : tie.Need-first-flawed-requires
-first-flawed-requires c κs = let a = c .before in records-within (a .args .s .now) (a .args .n) (a .pre .0)
+-- the place where the look was told whole, and the entry
+abbrev Known : Type 0
+Known = tie.After-known-told
 
-judge-record-requires : tie.Need-judge-record-requires
-judge-record-requires c κs =
-    let a = c .before .before .before in
-    let within = records-within (a .args .s .now) (a .args .n) (a .pre .0) in
-    omega (arith, within, c .if1 .taken)
+abbrev entry-of : Known → tie.Start
+entry-of c = c .before .before .before .before .before
+
+-- what the look says there
+whole : (c : Known) → let a = entry-of c .args in Looks (a .s .now) (a .n) (Whole (c .before .w .given .0 .0) (c .before .w .given .0 .1 .0))
+whole c = rw (c .before .w .given .1) at (c .before .before .before .look .ensures)
+
+weighs : (c : Known) → c .before .w .given .0 .0 ≡ tableWeight (entry-of c .args .s .now)
+unfolding tableWeight
+weighs c = let entry = entry-of c in whole c .2 ∙ ap (weightFrom (entry .args .s .now) 0) (entry .pre .0)
+
+look-requires : tie.Need-look-requires
+look-requires c κs = let a = c .before in (records-within (a .args .s .now) (a .args .n) (a .pre .0), a .pre .1)
+
+enum-known-w : tie.Need-enum-known-w
+enum-known-w c = search needs
+
+enum-told : tie.Need-enum-told
+enum-told c = search needs
+
+judge-odd-requires : tie.Need-judge-odd-requires
+judge-odd-requires c κs =
+    let a = c .before .before .before .before in
+    (a .pre .0, a .pre .1, rw (c .enum-told .given .1) at (c .before .before .look .ensures))
+
+refused-requires : tie.Need-refused-requires
+refused-requires c κs = search needs
 
 returns : tie.Need-returns
 returns c =
-    let first = c .before .before .first-flawed in
-    let a = c .before .before .before .before .args in
-    let judged = c .judge-record in
-    sym (flawed-there (a .limit) (a .s .now) (a .n) (first .result) (first .ensures) (c .before .if1 .taken) _ (judged .ensures))
+    let odd = c .before .judge-odd in
+    finds-refused _ _ (odd .result) (c .refused .result) (c .refused .ensures) (odd .ensures .0) (odd .ensures .1)
 
-weight-of-requires : tie.Need-weight-of-requires
-weight-of-requires c κs = let a = c .before .before .before in records-within (a .args .s .now) (a .args .n) (a .pre .0)
+refused-requires-2 : tie.Need-refused-requires-2
+refused-requires-2 c κs = search needs
 
 returns-2 : tie.Need-returns-2
+unfolding isAccepted
 returns-2 c =
-    let weight = c .before .weight-of in
-    let sound = c .before .before .if1 .left in
-    let first = c .before .before .before .first-flawed in
-    let a = c .before .before .before .before .before .args in
-    sym (heavy (a .limit) (a .s .now) (a .n) (first .result) (first .ensures) sound (weight .result) (weight .ensures) (c .if2 .taken))
+    let known = c .before .before in
+    let a = entry-of known .args in
+    let k = whole known in
+    let told = heavy (a .limit) (a .s .now) (a .n) (a .n) (sym (k .0)) (omega arith) _ (k .2) (c .before .if1 .taken) in
+    finds-refused _ _ Heavy (c .refused2 .result) (c .refused2 .ensures) (sym told) refl
 
-tree-end-requires : tie.Need-tree-end-requires
-tree-end-requires c κs = let a = c .before .before .before .before .before in (records-within (a .args .s .now) (a .args .n) (a .pre .0), a .pre .1)
+first-bad-requires : tie.Need-first-bad-requires
+first-bad-requires c κs =
+    let known = c .before .before in
+    let a = entry-of known in
+    (records-within (a .args .s .now) (a .args .n) (a .pre .0), a .pre .1, whole known .1)
+
+refused-requires-3 : tie.Need-refused-requires-3
+refused-requires-3 c κs = search needs
 
 returns-3 : tie.Need-returns-3
+unfolding isAccepted
 returns-3 c =
-    let at = c .before in
-    let end = at .tree-end in
-    let light = at .before .if2 .left in
-    let weight = at .before .before .weight-of in
-    let sound = at .before .before .before .if1 .left in
-    let first = at .before .before .before .before .first-flawed in
-    let a = at .before .before .before .before .before .before .args in
-    let least : end .result ≡ min (end .result) (a .n) = omega arith in
-    ap (refused 4) least
-    ∙ sym (shapeless (a .limit) (a .s .now) (a .n) (first .result) (first .ensures) sound (weight .result) (weight .ensures) light
-    (end .result) (end .ensures) (λ e. omega arith))
+    let bad = c .before .before .first-bad in
+    let light = c .before .before .before .before .if1 .left in
+    let known = c .before .before .before .before .before in
+    let a = entry-of known .args in
+    let k = whole known in
+    let told =
+    exponent (a .limit) (a .s .now) (a .n) (a .n) (sym (k .0)) (omega arith) _ (k .2) light (k .1) (bad .result) (bad .ensures) (c .before .if3 .taken) in
+    finds-refused _ _ (Exponent (bad .result)) (c .refused3 .result) (c .refused3 .ensures) (sym told) refl
 
 returns-4 : tie.Need-returns-4
 returns-4 c =
-    let at = c .before .before in
-    let end = at .tree-end in
-    let light = at .before .if2 .left in
-    let weight = at .before .before .weight-of in
-    let sound = at .before .before .before .if1 .left in
-    let first = at .before .before .before .before .first-flawed in
-    let a = at .before .before .before .before .before .before .args in
-    let least : a .n ≡ min (end .result) (a .n) = omega arith in
-    ap (refused 4) least
-    ∙ sym (shapeless (a .limit) (a .s .now) (a .n) (first .result) (first .ensures) sound (weight .result) (weight .ensures) light
-    (end .result) (end .ensures) (λ e. omega arith))
-
-bad-exponent-requires : tie.Need-bad-exponent-requires
-bad-exponent-requires c κs =
-    let end = c .before .before .tree-end .ensures in
-    let a = c .before .before .before .before .before .before .before .before in
-    (records-within (a .args .s .now) (a .args .n) (a .pre .0), a .pre .1, omega arith)
+    let bad = c .before .first-bad in
+    let light = c .before .before .before .if1 .left in
+    let known = c .before .before .before .before in
+    let a = entry-of known .args in
+    let k = whole known in
+    let told = fine (a .limit) (a .s .now) (a .n) (a .n) (sym (k .0)) (omega arith) _ (k .2) light (k .1) (bad .result) (bad .ensures) (c .if3 .left) in
+    (sym told, finds-weight _ _ _ told (weighs known))
 
 returns-5 : tie.Need-returns-5
 returns-5 c =
-    let at = c .before .before .before .before in
-    let end = at .tree-end in
-    let light = at .before .if2 .left in
-    let weight = at .before .before .weight-of in
-    let sound = at .before .before .before .if1 .left in
-    let first = at .before .before .before .before .first-flawed in
-    let a = at .before .before .before .before .before .before .args in
-    let whole : treeEnd (a .s .now) (a .n) 0 ≡ a .n = omega arith in
-    let bad = c .before .bad-exponent in
-    sym (exponent (a .limit) (a .s .now) (a .n) (first .result) (first .ensures) sound (weight .result) (weight .ensures) light whole
-    (bad .result) (bad .ensures) (c .if5 .taken))
-
-returns-6 : tie.Need-returns-6
-returns-6 c =
-    let at = c .before .before .before .before in
-    let end = at .tree-end in
-    let light = at .before .if2 .left in
-    let weight = at .before .before .weight-of in
-    let sound = at .before .before .before .if1 .left in
-    let first = at .before .before .before .before .first-flawed in
-    let a = at .before .before .before .before .before .before .args in
-    let whole : treeEnd (a .s .now) (a .n) 0 ≡ a .n = omega arith in
-    let bad = c .before .bad-exponent in
-    sym (fine (a .limit) (a .s .now) (a .n) (first .result) (first .ensures) sound (weight .result) (weight .ensures) light whole
-    (bad .result) (bad .ensures) (c .if5 .left))
+    let light = c .before .if1 .left in
+    let known = c .before .before in
+    let a = entry-of known .args in
+    let k = whole known in
+    let none = no-powers (a .s .now) (a .n) 0 (a .n) (sym (k .3) ∙ c .if2 .left) in
+    let told = fine (a .limit) (a .s .now) (a .n) (a .n) (sym (k .0)) (omega arith) _ (k .2) light (k .1) (a .n) (sym none) (omega arith) in
+    (sym told, finds-weight _ _ _ told (weighs known))
 
 pub judge-records-spec : {M : Type 1} → statement M
 judge-records-spec =
     tie.close
     (tie.spec
-    first-flawed-requires
-    judge-record-requires
+    look-requires
+    enum-known-w
+    enum-told
+    judge-odd-requires
+    refused-requires
     returns
-    weight-of-requires
+    refused-requires-2
     returns-2
-    tree-end-requires
+    first-bad-requires
+    refused-requires-3
     returns-3
     returns-4
-    bad-exponent-requires
-    returns-5
-    returns-6)
+    returns-5)

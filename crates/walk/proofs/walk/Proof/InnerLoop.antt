@@ -15,7 +15,8 @@ use Rattle.part.specs.Like.{split}
 use Rattle.part.specs.Part.{MergedIs, IntoFrom}
 use Rattle.part.specs.declared.Merged.{Merged}
 use Rattle.part.specs.declared.Merged.the-variants.{Apart, Into}
-use Rattle.walk.proofs.LoneLaws.{Lonely, lonely-moves}
+use Rattle.walk.specs.Numbers.{Lonely}
+use Rattle.walk.proofs.LoneLaws.{lonely-moves}
 use Rattle.walk.proofs.Steps.{Head, next, enough, inner-apart, inner-into}
 use Rattle.walk.proofs.walk.Tie as tie
 use Rattle.walk.proofs.walk.Proof.Places.{Inv-loop, μ-loop, Inv-walk, μ-walk, Within, Facing, Met, Removed, entry-of, facing-of, met-of, around}
@@ -173,8 +174,8 @@ loop-again-2 c =
       few = omega (arith, v .few);
       calm = v .calm;
       lonely = λ q t.
-          lonely-moves _ _ _ _ (omega arith) (omega (arith, b .low, b .high, b .few)) (last-moves-in removed)
-          (subst (Lonely (facing .before .loop .work)) (omega arith) (v .lonely q t));
+          lonely-moves _ _ _ _ (omega arith) (omega (arith, b .low, b .high, b .few)) (last-moves-in removed) _ _ (omega (arith, b .low, b .few))
+          (subst (λ m. Lonely (entry-of (around (facing .before)) .args .terms) (facing .before .loop .work) (entry-of (around (facing .before)) .args .p) m) (omega arith) (v .lonely q t));
       state = λ l o w h.
           let z = v .state l o w h in
           let into = told met z (Into (answer .0 .0)) (answer .1) in

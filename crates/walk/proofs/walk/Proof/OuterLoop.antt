@@ -28,7 +28,7 @@ use Rattle.walk.specs.declared.Finished.{Finished as Answer}
 use Rattle.walk.specs.declared.Finished.the-variants.{Kept, New, Over}
 use Rattle.walk.proofs.Steps.{Head, first, outer-lone, fitting, outer-written, kept-news, new-news, outer-late}
 use Rattle.walk.proofs.StaysLaws.{stays-itself}
-use Rattle.walk.proofs.LoneLaws.{Lonely}
+use Rattle.walk.specs.Numbers.{Lonely}
 use Rattle.walk.proofs.KeptLaws.{kept-where, lone-bit}
 use Rattle.walk.proofs.walk.Tie as tie
 use Rattle.walk.proofs.walk.Proof.Places.{Inv-loop, μ-loop, Inv-walk, μ-walk, Turn, Looked, Begun, Turned, Finished, asked, asked-of, told-of, telling-of, entry-of, turn-of, begun-of, keyed-of, looked-of, around-looked, left-one, turned-of, around}
@@ -37,7 +37,8 @@ use Rattle.walk.proofs.walk.Proof.Places.{State, between, carried, with
 pub tell-lone-requires : tie.Need-tell-lone-requires Inv-loop μ-loop Inv-walk μ-walk
 tell-lone-requires c κs =
     let b = entry-bounds (c .before .before .before .before) in
-    (omega (arith, b .light, b .heavy), omega (arith, b .low, b .high), omega (arith, b .room, b .heavy))
+    let q = c .before .before .before .before .pre in
+    ((q .0, q .1 .listed), omega (arith, b .light, b .heavy), omega (arith, b .room, b .heavy))
 
 pub add-e : tie.Need-add-e Inv-loop μ-loop Inv-walk μ-walk
 add-e c =
@@ -93,7 +94,8 @@ module _ (c : Looked) where
   -- so it is alone among those that are left
   bit-set : isLone high (told-of (around-looked c) .tell-lone .result) ≡ true
       → let u = around-looked c .walk in
-      Lonely (u .work) (u .n) × (128 ≤ high)
+      let g = entry-of (around-looked c) .args in
+      Lonely (g .terms) (u .work) (g .p) (u .n) × (128 ≤ high)
   bit-set k =
       let turn = around-looked c in
       let told = told-of turn in

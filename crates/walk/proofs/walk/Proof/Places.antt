@@ -16,7 +16,7 @@ use Rattle.walk.specs.Stays.{stays}
 use Rattle.walk.specs.Walked.{Walkable}
 use Rattle.walk.proofs.KeptLaws.{new-where}
 use Rattle.walk.proofs.RoomLaws.{each-weighs}
-use Rattle.walk.proofs.LoneLaws.{Lonely, AfterTelling, after-telling}
+use Rattle.walk.specs.Numbers.{Lonely, AfterTelling}
 use Rattle.walk.proofs.Steps.{Outer, Inner, outer-begins, first, inner-begins}
 use Rattle.walk.proofs.walk.Tie as tie
 
@@ -28,7 +28,7 @@ pub record OuterInv (out₀ work₀ : List ℕ) (d p count : ℕ) (terms told : 
   pub wide : length work ≡ length work₀
   pub few : n ≤ count
   pub calm : over ≡ false
-  pub lonely : (told ≡ true → Lonely work₀ n₀) → told ≡ true → Lonely work n
+  pub lonely : (told ≡ true → Lonely terms work₀ p n₀) → told ≡ true → Lonely terms work p n
   pub state : (l : List Tree) (o w : List ℕ) → Outer terms l o w d p count out₀ work₀ n₀ i₀ e₀ late₀ new₀ f₀
       → Outer terms l o w d p count out work n i e late new f
   pub few-new : new ≤ i
@@ -48,7 +48,7 @@ pub record InnerInv (out₀ work₀ : List ℕ) (d p count : ℕ) (terms told : 
   pub wide : length work ≡ length work₀
   pub few : n ≤ n₀
   pub calm : over ≡ over₀
-  pub lonely : (told ≡ true → Lonely work₀ n₀) → told ≡ true → Lonely work n
+  pub lonely : (told ≡ true → Lonely terms work₀ p n₀) → told ≡ true → Lonely terms work p n
   pub state : (l : List Tree) (o w : List ℕ)
       → Inner terms l o w d p count out₀ work₀ n₀ i e late new f c₀ key had j₀ → Inner terms l o w d p count out work n i e late new f c key had j
 
@@ -196,10 +196,8 @@ entry-bounds c =
 pub telling-of : (c : Told)
     → let g = asked-of c .args in
     let t = c .tell-lone in
-    AfterTelling (g .out .now) (t .last .0) (g .work .now) (t .last .1 .0) (g .d) (g .count) (t .result)
-telling-of c =
-    let b = entry-bounds (asked-of c) in
-    after-telling _ _ _ _ _ _ _ (omega (arith, b .room, b .heavy)) (omega (arith, b .low, b .high)) (c .tell-lone .ensures)
+    AfterTelling (g .terms) (g .out .now) (t .last .0) (g .work .now) (t .last .1 .0) (g .d) (g .p) (g .count) (t .result)
+telling-of c = c .tell-lone .ensures
 
 -- the state between two turns, for the members l that are listed
 pub between : (c : Turn) (l : List Tree)
@@ -222,7 +220,7 @@ turn-bounds c =
       room = omega (arith, b .room, v .long, t .long);
       light = b .light;
       low = b .low;
-      high = omega (arith, b .high, v .wide, t .wide);
+      high = omega (arith, b .high, v .wide, t .only .wide);
       few = v .few;
       heavy = b .heavy;
     }

@@ -48,7 +48,7 @@ left c =
     let over-is = a .4 in
     record {
       long = ap length out-is ∙ v .long ∙ t .long;
-      wide = ap length work-is ∙ v .wide ∙ t .wide;
+      wide = ap length work-is ∙ v .wide ∙ t .only .wide;
       burst = λ y. absurd (true-not-false y (over-is ∙ v .calm));
       ended = λ y. omega (arith, a .0 .left, n-is);
       state = λ y l h. rw (out-is, work-is, n-is) (between (c .before) l h);
@@ -71,7 +71,7 @@ left c =
     let over-is = a .24 in
     record {
       long = ap length out-is ∙ ticks-length met ∙ w .long ∙ looked .keep-lone .kept .0 ∙ v .long ∙ t .long;
-      wide = ap length work-is ∙ w .wide ∙ v .wide ∙ t .wide;
+      wide = ap length work-is ∙ w .wide ∙ v .wide ∙ t .only .wide;
       burst = λ y l h.
           let z = within (facing .before) l h in
           let bad = told met z merged.Over answer-is in
