@@ -96,6 +96,7 @@ static void turned(size_t i) {
 static void wide_turned(unsigned n) { wide(n); turned(making.records - 2); }
 static void deep_turned(unsigned n) { deep(n); turned(n); }
 static void reversed_integers(unsigned n) { (second ? backwards : node)(2, n, integer); }
+static void reversed_powers(unsigned n) { (second ? backwards : node)(2, n, next_power); }
 static void shuffled_integers(unsigned n) {
     uint8_t *first = making.at + 16, kept[16];
     random_state = 1;
@@ -132,7 +133,7 @@ static const struct { const char *name; void (*find)(void), (*make)(unsigned); i
     {"same-wide", NULL, wide, 2, NULL}, {"same-deep", NULL, deep, 2, NULL},
     {"same-wide-turned", NULL, wide_turned, 2, NULL}, {"same-deep-turned", NULL, deep_turned, 2, NULL},
     {"same-wide-reversed", NULL, wide_reversed, 2, NULL}, {"same-reversed", NULL, reversed_integers, 2, NULL},
-    {"same-shuffled", NULL, shuffled_integers, 2, NULL},
+    {"same-shuffled", NULL, shuffled_integers, 2, NULL}, {"same-powers-reversed", NULL, reversed_powers, 2, NULL},
     {"read-first", NULL, NULL, 0, text_first}, {"read-nested", NULL, NULL, 0, text_nested},
 };
 #define ROWS (sizeof rows / sizeof rows[0])
