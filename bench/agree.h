@@ -1,10 +1,10 @@
-/* Numbers whose keys agree, found by searching, by the key as tests/c/key.h has it. Flags are chosen by a factor that the node's own key names, in note::still and in
+/* Numbers whose keys agree, found by searching, by the key as tests/c/key.h has it. Flags are chosen by a factor that the node's own key names, in still::still and in
    the walk, so that numbers which share few flags in every node cannot be searched for by themselves; the next four functions go by the flags without that factor. */
 #include "../tests/c/key.h"
 #include <stdio.h>
 #include <stdlib.h>
 
-/* Keys that would share few flags in the test for like members (note::still), however many members there are. */
+/* Keys that would share few flags in the test for like members (still::still), however many members there are. */
 static inline int is_crowded(uint32_t key) { return key >> 23 == 0 && key * 0x85ebca6bu >> 23 == 0; }
 
 /* The same of the walk (walk::numbers): numbers that would share few flags in its first round, and what a power of two integers goes by there. */

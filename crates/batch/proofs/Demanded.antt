@@ -1,5 +1,5 @@
 -- The request's sentences hold of the code: of any call that returns 0, as the contract that the check reads from the source lets it be, each item
--- has the answer of its separate call in its place, and meets demand 3 in what stands in `out`. Assumes nothing.
+-- has the answer of its separate call in its place, and meets demand 3 in what stands in `out`.
 use Prim.Native.Nat.{ℕ, _<_}
 use mathlib.Core.Path.{_≡_}
 use mathlib.Core.List.{List}

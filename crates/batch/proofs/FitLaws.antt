@@ -1,4 +1,4 @@
--- Laws of 8, test by test in the code's order, and of a call that none of the tests turns down. Assumes nothing.
+-- Laws of 8, test by test in the code's order, and of a call that none of the tests turns down.
 use Prim.Native.Nat.{ℕ, _*_, _/_, _%_, _≤_, _<_}
 use mathlib.Core.Path.{_≡_, refl}
 use mathlib.Core.Bool.{Bool, true, false, cond, _||_, not}
@@ -12,6 +12,7 @@ use Rattle.paper.specs.Rules.{isEdition}
 use Rattle.paper.specs.Answers.{Lent}
 use Rattle.paper.proofs.Tests.{or-neither}
 use Rattle.paper_batch.specs.Batch.{lengthsIn, total, unfit, turnsDown, siteNumber, carriedOut, siteCalled}
+use Rattle.simplify.specs.Answer.{callNumber}
 use Rattle.batch.specs.Turn.{still}
 use Rattle.batch.proofs.LengthsLaws.{length-lengths}
 use Rattle.batch.proofs.StillLaws.{still-all}
@@ -45,13 +46,14 @@ module _ (tables lengths answers : List ℕ) where
       (eqb-true _ _ (not-false _ (c .0)), omega (arith, ltb-false (length answers / 80) n (c .1), length-lengths lengths))
 
   -- 19 goes first, then 9, then 8
-  pub no-limit : (lim ed : ℕ) → isLimit lim ≡ false → 19 ≡ siteNumber lim ed tables lengths answers
-  unfolding siteNumber
-  no-limit lim ed e = rw e refl
-
-  pub unknown : (lim ed : ℕ) → isLimit lim ≡ true → isEdition ed ≡ false → 9 ≡ siteNumber lim ed tables lengths answers
-  unfolding siteNumber
-  unknown lim ed n e = rw (n, e) refl
+  pub called-off : (lim ed k : ℕ) → k ≡ callNumber lim ed → 0 < k → k ≡ siteNumber lim ed tables lengths answers
+  unfolding siteNumber callNumber
+  called-off lim ed k e h = go (isLimit lim) (isEdition ed) e
+    where
+      go : (a b : Bool) → k ≡ cond a (cond b 0 9) 19 → k ≡ cond a (cond b (cond (turnsDown tables lengths answers) 8 0) 9) 19
+      go false b f = f
+      go true false f = f
+      go true true f = absurd (omega arith)
 
   pub known : (lim ed : ℕ) (down : Bool) → isLimit lim ≡ true → isEdition ed ≡ true → turnsDown tables lengths answers ≡ down
       → cond down 8 0 ≡ siteNumber lim ed tables lengths answers

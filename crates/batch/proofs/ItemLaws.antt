@@ -1,5 +1,5 @@
 -- Laws of one item's answer. After 7 the table passed 1 to 5, so the weight function tells W; else the answer has it: where the item ran to its end, W,
--- and where it was refused, which uses up none, 0. Assumes nothing.
+-- and where it was refused, which uses up none, 0.
 use Prim.Native.Nat.{ℕ, zero, suc, _≤_}
 use mathlib.Core.Path.{_≡_, refl, sym, ap, _∙_}
 use mathlib.Core.Bool.{Bool, true, false, cond}
@@ -35,7 +35,8 @@ not-ran k g h = rw (ne-eqb k 0 (λ e. omega arith), ne-eqb k 7 h)
 
 refused-uses : (lim : ℕ) (s : List ℕ) (v : Verdict) → 1 ≤ v .number → ¬ (v .number ≡ 7) → Uses lim s (refusedBy v)
 unfolding refusedBy
-refused-uses lim s v g h = record { seven = λ e. absurd (h e); other = λ _. sym (uses-none s v g h); some-used = λ e. absurd (true-not-false e (not-ran (v .number) g h)) }
+refused-uses lim s v g h =
+    record { seven = λ e. absurd (h e); other = λ _. sym (uses-none s v g h); some-used = λ e. absurd (true-not-false e (not-ran (v .number) g h)) }
 
 ran-uses : (lim : ℕ) (s : List ℕ) (w : ℕ) (r : Ran) → 1 ≤ w → tableWeight s ≡ w → weighed lim s .result ≡ tableWeight s → Uses lim s (ranAnswer w r)
 unfolding ranAnswer refusedBy

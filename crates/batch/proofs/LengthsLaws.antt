@@ -1,4 +1,4 @@
--- Laws of the list of lengths: what is left of it at item i is the length of that item, and what is left at the next one. Assumes nothing.
+-- Laws of the list of lengths: what is left of it at item i is the length of that item, and what is left at the next one.
 use Prim.Native.Nat.{ℕ, zero, suc, _+_, _-_, _*_, _/_, _≤_, _<_}
 use mathlib.Core.Path.{_≡_, refl, sym, ap, _∙_}
 use mathlib.Core.List.{List, [], _∷_}
@@ -23,10 +23,6 @@ unfolding lengthsIn
 length-lengths s = length-numbers (length s / 8) s
 
 module _ (s : List ℕ) (n : ℕ) where
-  pub from-length : (i : ℕ) → length (lengthsFrom s n i) ≡ n - i
-  unfolding lengthsFrom
-  from-length i = length-numbers (n - i) (drop (8 * i) s)
-
   pub from-turn : (i : ℕ) → i < n → lengthsFrom s n i ≡ le8 s (i * 8) ∷ lengthsFrom s n (i + 1)
   unfolding lengthsFrom numbersIn
   from-turn i h =

@@ -1,5 +1,5 @@
 -- Laws of what is still to do. An item writes behind what those before it used up, so what it used up and what is left to the others stand
--- there side by side; with no item left, all is as it stands. Assumes nothing.
+-- there side by side; with no item left, all is as it stands.
 use Prim.Native.Nat.{ℕ, suc, _+_, _*_, _≤_}
 use mathlib.Core.Path.{_≡_, refl, sym, ap, _∙_}
 use mathlib.Core.List.{List, [], _∷_, _++_, append-assoc}
@@ -9,7 +9,7 @@ use lib.Seq.{length-take-le, take-at, take-append-add, drop-append-add, drop-dro
 use Rattle.paper.specs.Answers.{Lent, Answer, simplified}
 use Rattle.paper.specs.Calls.{answerNumbers, eights}
 use Rattle.paper.proofs.Slices.{answer-count}
-use Rattle.eights.proofs.EightsLaws.{eights-length, eights-append}
+use Rattle.number.proofs.EightsLaws.{eights-length, eights-append}
 use Rattle.paper_batch.specs.Batch.{placeBytes, usedUp, remaining, inFront, firstUses, handedOn, inTurn, allNumbers}
 use Rattle.batch.specs.Turn.{turn, still}
 

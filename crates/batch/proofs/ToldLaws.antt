@@ -1,5 +1,5 @@
 -- What the caller of a whole site finds afterwards. The answers stand one after the other, each in its place, and their numbers fit in 8 bytes; so
--- place i tells the answer of item i, which is that of its separate call and meets demand 3. Assumes nothing.
+-- place i tells the answer of item i, which is that of its separate call and meets demand 3.
 use Prim.Native.Nat.{ℕ, zero, suc, _+_, _*_, _<_}
 use mathlib.Core.Path.{_≡_, refl, sym, ap, _∙_}
 use mathlib.Core.List.{List, [], _∷_, _++_, append-assoc}
@@ -12,9 +12,9 @@ use Rattle.paper.specs.Calls.{answerNumbers, eights}
 use Rattle.paper.specs.Told.{answerIn}
 use Rattle.paper.specs.Demands.{Simplifier}
 use Rattle.paper.proofs.Told.{numbers-fit, told-answer}
-use Rattle.eights.proofs.EightsLaws.{eights-append}
+use Rattle.number.proofs.EightsLaws.{eights-append}
 use Rattle.paper_batch.specs.Batch.{inTurn, handedOn, lengthsIn, allNumbers, SiteCall, siteNumber, carriedOut, siteCalled}
-use Rattle.paper_batch.specs.Sentences.{item, Demanded, ItemTold}
+use Rattle.paper_batch.specs.Sentences.{item, ItemTold}
 use Rattle.paper_batch.proofs.UnfitLaws.{returns-number}
 use Rattle.paper_batch.proofs.BatchLaws.{item-bytes, each-separate, each-demanded}
 use Rattle.batch.proofs.StillLaws.{numbers-size}

@@ -1,6 +1,6 @@
 -- A turn of the loop. What the item is lent is what remains of the areas, and comes back behind what was used up before; the item keeps the
 -- lengths and uses up no more than there is, as any call of the simplifier does; so what is still to do afterwards is what was before. So it is
--- too where `work` is not cleared between the items (WorkLaws). Assumes nothing.
+-- too where `work` is not cleared between the items (WorkLaws).
 use Prim.Native.Nat.{ℕ, _+_, _-_, _*_, _≤_, _<_}
 use mathlib.Core.Path.{_≡_, refl, sym, ap, _∙_}
 use mathlib.Core.List.{List, [], _++_, append-nil}
@@ -118,7 +118,8 @@ module _ (lim ed : ℕ) (tables lengths answers : List ℕ) (l : Lent) (n i at u
 
 -- ---- the turn of an item that is handed `work` as the items before it left it, and does not clear it
 pub record Passed (lim ed : ℕ) (tables lengths answers out steps work : List ℕ) (n i at used len w : ℕ) (out' steps' work' answer' : List ℕ) : Type 0 where
-  pub gone : Gone lim ed tables lengths answers (lent out steps (cleared lim used work)) n i at used len (turned w out' steps' (cleared lim (used + w) work') answer')
+  pub gone : Gone lim ed tables lengths answers (lent out steps (cleared lim used work)) n i at used
+      len (turned w out' steps' (cleared lim (used + w) work') answer')
   pub room : 1 ≤ used + w → workBytes lim ≤ length work
 
 module _ (lim ed : ℕ) (tables lengths answers out steps work : List ℕ) (n i at used len w : ℕ) (out' steps' work' answer' : List ℕ) (bytes : Bytes tables)
@@ -137,7 +138,8 @@ module _ (lim ed : ℕ) (tables lengths answers out steps work : List ℕ) (n i 
       let a = take (length answers - 80 * i) (drop (80 * i) answers) in
       record {
         gone =
-            turn-gone lim ed tables lengths answers (lent out steps (cleared lim used work)) n i at used len (turned w out' steps' (cleared lim (used + w) work') answer')
+            turn-gone lim ed tables lengths answers (lent out steps (cleared lim used work)) n i at used
+            len (turned w out' steps' (cleared lim (used + w) work') answer')
             bytes more out-room steps-room places told (as-cleared lim ed s b o z work a w out' steps' work' answer' ran used room);
         room = room-so-far lim ed s b o z work a w out' steps' work' answer' ran used room;
       }

@@ -1,6 +1,6 @@
 -- Two returns that meet the contract of `batch`, as the check reads it from the source, are the same, and so is every lent byte afterwards:
--- the contract is an equation with a function of what is handed in. Assumes nothing.
-use mathlib.Core.Path.{_≡_, sym, ap, _∙_}
+-- the contract is an equation with a function of what is handed in.
+use mathlib.Core.Path.{sym, ap, _∙_}
 use mathlib.Core.List.{List}
 use Prim.Native.Nat.{ℕ}
 use borrow.Fn.Kinds.{endedOf}
@@ -10,7 +10,6 @@ use Rattle.paper.specs.Answers.{Lent}
 use Rattle.paper.specs.Once.{OnceLeft}
 use Rattle.simplify.specs.Answer.{lent}
 use Rattle.paper_batch.specs.Batch.{SiteCall}
-use Rattle.batch.specs.Turn.{called}
 use Rattle.batch.proofs.batch.Reads as reads
 use Rattle.batch.proofs.batch.Kinds as kinds
 

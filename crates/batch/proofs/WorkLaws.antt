@@ -1,6 +1,6 @@
--- `work` between the items. No answer of the simplifier looks at what `work` holds: of it a call judges the length, and a run writes it before it reads. So an item that is
--- handed a `work` which the items before it did not clear answers, writes and uses up what it does with a clear one; and once `work` is cleared, all is as if each item
--- had cleared it. Assumes nothing.
+-- `work` between the items. No answer of the simplifier looks at what `work` holds: of it a call judges the length, and a run writes it before it
+-- reads. So an item that is handed a `work` which the items before it did not clear answers, writes and uses up what it does with a clear one; and
+-- once `work` is cleared, all is as if each item had cleared it.
 use Prim.Native.Nat.{ℕ, zero, suc, _+_, _-_, _*_, _≤_}
 use mathlib.Core.Path.{_≡_, refl, sym, ap, _∙_}
 use mathlib.Core.Bool.{Bool, true, false, cond, _||_}
@@ -15,7 +15,7 @@ use Rattle.paper.specs.Table.{treeOf}
 use Rattle.paper.specs.Verdict.{Verdict, accepted, refused, isAccepted, tableWeight, verdict}
 use Rattle.paper.specs.Rules.{isEdition, rulesOf}
 use Rattle.paper.specs.Driver.{Ran, simplify}
-use Rattle.paper.specs.Answers.{Lent, Answer, Given, Outcome, turned-down, cramped, judgedCall, judgement, runOn, outcomeOf, answerOf, outAfter, stepsAfter}
+use Rattle.paper.specs.Answers.{Answer, Outcome, turned-down, cramped, judgedCall, judgement, runOn, outcomeOf, answerOf, outAfter, stepsAfter}
 use Rattle.paper.specs.Answers.{lentAfter, simplifiedBy, simplified}
 use Rattle.paper.specs.Calls.{answerNumbers, eights}
 use Rattle.stretch.specs.Put.{put}
@@ -35,7 +35,8 @@ module _ (lim ed : ℕ) (s : List ℕ) (out steps work other : List ℕ) (long :
   unfolding judgement judgedCall
   judged-alike =
       ap
-      (λ (b : Bool). cond (isLimit lim) (cond (isEdition ed) (cond (isAccepted (verdict lim s)) (cond b (refused 6 0) accepted) (verdict lim s)) (refused 9 0)) (refused 19 0))
+      (λ (b : Bool). cond (isLimit lim) (cond (isEdition ed) (cond (isAccepted (verdict lim s)) (cond b (refused 6 0) accepted) (verdict lim s)) (refused 9 0))
+      (refused 19 0))
       (cramped-alike (tableWeight s))
 
   outcome-alike : (run : Tree → Ran) → outcomeOf lim ed run s (lent out steps work) ≡ outcomeOf lim ed run s (lent out steps other)
@@ -74,7 +75,8 @@ cond-clear n true d = cleared-again n d
 cond-clear n false d = refl
 
 -- cleared at the end, where some was used up
-pub cleared-once : (lim used need : ℕ) (work work' : List ℕ) → 1 ≤ used → need ≡ workBytes lim → work' ≡ put work 0 (replicate need 0) → work' ≡ cleared lim used work
+pub cleared-once : (lim used need : ℕ) (work work' : List ℕ) → 1 ≤ used → need ≡ workBytes lim
+    → work' ≡ put work 0 (replicate need 0) → work' ≡ cleared lim used work
 unfolding cleared
 cleared-once lim zero need work work' h asks e = absurd (omega arith)
 cleared-once lim (suc used) need work work' h asks e = e ∙ put-zeros need work ∙ ap (λ i. stretch i [] work) asks

@@ -7,15 +7,25 @@ ghost use Rattle.simplify.specs.Answer.{lent};
 ghost use Rattle.paper_batch.specs.Batch.{lengthsIn, total, turnsDown, siteNumber, siteCalled};
 ghost use Rattle.batch.specs.Turn.{turn, turned, cleared, called, still};
 
+// The most items, the bytes of a length, and those of the place of an answer.
+const ITEMS: usize = 200;
+
+const LENGTH: usize = 8;
+
+const PLACE: usize = 80;
+
+// The number of the refusal of lists that do not go together.
+const LISTS: u32 = 8;
+
 // The lengths add up to the bytes given. What is left of these is counted down, so that no sum wraps.
 fn adds_up(lengths: &[u8], given: usize) -> bool
     ensures { λ r. ⌜ r ≡ eqb (total (lengthsIn (now (lengths .entry)))) given ⌝ }
 {
-    let n = lengths.len() / 8;
+    let n = lengths.len() / LENGTH;
     let mut left = given as u64;
     let mut i: usize = 0;
     while i < n {
-        let next = number::read8(lengths, i * 8);
+        let next = number::read8(lengths, i * LENGTH);
         if left < next {
             return false;
         }
@@ -29,14 +39,14 @@ fn adds_up(lengths: &[u8], given: usize) -> bool
 fn turns_down(tables: &[u8], lengths: &[u8], answers: &[u8]) -> bool
     ensures { λ r. ⌜ r ≡ turnsDown (now (tables .entry)) (now (lengths .entry)) (now (answers .entry)) ⌝ }
 {
-    if 0 < lengths.len() % 8 {
+    if 0 < lengths.len() % LENGTH {
         return true;
     }
-    if 200 < lengths.len() / 8 {
+    if ITEMS < lengths.len() / LENGTH {
         return true;
     }
     if adds_up(lengths, tables.len()) {
-        return answers.len() / 80 < lengths.len() / 8;
+        return answers.len() / PLACE < lengths.len() / LENGTH;
     }
     true
 }
@@ -45,14 +55,12 @@ fn turns_down(tables: &[u8], lengths: &[u8], answers: &[u8]) -> bool
 fn judge(limit: usize, edition: usize, tables: &[u8], lengths: &[u8], answers: &[u8]) -> u32
     ensures { λ r. ⌜ r ≡ siteNumber limit edition (now (tables .entry)) (now (lengths .entry)) (now (answers .entry)) ⌝ }
 {
-    if !table::is_limit(limit) {
-        return 19;
-    }
-    if !simplify::is_edition(edition) {
-        return 9;
+    let number = simplify::judge_call(limit, edition);
+    if 0 < number {
+        return number;
     }
     if turns_down(tables, lengths, answers) {
-        return 8;
+        return LISTS;
     }
     0
 }
@@ -73,22 +81,9 @@ fn item(
         ≡ turn limit edition (now (table .entry)) (lent (now (out .entry)) (now (steps .entry)) (now (work .entry))) (now (answer .entry)) ⌝ }
 {
     let a = simplify::simplify_in(limit, edition, table, out, steps, work);
-    let flaw = a.flaw;
-    let wrong = record::flaw_numbers(flaw);
-    let numbers = [
-        a.number as u64,
-        a.place as u64,
-        a.records as u64,
-        a.steps as u64,
-        a.openings as u64,
-        a.weight_in as u64,
-        a.weight_out as u64,
-        wrong.what,
-        wrong.byte,
-        a.tries as u64,
-    ];
-    eights::write_numbers(answer, &numbers);
-    if a.number == 7 {
+    let numbers = simplify::answer_numbers(a);
+    number::write_numbers(answer, &numbers);
+    if a.number == simplify::RANGE {
         return table::weight(limit, table).result as usize;
     }
     a.weight_in
@@ -111,15 +106,15 @@ fn in_turn(
         ≡ still limit edition 0 0 (lengthsIn (now (lengths .entry))) (now (tables .entry))
         (lent (now (out .entry)) (now (steps .entry)) (now (work .entry))) (now (answers .entry)) ⌝ }
 {
-    let n = lengths.len() / 8;
+    let n = lengths.len() / LENGTH;
     let mut i: usize = 0;
     let mut at: usize = 0;
     let mut used: usize = 0;
     while i < n {
-        let end = at + number::read8(lengths, i * 8) as usize;
-        let o = 16 * used;
+        let end = at + number::read8(lengths, i * LENGTH) as usize;
+        let o = record::SIZE * used;
         let s = used;
-        let p = 80 * i;
+        let p = PLACE * i;
         used += item(
             limit,
             edition,

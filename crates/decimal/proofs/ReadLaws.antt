@@ -1,17 +1,16 @@
 -- Reading a number digit by digit: what is read so far, with the digits that are left after it, is the whole; and a number that has reached
--- the bound can only grow. Assumes nothing.
-use Prim.Native.Nat.{ℕ, zero, suc, _+_, _-_, _*_, _/_, _≤_, _<_}
+-- the bound can only grow.
+use Prim.Native.Nat.{ℕ, _+_, _-_, _*_, _/_, _≤_, _<_}
 use mathlib.Core.Path.{_≡_, refl, sym, ap, _∙_}
-use mathlib.Core.Bool.{Bool, true, false, cond, _&&_}
-use mathlib.Core.List.{List, [], _∷_}
-use mathlib.Core.Option.{none, some}
+use mathlib.Core.Bool.{Bool, true, false, _&&_}
+use mathlib.Core.List.{List}
 use native.Mathlib.Omega.{arith}
 use borrow.Author.Tests.{lt-ltb, le-ltb, le-leb, lt-leb, ne-eqb, eq-eqb, ltb-true, ltb-false}
-use lib.Dec.{eqb, ltb, leb}
+use lib.Dec.{ltb}
 use lib.ListN.{length, getD, drop}
-use Rattle.paper_text.specs.Text.{Reading, nought, begins, tail, isDigit, digitAhead, readDigits, below, readNumber}
+use Rattle.paper_text.specs.Text.{nought, begins, tail, isDigit, digitAhead, readDigits, below, readNumber}
 use Rattle.paper.proofs.Tests.{never}
-use Rattle.paper_text.proofs.PlaceLaws.{digit-there, no-digit-past, digit-at, digits-step, digits-end, digits-raise, begins-there, tail-there}
+use Rattle.paper_text.proofs.PlaceLaws.{digit-there, digit-at, digits-step, digits-end, digits-raise, begins-there, tail-there}
 use Rattle.decimal.specs.declared.Digits.the-variants.{No, Is}
 use Rattle.decimal.specs.Digits.{NumberRead}
 
@@ -27,7 +26,7 @@ by-the-top s at h l = sym (digit-there s at h ∙ rw (le-leb 48 (getD s at 0) l)
 -- ---- the whole number
 pub no-number : (bound : ℕ) (s : List ℕ) (at : ℕ) → digitAhead (drop at s) ≡ false → NumberRead bound s at No
 unfolding readNumber
-no-number bound s at d = record { says = rw d; ahead = tt }
+no-number bound s at d = record { reads = rw d; ahead = tt }
 
 pub leading-nought : (bound : ℕ) (s : List ℕ) (at : ℕ) → digitAhead (drop at s) ≡ true → getD s at 0 < 49 → digitAhead (drop (at + 1) s) ≡ true
     → NumberRead bound s at No
@@ -36,7 +35,7 @@ leading-nought bound s at d l e =
     let i = digit-at s at d in
     let n = i .least in
     record {
-      says = rw (d, begins-there s at 48 (i .inside), eq-eqb (getD s at 0) 48 (omega (arith, n, l)), tail-there s at (i .inside), e);
+      reads = rw (d, begins-there s at 48 (i .inside), eq-eqb (getD s at 0) 48 (omega (arith, n, l)), tail-there s at (i .inside), e);
       ahead = tt;
     }
 
@@ -81,7 +80,7 @@ too-great bound s at v e p k d h =
     let x = digits-raise (drop (e + 1) s) (10 * v + (getD s e 0 - 48)) in
     let w : readDigits (10 * v + (getD s e 0 - 48)) (drop (e + 1) s) ≡ readDigits 0 (drop at s) = sym (digits-step s e v d) ∙ k .rest in
     let y : bound ≤ readDigits (10 * v + (getD s e 0 - 48)) (drop (e + 1) s) .0 = omega (arith, x, h) in
-    record { says = sym (read-sound bound s at p ∙ rw (← w) (rw (le-ltb _ bound y))); ahead = tt }
+    record { reads = sym (read-sound bound s at p ∙ rw (← w) (rw (le-ltb _ bound y))); ahead = tt }
 
 read-all : (bound : ℕ) (s : List ℕ) (at v e : ℕ) → Sound s at → SoFar s at v e → digitAhead (drop e s) ≡ false
     → readNumber bound (drop at s) ≡ below bound (v, drop e s)
@@ -90,11 +89,11 @@ read-all bound s at v e p k d = read-sound bound s at p ∙ ap (below bound) (sy
 pub is-number : (bound : ℕ) (s : List ℕ) (at v e : ℕ) → Sound s at → SoFar s at v e → digitAhead (drop e s) ≡ false → v < bound → at < e
     → NumberRead bound s at (Is v e)
 unfolding below
-is-number bound s at v e p k d h l = record { says = sym (read-all bound s at v e p k d ∙ rw (lt-ltb v bound h)); ahead = (l, k .within) }
+is-number bound s at v e p k d h l = record { reads = sym (read-all bound s at v e p k d ∙ rw (lt-ltb v bound h)); ahead = (l, k .within) }
 
 pub reaches-bound : (bound : ℕ) (s : List ℕ) (at v e : ℕ) → Sound s at → SoFar s at v e → digitAhead (drop e s) ≡ false → bound ≤ v → NumberRead bound s at No
 unfolding below
-reaches-bound bound s at v e p k d h = record { says = sym (read-all bound s at v e p k d ∙ rw (le-ltb v bound h)); ahead = tt }
+reaches-bound bound s at v e p k d h = record { reads = sym (read-all bound s at v e p k d ∙ rw (le-ltb v bound h)); ahead = tt }
 
 -- a digit was read, since one stands at the start
 pub moved-on : (s : List ℕ) (at v e : ℕ) → Sound s at → SoFar s at v e → digitAhead (drop e s) ≡ false → at < e

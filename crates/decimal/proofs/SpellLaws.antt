@@ -1,16 +1,13 @@
 -- Spelling a number from its last digit on: the digits that stand in the array, with those of the quotient that is left before them, are the
--- digits of the number. Assumes nothing.
-use Prim.Native.Nat.{ℕ, zero, suc, _+_, _-_, _*_, _/_, _%_, _^_, _≤_, _<_}
+-- digits of the number.
+use Prim.Native.Nat.{ℕ, zero, suc, _+_, _-_, _/_, _%_, _^_, _≤_, _<_}
 use mathlib.Core.Path.{_≡_, refl, sym, ap, _∙_}
-use mathlib.Core.Bool.{Bool, true, false, cond}
-use mathlib.Core.List.{List, [], _∷_, _++_}
+use mathlib.Core.List.{List, _∷_}
 use native.Mathlib.Omega.{arith}
-use native.Mathlib.Numerals.{add-one}
 use borrow.Author.Tests.{lt-ltb, le-ltb}
-use lib.Dec.{ltb}
-use lib.ListN.{length, getD, set, take, drop, replicate, length-drop, length-set}
+use lib.ListN.{length, set, take, drop, replicate, length-drop, length-set}
 use lib.Seq.{set-split, length-take-le, drop-at, take-all}
-use Rattle.paper_text.specs.Text.{nought, digits, digitsOf}
+use Rattle.paper_text.specs.Text.{digits, digitsOf}
 use Rattle.paper_text.proofs.DigitLaws.{quotient-below}
 use Rattle.stretch.specs.Put.{part, put}
 use Rattle.decimal.specs.Digits.{NumberSpelt}

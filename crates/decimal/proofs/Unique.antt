@@ -1,6 +1,6 @@
 -- Two answers that meet a contract of this crate, as the check reads it from the source, are the same: a digit is there or not by one definition of
 -- the text; of a number that is read the contract tells the number and what of the text is left, hence its place; a number that is spelt ends
--- where its digits do, and where these fit the area is what it was with them put in. Assumes nothing.
+-- where its digits do, and where these fit the area is what it was with them put in.
 use Prim.Native.Nat.{ℕ, _+_, _≤_}
 use mathlib.Core.Path.{_≡_, refl, sym, ap, ap₂, _∙_}
 use mathlib.Core.List.{List}
@@ -51,7 +51,7 @@ same-number s at (Is v k) (Is w j) f g e =
     ap₂ (λ (x y : ℕ). Is x y) (ap number-of e) n
 
 pub read-number-once : Once 1 read-number-kinds.ps read-number-kinds.r read-number-reads.Pre read-number-reads.Post
-read-number-once κs a v v' x x' h p q = same-number (a .0 .now) (a .1 .0) v v' (p .ahead) (q .ahead) (p .says ∙ sym (q .says))
+read-number-once κs a v v' x x' h p q = same-number (a .0 .now) (a .1 .0) v v' (p .ahead) (q .ahead) (p .reads ∙ sym (q .reads))
 
 -- the place always; the area where the digits fit
 pub spell-number-once : (κs : Lfts 1) (a : Dens κs spell-number-kinds.ps) (v v' : ℕ)

@@ -19,7 +19,7 @@ Ahead s at No = Unit {0}
 Ahead s at (Is v e) = (at < e) × (e ≤ length s)
 
 pub record NumberRead (bound : ℕ) (s : List ℕ) (at : ℕ) (r : Digits) : Type 0 where
-  pub says : means s r ≡ readNumber bound (drop at s)
+  pub reads : means s r ≡ readNumber bound (drop at s)
   pub ahead : Ahead s at r
 
 -- the digits of v stand from `at` on, where they lie in the area; e is the place after them

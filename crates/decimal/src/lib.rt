@@ -5,6 +5,17 @@ ghost use lib.ListN.{length, drop};
 ghost use Rattle.paper_text.specs.Text.{digitAhead, readNumber};
 ghost use Rattle.decimal.specs.Digits.{NumberRead, NumberSpelt};
 
+// The number that digits count in, and its greatest digit.
+const TEN: u64 = 10;
+
+const NINE: u64 = 9;
+
+// The character after the digits.
+const PAST_DIGITS: u8 = b'9' + 1;
+
+// The most digits of a number of 64 bits.
+const MOST_DIGITS: usize = 20;
+
 // A number and the place after its last digit, or no number that the writer would write.
 pub enum Digits {
     No,
@@ -18,10 +29,10 @@ pub fn digit_at(text: &[u8], at: usize) -> bool
     if text.len() <= at {
         return false;
     }
-    if text[at] < 48 {
+    if text[at] < b'0' {
         return false;
     }
-    text[at] < 58
+    text[at] < PAST_DIGITS
 }
 
 // The number below `bound` whose digits begin at `at`: 0 stands alone, no other begins with 0.
@@ -32,19 +43,19 @@ pub fn read_number(text: &[u8], at: usize, bound: u64) -> Digits
     if !digit_at(text, at) {
         return Digits::No;
     }
-    if text[at] < 49 {
+    if text[at] < b'1' {
         if digit_at(text, at + 1) {
             return Digits::No;
         }
     }
-    let most = bound / 10;
+    let most = bound / TEN;
     let mut v: u64 = 0;
     let mut e = at;
     while digit_at(text, e) {
         if most < v {
             return Digits::No;
         }
-        v = 10 * v + (text[e] - 48) as u64;
+        v = TEN * v + (text[e] - b'0') as u64;
         e += 1;
     }
     if v < bound {
@@ -58,17 +69,17 @@ pub fn spell_number(v: u64, out: &mut [u8], at: usize) -> usize
     requires { ⌜ at < 2 ^ 63 ⌝ }
     ensures { λ r. ⌜ NumberSpelt v (now (out .entry)) at (now (out .exit)) r ⌝ }
 {
-    let mut b = [0u8; 20];
-    let mut i: usize = 20;
+    let mut b = [0u8; MOST_DIGITS];
+    let mut i: usize = MOST_DIGITS;
     let mut w = v;
-    while 9 < w {
+    while NINE < w {
         i -= 1;
-        b[i] = 48 + (w % 10) as u8;
-        w /= 10;
+        b[i] = b'0' + (w % TEN) as u8;
+        w /= TEN;
     }
     i -= 1;
-    b[i] = 48 + w as u8;
-    let n = 20 - i;
+    b[i] = b'0' + w as u8;
+    let n = MOST_DIGITS - i;
     if out.len() < at + n {
         return at + n;
     }

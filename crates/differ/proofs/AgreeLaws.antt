@@ -1,5 +1,5 @@
 -- The two halves of a tree's first record tell its kind, its number of members, its mark and its number; so two first records agree exactly when
--- both halves are the same. By cases on the trees; the mark is the upper half of the first half, which the kind and the number of members do not reach. Assumes nothing.
+-- both halves are the same. By cases on the trees; the mark is the upper half of the first half, which the kind and the number of members do not reach.
 use Prim.Native.Nat.{ℕ, _+_, _*_, _^_, _<_}
 use mathlib.Core.Path.{_≡_, refl, sym, ap, _∙_}
 use mathlib.Core.Bool.{Bool, true, false}
@@ -8,21 +8,21 @@ use native.Mathlib.Nat.{add-zero}
 use native.Mathlib.Omega.{arith}
 use borrow.Author.Tests.{eq-eqb, eqb-true, eqb-false}
 use lib.ListN.{length}
-use lib.IntN.{ℤ}
 use lib.Dec.{eqb}
-use Rattle.paper.specs.Bytes.{bytes, le, le8, word, signed}
+use Rattle.paper.specs.Bytes.{bytes, le, le8, word}
 use Rattle.paper.specs.Record.{bits}
 use Rattle.paper.specs.Tree.{Tree, Forest, integer, symbol, sum, product, power, count, toList, records, markOf}
-use Rattle.paper.specs.WellFormed.{WF, InRange}
-use Rattle.paper.specs.Equal.{eqZ, onInteger, onSymbol, onSum, onProduct, onPower}
+use Rattle.paper.specs.WellFormed.{WF}
+use Rattle.paper.specs.Equal.{onInteger, onSymbol, onSum, onProduct, onPower}
 use Rattle.paper.specs.Table.{recordOf, encode}
 use Rattle.paper.specs.Standing.{TreeIn, Stands}
 use Rattle.paper_differ.specs.Differ.{sameFields, alike}
-use Rattle.paper.proofs.Tests.{eqZ-self, not-so}
+use Rattle.number.proofs.NumLaws.{same-number}
+use Rattle.paper.proofs.Tests.{not-so}
 use Rattle.paper.proofs.WFLaws.{count-list}
 use Rattle.paper.proofs.Congruence.{word-lt}
 use Rattle.paper.proofs.BytesLaws.{le8-drop}
-use Rattle.paper.proofs.EncodeLaws.{signed-word, bits-there, count-records}
+use Rattle.paper.proofs.EncodeLaws.{bits-there, count-records}
 use Rattle.paper.proofs.Stands.{sum-record, product-record, power-record}
 use Rattle.paper_differ.proofs.DifferLaws.{Alike, a-integer, a-symbol, a-sum, a-product, a-power, alike-view}
 
@@ -78,11 +78,6 @@ module _ {s : List ℕ} {i : ℕ} where
   bits-told (power μ b ξ e) h = number-there 4 0 μ 0 (omega arith) (power-record μ b ξ e (h .stands))
 
 -- the same halves
-same-number : (z y : ℤ) → InRange z → InRange y → word z ≡ word y → eqZ z y ≡ true
-same-number z y v w e =
-    let p : z ≡ y = sym (signed-word z v) ∙ ap signed e ∙ signed-word y w in
-    rw p (eqZ-self y)
-
 same-count : (f g : Forest) → count f ≡ count g → count f ≡ length (toList g)
 same-count f g e = e ∙ sym (count-list g)
 
@@ -140,7 +135,9 @@ module _ {a : List ℕ} {i : ℕ} {b : List ℕ} {j : ℕ} {t u : Tree} (h : Tre
       go : (r : Bool) → eqb (bits a i) (bits b j) ≡ r → r ≡ alike t u
       go true n =
           let same = eqb-true (bits a i) (bits b j) n in
-          sym (halves-alike t u (h .wf) (g .wf) (low-lt t h) (low-lt u g) (sym (front-told t h) ∙ e ∙ front-told u g) (sym (bits-told t h) ∙ same ∙ bits-told u g))
+          sym
+          (halves-alike t u (h .wf) (g .wf) (low-lt t h) (low-lt u g) (sym (front-told t h) ∙ e ∙ front-told u g)
+          (sym (bits-told t h) ∙ same ∙ bits-told u g))
       go false n =
           let other = eqb-false (bits a i) (bits b j) n in
           sym (not-so (alike t u) (λ x. other (bits-told t h ∙ alike-halves (alike-view t u x) .1 ∙ sym (bits-told u g))))

@@ -1,5 +1,5 @@
 -- The answer and the list afterwards, case by case: the limit refused, the first table, the second, the list too short, or nothing; in the last two
--- both tables hold trees, which stand in them from record 0 on. Assumes nothing.
+-- both tables hold trees, which stand in them from record 0 on.
 use Prim.Native.Nat.{ℕ, _*_, _/_, _<_, _≤_}
 use mathlib.Core.Path.{_≡_, refl, ap, _∙_}
 use mathlib.Core.Bool.{true, false}

@@ -1,4 +1,4 @@
--- The list while pairs are written: each takes sixteen bytes, and one pair more is written where those before it end. Assumes nothing.
+-- The list while pairs are written: each takes sixteen bytes, and one pair more is written where those before it end.
 use Prim.Native.Nat.{ℕ, _+_, _*_, _≤_}
 use mathlib.Core.Path.{_≡_, refl, sym, ap, _∙_}
 use mathlib.Core.List.{List, [], _∷_, _++_, append-assoc, append-nil}

@@ -1,6 +1,6 @@
 -- The walk without recursion. What is ahead of it is as many trees in one table as in the other, from a record of each on, and their pairs in
 -- step. Where the first two agree they give way to their members; where they do not they are a pair, and are passed by. Where no record of
--- the first table is left no tree is, and so no pair. Assumes nothing.
+-- the first table is left no tree is, and so no pair.
 use Prim.Native.Nat.{ℕ, _+_, _*_, _/_, _<_, _≤_}
 use mathlib.Core.Path.{_≡_, refl, sym, ap, ap₂, _∙_}
 use mathlib.Core.Bool.{true, false}
@@ -9,30 +9,20 @@ use native.Mathlib.Nat.{add-assoc}
 use native.Mathlib.Omega.{arith}
 use lib.ListN.{length, drop, length-append}
 use lib.IntN.{pos}
-use Rattle.paper.specs.Tree.{Tree, Forest, integer, symbol, sum, product, power, count, records, recordses, toList, ofList}
+use Rattle.paper.specs.Tree.{Tree, Forest, integer, symbol, sum, product, power, count, records, toList, ofList}
 use Rattle.paper.specs.WellFormed.{WFs}
 use Rattle.paper.specs.Table.{encode, encodes}
 use Rattle.paper.specs.Standing.{TreeIn, TreesIn}
 use Rattle.paper.specs.Driver.{members}
 use Rattle.paper_differ.specs.Differ.{alike, orPair, differences, differencesOf}
 use Rattle.paper.proofs.WFLaws.{list-count, of-to-list}
-use Rattle.paper.proofs.EncodeLaws.{encodes-length, records-pos}
+use Rattle.paper.proofs.EncodeLaws.{encodes-length, records-pos, recordses-append}
 use Rattle.paper.proofs.Stands.{stands-both}
 use Rattle.paper.proofs.StandingLaws.{sum-trees, product-trees, power-parts, power-tree, first-tree, other-trees}
-use Rattle.paper_differ.proofs.DifferLaws.{steps, recordsAll, records-members, differ-node, alike-view, as-many}
+use Rattle.paper_differ.proofs.DifferLaws.{steps, recordsAll, records-first, differ-node, alike-view, as-many}
 use Rattle.differ.specs.Together.{Together}
 
 -- ---- trees one after the other, as a list
-records-list : (l : List Tree) → recordses (ofList l) ≡ recordsAll l
-unfolding records recordsAll ofList
-records-list [] = refl
-records-list (t ∷ l) = ap (λ (n : ℕ). records t + n) (records-list l)
-
-records-both : (l m : List Tree) → recordsAll (l ++ m) ≡ recordsAll l + recordsAll m
-unfolding recordsAll
-records-both [] m = omega arith
-records-both (t ∷ l) m = omega (arith, records-both l m)
-
 wf-both : (l m : List Tree) → WFs (ofList l) → WFs (ofList m) → WFs (ofList (l ++ m))
 unfolding ofList
 wf-both [] m v w = w
@@ -54,11 +44,11 @@ module _ {s : List ℕ} {i : ℕ} where
       record {
         counted = list-count (l ++ m);
         wf = wf-both l m (h .wf) (g .wf);
-        few = omega (arith, records-list (l ++ m), records-both l m, few);
+        few = omega (arith, recordses-append l m, few);
         stand =
             let e = encodes-both l m in
             rw e
-            (stands-both (encodes (ofList l)) (encodes (ofList m)) (recordsAll l) (encodes-length (ofList l) ∙ ap (λ (n : ℕ). 16 * n) (records-list l))
+            (stands-both (encodes (ofList l)) (encodes (ofList m)) (recordsAll l) (encodes-length (ofList l))
             (h .stand) (g .stand));
       }
 
@@ -95,7 +85,7 @@ unfolding records
 exponent-tree b ξ e h = let p = power-parts h in record { wf = (p .most, h .wf .4); few = omega arith; stands = p .exponent }
 
 members-in : {s : List ℕ} {i : ℕ} (t : Tree) → TreeIn s i t → ListIn s (i + 1) (members t)
-unfolding members records recordsAll
+unfolding members records ofList
 members-in (integer μ z) h = none-in
 members-in (symbol μ v) h = none-in
 members-in (sum μ f) h = forest-in f (sum-trees h)
@@ -111,7 +101,7 @@ members-in {s} {i} (power μ b ξ e) h = base-exponent (power-tree h) (exponent-
 -- ---- pairs of trees in step, before and after
 steps-both : (l m p q : List Tree) (i j : ℕ) → length l ≡ length m
     → steps (l ++ p) (m ++ q) i j ≡ steps l m i j ++ steps p q (i + recordsAll l) (j + recordsAll m)
-unfolding steps recordsAll
+unfolding steps records ofList
 steps-both [] [] p q i j n = ap₂ (steps p q) (omega arith) (omega arith)
 steps-both [] (u ∷ m) p q i j n = absurd (omega arith)
 steps-both (t ∷ l) [] p q i j n = absurd (omega arith)
@@ -136,7 +126,7 @@ pub record Ahead (a b : List ℕ) (i j : ℕ) (ds : List (ℕ × ℕ)) : Type 0 
 
 module _ {a b : List ℕ} where
   pub ahead-start : Together a b → Ahead a b 0 0 (differencesOf a b)
-  unfolding steps recordsAll
+  unfolding steps records ofList
   ahead-start h =
       record {
         fs = h .one ∷ [];
@@ -163,7 +153,7 @@ pub record Next (a b : List ℕ) (i j : ℕ) (ds : List (ℕ × ℕ)) : Type 0 w
 module _ {a b : List ℕ} {i j : ℕ} {ds : List (ℕ × ℕ)} where
   -- where a record is left, two trees are
   pub ahead-next : Ahead a b i j ds → i < length a / 16 → Next a b i j ds
-  unfolding steps recordsAll
+  unfolding steps records ofList
   ahead-next h l = go (h .fs) (h .gs) (h .as-long) (h .one) (h .other) (h .ends) (h .todo)
     where
       go : (fs gs : List Tree) → length fs ≡ length gs → ListIn a i fs → ListIn b j gs → 16 * (i + recordsAll fs) ≡ length a
@@ -188,13 +178,13 @@ module _ {a b : List ℕ} {i j : ℕ} {ds : List (ℕ × ℕ)} where
                   ends = omega arith;
                   todo = refl;
                 };
-            one-few = omega (arith, f .few, records-list (t ∷ fs));
-            other-few = omega (arith, g .few, records-list (u ∷ gs));
+            one-few = omega (arith, f .few);
+            other-few = omega (arith, g .few);
           }
 
   -- where none is, no pair is
   pub ahead-done : Ahead a b i j ds → length a / 16 ≤ i → ds ≡ []
-  unfolding steps recordsAll
+  unfolding steps records ofList
   ahead-done h l = go (h .fs) (h .ends) (h .todo)
     where
       go : (fs : List Tree) → 16 * (i + recordsAll fs) ≡ length a → ds ≡ steps fs (h .gs) i j → ds ≡ []
@@ -206,8 +196,8 @@ module _ {a b : List ℕ} {i j : ℕ} {ds : List (ℕ × ℕ)} where
   unfolding orPair
   turn-alike n e =
       let k = n .after in
-      let r = records-members (n .t) in
-      let q = records-members (n .u) in
+      let r = records-first (n .t) in
+      let q = records-first (n .u) in
       let x : i + records (n .t) ≡ i + 1 + recordsAll (members (n .t)) = omega arith in
       let y : j + records (n .u) ≡ j + 1 + recordsAll (members (n .u)) = omega arith in
       let many = as-many (alike-view (n .t) (n .u) e) in
@@ -218,7 +208,7 @@ module _ {a b : List ℕ} {i j : ℕ} {ds : List (ℕ × ℕ)} where
         as-long = simp length-append (omega (arith, many, k .as-long));
         one = both-in (members (n .t)) (k .fs) (members-in (n .t) (n .one)) (rw x at (k .one)) (omega (arith, n .one-few));
         other = both-in (members (n .u)) (k .gs) (members-in (n .u) (n .other)) (rw y at (k .other)) (omega (arith, n .other-few));
-        ends = omega (arith, records-both (members (n .t)) (k .fs), k .ends);
+        ends = omega (arith, recordses-append (members (n .t)) (k .fs), k .ends);
         todo =
             n .both ∙ ap₂ (λ (p q : List (ℕ × ℕ)). p ++ q) inside (k .todo ∙ ap₂ (steps (k .fs) (k .gs)) x y)
             ∙ sym (steps-both (members (n .t)) (members (n .u)) (k .fs) (k .gs) (i + 1) (j + 1) many);

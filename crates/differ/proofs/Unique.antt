@@ -1,5 +1,5 @@
 -- Two answers that meet the contract of `differ`, as the check reads it from the source, are the same, and so are the lists afterwards: the
--- contract is an equation with a function of what is handed in. Assumes nothing.
+-- contract is an equation with a function of what is handed in.
 use Prim.Native.Nat.{ℕ}
 use mathlib.Core.Path.{_≡_, sym, ap, _∙_}
 use mathlib.Core.List.{List}

@@ -1,5 +1,5 @@
 -- The turns of both loops: the pairs done and the pairs ahead are all the pairs. A turn where two records agree leaves the pairs done as they
--- are, one where they do not adds theirs. Assumes nothing.
+-- are, one where they do not adds theirs.
 use Prim.Native.Nat.{ℕ, _+_, _/_, _<_, _≤_}
 use mathlib.Core.Path.{_≡_, refl, sym, ap, _∙_}
 use mathlib.Core.Bool.{Bool, true, false}

@@ -11,8 +11,10 @@ ghost use Rattle.paper.specs.Standing.{TreeIn, SomeTree};
 ghost use Rattle.paper_differ.specs.Differ.{alike, differencesOf, atFront, differing};
 ghost use Rattle.stretch.specs.Put.{put};
 ghost use Rattle.differ.specs.Together.{Together};
-ghost use Rattle.differ.specs.Differed.{gives};
+ghost use Rattle.table.specs.Judged.{verdictOf};
+ghost use Rattle.differ.specs.Differed.{says, answered, gives};
 use record::Flaw;
+use table::Fault;
 
 // The answer: the refusal's number and place, what is wrong with the record, which table is refused, and the number of pairs.
 pub struct Differed {
@@ -28,7 +30,7 @@ fn agree(a: &[u8], i: usize, b: &[u8], j: usize) -> bool
     requires { ⌜ SomeTree (now a) i × SomeTree (now b) j ⌝ }
     ensures { λ r. ⌜ ((t u : Tree) → TreeIn (now (a .entry)) i t → TreeIn (now (b .entry)) j u → r ≡ alike t u) ⌝ }
 {
-    if number::read8(a, i * 16) != number::read8(b, j * 16) {
+    if number::read8(a, i * record::SIZE) != number::read8(b, j * record::SIZE) {
         return false;
     }
     record::bits(a, i) == record::bits(b, j)
@@ -39,7 +41,7 @@ fn count_pairs(a: &[u8], b: &[u8]) -> usize
     requires { ⌜ Together (now a) (now b) ⌝ }
     ensures { λ r. ⌜ r ≡ length (differencesOf (now (a .entry)) (now (b .entry))) ⌝ }
 {
-    let n = a.len() / 16;
+    let n = a.len() / record::SIZE;
     let mut i = 0;
     let mut j = 0;
     let mut pairs = 0;
@@ -56,13 +58,16 @@ fn count_pairs(a: &[u8], b: &[u8]) -> usize
     pairs
 }
 
+// The bytes of a pair in the list.
+const PAIR: usize = 16;
+
 // Writes a pair of record numbers to the list as its pair p, eight bytes each; all other bytes stay.
 fn write_pair(list: &mut [u8], p: usize, i: usize, j: usize)
     requires { ⌜ p * 16 + 16 ≤ length (now list) ⌝ }
     ensures { λ _. ⌜ now (list .exit) ≡ put (now (list .entry)) (p * 16) (bytes 8 i ++ bytes 8 j) ⌝ }
 {
-    number::write8(list, p * 16, i as u64);
-    number::write8(list, p * 16 + 8, j as u64);
+    number::write8(list, p * PAIR, i as u64);
+    number::write8(list, p * PAIR + number::SIZE, j as u64);
 }
 
 // Writes the pairs at the front of the list, in walking order; its bytes past them stay.
@@ -70,7 +75,7 @@ fn write_pairs(a: &[u8], b: &[u8], list: &mut [u8])
     requires { ⌜ Together (now a) (now b) × (16 * length (differencesOf (now a) (now b)) ≤ length (now list)) ⌝ }
     ensures { λ _. ⌜ now (list .exit) ≡ atFront (differencesOf (now (a .entry)) (now (b .entry))) (now (list .entry)) ⌝ }
 {
-    let n = a.len() / 16;
+    let n = a.len() / record::SIZE;
     let mut i = 0;
     let mut j = 0;
     let mut pairs = 0;
@@ -87,57 +92,46 @@ fn write_pairs(a: &[u8], b: &[u8], list: &mut [u8])
     }
 }
 
+// Which table is refused.
+const NEITHER: u8 = 0;
+
+const FIRST: u8 = 1;
+
+const SECOND: u8 = 2;
+
+// The answer: what is refused, and which table; the number of pairs.
+fn answer(f: Fault, which: u8, pairs: usize) -> Differed
+    ensures { λ r. ⌜ says r ≡ answered (verdictOf f) which pairs ⌝ }
+{
+    let flaw = f.flaw;
+    Differed {
+        number: f.number,
+        place: f.place,
+        flaw: flaw,
+        which: which,
+        pairs: pairs,
+    }
+}
+
 // Judges the limit, the first table, then the second, then whether the list has two places of eight bytes for each pair; then writes the pairs.
 pub fn differ(limit: usize, a: &[u8], b: &[u8], list: &mut [u8]) -> Differed
     ensures { λ r. ⌜ gives r (now (list .exit)) ≡ differing limit (now (a .entry)) (now (b .entry)) (now (list .entry)) ⌝ }
 {
     if !table::is_limit(limit) {
-        return Differed {
-            number: 19,
-            place: 0,
-            flaw: Flaw::Sound,
-            which: 0,
-            pairs: 0,
-        };
+        return answer(table::refusal(table::LIMIT, 0), NEITHER, 0);
     }
     let f = table::fault_of(table::check(limit, a));
-    let flaw = f.flaw;
     if 0 < f.number {
-        return Differed {
-            number: f.number,
-            place: f.place,
-            flaw: flaw,
-            which: 1,
-            pairs: 0,
-        };
+        return answer(f, FIRST, 0);
     }
     let g = table::fault_of(table::check(limit, b));
-    let other = g.flaw;
     if 0 < g.number {
-        return Differed {
-            number: g.number,
-            place: g.place,
-            flaw: other,
-            which: 2,
-            pairs: 0,
-        };
+        return answer(g, SECOND, 0);
     }
     let pairs = count_pairs(a, b);
-    if list.len() / 16 < pairs {
-        return Differed {
-            number: 6,
-            place: 0,
-            flaw: Flaw::Sound,
-            which: 0,
-            pairs: 0,
-        };
+    if list.len() / PAIR < pairs {
+        return answer(table::refusal(table::ROOM, 0), NEITHER, 0);
     }
     write_pairs(a, b, list);
-    Differed {
-        number: 0,
-        place: 0,
-        flaw: Flaw::Sound,
-        which: 0,
-        pairs: pairs,
-    }
+    answer(table::refusal(0, 0), NEITHER, pairs)
 }

@@ -1,7 +1,7 @@
--- The driver between two members. Its numbers stay small, since all that is done and noted was paid for by the weight of the tree that it was called on.
--- A pass begins with all members pending; a member that is kept at once, and then a member's result, is gathered; the next member weighs less than the tree; and where
--- none is left the pass ends: finished, refused, or with the gathered node to be taken up. Each is a law of Driving, Membering or Passing for
--- the numbers as the driver holds them. Assumes nothing.
+-- The driver between two members. Its numbers stay small, since all that is done and noted was paid for by the weight of the tree that it was
+-- called on. A pass begins with all members pending; a member that is kept at once, and then a member's result, is gathered; the next member weighs
+-- less than the tree; and where none is left the pass ends: finished, refused, or with the gathered node to be taken up. Each is a law of Driving,
+-- Membering or Passing for the numbers as the driver holds them.
 use Prim.Native.Nat.{ℕ, _+_, _-_, _*_, _^_, _<_, _≤_}
 use mathlib.Core.Path.{_≡_, refl, sym, ap, _∙_, subst}
 use mathlib.Core.Bool.{Bool, true, false, _&&_}
@@ -20,8 +20,8 @@ use Rattle.paper.proofs.EncodeLaws.{recordses-weights, records-pos, records-wei
 use Rattle.rules.specs.Asked.{Ready}
 use Rattle.stretch.specs.Put.{part, put}
 use Rattle.driver.specs.declared.Stand.{Stand}
-use Rattle.driver.specs.declared.Taken.{Taken}
-use Rattle.driver.specs.declared.Taken.the-variants as taken
+use Rattle.driver.specs.declared.TakenUp.{TakenUp}
+use Rattle.driver.specs.declared.TakenUp.the-variants as taken
 use Rattle.driver.specs.declared.Turn.the-variants as turn
 use Rattle.driver.specs.Driven.{kindNumber, withNotes, encodeAll, weightAll, firstRecord, inside, openedRuns, passed, closedOver}
 use Rattle.driver.specs.Driven.{Set, Back, TakenIs, KeptWhole, KeptIs, Drove, Gave, Gathers, Closed}
@@ -41,7 +41,8 @@ use Rattle.driver.proofs.Driving as driving
 
 -- ---- a pass begins
 module _ {c : Call} (called : Called c) {out work steps : List ℕ} {q n o τ : ℕ}
-    (come : Come (c .stand .edition) (c .tree) (c .rest) (c .out) (c .work) (c .steps) (c .stand .node) (c .stand .place) (c .stand .noted) out work steps q n o τ) where
+    (come : Come (c .stand .edition) (c .tree) (c .rest) (c .out) (c .work) (c .steps) (c .stand .node)
+    (c .stand .place) (c .stand .noted) out work steps q n o τ) where
   pub begin-fits : (c .stand .node * 16 + 16 ≤ length out) × (q * 16 + 16 ≤ length work) × (n + (c .stand .openings + o) < 65536)
   begin-fits =
       let f = passing.record-fits (driving.set-now come) in
@@ -56,7 +57,8 @@ module _ {c : Call} (called : Called c) {out work steps : List ℕ} {q n o τ : 
       let set-now = driving.set-now come in
       let k = kindNumber (come .u) in
       let put-now : out' ≡ put out (d * 16) (part work (q * 16) 16) = w ∙ ap (λ i. put out (i * 16) (part work (q * 16) 16)) nd in
-      let all : Gathering (c .stand .edition) (members (come .u)) (c .rest) out' work steps k (d + 1) (q + 1) n out' work steps (length (members (come .u))) (d + 1) (q + 1) n 0 0 0
+      let all : Gathering (c .stand .edition) (members (come .u)) (c .rest) out' work steps k (d + 1) (q + 1)
+      n out' work steps (length (members (come .u))) (d + 1) (q + 1) n 0 0 0
       = membering.start k (passing.members-set set-now out' put-now lo) in
       record {
         called = called;
@@ -74,8 +76,10 @@ module _ {c : Call} (called : Called c) {out work steps : List ℕ} {q n o τ : 
         b = 0;
         υ = 0;
         gathering =
-            subst (λ i. Gathering (c .stand .edition) (members (come .u)) (c .rest) out' work steps k (d + 1) (q + 1) n out' work steps (arity work q) (i + 1) (q + 1) n 0 0 0) (sym nd)
-            (subst (λ i. Gathering (c .stand .edition) (members (come .u)) (c .rest) out' work steps k (d + 1) (q + 1) n out' work steps i (d + 1) (q + 1) n 0 0 0)
+            subst (λ i. Gathering (c .stand .edition) (members (come .u)) (c .rest) out' work steps k (d + 1)
+            (q + 1) n out' work steps (arity work q) (i + 1) (q + 1) n 0 0 0) (sym nd)
+            (subst (λ i. Gathering (c .stand .edition) (members (come .u)) (c .rest) out' work steps
+            k (d + 1) (q + 1) n out' work steps i (d + 1) (q + 1) n 0 0 0)
             (sym (passing.arity-is set-now)) all);
         openings-are = omega arith;
         tries-are = omega arith;
@@ -198,7 +202,8 @@ module _ {c : Call} {out work steps : List ℕ} {s : Stand} (v : Midway c out wo
 
     -- a member is gathered
     gathered-one : {out' work' steps' : List ℕ} {e' q' n' o' m' τ' : ℕ}
-        → Gave (openedRuns (inside (kindNumber u)) (each (drives ed) (x ∷ []))) (encodeAll later ++ c .rest) out out' work' steps steps' (s .end) (s .noted) e' q' n' o' m' τ'
+        → Gave (openedRuns (inside (kindNumber u)) (each (drives ed) (x ∷ []))) (encodeAll later ++ c .rest)
+        out out' work' steps steps' (s .end) (s .noted) e' q' n' o' m' τ'
         → length out' ≡ length out → length work' ≡ length work → length steps' ≡ length steps
         → (s' : Stand) → s' .place ≡ q' → s' .noted ≡ n' → s' .openings ≡ s .openings + o' → s' .tries ≡ s .tries + τ' → s' .node ≡ s .node → s' .end ≡ e'
         → s' .left ≡ s .left - 1 → s' .gathered ≡ s .gathered + m' → s' .prior ≡ s .prior → s' .edition ≡ s .edition
@@ -206,7 +211,8 @@ module _ {c : Call} {out work steps : List ℕ} {s : Stand} (v : Midway c out wo
     gathered-one {out'} {work'} {steps'} {e'} {q'} {n'} {o'} {m'} {τ'} a lo lw lz s' pl nt op ti nd en le ga pr edi =
         let all = membering.next (v .gathering) is a lo lw lz in
         let G : (i e q n m : ℕ) → Type 0
-        = λ i e q n m. Gathering ed (members u) (c .rest) (v .out₂) (v .work₁) (v .steps₁) (kindNumber u) (d + 1) (v .at + 1) (v .n) out' work' steps' i e q n (v .b + o') m (v .υ + τ') in
+        = λ i e q n m. Gathering ed (members u) (c .rest) (v .out₂) (v .work₁) (v .steps₁) (kindNumber u) (d + 1)
+        (v .at + 1) (v .n) out' work' steps' i e q n (v .b + o') m (v .υ + τ') in
         record {
           called = v .called;
           out₁ = v .out₁;
@@ -262,7 +268,8 @@ module _ {c : Call} {out work steps : List ℕ} {s : Stand} {g : ℕ} (v : Resum
   drove : Drove (drives (c .stand .edition) (v .x)) rest-after (v .out₁) out work (v .steps₁) steps (v .s₁ .end) (v .s₁ .noted) g (v .s₂ .place) (v .s₂ .noted)
       (v .member .o) (v .member .τ)
   drove =
-      subst (λ i. Drove (drives i (v .x)) rest-after (v .out₁) out work (v .steps₁) steps (v .s₁ .end) (v .s₁ .noted) g (v .s₂ .place) (v .s₂ .noted) (v .member .o) (v .member .τ))
+      subst (λ i. Drove (drives i (v .x)) rest-after (v .out₁) out work (v .steps₁) steps (v .s₁ .end)
+      (v .s₁ .noted) g (v .s₂ .place) (v .s₂ .noted) (v .member .o) (v .member .τ))
       (m .edition-is) (v .member .drove)
 
   set-member : Set (v .out₁) (v .work₁) (v .steps₁) (v .s₁ .end) (v .s₁ .place) (v .s₁ .noted) (v .x) rest-after
@@ -278,7 +285,8 @@ module _ {c : Call} {out work steps : List ℕ} {s : Stand} {g : ℕ} (v : Resum
       = front-of out (take (e * 16) (v .out₁)) (withNotes (drove .to)) (e * 16) (g * 16) (drove .wrote) fits (omega (arith, drove .end)) in
       let le : (d + 1) * 16 ≤ e * 16 = omega (arith, m .gathering .end) in
       ap (kind out) (m .node-is)
-      ∙ kind-of m out (sym (take-take ((d + 1) * 16) (e * 16) out le) ∙ ap (take ((d + 1) * 16)) same ∙ take-take ((d + 1) * 16) (e * 16) (v .out₁) le ∙ front-there m)
+      ∙ kind-of m out (sym (take-take ((d + 1) * 16) (e * 16) out le) ∙ ap (take ((d + 1) * 16)) same
+      ∙ take-take ((d + 1) * 16) (e * 16) (v .out₁) le ∙ front-there m)
 
   pub gather-fits : (s .end + 1 ≤ g) × (g * 16 ≤ length out) × (s .node * 16 + 16 ≤ length out) × (s .openings < 131072) × (s .gathered < 65536) × (1 ≤ s .left)
   gather-fits =
@@ -290,7 +298,8 @@ module _ {c : Call} {out work steps : List ℕ} {s : Stand} {g : ℕ} (v : Resum
       let a = membering.small (m .gathering) in
       let nd = v .member .node-is in
       let op = v .member .openings-are in
-      subst (λ x. (x .end + 1 ≤ g) × (g * 16 ≤ length out) × (x .node * 16 + 16 ≤ length out) × (x .openings < 131072) × (x .gathered < 65536) × (1 ≤ x .left)) (sym (v .back))
+      subst (λ x. (x .end + 1 ≤ g) × (g * 16 ≤ length out) × (x .node * 16 + 16 ≤ length out) × (x .openings < 131072) × (x .gathered < 65536) × (1 ≤ x .left))
+      (sym (v .back))
       (omega (arith, f), f .1, omega (arith, n, v .out-long), omega arith, a .1, l)
 
   -- the test whether the result is opened, for the node's kind
@@ -301,16 +310,20 @@ module _ {c : Call} {out work steps : List ℕ} {s : Stand} {g : ℕ} (v : Resum
   now = returned (v .s₂) (v .s₁ .node) (v .s₁ .left) (v .s₁ .gathered) (v .s₁ .prior)
 
   test : (b : Bool) → Test now b → (eqb (kind out (v .s₁ .end)) k && isNode k) ≡ b
-  test b t = subst (λ j. (eqb (kind out (v .s₁ .end)) j && isNode j) ≡ b) kind-still (subst (λ i. (eqb (kind out i) (kind out (v .s₁ .node)) && isNode (kind out (v .s₁ .node))) ≡ b) (v .member .node-is) t)
+  test b t =
+      subst (λ j. (eqb (kind out (v .s₁ .end)) j && isNode j) ≡ b) kind-still
+      (subst (λ i. (eqb (kind out i) (kind out (v .s₁ .node)) && isNode (kind out (v .s₁ .node))) ≡ b) (v .member .node-is) t)
 
   pub kept-whole : Test s false → Midway c out work steps (joinedTo s g (s .openings) 1)
   kept-whole =
       subst (λ x. Test x false → Midway c out work steps (joinedTo x g (x .openings) 1)) (sym (v .back))
-      (λ t. gathered-one m (v .next-is) (as-it-is (c .stand .edition) set-member drove (v .out-long) k (test false t)) (v .out-long) (v .work-long) (v .steps-long)
+      (λ t. gathered-one m (v .next-is) (as-it-is (c .stand .edition) set-member drove (v .out-long) k (test false t))
+      (v .out-long) (v .work-long) (v .steps-long)
       (joinedTo now g (now .openings) 1)
       refl refl (v .member .openings-are) (v .member .tries-are) refl refl refl refl refl (v .member .edition-is))
 
-  pub opened-into : Test s true → (out' : List ℕ) → out' ≡ put out (s .end * 16) (part out (s .end * 16 + 16) ((g - s .end - 1) * 16)) → length out' ≡ length out
+  pub opened-into : Test s true → (out' : List ℕ)
+      → out' ≡ put out (s .end * 16) (part out (s .end * 16 + 16) ((g - s .end - 1) * 16)) → length out' ≡ length out
       → Midway c out' work steps (joinedTo s (g - 1) (s .openings + 1) (countIn out (s .end)))
   opened-into =
       subst (λ x. Test x true → (out' : List ℕ) → out' ≡ put out (x .end * 16) (part out (x .end * 16 + 16) ((g - x .end - 1) * 16)) → length out' ≡ length out
@@ -320,7 +333,8 @@ module _ {c : Call} {out work steps : List ℕ} {s : Stand} {g : ℕ} (v : Resum
       let op = v .member .openings-are in
       let w' : out' ≡ put out (v .s₁ .end * 16) (part out (v .s₁ .end * 16 + 16) ((g - v .s₁ .end - 1) * 16))
       = subst (λ i. out' ≡ put out (i * 16) (part out (i * 16 + 16) ((g - i - 1) * 16))) nd w in
-      gathered-one m (v .next-is) (opened-up (c .stand .edition) set-member drove (v .out-long) k (test true t) out' w') (lo ∙ v .out-long) (v .work-long) (v .steps-long)
+      gathered-one m (v .next-is) (opened-up (c .stand .edition) set-member drove (v .out-long) k (test true t) out' w')
+      (lo ∙ v .out-long) (v .work-long) (v .steps-long)
       (joinedTo now (g - 1) (now .openings + 1) (countIn out (now .end)))
       refl refl (omega arith) (v .member .tries-are) refl refl refl (ap (λ i. v .s₁ .gathered + countIn out i) nd) refl (v .member .edition-is))
 
@@ -335,9 +349,6 @@ module _ {c : Call} {out work steps : List ℕ} {s : Stand} (v : Midway c out wo
   abbrev w : Tree
   w = v .come .u
 
-  set-first : Set (v .out₁) (v .work₁) (v .steps₁) node (v .at) (v .n) w (c .rest)
-  set-first = driving.set-now (v .come)
-
   pub gave : Gave (openedRuns (inside (kindNumber w)) (each (drives edition) (members w))) (c .rest) (v .out₂) out work (v .steps₁) steps (node + 1) (v .n)
       (s .end) (s .place) (s .noted) (v .b) (s .gathered) (v .υ)
   gave = membering.finish (v .gathering) z
@@ -346,21 +357,22 @@ module _ {c : Call} {out work steps : List ℕ} {s : Stand} (v : Midway c out wo
   gathers =
       subst (λ i. Gathers w (gave .to) out i (s .end) (kind out (s .node)) (s .gathered)) (sym (v .node-is))
       (subst (λ j. Gathers w (gave .to) out node (s .end) j (s .gathered)) (sym (node-kind v))
-      (passing.gathers set-first (v .out₂) (v .copied) edition refl gave (v .out-kept) (v .gathering .out-long)))
+      (passing.gathers (set-then v) (v .out₂) (v .copied) edition refl gave (v .out-kept) (v .gathering .out-long)))
 
   -- nothing changed
   pub unchanged : s .noted + s .openings ≤ s .prior → Reached c out work steps (endedAt s (s .end) (s .place) (s .noted) (s .tries + 1)) (s .end)
   unchanged h =
       let nothing : s .noted - v .n + v .b < 1 = omega (arith, v .prior-is, v .openings-are, gave .noted-end) in
       let same : v .n ≡ s .noted = omega (arith, gave .noted-end) in
-      let was = passing.as-it-was set-first (v .out₂) (v .copied) edition refl gave (v .out-kept) (v .gathering .out-long) nothing in
+      let was = passing.as-it-was (set-then v) (v .out₂) (v .copied) edition refl gave (v .out-kept) (v .gathering .out-long) nothing in
       let lo : length out ≡ length (v .out₁) = v .gathering .out-long ∙ v .out-kept in
       let all = driving.nothing-changed (v .come) was lo (v .gathering .work-long) (v .gathering .steps-long) nothing in
       record {
         o = v .o;
         τ = v .τ + (v .υ + 1);
         drove =
-            subst (λ i. Drove (runOf c) (c .rest) (c .out) out work (c .steps) steps node (c .stand .noted) (s .end) (s .place) i (v .o) (v .τ + (v .υ + 1))) same all;
+            subst (λ i. Drove (runOf c) (c .rest) (c .out) out work (c .steps) steps node (c .stand .noted) (s .end) (s .place) i (v .o) (v .τ + (v .υ + 1)))
+            same all;
         openings-are = omega (arith, v .openings-are);
         tries-are = omega (arith, v .tries-are);
         node-is = v .node-is;
@@ -371,13 +383,15 @@ module _ {c : Call} {out work steps : List ℕ} {s : Stand} (v : Midway c out wo
   finish-fits = (omega (arith, node-fits v), omega (arith, tries-now v, few-now v))
 
   -- something changed: the node is closed up, and taken up
-  module _ (h : s .prior < s .noted + s .openings) {out' : List ℕ} (shut : Closed (closedOver w (gave .to)) out out' (s .node) (s .end)) (lo : length out' ≡ length out) where
+  module _ (h : s .prior < s .noted + s .openings) {out' : List ℕ}
+      (shut : Closed (closedOver w (gave .to)) out out' (s .node) (s .end)) (lo : length out' ≡ length out) where
     changed : 1 ≤ s .noted - v .n + v .b
     changed = omega (arith, v .prior-is, v .openings-are, gave .noted-end)
 
-    pub pass-driven : Drove (passed w (each (drives edition) (members w))) (c .rest) (v .out₁) out' work (v .steps₁) steps node (v .n) (s .end) (s .place) (s .noted) (v .b) (v .υ)
+    pub pass-driven : Drove (passed w (each (drives edition) (members w))) (c .rest) (v .out₁) out' work
+        (v .steps₁) steps node (v .n) (s .end) (s .place) (s .noted) (v .b) (v .υ)
     pass-driven =
-        passing.closed-up set-first (v .out₂) (v .copied) edition refl gave (v .out-kept) (v .gathering .out-long)
+        passing.closed-up (set-then v) (v .out₂) (v .copied) edition refl gave (v .out-kept) (v .gathering .out-long)
         (subst (λ i. Closed (closedOver w (gave .to)) out out' i (s .end)) (v .node-is) shut)
 
     lo' : length out' ≡ length (v .out₁)
@@ -389,35 +403,47 @@ module _ {c : Call} {out work steps : List ℕ} {s : Stand} (v : Midway c out wo
         (driving.gathered (v .come) pass-driven lo' (v .gathering .work-long) (v .gathering .steps-long) changed)
 
     module _ (out'' work'' steps'' : List ℕ) (lo2 : length out'' ≡ length out') (lw2 : length work'' ≡ length work) (lz2 : length steps'' ≡ length steps) where
-      told : (x : Taken) → TakenIs (rulesOf (s .edition)) (pass-driven .to) (c .rest) out' out'' work'' steps steps'' (s .node) (s .end) (s .noted) x
+      -- what became of the gathered node, as `take_up` tells it, and by the call's own edition and node
+      abbrev Took : TakenUp → Type 0
+      Took = TakenIs (rulesOf (s .edition)) (pass-driven .to) (c .rest) out' out'' work'' steps steps'' (s .node) (s .end) (s .noted)
+
+      told : (x : TakenUp) → Took x
           → TakenIs (rulesOf edition) (pass-driven .to) (c .rest) out' out'' work'' steps steps'' node (s .end) (s .noted) x
       told x y =
           subst (λ i. TakenIs (rulesOf edition) (pass-driven .to) (c .rest) out' out'' work'' steps steps'' i (s .end) (s .noted) x) (v .node-is)
           (subst (λ i. TakenIs (rulesOf i) (pass-driven .to) (c .rest) out' out'' work'' steps steps'' (s .node) (s .end) (s .noted) x) (v .edition-is) y)
 
-      pub turned-over : (n : ℕ) → TakenIs (rulesOf (s .edition)) (pass-driven .to) (c .rest) out' out'' work'' steps steps'' (s .node) (s .end) (s .noted) (taken.Over n)
+      pub turned-over : (n : ℕ) → Took (taken.Over n)
           → TurnIs c out'' work'' steps'' s (turn.Over n)
       turned-over n y =
           driving.burst (v .come) pass-driven lo' (v .gathering .work-long) (v .gathering .steps-long) changed n (told (taken.Over n) y)
 
-      pub turned-finished : (r : ℕ) → TakenIs (rulesOf (s .edition)) (pass-driven .to) (c .rest) out' out'' work'' steps steps'' (s .node) (s .end) (s .noted) (taken.Finished r)
+      -- it is finished, after as many tries
+      came : {f r n σ τ : ℕ} → Drove (runOf c) (c .rest) (c .out) out'' work'' (c .steps) steps'' node (c .stand .noted) f r n (v .o + v .b) σ
+          → τ ≡ c .stand .tries + σ → s .tries ≤ τ → TurnIs c out'' work'' steps'' s (turn.Finished f r n τ)
+      came {σ = σ} a e h = (
+        record {
+          o = v .o + v .b;
+          τ = σ;
+          drove = a;
+          openings-are = v .openings-are;
+          tries-are = e;
+          node-is = v .node-is;
+          edition-is = v .edition-is;
+        },
+        h,
+      )
+
+      pub turned-finished : (r : ℕ) → Took (taken.Finished r)
           → TurnIs c out'' work'' steps'' s (turn.Finished (s .end) r (s .noted) (s .tries + 1 + (s .end - s .node)))
       turned-finished r y =
-          let nd = v .node-is in (
-            record {
-              o = v .o + v .b;
-              τ = v .τ + (v .υ + 1) + (s .end - node);
-              drove = driving.finished (v .come) pass-driven lo' (v .gathering .work-long) (v .gathering .steps-long) changed (told (taken.Finished r) y);
-              openings-are = v .openings-are;
-              tries-are = omega (arith, v .tries-are);
-              node-is = v .node-is;
-              edition-is = v .edition-is;
-            },
-            omega arith,
-          )
+          let nd = v .node-is in
+          came (driving.finished (v .come) pass-driven lo' (v .gathering .work-long) (v .gathering .steps-long) changed (told (taken.Finished r) y))
+          (omega (arith, v .tries-are)) (omega arith)
 
-      module _ (f r : ℕ) (y : TakenIs (rulesOf (s .edition)) (pass-driven .to) (c .rest) out' out'' work'' steps steps'' (s .node) (s .end) (s .noted) (taken.Quiet f r)) where
-        home : Drove (runOf c) (c .rest) (c .out) out'' work'' (c .steps) steps'' node (c .stand .noted) f r (s .noted + 1) (v .o + v .b) (v .τ + (v .υ + 1) + 1 + (f - node))
+      module _ (f r : ℕ) (y : Took (taken.Quiet f r)) where
+        home : Drove (runOf c) (c .rest) (c .out) out'' work'' (c .steps) steps'' node (c .stand .noted)
+            f r (s .noted + 1) (v .o + v .b) (v .τ + (v .υ + 1) + 1 + (f - node))
         home = driving.quieted (v .come) pass-driven lo' (v .gathering .work-long) (v .gathering .steps-long) changed (told (taken.Quiet f r) y)
 
         pub quiet-fits : (s .node ≤ f) × (s .tries + 1 + 1 + (f - s .node) < 2 ^ 63 + 65538) × (s .noted < 65536)
@@ -429,22 +455,11 @@ module _ {c : Call} {out work steps : List ℕ} {s : Stand} (v : Midway c out wo
             (omega arith, omega (arith, tries-now v, home .end, v .called .few), omega (arith, few-now v))
 
         pub turned-quiet : TurnIs c out'' work'' steps'' s (turn.Finished f r (s .noted + 1) (s .tries + 1 + 1 + (f - s .node)))
-        turned-quiet =
-            let nd = v .node-is in (
-              record {
-                o = v .o + v .b;
-                τ = v .τ + (v .υ + 1) + 1 + (f - node);
-                drove = home;
-                openings-are = v .openings-are;
-                tries-are = omega (arith, v .tries-are);
-                node-is = v .node-is;
-                edition-is = v .edition-is;
-              },
-              omega arith,
-            )
+        turned-quiet = let nd = v .node-is in came home (omega (arith, v .tries-are)) (omega arith)
 
-      module _ (r m : ℕ) (y : TakenIs (rulesOf (s .edition)) (pass-driven .to) (c .rest) out' out'' work'' steps steps'' (s .node) (s .end) (s .noted) (taken.Stepped r m)) where
-        again-come : Come edition (c .tree) (c .rest) (c .out) (c .work) (c .steps) node (c .stand .place) (c .stand .noted) out'' work'' steps'' r m (v .o + v .b)
+      module _ (r m : ℕ) (y : Took (taken.Stepped r m)) where
+        again-come : Come edition (c .tree) (c .rest) (c .out) (c .work) (c .steps) node (c .stand .place)
+            (c .stand .noted) out'' work'' steps'' r m (v .o + v .b)
             (v .τ + (v .υ + 1) + (m - s .noted))
         again-come =
             driving.again (v .come) pass-driven lo' (v .gathering .work-long) (v .gathering .steps-long) changed (told (taken.Stepped r m) y) lo2 lw2 lz2
@@ -495,7 +510,8 @@ module _ {c : Call} {out work steps : List ℕ} (s : Stand) (i r : ℕ) (v : Mid
   kept-ready = (omega (arith, node-fits v), (more .x, encodeAll (more .xs) ++ c .rest, next-ready v (more .is)))
 
   module _ {out' : List ℕ} {n : ℕ} (lo : length out' ≡ length out)
-      (says : (t : Tree) (rest : List ℕ) → Ready out work (s .end + r) (s .place + r) t rest → KeptIs (rulesOf (s .edition)) (kind out (s .node)) t out out' (s .end + r) n) where
+      (says : (t : Tree) (rest : List ℕ) → Ready out work (s .end + r) (s .place + r) t rest
+      → KeptIs (rulesOf (s .edition)) (kind out (s .node)) t out out' (s .end + r) n) where
     answer : KeptIs (rulesOf (s .edition)) (kind out (s .node)) (more .x) out out' (s .end + r) n
     answer = says (more .x) (encodeAll (more .xs) ++ c .rest) (next-ready v (more .is))
 
@@ -530,7 +546,8 @@ waiting v h = record { waits = λ z. v; ends = λ z. absurd (omega arith) }
 pub fell-down : {c : Call} {out work steps : List ℕ} (s : Stand) → s .left ≡ 0 → s .end < 1 → Fell c (s .noted) → WentOn c out work steps s
 fell-down s l e f = record { waits = λ h. absurd (omega arith); ends = λ h. record { refused = λ z. f; reached = λ z. absurd (omega arith) } }
 
-pub came-home : {c : Call} {out work steps : List ℕ} (s : Stand) (e q n τ : ℕ) → Reached c out work steps (endedAt s e q n τ) e → WentOn c out work steps (endedAt s e q n τ)
+pub came-home : {c : Call} {out work steps : List ℕ} (s : Stand) (e q n τ : ℕ)
+    → Reached c out work steps (endedAt s e q n τ) e → WentOn c out work steps (endedAt s e q n τ)
 came-home s e q n τ r =
     record {
       waits = λ h. absurd (omega arith);

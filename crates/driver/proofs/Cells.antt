@@ -1,4 +1,4 @@
--- The driver's ten cells: they are the numbers of a `Stand`, in order; so writing some of them changes those numbers alone. Assumes nothing.
+-- The driver's ten cells: they are the numbers of a `Stand`, in order; so writing some of them changes those numbers alone.
 use Prim.Native.Nat.{ℕ}
 use mathlib.Core.Path.{_≡_, refl, sym, ap, subst}
 use mathlib.Core.List.{List, [], _∷_}

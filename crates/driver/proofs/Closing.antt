@@ -1,11 +1,10 @@
 -- The gathered node is closed up: the record of a leaf stays; that of a sum or a product gets the number of its members, and keeps its
 -- mark; and a node's note is made from its members' notes. Before that its record is its own but for the number in bytes 8-15, and
--- its members' records stand behind it. By cases on the node. Assumes nothing.
+-- its members' records stand behind it. By cases on the node.
 use Prim.Native.Nat.{ℕ, _+_, _*_, _<_, _≤_}
 use mathlib.Core.Path.{_≡_, refl, sym, ap, _∙_, subst}
-use mathlib.Core.List.{List, [], _∷_, _++_, append-nil, append-assoc}
+use mathlib.Core.List.{List, _++_, append-nil, append-assoc}
 use native.Mathlib.Omega.{arith}
-use lib.IntN.{pos}
 use lib.ListN.{length, take, drop, length-append, take-append-drop}
 use lib.Seq.{length-take-le, drop-at, take-at, take-take, drop-drop}
 use Rattle.paper.specs.Bytes.{bytes, word}

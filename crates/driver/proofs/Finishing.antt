@@ -1,6 +1,6 @@
 -- After a pass every member is finished and none is of the node's kind: results admit none, and so do the members of a result that
 -- is opened, none of which is of its kind again. So where the rules are then asked in vain, the node admits none, and the driver
--- would leave it as it is. A power's exponent is an integer, and comes back unchanged. Assumes nothing.
+-- would leave it as it is. A power's exponent is an integer, and comes back unchanged.
 use Prim.Native.Nat.{ℕ, _+_}
 use mathlib.Core.Path.{_≡_, refl, sym, ap, _∙_, subst}
 use mathlib.Core.List.{List, [], _∷_, _++_}
@@ -145,7 +145,8 @@ module _ (ed : ℕ) where
       (subst Nones (sym b) (n .0), subst (λ i. opened asProduct i .1 ≡ 0) (sym b) (n .1))
   gathered-parts (power μ b ξ e) l s o τ w k h = (and-more (first-none b l (kepts-length (k .1)) h) (and-more (integer-none ed ξ (pos e)) no-more), refl)
 
-  pub parts-finished : (t u : Tree) (s : List ℕ) (o τ : ℕ) → WF t → passed t (each (drives ed) (members t)) ≡ done u s o τ → Nones (members u) × (openingsAt u ≡ 0)
+  pub parts-finished : (t u : Tree) (s : List ℕ) (o τ : ℕ) → WF t
+      → passed t (each (drives ed) (members t)) ≡ done u s o τ → Nones (members u) × (openingsAt u ≡ 0)
   unfolding passed
   parts-finished t u s o τ w e =
       go (each (drives ed) (members t)) e (each-kept (drives ed) (drives-kept ed) (members t) (members-wf t w)) (each-ended (members t) (members-wf t w))

@@ -1,5 +1,5 @@
 -- The first record of a tree tells its kind, its mark and its number of members, and with them which trees are opened among the members of a
--- node. By cases on the tree. Assumes nothing.
+-- node. By cases on the tree.
 use Prim.Native.Nat.{ℕ, _*_, _<_}
 use mathlib.Core.Path.{_≡_, refl, sym, _∙_, subst}
 use mathlib.Core.Bool.{Bool, true, false, cond, _&&_}
@@ -28,10 +28,14 @@ module _ (s : List ℕ) (i : ℕ) where
   unfolding encodeBy kindNumber
   kind-first (integer μ z) r e = kind-there s i 0 0 μ (word z) r e
   kind-first (symbol μ v) r e = kind-there s i 1 0 μ v r e
-  kind-first (sum μ f) r e = kind-there s i 2 (count f) μ (note (sum μ f)) (encodesBy note f ++ r) (e ∙ append-assoc (recordOf 2 (count f) μ (note (sum μ f))) (encodesBy note f) r)
-  kind-first (product μ f) r e = kind-there s i 3 (count f) μ (note (product μ f)) (encodesBy note f ++ r) (e ∙ append-assoc (recordOf 3 (count f) μ (note (product μ f))) (encodesBy note f) r)
+  kind-first (sum μ f) r e =
+      kind-there s i 2 (count f) μ (note (sum μ f)) (encodesBy note f ++ r) (e ∙ append-assoc (recordOf 2 (count f) μ (note (sum μ f))) (encodesBy note f) r)
+  kind-first (product μ f) r e =
+      kind-there s i 3 (count f) μ (note (product μ f)) (encodesBy note f ++ r)
+      (e ∙ append-assoc (recordOf 3 (count f) μ (note (product μ f))) (encodesBy note f) r)
   kind-first (power μ b ξ x) r e =
-      kind-there s i 4 0 μ (note (power μ b ξ x)) ((withNotes b ++ recordOf 0 0 ξ x) ++ r) (e ∙ append-assoc (recordOf 4 0 μ (note (power μ b ξ x))) (withNotes b ++ recordOf 0 0 ξ x) r)
+      kind-there s i 4 0 μ (note (power μ b ξ x)) ((withNotes b ++ recordOf 0 0 ξ x) ++ r)
+      (e ∙ append-assoc (recordOf 4 0 μ (note (power μ b ξ x))) (withNotes b ++ recordOf 0 0 ξ x) r)
 
   -- the kind in the first record, whatever stands after it
   pub kind-there-first : (t : Tree) (r : List ℕ) → drop (i * 16) s ≡ firstRecord t ++ r → kind s i ≡ kindNumber t
@@ -54,12 +58,14 @@ module _ (s : List ℕ) (i : ℕ) where
   sum-count : (μ : ℕ) (f : Forest) (r : List ℕ) → drop (i * 16) s ≡ withNotes (sum μ f) ++ r → records (sum μ f) < 65536 → countIn s i ≡ count f
   unfolding encodeBy records
   sum-count μ f r e h =
-      count-there s i 2 (count f) μ (note (sum μ f)) (encodesBy note f ++ r) (e ∙ append-assoc (recordOf 2 (count f) μ (note (sum μ f))) (encodesBy note f) r) (omega (arith, count-records f))
+      count-there s i 2 (count f) μ (note (sum μ f)) (encodesBy note f ++ r)
+      (e ∙ append-assoc (recordOf 2 (count f) μ (note (sum μ f))) (encodesBy note f) r) (omega (arith, count-records f))
 
   product-count : (μ : ℕ) (f : Forest) (r : List ℕ) → drop (i * 16) s ≡ withNotes (product μ f) ++ r → records (product μ f) < 65536 → countIn s i ≡ count f
   unfolding encodeBy records
   product-count μ f r e h =
-      count-there s i 3 (count f) μ (note (product μ f)) (encodesBy note f ++ r) (e ∙ append-assoc (recordOf 3 (count f) μ (note (product μ f))) (encodesBy note f) r) (omega (arith, count-records f))
+      count-there s i 3 (count f) μ (note (product μ f)) (encodesBy note f ++ r)
+      (e ∙ append-assoc (recordOf 3 (count f) μ (note (product μ f))) (encodesBy note f) r) (omega (arith, count-records f))
 
   -- the number of members that the first record gives
   pub arity-first : (t : Tree) (r : List ℕ) → drop (i * 16) s ≡ withNotes t ++ r → records t < 65536 → arity s i ≡ length (members t)

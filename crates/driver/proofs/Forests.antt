@@ -1,6 +1,6 @@
 -- Trees that stand one after the other. Their records, and what they weigh, are those of the forest of them, so the paper's laws of
 -- forests hold of them; a node is its first record and its members; and bytes hold one tree, and one list of trees of a given length,
--- at the most, since no two trees stand at one record. Assumes nothing.
+-- at the most, since no two trees stand at one record.
 use Prim.Native.Nat.{ℕ, _+_, _*_, _^_, _<_, _≤_}
 use mathlib.Core.Path.{_≡_, refl, sym, ap, _∙_, subst}
 use mathlib.Core.List.{List, [], _∷_, _++_, append-assoc, append-nil}
@@ -11,30 +11,27 @@ use lib.Seq.{length-take-le, drop-at}
 use lib.IntN.{pos}
 use Rattle.paper.specs.Limits.{modulus}
 use Rattle.paper.specs.Bytes.{word}
-use Rattle.paper.specs.Tree.{Tree, integer, symbol, sum, product, power, ofList, count, records, recordses, weight}
-use Rattle.paper.specs.WellFormed.{WF, WFl}
+use Rattle.paper.specs.Tree.{Tree, integer, symbol, sum, product, power, ofList, count, records, weight}
+use Rattle.paper.specs.WellFormed.{WF}
 use Rattle.paper.specs.Table.{recordOf}
 use Rattle.paper.specs.Driver.{members}
-use Rattle.paper.proofs.EncodeLaws.{record-length, records-weight, recordses-weights, count-records}
+use Rattle.paper.proofs.EncodeLaws.{record-length, records-weight, count-records}
 use Rattle.paper.proofs.WFLaws.{list-count, of-to-list}
 use Rattle.paper.proofs.Value.{list-weights}
 use Rattle.paper.proofs.Fuel.{members-lighter}
+pub use Rattle.paper.proofs.Fuel.{records-first}
+pub use Rattle.paper.proofs.EncodeLaws.{recordses-append}
 use Rattle.note.specs.Note.{note}
 use Rattle.note.specs.Noted.{encodeBy, encodesBy}
 use Rattle.note.specs.Told.{Told}
 use Rattle.note.proofs.ToldLaws.{note-tells, one-tree}
-use Rattle.driver.specs.Driven.{withNotes, encodeAll, recordsAll, weightAll, firstRecord, Set, SetAll}
+use Rattle.driver.specs.Driven.{withNotes, encodeAll, recordsAll, weightAll, firstRecord, Set}
 
 -- ---- lists of trees
 pub encode-both : (l m : List Tree) → encodeAll (l ++ m) ≡ encodeAll l ++ encodeAll m
 unfolding encodeBy ofList
 encode-both [] m = refl
 encode-both (t ∷ l) m = ap (λ (x : List ℕ). withNotes t ++ x) (encode-both l m) ∙ sym (append-assoc (withNotes t) (encodeAll l) (encodeAll m))
-
-pub records-both : (l m : List Tree) → recordsAll (l ++ m) ≡ recordsAll l + recordsAll m
-unfolding records ofList
-records-both [] m = omega arith
-records-both (t ∷ l) m = omega (arith, records-both l m)
 
 pub weight-both : (l m : List Tree) → weightAll (l ++ m) ≡ weightAll l + weightAll m
 unfolding weight ofList
@@ -64,15 +61,8 @@ encode-first (symbol μ s) w = sym (append-nil (recordOf 1 0 μ s))
 encode-first (sum μ f) w = ap (λ g. recordOf 2 (count f) μ (note (sum μ f)) ++ encodesBy note g) (sym (of-to-list f))
 encode-first (product μ f) w = ap (λ g. recordOf 3 (count f) μ (note (product μ f)) ++ encodesBy note g) (sym (of-to-list f))
 encode-first (power μ b ξ e) w =
-    ap (λ (l : List ℕ). recordOf 4 0 μ (note (power μ b ξ e)) ++ (withNotes b ++ l)) (sym (exponent-record ξ e (w .2)) ∙ sym (append-nil (withNotes (integer ξ (pos e)))))
-
-pub records-first : (t : Tree) → records t ≡ 1 + recordsAll (members t)
-unfolding records members ofList
-records-first (integer μ z) = refl
-records-first (symbol μ s) = refl
-records-first (sum μ f) = ap (λ g. 1 + recordses g) (sym (of-to-list f))
-records-first (product μ f) = ap (λ g. 1 + recordses g) (sym (of-to-list f))
-records-first (power μ b ξ e) = omega arith
+    ap (λ (l : List ℕ). recordOf 4 0 μ (note (power μ b ξ e)) ++ (withNotes b ++ l))
+    (sym (exponent-record ξ e (w .2)) ∙ sym (append-nil (withNotes (integer ξ (pos e)))))
 
 pub members-weigh : (t : Tree) → weightAll (members t) < weight t
 members-weigh t = omega (arith, members-lighter t, list-weights (members t))
@@ -108,21 +98,3 @@ pub for-every : {out work steps : List ℕ} {d p s : ℕ} {t : Tree} {rest : Lis
 for-every {rest = rest} h Q q u r g =
     let e = set-once h g in
     subst (λ x. Q u x) (e .1) (subst (λ x. Q x rest) (e .0) q)
-
-pub trees-once : (l m : List Tree) (r q : List ℕ) → WFl l → WFl m → recordsAll l < 65536 → recordsAll m < 65536 → length l ≡ length m
-    → encodeAll l ++ r ≡ encodeAll m ++ q → (l ≡ m) × (r ≡ q)
-unfolding encodeBy records ofList
-trees-once [] [] r q v w h k n e = (refl, e)
-trees-once [] (u ∷ m) r q v w h k n e = absurd (omega arith)
-trees-once (t ∷ l) [] r q v w h k n e = absurd (omega arith)
-trees-once (t ∷ l) (u ∷ m) r q v w h k n e =
-    let a = tree-once t u (encodeAll l ++ r) (encodeAll m ++ q) (v .0) (w .0) (omega arith) (omega arith)
-    (sym (append-assoc (withNotes t) (encodeAll l) r) ∙ e ∙ append-assoc (withNotes u) (encodeAll m) q) in
-    let b = trees-once l m r q (v .1) (w .1) (omega arith) (omega arith) (omega arith) (a .1) in
-    (ap (λ (x : Tree). x ∷ l) (a .0) ∙ ap (λ (x : List Tree). u ∷ x) (b .0), b .1)
-
-pub set-all-once : {out work steps : List ℕ} {d p s : ℕ} {l m : List Tree} {r q : List ℕ}
-    → SetAll out work steps d p s l r → SetAll out work steps d p s m q → length l ≡ length m → (l ≡ m) × (r ≡ q)
-set-all-once {l = l} {m = m} {r = r} {q = q} a b n =
-    trees-once l m r q (a .wf) (b .wf) (omega (arith, recordses-weights (ofList l), a .light)) (omega (arith, recordses-weights (ofList m), b .light)) n
-    (sym (a .stands) ∙ b .stands)

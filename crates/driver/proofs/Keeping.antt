@@ -1,6 +1,6 @@
--- A member that is kept at once: no rule applies to it and it has no members but leaves, so it admits no rule and no opening (rules, Finished); the run on it is
--- done after as many tries as it has records, with no step and no opening, and its records are copied to what is done. A leaf is one, and so is a calm node
--- that is not opened. Assumes nothing.
+-- A member that is kept at once: no rule applies to it and it has no members but leaves, so it admits no rule and no opening (rules, Finished); the
+-- run on it is done after as many tries as it has records, with no step and no opening, and its records are copied to what is done. A leaf is one,
+-- and so is a calm node that is not opened.
 use Prim.Native.Nat.{ℕ, _+_, _*_, _<_, _≤_}
 use mathlib.Core.Path.{_≡_, refl, sym, ap, _∙_, subst}
 use mathlib.Core.Bool.{Bool, true, false, _&&_}
@@ -17,11 +17,11 @@ use Rattle.paper.proofs.EncodeLaws.{records-pos, records-weight}
 use Rattle.paper.proofs.Simplified.{simplify-again}
 use Rattle.note.specs.Note.{note}
 use Rattle.note.specs.Noted.{TreeBy}
-use Rattle.note.specs.Keys.{Scratched}
-use Rattle.note.specs.Still.{stillBy}
+use Rattle.still.specs.Keys.{Scratched}
+use Rattle.still.specs.Still.{stillBy}
 use Rattle.note.proofs.NotedLaws.{encodeBy-length}
 use Rattle.note.proofs.LightLaws.{size-of-leaf}
-use Rattle.note.proofs.StillLaws.{still-no-rule, still-by}
+use Rattle.still.proofs.StillLaws.{still-no-rule, still-by}
 use Rattle.record.proofs.KindLaws.{leaf-no-node}
 use Rattle.rules.specs.Asked.{Ready}
 use Rattle.rules.proofs.Finished.{few-none}

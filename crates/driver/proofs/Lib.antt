@@ -4,7 +4,6 @@ pub mod Weighs
 pub mod Finishing
 pub mod Counting
 pub mod Places
-pub mod Halves
 pub mod Cells
 pub mod Stepping
 pub mod Easing

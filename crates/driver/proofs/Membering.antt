@@ -1,14 +1,13 @@
 -- The members of a node, one after the other. `Gathering` says in continuation style: what is gathered of all the members is what was gathered so
 -- far, before what will be gathered of those left; and all together weigh less by the steps and openings so far; those left pay
--- for their tries. Assumes nothing.
-use Prim.Native.Nat.{ℕ, _+_, _-_, _*_, _^_, _<_, _≤_}
+-- for their tries.
+use Prim.Native.Nat.{ℕ, _+_, _-_, _*_, _<_, _≤_}
 use mathlib.Core.Path.{_≡_, refl, sym, ap, _∙_, subst}
 use mathlib.Core.List.{List, [], _∷_, _++_, append-nil, append-assoc}
 use native.Mathlib.Omega.{arith}
 use lib.ListN.{length, take, drop, length-append}
 use Rattle.paper.specs.Tree.{Tree, ofList, records, weight}
 use Rattle.paper.specs.WellFormed.{WF, WFl}
-use Rattle.paper.specs.Verdict.{tableWeight}
 use Rattle.paper.specs.Driver.{overs, each}
 use Rattle.paper.specs.Cost.{cost}
 use Rattle.paper.proofs.EncodeLaws.{recordses-weights}
@@ -17,12 +16,11 @@ use Rattle.note.specs.Note.{note}
 use Rattle.note.specs.Noted.{encodeBy}
 use Rattle.driver.specs.Driven.{withNotes, encodeAll, weightAll, inside, openedRuns, Set, SetAll, Gave}
 use Rattle.driver.specs.Paused.{before, Gathering}
-use Rattle.driver.proofs.Forests.{encode-both, records-both, weight-both, all-many}
-use Rattle.driver.proofs.Weighs.{weighs-all}
+use Rattle.driver.proofs.Forests.{encode-both, recordses-append, weight-both, all-many}
 use Rattle.driver.proofs.Runs.{drives, drives-kept, run-lighter, joined, before-none, before-joined, gather-first, gather-none, same-dones}
 use Rattle.driver.proofs.Places.{none-of}
 use Rattle.driver.proofs.Opening.{member-weighs}
-use Rattle.driver.proofs.Counting.{cost-both, cost-small, member-tries}
+use Rattle.driver.proofs.Counting.{cost-both, member-tries}
 
 pub start : {ed : ℕ} {out work steps : List ℕ} {d p s : ℕ} {l : List Tree} {rest : List ℕ} (k : ℕ) → SetAll out work steps d p s l rest
     → Gathering ed l rest out work steps k d p s out work steps (length l) d p s 0 0 0
@@ -72,15 +70,6 @@ module _ {ed : ℕ} {l : List Tree} {rest out₀ work₀ steps₀ : List ℕ} {k
         omega (arith, v .gathered, v .lighter, v .set-up .light),
         omega (arith, v .to-go, v .lighter, v .set-up .light),
       )
-
-  weighs-now : tableWeight (drop (q * 16) work) ≡ weightAll (v .r) + tableWeight rest
-  weighs-now = ap tableWeight (v .stands) ∙ weighs-all (v .r) rest
-
-  weighs-then : tableWeight (drop (p * 16) work₀) ≡ weightAll l + tableWeight rest
-  weighs-then = ap tableWeight (v .set-up .stands) ∙ weighs-all l rest
-
-  pub no-heavier : tableWeight (drop (q * 16) work) ≤ tableWeight (drop (p * 16) work₀)
-  no-heavier = omega (arith, weighs-now, weighs-then, v .lighter)
 
   -- what stands past the gathered members does not matter
   pub past-changed : {out' : List ℕ} → take (e * 16) out' ≡ take (e * 16) out → length out' ≡ length out
@@ -172,17 +161,6 @@ module _ {ed : ℕ} {l : List Tree} {rest out₀ work₀ steps₀ : List ℕ} {k
           let both = cost-both (weight x) (weightAll xs) in
           omega (arith, ap cost weight-next, member-tries ed k x (wf-next .0) (a .to) (a .ks) o' τ' (a .ran))
 
-      pub sums-fit : (o + o' < 65536) × (m + m' < 131072) × (τ + τ' < 2 ^ 63)
-      sums-fit =
-          let w = weighs in
-          let z = weight-next in
-          let b = recordses-weights (ofList (a .to)) in
-          let y = all-many (a .to) in (
-            omega (arith, v .lighter, v .set-up .light),
-            omega (arith, small .1, a .many, v .lighter, v .set-up .light),
-            omega (arith, v .tried-bound, paid, cost-small (weightAll l) (v .set-up .light)),
-          )
-
       pub next : Gathering ed l rest out₀ work₀ steps₀ k d p s out' work' steps' (left - 1) e' q' n' (o + o') (m + m') (τ + τ')
       unfolding joined
       next =
@@ -198,7 +176,7 @@ module _ {ed : ℕ} {l : List Tree} {rest out₀ work₀ steps₀ : List ℕ} {k
             place = a .place;
             to-go = let y : length (v .r) ≡ 1 + length xs = ap length is ∙ omega arith in omega (arith, v .to-go);
             gathered = omega (arith, v .gathered, a .many, length-append (v .g) (a .to));
-            end = omega (arith, v .end, a .end, records-both (v .g) (a .to));
+            end = omega (arith, v .end, a .end, recordses-append (v .g) (a .to));
             wrote =
                 a .wrote ∙ ap (λ (y : List ℕ). y ++ encodeAll (a .to)) (v .wrote)
                 ∙ append-assoc (take (d * 16) out₀) (encodeAll (v .g)) (encodeAll (a .to))

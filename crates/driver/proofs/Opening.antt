@@ -1,5 +1,5 @@
 -- One member: what the driver gave is kept as it is, or opened where it is of the node's kind, by moving its members over its first
--- record. Assumes nothing.
+-- record.
 use Prim.Native.Nat.{ℕ, _+_, _-_, _*_, _<_, _≤_}
 use mathlib.Core.Path.{_≡_, refl, sym, ap, _∙_, subst}
 use mathlib.Core.Bool.{true, false, _&&_}

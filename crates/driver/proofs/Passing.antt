@@ -1,5 +1,5 @@
 -- A pass: the first record of the node goes to what is done, its members stand after it and are gathered behind it, and the gathered
--- node is closed up. Assumes nothing.
+-- node is closed up.
 use Prim.Native.Nat.{ℕ, _+_, _-_, _*_, _<_, _≤_}
 use mathlib.Core.Path.{_≡_, refl, sym, ap, _∙_}
 use mathlib.Core.List.{List, _++_, append-assoc}
@@ -9,7 +9,6 @@ use lib.Seq.{drop-at}
 use Rattle.paper.specs.Tree.{Tree, integer, symbol, sum, product, power, ofList, records, weight}
 use Rattle.paper.specs.WellFormed.{WF}
 use Rattle.paper.specs.Record.{kind, arity}
-use Rattle.paper.specs.Verdict.{tableWeight}
 use Rattle.paper.specs.Driver.{done, over, overs, each, members, baseFrom}
 use Rattle.paper.proofs.EncodeLaws.{records-pos, records-weight}
 use Rattle.note.proofs.NotedLaws.{wf-mark, encodeBy-length, encodesBy-length}
@@ -18,10 +17,9 @@ use Rattle.paper.proofs.WFLaws.{of-to-list}
 use Rattle.note.specs.Note.{note}
 use Rattle.stretch.specs.Put.{part, put}
 use Rattle.stretch.proofs.Laws.{take-put-end}
-use Rattle.driver.specs.Driven.{withNotes, encodeAll, recordsAll, weightAll, kindNumber, firstRecord, inside, openedRuns, passed, closedOver}
+use Rattle.driver.specs.Driven.{withNotes, encodeAll, recordsAll, kindNumber, firstRecord, inside, openedRuns, passed, closedOver}
 use Rattle.driver.specs.Driven.{Set, SetAll, Drove, Gave, Gathers, Closed}
 use Rattle.driver.proofs.Forests.{front-long, few-records, encode-first, records-first, first-length, members-weigh}
-use Rattle.driver.proofs.Weighs.{weighs-tree, weighs-all}
 use Rattle.driver.proofs.Places.{advance, part-there, ends-after, front-of, front-fits}
 use Rattle.driver.proofs.Runs.{drives, closedRuns, pass-closed, pass-kept, run-lighter, members-still}
 use Rattle.driver.proofs.Finishing.{shape}
@@ -62,12 +60,6 @@ module _ {out work steps : List ℕ} {d p s : ℕ} {t : Tree} {rest : List ℕ} 
   members-stand : drop ((p + 1) * 16) work ≡ encodeAll (members t) ++ rest
   members-stand = advance work (firstRecord t) (encodeAll (members t) ++ rest) p 1 stands (first-length t)
 
-  pub members-lighter : tableWeight (drop ((p + 1) * 16) work) < tableWeight (drop (p * 16) work)
-  members-lighter =
-      let a : tableWeight (drop ((p + 1) * 16) work) ≡ weightAll (members t) + tableWeight rest = ap tableWeight members-stand ∙ weighs-all (members t) rest in
-      let b : tableWeight (drop (p * 16) work) ≡ weight t + tableWeight rest = ap tableWeight (h .ready .stands) ∙ weighs-tree t rest in
-      omega (arith, members-weigh t)
-
   -- the first record is copied
   module _ (out' : List ℕ) (c : out' ≡ put out (d * 16) (part work (p * 16) 16)) where
     pub front-now : take ((d + 1) * 16) out' ≡ take (d * 16) out ++ firstRecord t
@@ -100,7 +92,8 @@ module _ {out work steps : List ℕ} {d p s : ℕ} {t : Tree} {rest : List ℕ} 
     unfolding closedRuns
     burst ed k e n b = (
       b .0,
-      pass-closed t (each (drives ed) (members t)) ∙ ap (λ j. closedRuns t (openedRuns (inside j) (each (drives ed) (members t)))) (sym e) ∙ ap (closedRuns t) (b .1),
+      pass-closed t (each (drives ed) (members t)) ∙ ap (λ j. closedRuns t (openedRuns (inside j) (each (drives ed) (members t)))) (sym e)
+          ∙ ap (closedRuns t) (b .1),
       b .2,
     )
 
@@ -129,12 +122,6 @@ module _ {out work steps : List ℕ} {d p s : ℕ} {t : Tree} {rest : List ℕ} 
       less : WF (closedOver t (a .to)) × (length (a .ks) + o + weight (closedOver t (a .to)) ≤ weight t)
       less = run-lighter t (closedOver t (a .to)) (a .ks) o τ _ (pass-kept ed t (h .ready .wf)) ran
 
-      pub steps-after : n ≡ s + length (a .ks)
-      steps-after = a .noted-end
-
-      pub few-changes : n - s + o < 65536
-      few-changes = let l = less .1 in omega (arith, a .noted-end, h .ready .light)
-
       pub gathers : Gathers t (a .to) out'' d e' k m
       gathers =
           let l = less .1 in
@@ -160,7 +147,8 @@ module _ {out work steps : List ℕ} {d p s : ℕ} {t : Tree} {rest : List ℕ} 
             end = b .end;
             wrote =
                 b .wrote ∙ ap (λ (x : List ℕ). x ++ withNotes (closedOver t (a .to)))
-                (front-of out'' (take (d * 16) out) (firstRecord t ++ encodeAll (a .to)) (d * 16) (e' * 16) gathered-all (front-long h) (omega (arith, a .end)));
+                (front-of out'' (take (d * 16) out) (firstRecord t ++ encodeAll (a .to)) (d * 16)
+                (e' * 16) gathered-all (front-long h) (omega (arith, a .end)));
             left = a .left;
             place = a .place;
             noted-end = a .noted-end;

@@ -1,5 +1,5 @@
 -- Stretches of records in the lent areas: what stands from a record on, before a record, and after a copy. Positions count records,
--- of 16 bytes. From the laws of `take`, `drop`, `part` and `put`. Assumes nothing.
+-- of 16 bytes. From the laws of `take`, `drop`, `part` and `put`.
 use Prim.Native.Nat.{ℕ, _+_, _*_, _<_, _≤_}
 use mathlib.Core.Path.{_≡_, refl, sym, ap, _∙_}
 use mathlib.Core.List.{List, [], _∷_, _++_}

@@ -1,6 +1,6 @@
 -- Runs of members, and what a pass makes of them. The members are gathered one by one: what is gathered of a list is what is
 -- gathered of its first tree, and then of the rest. A pass then ends as the driver's visit does: refused, finished where nothing
--- changed, or begun again. Assumes nothing.
+-- changed, or begun again.
 use Prim.Native.Nat.{ℕ, _+_, _≤_, _<_}
 use mathlib.Core.Path.{_≡_, refl, sym, ap, _∙_, subst}
 use mathlib.Core.Bool.{Bool, true, false, cond}
@@ -31,7 +31,8 @@ drives ed = simplify (rulesOf ed)
 
 -- no rule of either edition is on a leaf
 pub no-rule-on : (ed : ℕ) (t : Tree) → kindNumber t < 2 → ask (rulesOf ed) t ≡ no-rule
-unfolding ask rulesOf editionOne editionTwo addZero combineLikeTerms multiplyZero multiplyOne combineLikeFactors powerOne powerConstant powerPower onSumMembers onProductMembers onPowerParts kindNumber
+unfolding ask rulesOf editionOne editionTwo addZero combineLikeTerms multiplyZero multiplyOne combineLikeFactors powerOne
+    powerConstant powerPower onSumMembers onProductMembers onPowerParts kindNumber
 no-rule-on ed = go (eqb ed 2)
   where
     go : (x : Bool) (t : Tree) → kindNumber t < 2 → ask (cond x editionTwo editionOne) t ≡ no-rule

@@ -1,5 +1,5 @@
 -- Steps at one node: they keep the run, the tries being one for each, and each makes the tree lighter. The loop that asks the rules again and again:
--- its invariant is that steps came from the tree that stood there to the one that stands there now. Assumes nothing.
+-- its invariant is that steps came from the tree that stood there to the one that stands there now.
 use Prim.Native.Nat.{ℕ, _+_, _*_, _<_, _≤_}
 use mathlib.Core.Path.{_≡_, refl, sym, ap, _∙_}
 use mathlib.Core.List.{List, [], _∷_, _++_, append-nil, append-assoc}
@@ -14,7 +14,7 @@ use Rattle.rules.specs.declared.Asked.the-variants.{Nothing, Step}
 use Rattle.rules.specs.Asked.{AskedIs}
 use Rattle.note.specs.Note.{note}
 use Rattle.note.specs.Noted.{TreeBy}
-use Rattle.note.specs.Keys.{Scratched}
+use Rattle.still.specs.Keys.{Scratched}
 use Rattle.driver.specs.Driven.{Steps, no-step, then-step, Set, Came, Burst}
 use Rattle.driver.proofs.Places.{noted-one}
 use Rattle.driver.proofs.Runs.{drives, visit-step, visit-over, step-kept, after-none, after-after}

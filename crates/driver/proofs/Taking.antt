@@ -1,5 +1,5 @@
 -- A gathered node is taken up: where its keys tell that no rule applies, it stays where it is; else it goes back in front of what is pending, and
--- where no step is taken it moves to where it was. Assumes nothing.
+-- where no step is taken it moves to where it was.
 use Prim.Native.Nat.{ℕ, _+_, _-_, _*_, _≤_}
 use mathlib.Core.Path.{_≡_, sym, ap, _∙_, subst}
 use mathlib.Core.List.{List, [], _++_, append-nil, append-assoc}
@@ -13,7 +13,7 @@ use Rattle.stretch.specs.Put.{part, put}
 use Rattle.stretch.proofs.Laws.{take-put-end}
 use Rattle.note.specs.Note.{note}
 use Rattle.note.specs.Noted.{TreeBy}
-use Rattle.note.specs.Keys.{Scratched}
+use Rattle.still.specs.Keys.{Scratched}
 use Rattle.note.proofs.NotedLaws.{encodeBy-length}
 use Rattle.driver.specs.Driven.{withNotes, Set, Back, Came}
 use Rattle.driver.proofs.Forests.{few-records, tree-once}
@@ -46,7 +46,8 @@ module _ {out work steps : List ℕ} {d e q s : ℕ} {g : Tree} {rest : List ℕ
             record {
               after = after;
               there =
-                  ap (drop (d * 16)) (sym (take-append-drop (e * 16) out) ∙ ap (λ (x : List ℕ). x ++ after) (b .there) ∙ append-assoc (take (d * 16) out) (withNotes g) after)
+                  ap (drop (d * 16)) (sym (take-append-drop (e * 16) out) ∙ ap (λ (x : List ℕ). x ++ after) (b .there)
+                  ∙ append-assoc (take (d * 16) out) (withNotes g) after)
                   ∙ drop-at (take (d * 16) out) (withNotes g ++ after) (d * 16) front-long;
             };
       }
@@ -98,7 +99,8 @@ module _ {out work steps : List ℕ} {d e q s : ℕ} {g : Tree} {rest : List ℕ
                 light = b .light;
                 stands =
                     ap (drop ((q - (e - d)) * 16))
-                    (w ∙ ap (put work' ((q - (e - d)) * 16)) (part-end out (take (d * 16) out) (withNotes g) (d * 16) ((e - d) * 16) (e * 16) (b .there) ends front-long long (omega (arith, f .2))))
+                    (w ∙ ap (put work' ((q - (e - d)) * 16))
+                    (part-end out (take (d * 16) out) (withNotes g) (d * 16) ((e - d) * 16) (e * 16) (b .there) ends front-long long (omega (arith, f .2))))
                     ∙ put-before work' (withNotes g) rest ((q - (e - d)) * 16) (q * 16) room left-alone (omega (arith, f .3, c .long));
                 out-room = b .out-room;
                 work-room = omega (arith, b .work-room, c .long);

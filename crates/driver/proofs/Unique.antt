@@ -1,6 +1,6 @@
 -- Two answers of `drive` that meet its contract, as the check reads it from the source, are the same, and so are the records done, what is
 -- pending, the steps noted and their number, the openings and the tries: the paper's run on the tree is one, and its result, its steps and what is left tell
--- the places. Of what is scratch, and of all but the number of steps after a refusal, nothing is said. Assumes nothing.
+-- the places. Of what is scratch, and of all but the number of steps after a refusal, nothing is said.
 use Prim.Native.Nat.{ℕ, zero, suc, _+_, _*_}
 use mathlib.Core.Path.{_≡_, refl, sym, ap, _∙_}
 use mathlib.Core.List.{List, _++_}
@@ -72,7 +72,9 @@ module _ (c : Call) (o o' w w' z z' : List ℕ) (s s' : Stand) (long : length w 
 pub drive-once : (κs : Lfts 4) (a : Dens κs kinds.ps) (t : Tree) (rest : List ℕ) (r r' : ℕ) (x x' : AtExit (endedOf 4 kinds.ps kinds.r) κs)
     → Called (call (a .0 .now) (a .1 .0 .now) (a .1 .1 .0 .now) (standOf (a .1 .1 .1 .0 .now)) t rest)
     → length (x .1 .0 .now) ≡ length (x' .1 .0 .now) → reads.Post κs a r x → reads.Post κs a r' x'
-    → (r ≡ r') × Left (x .0 .now) (x' .0 .now) (x .1 .0 .now) (x' .1 .0 .now) (x .1 .1 .0 .now) (x' .1 .1 .0 .now) (standOf (x .1 .1 .1 .0 .now)) (standOf (x' .1 .1 .1 .0 .now)) r
+    → (r ≡ r') × Left (x .0 .now) (x' .0 .now) (x .1 .0 .now) (x' .1 .0 .now) (x .1 .1 .0 .now) (x' .1 .1 .0 .now)
+    (standOf (x .1 .1 .1 .0 .now)) (standOf (x' .1 .1 .1 .0 .now)) r
 drive-once κs a t rest r r' x x' h l p p' =
-    driven-once (call (a .0 .now) (a .1 .0 .now) (a .1 .1 .0 .now) (standOf (a .1 .1 .1 .0 .now)) t rest) (x .0 .now) (x' .0 .now) (x .1 .0 .now) (x' .1 .0 .now)
+    driven-once (call (a .0 .now) (a .1 .0 .now) (a .1 .1 .0 .now) (standOf (a .1 .1 .1 .0 .now)) t rest)
+    (x .0 .now) (x' .0 .now) (x .1 .0 .now) (x' .1 .0 .now)
     (x .1 .1 .0 .now) (x' .1 .1 .0 .now) (standOf (x .1 .1 .1 .0 .now)) (standOf (x' .1 .1 .1 .0 .now)) l r r' (p .1 t rest h) (p' .1 t rest h)

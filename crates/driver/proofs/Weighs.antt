@@ -1,5 +1,5 @@
 -- What is pending weighs what its first tree, or its first trees, weigh, and what the rest weighs: a record's weight depends on its
--- own bytes alone. Assumes nothing.
+-- own bytes alone.
 use Prim.Native.Nat.{ℕ, zero, suc, _+_, _*_, _/_}
 use mathlib.Core.Path.{_≡_, refl, ap, _∙_}
 use mathlib.Core.List.{List, [], _∷_, _++_, append-assoc}

@@ -24,8 +24,8 @@ use Rattle.driver.specs.declared.Settled.{Settled}
 use Rattle.driver.specs.declared.Settled.the-variants as settled
 use Rattle.driver.specs.declared.Eased.{Eased}
 use Rattle.driver.specs.declared.Eased.the-variants as eased
-use Rattle.driver.specs.declared.Taken.{Taken}
-use Rattle.driver.specs.declared.Taken.the-variants as taken
+use Rattle.driver.specs.declared.TakenUp.{TakenUp}
+use Rattle.driver.specs.declared.TakenUp.the-variants as taken
 use Rattle.rules.specs.Asked.{Ready}
 
 -- ---- the records of a tree with their notes; and of trees that stand one after the other, as a node's members do, how many they are, and
@@ -130,8 +130,8 @@ abbrev pub easedOf : Settled → Eased
 easedOf (settled.At q n) = eased.At q n
 easedOf (settled.Over n) = eased.Over n
 
--- `Quiet e`, one step came from the gathered node t, at record p, to a tree that stands after what is done, up to record e, and what followed t is pending; and where
--- t's members admit no rule and no opening, and none of them opens, neither does that tree; else as of a tree that is settled
+-- `Quiet e`, one step came from the gathered node t, at record p, to a tree that stands after what is done, up to record e, and what followed t is
+-- pending; and where t's members admit no rule and no opening, and none of them opens, neither does that tree; else as of a tree that is settled
 abbrev pub EasedIs : (rs : List Rule) (t : Tree) (rest out out' work' steps steps' : List ℕ) (d p s : ℕ) → Eased → Type 0
 EasedIs rs t rest out out' work' steps steps' d p s (eased.Quiet e) =
     (k : ℕ) × (u : Tree) × (ask rs t ≡ step k u) × (e ≡ d + records u) × (take (e * 16) out' ≡ take (d * 16) out ++ withNotes u)
@@ -140,10 +140,10 @@ EasedIs rs t rest out out' work' steps steps' d p s (eased.Quiet e) =
 EasedIs rs t rest out out' work' steps steps' d p s (eased.At q n) = SettledIs rs t rest out out' work' steps steps' d s (settled.At q n)
 EasedIs rs t rest out out' work' steps steps' d p s (eased.Over n) = SettledIs rs t rest out out' work' steps steps' d s (settled.Over n)
 
--- `Finished r`, no rule applies to the gathered node g: it stays among what is done, up to record e, and rest is pending from record r on;
--- `Quiet f q`, one step came from g to a tree that stands among what is done, up to record f, and rest is pending from record q on; it admits none where g's parts do;
--- `Stepped q n`, steps came from g to a node to which no rule applies, and which is pending; `Over n`, a rule left the range
-abbrev pub TakenIs : (rs : List Rule) (g : Tree) (rest out out' work' steps steps' : List ℕ) (d e s : ℕ) → Taken → Type 0
+-- `Finished r`, no rule applies to the gathered node g: it stays among what is done, up to record e, and rest is pending from record r on; `Quiet f
+-- q`, one step came from g to a tree that stands among what is done, up to record f, and rest is pending from record q on; it admits none where g's
+-- parts do; `Stepped q n`, steps came from g to a node to which no rule applies, and which is pending; `Over n`, a rule left the range
+abbrev pub TakenIs : (rs : List Rule) (g : Tree) (rest out out' work' steps steps' : List ℕ) (d e s : ℕ) → TakenUp → Type 0
 TakenIs rs g rest out out' work' steps steps' d e s (taken.Finished r) =
     (ask rs g ≡ no-rule) × (take (e * 16) out' ≡ take (e * 16) out) × (drop (r * 16) work' ≡ rest) × (r * 16 + length rest ≡ length work')
     × (take s steps' ≡ take s steps)
@@ -155,8 +155,8 @@ TakenIs rs g rest out out' work' steps steps' d e s (taken.Stepped q n) =
     (u : Tree) × Came rs g u rest out out' work' steps steps' d s q n × (s < n) × (ask rs u ≡ no-rule)
 TakenIs rs g rest out out' work' steps steps' d e s (taken.Over n) = Burst rs g s n
 
--- of the pending tree t, a member of a node of kind k, and its n records: it admits no rule and no opening, is not opened in that node, and stands after what is
--- done, e records
+-- of the pending tree t, a member of a node of kind k, and its n records: it admits no rule and no opening, is not opened in that node, and stands
+-- after what is done, e records
 pub record KeptWhole (rs : List Rule) (k : ℕ) (t : Tree) (out out' : List ℕ) (e n : ℕ) : Type 0 where
   pub none : AdmitsNone rs t
   pub shut : (eqb (kindNumber t) k && isNode k) ≡ false

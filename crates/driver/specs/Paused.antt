@@ -244,7 +244,8 @@ pub record Midway (c : Call) (out work steps : List ℕ) (s : Stand) : Type 0 wh
   pub n : ℕ
   pub o : ℕ
   pub τ : ℕ
-  pub come : Come (c .stand .edition) (c .tree) (c .rest) (c .out) (c .work) (c .steps) (c .stand .node) (c .stand .place) (c .stand .noted) out₁ work₁ steps₁ at n o τ
+  pub come : Come (c .stand .edition) (c .tree) (c .rest) (c .out) (c .work) (c .steps) (c .stand .node)
+      (c .stand .place) (c .stand .noted) out₁ work₁ steps₁ at n o τ
   pub out₂ : List ℕ
   pub copied : out₂ ≡ put out₁ (c .stand .node * 16) (part work₁ (at * 16) 16)
   pub out-kept : length out₂ ≡ length out₁

@@ -1,4 +1,5 @@
 // The driver: at a node the rules of an edition are asked, then the members are driven and gathered, and it begins again while anything changes.
+use record::SIZE;
 ghost use mathlib.Core.Path.{_≡_};
 ghost use mathlib.Core.List.{List};
 ghost use Prim.Native.Nat.{ℕ, _+_, _*_, _^_, _≤_, _<_};
@@ -38,7 +39,7 @@ fn settle(
     let mut at = p;
     let mut n = s;
     loop {
-        if note::still(work, at, out, d * 16, edition) {
+        if still::still(work, at, out, d * SIZE, edition) {
             return Settled::At(at, n);
         }
         let asked = rules::ask(out, work, d, at, edition);
@@ -54,8 +55,8 @@ fn settle(
     }
 }
 
-// What became of a gathered node that stands in front of what is pending: finished after one step, its result standing in out, up to a record; or where it
-// stands once no rule applies to it, and the steps noted; or the steps completed when a rule left the range.
+// What became of a gathered node that stands in front of what is pending: finished after one step, its result standing in out, up to a record; or
+// where it stands once no rule applies to it, and the steps noted; or the steps completed when a rule left the range.
 enum Eased {
     Quiet(usize),
     At(usize, usize),
@@ -106,9 +107,9 @@ fn ease(
     }
 }
 
-// A gathered node: finished, and what is pending after it; or finished after one more step, up to a record of out, and what is pending; or, after steps, where it stands in work
-// and the steps noted; or the steps completed when a rule left the range.
-enum Taken {
+// A gathered node: finished, and what is pending after it; or finished after one more step, up to a record of out, and what is pending; or, after
+// steps, where it stands in work and the steps noted; or the steps completed when a rule left the range.
+enum TakenUp {
     Finished(usize),
     Quiet(usize, usize),
     Stepped(usize, usize),
@@ -126,28 +127,28 @@ fn take_up(
     q: usize,
     s: usize,
     edition: usize,
-) -> Taken
+) -> TakenUp
     requires { ⌜ ((g : Tree) × (rest : List ℕ) × Back (now out) (now work) (now steps) d e q s g rest) ⌝ }
     ensures { λ r. ⌜ ((g : Tree) (rest : List ℕ) → Back (now (out .entry)) (now (work .entry)) (now (steps .entry)) d e q s g rest
         → TakenIs (rulesOf edition) g rest (now (out .entry)) (now (out .exit)) (now (work .exit))
         (now (steps .entry)) (now (steps .exit)) d e s r) ⌝ }
 {
-    if note::still(out, d, work, 0, edition) {
-        return Taken::Finished(q);
+    if still::still(out, d, work, 0, edition) {
+        return TakenUp::Finished(q);
     }
     let size = e - d;
     let at = q - size;
-    stretch::copy_bytes(work, at * 16, out, d * 16, size * 16);
+    stretch::copy_bytes(work, at * SIZE, out, d * SIZE, size * SIZE);
     let g = ease(out, work, steps, d, at, s, edition);
     match g {
-        Eased::Over(k) => Taken::Over(k),
-        Eased::Quiet(f) => Taken::Quiet(f, q),
+        Eased::Over(k) => TakenUp::Over(k),
+        Eased::Quiet(f) => TakenUp::Quiet(f, q),
         Eased::At(r, m) => {
             if s < m {
-                return Taken::Stepped(r, m);
+                return TakenUp::Stepped(r, m);
             }
-            stretch::copy_bytes(out, d * 16, work, r * 16, size * 16);
-            Taken::Finished(r + size)
+            stretch::copy_bytes(out, d * SIZE, work, r * SIZE, size * SIZE);
+            TakenUp::Finished(r + size)
         }
     }
 }
@@ -170,12 +171,23 @@ struct Stand {
 // How a pass ended: the tree is finished, up to a record of out, or it begins again; the first record pending, the steps noted and the tries; or the steps
 // completed when a rule left the range.
 enum Turn {
-    Finished(usize, usize, usize, usize),
-    Again(usize, usize, usize),
+    Finished {
+        end: usize,
+        place: usize,
+        noted: usize,
+        tries: usize,
+    },
+    Again {
+        place: usize,
+        noted: usize,
+        tries: usize,
+    },
     Over(usize),
 }
 
-// The cells that the levels of the driver share: the numbers of a `Stand`, each by its name.
+// The cells that the levels of the driver share: how many, and the numbers of a `Stand`, each by its name.
+pub const CELLS: usize = 10;
+
 pub const EDITION: usize = 0;
 
 pub const PLACE: usize = 1;
@@ -203,7 +215,7 @@ fn drive_tree(
     out: &mut &mut [u8],
     work: &mut &mut [u8],
     steps: &mut &mut [u8],
-    st: &mut [usize; 10],
+    st: &mut [usize; CELLS],
 ) -> usize
     requires { ⌜ Drivable (now (now out)) (now (now work)) (now (now steps)) (now st) ⌝ }
     ensures { λ r. ⌜ Drives (now (now (out .entry))) (now (now (work .entry))) (now (now (steps .entry))) (now (st .entry))
@@ -231,7 +243,7 @@ fn drive_tree(
 }
 
 // The member that is next is the node now.
-fn go_in(st: &mut [usize; 10])
+fn go_in(st: &mut [usize; CELLS])
     requires { ⌜ length (now st) ≡ 10 ⌝ }
     ensures { λ _. ⌜ now (st .exit) ≡ cells (entered (standOf (now (st .entry)))) ⌝ }
 {
@@ -239,7 +251,7 @@ fn go_in(st: &mut [usize; 10])
 }
 
 // The node's own numbers are put back; what is gathered ends where the member stands.
-fn come_out(st: &mut [usize; 10], node: usize, left: usize, gathered: usize, prior: usize)
+fn come_out(st: &mut [usize; CELLS], node: usize, left: usize, gathered: usize, prior: usize)
     requires { ⌜ length (now st) ≡ 10 ⌝ }
     ensures { λ _. ⌜ now (st .exit) ≡ cells (returned (standOf (now (st .entry))) node left gathered prior) ⌝ }
 {
@@ -254,9 +266,10 @@ fn come_out(st: &mut [usize; 10], node: usize, left: usize, gathered: usize, pri
 const RESULT: usize = 0;
 
 // The same in plain slices: each is put behind a reference of its own, and handed back.
-pub fn drive(out: &mut [u8], work: &mut [u8], steps: &mut [u8], st: &mut [usize; 10]) -> usize
+pub fn drive(out: &mut [u8], work: &mut [u8], steps: &mut [u8], st: &mut [usize; CELLS]) -> usize
     requires { ⌜ (length (now st) ≡ 10) × ((t : Tree) × (rest : List ℕ) × Called (call (now out) (now work) (now steps) (standOf (now st)) t rest)) ⌝ }
-    ensures { λ r. ⌜ (length (now (st .exit)) ≡ 10) × ((t : Tree) (rest : List ℕ) → Called (call (now (out .entry)) (now (work .entry)) (now (steps .entry)) (standOf (now (st .entry))) t rest)
+    ensures { λ r. ⌜ (length (now (st .exit)) ≡ 10)
+        × ((t : Tree) (rest : List ℕ) → Called (call (now (out .entry)) (now (work .entry)) (now (steps .entry)) (standOf (now (st .entry))) t rest)
         → DrivenTo (call (now (out .entry)) (now (work .entry)) (now (steps .entry)) (standOf (now (st .entry))) t rest)
         (now (out .exit)) (now (work .exit)) (now (steps .exit)) (standOf (now (st .exit))) r) ⌝ }
 {
@@ -270,7 +283,7 @@ fn enter_steps<'b>(
     out: &mut [u8],
     work: &mut [u8],
     steps: &'b mut [u8],
-    st: &mut [usize; 10],
+    st: &mut [usize; CELLS],
     end: &mut [usize; 1],
 ) -> &'b mut [u8]
     requires { ⌜ Drivable (now out) (now work) (now steps) (now st) × (length (now end) ≡ 1) ⌝ }
@@ -289,7 +302,7 @@ fn enter_work<'b>(
     out: &mut [u8],
     work: &'b mut [u8],
     steps: &mut &mut [u8],
-    st: &mut [usize; 10],
+    st: &mut [usize; CELLS],
     end: &mut [usize; 1],
 ) -> &'b mut [u8]
     requires { ⌜ Drivable (now out) (now work) (now (now steps)) (now st) × (length (now end) ≡ 1) ⌝ }
@@ -309,7 +322,7 @@ fn enter_out<'b>(
     out: &'b mut [u8],
     work: &mut &mut [u8],
     steps: &mut &mut [u8],
-    st: &mut [usize; 10],
+    st: &mut [usize; CELLS],
     end: &mut [usize; 1],
 ) -> &'b mut [u8]
     requires { ⌜ Drivable (now out) (now (now work)) (now (now steps)) (now st) × (length (now end) ≡ 1) ⌝ }
@@ -327,7 +340,7 @@ fn enter_out<'b>(
 }
 
 // Where the driver stands, from its cells.
-fn from_cells(st: &[usize; 10]) -> Stand
+fn from_cells(st: &[usize; CELLS]) -> Stand
     ensures { λ r. ⌜ r ≡ standOf (now (st .entry)) ⌝ }
 {
     Stand {
@@ -345,7 +358,7 @@ fn from_cells(st: &[usize; 10]) -> Stand
 }
 
 // Where the driver stands, to its cells. The edition stays. Answers where what is gathered ends.
-fn to_cells(st: &mut [usize; 10], s: Stand) -> usize
+fn to_cells(st: &mut [usize; CELLS], s: Stand) -> usize
     requires { ⌜ (length (now st) ≡ 10) × (s .edition ≡ standOf (now st) .edition) ⌝ }
     ensures { λ r. ⌜ (r ≡ s .end) × (now (st .exit) ≡ cells s) ⌝ }
 {
@@ -367,7 +380,7 @@ fn go_on(
     out: &mut &mut [u8],
     work: &mut &mut [u8],
     steps: &mut &mut [u8],
-    st: &mut [usize; 10],
+    st: &mut [usize; CELLS],
     g: usize,
 ) -> usize
     requires { ⌜ (length (now st) ≡ 10) × ((c : Call) × GoesOn c (now (now out)) (now (now work)) (now (now steps)) (standOf (now st)) g) ⌝ }
@@ -404,17 +417,6 @@ fn first(out: &mut [u8], work: &mut [u8], steps: &mut [u8], s: Stand, g: usize) 
     }
 }
 
-// Copies record j of src to record i of dst, by its two halves.
-fn copy_record(dst: &mut [u8], i: usize, src: &[u8], j: usize)
-    requires { ⌜ (i * 16 + 16 ≤ length (now dst)) × (j * 16 + 16 ≤ length (now src)) ⌝ }
-    ensures { λ _. ⌜ now (dst .exit) ≡ put (now (dst .entry)) (i * 16) (part (now (src .entry)) (j * 16) 16) ⌝ }
-{
-    let a = number::read8(src, j * 16);
-    let b = number::read8(src, j * 16 + 8);
-    number::write8(dst, i * 16, a);
-    number::write8(dst, i * 16 + 8, b);
-}
-
 // Begins a pass over the members of the tree at record q of work: its first record goes to done.
 fn begin(out: &mut [u8], work: &[u8], s: Stand, q: usize, n: usize, tries: usize) -> Stand
     requires { ⌜ (s .node * 16 + 16 ≤ length (now out)) × (q * 16 + 16 ≤ length (now work)) × (n + s .openings < 65536) ⌝ }
@@ -422,7 +424,7 @@ fn begin(out: &mut [u8], work: &[u8], s: Stand, q: usize, n: usize, tries: usize
         × (now (out .exit) ≡ put (now (out .entry)) (s .node * 16) (part (now (work .entry)) (q * 16) 16)) ⌝ }
 {
     let d = s.node;
-    copy_record(out, d, work, q);
+    record::copy_record(out, d, work, q);
     let mut t = s;
     t.place = q + 1;
     t.noted = n;
@@ -443,7 +445,7 @@ fn gather(out: &mut [u8], s: Stand, g: usize) -> Stand
     let k = record::kind(out, s.node);
     if opens(k, record::kind(out, e)) {
         let m = record::count(out, e);
-        stretch::shift_left(out, e * 16, e * 16 + 16, (g - e - 1) * 16);
+        stretch::shift_left(out, e * SIZE, e * SIZE + SIZE, (g - e - 1) * SIZE);
         return joined(s, g - 1, s.openings + 1, m);
     }
     joined(s, g, s.openings, 1)
@@ -465,31 +467,31 @@ fn joined(s: Stand, f: usize, o: usize, m: usize) -> Stand
 // The most members of a member that is looked at before it is driven: at one that has more, a look in vain costs too much.
 const FEW: usize = 8;
 
-// Keeps the member at record q of work, of the node at record d of out, where it is finished as it stands: a leaf; or a node that is not opened there, that
-// has few members and all of them leaves, and whose notes tell that no rule applies. It goes to record e of out, from which on there is scratch. Answers the number of its
-// records, 0 where it is to be driven.
+// Keeps the member at record q of work, of the node at record d of out, where it is finished as it stands: a leaf; or a node that is not opened
+// there, that has few members and all of them leaves, and whose notes tell that no rule applies. It goes to record e of out, from which on there
+// is scratch. Answers the number of its records, 0 where it is to be driven.
 fn keep_member(out: &mut [u8], work: &[u8], e: usize, q: usize, d: usize, edition: usize) -> usize
     requires { ⌜ (d < e) × ((t : Tree) × (rest : List ℕ) × Ready (now out) (now work) e q t rest) ⌝ }
     ensures { λ n. ⌜ ((t : Tree) (rest : List ℕ) → Ready (now (out .entry)) (now (work .entry)) e q t rest
         → KeptIs (rulesOf edition) (kind (now (out .entry)) d) t (now (out .entry)) (now (out .exit)) e n) ⌝ }
 {
     let j = record::kind(work, q);
-    if j < 2 {
-        copy_record(out, e, work, q);
+    if j < record::SUM {
+        record::copy_record(out, e, work, q);
         return 1;
     }
     if opens(record::kind(out, d), j) {
         return 0;
     }
-    if record::arity(work, q) + 1 < (record::bits(work, q) % 0x1_0000) as usize {
+    if record::arity(work, q) + 1 < note::records_of(record::bits(work, q)) {
         return 0;
     }
     if FEW < record::arity(work, q) {
         return 0;
     }
-    if note::still(work, q, out, e * 16, edition) {
+    if still::still(work, q, out, e * SIZE, edition) {
         let n = record::arity(work, q) + 1;
-        stretch::copy_bytes(out, e * 16, work, q * 16, n * 16);
+        stretch::copy_bytes(out, e * SIZE, work, q * SIZE, n * SIZE);
         return n;
     }
     0
@@ -543,9 +545,18 @@ fn pass_on(out: &mut [u8], work: &mut [u8], steps: &mut [u8], from: Stand) -> St
         let t = end_pass(out, work, steps, k);
         match t {
             Turn::Over(n) => return ended(k, 0, k.place, n, k.tries),
-            Turn::Finished(e, q, n, tries) => return ended(k, e, q, n, tries),
-            Turn::Again(q, n, tries) => {
-                s = begin(out, work, k, q, n, tries);
+            Turn::Finished {
+                end,
+                place,
+                noted,
+                tries,
+            } => return ended(k, end, place, noted, tries),
+            Turn::Again {
+                place,
+                noted,
+                tries,
+            } => {
+                s = begin(out, work, k, place, noted, tries);
             }
         }
     }
@@ -572,18 +583,37 @@ fn end_pass(out: &mut [u8], work: &mut [u8], steps: &mut [u8], s: Stand) -> Turn
 {
     let tries = s.tries + 1;
     if s.noted + s.openings <= s.prior {
-        return Turn::Finished(s.end, s.place, s.noted, tries);
+        return Turn::Finished {
+            end: s.end,
+            place: s.place,
+            noted: s.noted,
+            tries,
+        };
     }
     close_up(out, record::kind(out, s.node), s.gathered, s.node);
     let t = take_up(out, work, steps, s.node, s.end, s.place, s.noted, s.edition);
     match t {
-        Taken::Over(n) => Turn::Over(n),
-        Taken::Finished(r) => {
+        TakenUp::Over(n) => Turn::Over(n),
+        TakenUp::Finished(r) => {
             // Each of its records would be asked once more, in vain.
-            Turn::Finished(s.end, r, s.noted, tries + (s.end - s.node))
+            Turn::Finished {
+                end: s.end,
+                place: r,
+                noted: s.noted,
+                tries: tries + (s.end - s.node),
+            }
         }
-        Taken::Quiet(f, r) => Turn::Finished(f, r, s.noted + 1, tries + 1 + (f - s.node)),
-        Taken::Stepped(r, m) => Turn::Again(r, m, tries + (m - s.noted)),
+        TakenUp::Quiet(f, r) => Turn::Finished {
+            end: f,
+            place: r,
+            noted: s.noted + 1,
+            tries: tries + 1 + (f - s.node),
+        },
+        TakenUp::Stepped(r, m) => Turn::Again {
+            place: r,
+            noted: m,
+            tries: tries + (m - s.noted),
+        },
     }
 }
 
@@ -592,10 +622,10 @@ fn opens(k: u8, j: u8) -> bool
     ensures { λ r. ⌜ r ≡ (eqb j k && isNode k) ⌝ }
 {
     if j == k {
-        if k == 2 {
+        if k == record::SUM {
             return true;
         }
-        return k == 3;
+        return k == record::PRODUCT;
     }
     false
 }
@@ -607,10 +637,10 @@ fn close_up(out: &mut [u8], k: u8, m: usize, d: usize)
     ensures { λ _. ⌜ ((t : Tree) (l : List Tree) (e : ℕ) → Gathers t l (now (out .entry)) d e k m
         → Closed (closedOver t l) (now (out .entry)) (now (out .exit)) d e) ⌝ }
 {
-    if k < 2 {
+    if k < record::SUM {
         return;
     }
-    if 3 < k {
+    if record::PRODUCT < k {
         note::close(out, d);
         return;
     }

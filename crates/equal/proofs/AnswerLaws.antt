@@ -1,4 +1,4 @@
--- Equality either way round, and the answer of a comparison as yes or no, and as a number. Assumes nothing.
+-- Equality either way round, and the answer of a comparison as yes or no, and as a number.
 use Prim.Native.Nat.{ℕ, _≤_, _<_}
 use mathlib.Core.Path.{_≡_, refl}
 use mathlib.Core.Bool.{Bool, true, false}

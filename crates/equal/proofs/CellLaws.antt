@@ -1,5 +1,5 @@
 -- The two cells that the levels of a comparison share: written both, they hold what was written; one is read past the writing of the other. By
--- cases on the cells. Assumes nothing.
+-- cases on the cells.
 use Prim.Native.Nat.{ℕ}
 use mathlib.Core.Path.{_≡_, refl}
 use mathlib.Core.List.{List, [], _∷_}

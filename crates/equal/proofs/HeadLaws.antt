@@ -1,13 +1,13 @@
 -- Trees that begin otherwise are not equal. First records that differ in kind or in number are those of different trees, since what is
 -- said of equal nodes is the same; and powers whose bases differ are different. So a tree that begins otherwise is passed by where
--- one is looked for, and rests that are whole trees and begin otherwise are not equal. Assumes nothing.
-use Prim.Native.Nat.{ℕ, zero, suc, _+_, _*_, _≤_, _<_}
+-- one is looked for, and rests that are whole trees and begin otherwise are not equal.
+use Prim.Native.Nat.{ℕ, _+_, _*_, _≤_, _<_}
 use mathlib.Core.Path.{_≡_, refl, sym, ap, _∙_, subst}
 use mathlib.Core.Bool.{Bool, true, false, cond, not, _&&_}
 use mathlib.Core.List.{List}
 use native.Mathlib.Decide.{decLe}
 use native.Mathlib.Omega.{arith}
-use borrow.Author.Tests.{eq-eqb, eqb-true, eqb-false}
+use borrow.Author.Tests.{eq-eqb, eqb-true, eqb-false, not-true}
 use lib.ListN.{length}
 use lib.IntN.{pos}
 use lib.Dec.{eqb}
@@ -26,7 +26,7 @@ use Rattle.split.proofs.SplitLaws.{no-integer, term-integer, term-other}
 use Rattle.equal.specs.Head.{sameHead, beginAlike, isCandidate, isWhole, hasTwo, restsDiffer}
 use Rattle.equal.proofs.AnswerLaws.{equal-turned}
 use Rattle.equal.proofs.RestLaws.{integer-apart}
-use Rattle.equal.proofs.TwoLaws.{not-false, positive, two-rest, product-apart}
+use Rattle.equal.proofs.TwoLaws.{positive, two-rest, product-apart}
 use Rattle.equal.proofs.SameLaws.{kinds-differ, leaf-records, leaves-equal, leaves-differ, powers-differ}
 
 -- the base of a power stands in the table
@@ -103,7 +103,7 @@ whole-no-product : (s : List ℕ) (j : ℕ) → isWhole s j ≡ true → kind s 
 unfolding isWhole
 whole-no-product s j e =
     let b = and-both (not (eqb (kind s j) 0)) (not (eqb (kind s j) 3)) e in
-    eqb-false (kind s j) 3 (not-false (eqb (kind s j) 3) (b .1))
+    eqb-false (kind s j) 3 (not-true (eqb (kind s j) 3) (b .1))
 
 pub product-if : (s : List ℕ) (i : ℕ) → isWhole s i ≡ false → eqb (kind s i) 0 ≡ false → kind s i ≡ 3
 unfolding isWhole
@@ -119,8 +119,8 @@ module _ {how : Tree → ℕ} {s : List ℕ} where
   unfolding isWhole
   whole-term {i} {t} h e =
       let b = and-both (not (eqb (kind s i) 0)) (not (eqb (kind s i) 3)) e in
-      let integer = eqb-false (kind s i) 0 (not-false (eqb (kind s i) 0) (b .0)) in
-      let product = eqb-false (kind s i) 3 (not-false (eqb (kind s i) 3) (b .1)) in
+      let integer = eqb-false (kind s i) 0 (not-true (eqb (kind s i) 0) (b .0)) in
+      let product = eqb-false (kind s i) 3 (not-true (eqb (kind s i) 3) (b .1)) in
       term-other t h (positive (kind s i) integer) product
 
   whole-rest : {i : ℕ} {t : Tree} → Told how s i t → isWhole s i ≡ true → termOf t .rest ≡ t
@@ -137,7 +137,7 @@ module _ {how : Tree → ℕ} {s : List ℕ} where
   unfolding isWhole
   one-unlike {i} {j} {t} {u} h g k e =
       let b = and-both (not (eqb (kind s j) 0)) (not (eqb (kind s j) 3)) e in
-      let other = positive (kind s j) (eqb-false (kind s j) 0 (not-false (eqb (kind s j) 0) (b .0))) in
+      let other = positive (kind s j) (eqb-false (kind s j) 0 (not-true (eqb (kind s j) 0) (b .0))) in
       let unit = term-integer t h (omega arith) .1 in
       rw (unit .1, whole-rest g e) (integer-apart (unit .0) (pos 1) u (no-integer g other))
 
@@ -159,7 +159,7 @@ module _ {how : Tree → ℕ} {s : List ℕ} where
           → equal (termOf t .rest) (termOf u .rest) ≡ false
       by true w true p z f x y e = equal-turned (termOf t .rest) (termOf u .rest) ∙ two-unlike g h (eqb-true _ _ p) e w
       by true w false p true f x y e = equal-turned (termOf t .rest) (termOf u .rest) ∙ one-unlike g h (eqb-true _ _ f) w
-      by true w false p false f x y e = rw (whole-rest h w, whole-rest g (whole-if s j f p)) (begins-differ h g (not-false _ e))
+      by true w false p false f x y e = rw (whole-rest h w, whole-rest g (whole-if s j f p)) (begins-differ h g (not-true _ e))
       by false w p q z f true y e = one-unlike h g (eqb-true _ _ y) e
       by false w p q z f false y e =
           let b = and-both (isWhole s j) (hasTwo s i) e in

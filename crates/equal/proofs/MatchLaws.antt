@@ -1,5 +1,5 @@
 -- Members matched one after the other: each takes an equal one away from those that are unticked, so what is left to match says what
--- the whole does; equally many on both sides, none is left in the end. Assumes nothing.
+-- the whole does; equally many on both sides, none is left in the end.
 use Prim.Native.Nat.{ℕ, _+_, _-_, _≤_, _<_}
 use mathlib.Core.Path.{_≡_, refl, sym, ap, _∙_, subst}
 use mathlib.Core.Bool.{Bool, true, false}

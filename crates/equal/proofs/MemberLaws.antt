@@ -1,6 +1,6 @@
 -- The members that are matched stand behind a tree's record: those of a sum or a product, the base of a power, none of a leaf. Two trees that
 -- begin alike are equal where these are the same multiset and, of powers, the exponents agree, which stand behind them. By cases on the
--- kind of the trees. Assumes nothing.
+-- kind of the trees.
 use Prim.Native.Nat.{ℕ, _+_, _-_, _*_, _≤_, _<_}
 use mathlib.Core.Path.{_≡_, refl, sym, ap, _∙_, subst}
 use mathlib.Core.Bool.{Bool, true, false, cond}

@@ -1,6 +1,5 @@
 -- Two trees that stand in tables, compared by their first records: of different kinds they are not equal; leaves are equal where
 -- their numbers are, powers where bases and exponents are. By the evidence of equality, and by cases on the tree that a record tells.
--- Assumes nothing.
 use Prim.Native.Nat.{ℕ, _+_, _-_, _*_, _≤_, _<_}
 use mathlib.Core.Path.{_≡_, refl, sym, ap, _∙_, subst}
 use mathlib.Core.Bool.{Bool, true, false, _&&_}
@@ -9,34 +8,21 @@ use native.Mathlib.Omega.{arith}
 use borrow.Author.Tests.{eq-eqb, ne-eqb}
 use lib.ListN.{length}
 use lib.Dec.{eqb}
-use lib.IntN.{ℤ}
-use Rattle.paper.specs.Bytes.{word, signed}
 use Rattle.paper.specs.Record.{kind, bits}
 use Rattle.note.specs.Noted.{bitsBy}
+use Rattle.number.proofs.NumLaws.{same-number}
 use Rattle.paper.specs.Tree.{Tree, Forest, integer, symbol, sum, product, power, count, records, toList}
-use Rattle.paper.specs.WellFormed.{InRange}
-use Rattle.paper.specs.Equal.{eqZ, equal, sameBag, onInteger, onSymbol, onPower}
-use Rattle.paper.proofs.Tests.{not-so, eqZ-self}
-use Rattle.paper.proofs.EncodeLaws.{signed-word}
+use Rattle.paper.specs.Equal.{equal, sameBag, onInteger, onSymbol, onPower}
+use Rattle.paper.proofs.Tests.{not-so}
 use Rattle.paper.proofs.EqualView.{Same, Sames, Taken, here, there, s-integer, s-symbol, s-sum, s-product, s-power, s-nil, s-cons}
 use Rattle.paper.proofs.EqualView.{same-view, matched-view, same-records}
 use Rattle.paper.proofs.Equality.{matched-bag}
 use Rattle.note.proofs.ToldLaws.{Seen, an-integer, a-symbol, a-sum, a-product, a-power, seen-power}
-use Rattle.paper.specs.Standing.{kindNumber}
 use Rattle.split.specs.Standing.{Told}
+use Rattle.note.proofs.KeyLaws.{same-kind}
 use Rattle.note.proofs.ToldLaws.{seen, kind-number, bits-number, tree-within, power-tree}
 use Rattle.equal.specs.Matching.{matchOf}
-use Rattle.equal.specs.declared.Match.{Match}
 use Rattle.equal.specs.declared.Match.the-variants.{Different, Ends}
-
--- equal trees are of one kind
-pub same-kind : {t u : Tree} → Same t u → kindNumber t ≡ kindNumber u
-unfolding kindNumber
-same-kind s-integer = refl
-same-kind s-symbol = refl
-same-kind (s-sum r) = refl
-same-kind (s-product r) = refl
-same-kind (s-power r) = refl
 
 pub taken-length : {u : Tree} {l m : List Tree} → Taken u l m → length l ≡ 1 + length m
 taken-length here = omega arith
@@ -122,11 +108,8 @@ module _ {how : Tree → ℕ} {a : List ℕ} {i : ℕ} {b : List ℕ} {j : ℕ} 
     unfolding equal onInteger onSymbol
     leaves-equal e = by t u h g (seen h) (seen g)
       where
-        integers : (z y : ℤ) → InRange z → InRange y → word z ≡ word y → eqZ z y ≡ true
-        integers z y v w q = subst (λ x. eqZ z x ≡ true) (sym (signed-word z v) ∙ ap signed q ∙ signed-word y w) (eqZ-self z)
-
         by : (t u : Tree) → Told how a i t → Told how b j u → Seen how a i t → Seen how b j u → equal t u ≡ true
-        by (integer μ z) (integer ν y) h g (an-integer c d v) (an-integer p q w) = integers z y v w (sym d ∙ e ∙ q)
+        by (integer μ z) (integer ν y) h g (an-integer c d v) (an-integer p q w) = same-number z y v w (sym d ∙ e ∙ q)
         by (integer μ z) (symbol ν y) h g (an-integer c d v) (a-symbol p q w) = absurd (omega arith)
         by (integer μ z) (sum ν y) h g (an-integer c d v) (a-sum p n o w m) = absurd (omega arith)
         by (integer μ z) (product ν y) h g (an-integer c d v) (a-product p n o w m) = absurd (omega arith)

@@ -1,20 +1,19 @@
 -- A product that is seen to have two members besides its integers: a symbol, whose record is its own, and then a tree that is no integer,
 -- from the first member on or after an integer. Its rest is then the product of two or more, and equals no tree that is no product.
--- Assumes nothing.
-use Prim.Native.Nat.{ℕ, zero, suc, _+_, _-_, _*_, _≤_, _<_}
-use mathlib.Core.Path.{_≡_, refl, sym, ap, _∙_, subst}
+use Prim.Native.Nat.{ℕ, zero, suc, _+_, _-_, _*_, _≤_}
+use mathlib.Core.Path.{_≡_, refl, ap, _∙_, subst}
 use mathlib.Core.Bool.{Bool, true, false, cond, not, _&&_}
 use mathlib.Core.List.{List, _∷_}
 use mathlib.Core.Option.{none, some}
 use native.Mathlib.Omega.{arith}
-use borrow.Author.Tests.{eqb-true, eqb-false, ltb-false}
+use borrow.Author.Tests.{eqb-true, eqb-false, ltb-false, not-true}
 use lib.ListN.{length}
 use lib.Dec.{eqb, ltb}
 use Rattle.paper.specs.Record.{kind, countIn}
 use Rattle.paper.specs.Tree.{Tree, Forest, integer, symbol, sum, product, power, nil, cons, count, records, toList, ofList}
 use Rattle.paper.specs.Equal.{equal, onProduct}
 use Rattle.paper.specs.Rules.{asInteger, withOther, othersOf, productOf, collapse, productTerm, termOf}
-use Rattle.paper.proofs.Tests.{and-both, true-not-false}
+use Rattle.paper.proofs.Tests.{and-both}
 use Rattle.paper.proofs.EncodeLaws.{count-records}
 use Rattle.note.proofs.ToldLaws.{Seen, seen-integer, seen-symbol, seen-product, a-product}
 use Rattle.note.proofs.ToldLaws.{seen, tree-within, product-trees, first-tree, other-trees}
@@ -25,10 +24,6 @@ use Rattle.equal.specs.Head.{twoAt, hasTwo}
 -- a list of two or more
 abbrev Two : List Tree → Type 0
 Two l = (t : Tree) × (u : Tree) × (m : List Tree) × (l ≡ t ∷ u ∷ m)
-
-pub not-false : (x : Bool) → not x ≡ true → x ≡ false
-not-false true e = absurd (true-not-false e refl)
-not-false false e = refl
 
 pub positive : (k : ℕ) → (k ≡ 0 → ⊥) → 1 ≤ k
 positive zero h = absurd (h refl)
@@ -56,7 +51,7 @@ module _ {how : Tree → ℕ} {s : List ℕ} where
       let v = seen-symbol (seen (first-tree h)) k in
       let one : records t ≡ 1 = ap records (v .2) in
       let at : ToldTrees how s (i + 1) (n - 1) (cons u g) = subst (λ m. ToldTrees how s (i + m) (n - 1) (cons u g)) one (other-trees h) in
-      let later : kind s (i + 1) ≡ 0 → ⊥ = eqb-false _ _ (not-false (eqb (kind s (i + 1)) 0) (b .1)) in
+      let later : kind s (i + 1) ≡ 0 → ⊥ = eqb-false _ _ (not-true (eqb (kind s (i + 1)) 0) (b .1)) in
       let first : asInteger t ≡ none = no-integer (first-tree h) (omega arith) in
       let second : asInteger u ≡ none = no-integer (first-tree at) (positive (kind s (i + 1)) later) in
       (t, u, othersOf (toList g), rw (first, second) refl)
@@ -81,7 +76,7 @@ module _ {how : Tree → ℕ} {s : List ℕ} where
           → cond z (not (ltb (countIn s i) 3) && twoAt s (i + 2)) (twoAt s (i + 1)) ≡ true → Two (othersOf (toList f))
       by true z e =
           let b = and-both (not (ltb (countIn s i) 3)) (twoAt s (i + 2)) e in
-          let three : 3 ≤ countIn s i = ltb-false (countIn s i) 3 (not-false (ltb (countIn s i) 3) (b .0)) in
+          let three : 3 ≤ countIn s i = ltb-false (countIn s i) 3 (not-true (ltb (countIn s i) 3) (b .0)) in
           let next : i + 2 ≡ i + 1 + 1 = omega arith in
           after-integer f (product-trees h) (eqb-true _ _ z) three (subst (λ m. twoAt s m ≡ true) next (b .1))
       by false z e = two-others f (product-trees h) (product-room h .1) e

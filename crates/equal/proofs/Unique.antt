@@ -1,6 +1,6 @@
 -- Two answers that meet the contract of the equality test, as the check reads it from the source, are the same: the contract gives the
 -- paper's answer, and its fields are those of the code's. So are two of the comparisons inside: trees stand at the records, and the answer
--- is the paper's of those trees. Of the ticks nothing is said. Assumes nothing.
+-- is the paper's of those trees. Of the ticks nothing is said.
 use mathlib.Core.Path.{_≡_, sym, ap, _∙_}
 use Rattle.paper.specs.Answers as paper
 use Rattle.paper.specs.Once.{Once}

@@ -3,7 +3,7 @@
 
 // The edition that is asked for, a digit; 0, which is no edition, where the argument is anything else.
 fn edition() -> usize {
-    if os::arg_count() < 2 {
+    if os::arg_count() <= 1 {
         return 1;
     }
     let mut word = [0u8; 1];

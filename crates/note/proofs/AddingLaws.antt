@@ -1,5 +1,5 @@
 -- A node's note from its members' notes, as code adds them up: what has been added and what the members still to come add make the node's
--- note, modulo 2^64 (SumLaws). Assumes nothing.
+-- note, modulo 2^64 (SumLaws).
 use Prim.Native.Nat.{ℕ, _+_, _*_, _%_, _≤_, _<_}
 use mathlib.Core.Path.{_≡_, refl, sym, ap, _∙_}
 use mathlib.Core.List.{List}

@@ -1,5 +1,5 @@
 -- A walk over parts of which no two have one key removes nothing, and leaves them as they are: a part takes up another only where
--- their keys are the same. By induction along the walk. Assumes nothing.
+-- their keys are the same. By induction along the walk.
 use Prim.Native.Nat.{ℕ, zero, suc}
 use mathlib.Core.Path.{_≡_, refl, sym, ap, _∙_}
 use mathlib.Core.List.{List, [], _∷_, _++_, append-assoc, append-nil}

@@ -1,5 +1,5 @@
 -- The key of a member's base: a power's base stands behind its record, any other tree is its own; an integer has the key 1, any other base
--- its note. Assumes nothing.
+-- its note.
 use Prim.Native.Nat.{ℕ, _+_, _≤_, _<_}
 use mathlib.Core.Path.{_≡_, refl}
 use mathlib.Core.List.{List}

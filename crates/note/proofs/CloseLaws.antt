@@ -1,5 +1,5 @@
 -- A node that was written with 0 in place of its note, behind it its members, noted: it can be closed, and closing it makes its records
--- those of the noted node, wherever they stand. The note is put over eight bytes of the node's own record. Assumes nothing.
+-- those of the noted node, wherever they stand. The note is put over eight bytes of the node's own record.
 use Prim.Native.Nat.{ℕ, _+_, _*_, _≤_, _<_}
 use mathlib.Core.Path.{_≡_, sym, ap, _∙_}
 use mathlib.Core.List.{List, _++_, append-assoc}

@@ -1,5 +1,5 @@
 -- Equal trees have equal keys and equal notes, and a note tells records, weight and key. What members add to a key is a total over
--- them, and taking a member out of a list lowers a total by its part, whatever the part is; so nothing is asked of `mix` and `strewn`. Assumes nothing.
+-- them, and taking a member out of a list lowers a total by its part, whatever the part is; so nothing is asked of `mix` and `strewn`.
 use Prim.Native.Nat.{ℕ, _+_, _*_, _/_, _%_, _<_}
 use mathlib.Core.Path.{_≡_, refl, sym, ap, _∙_}
 use mathlib.Core.Bool.{Bool, true, false, cond}

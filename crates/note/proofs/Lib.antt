@@ -2,7 +2,6 @@ pub mod KeyLaws
 pub mod RestLaws
 pub mod PartLaws
 pub mod ApartLaws
-pub mod StillLaws
 pub mod LeafLaws
 pub mod NotedLaws
 pub mod ToldLaws
@@ -14,9 +13,6 @@ pub mod TreeUnique
 pub mod RelabelLaws
 pub mod RestingLaws
 pub mod BaseLaws
-pub mod KeysLaws
 pub mod WeightLaws
-pub mod SoughtLaws
-pub mod KeepLaws
 pub mod CloseLaws
 pub mod Unique

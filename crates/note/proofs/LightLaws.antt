@@ -1,6 +1,6 @@
 -- Light trees that stand in a table, TreeBy: they have few records, so what ToldLaws says of trees told of holds of them; and light are, again,
 -- the trees behind a light tree's record, the first of light trees, and the others, since each adds to the weight of the whole. At the end,
--- the note of a noted tree, read off its record. Assumes nothing.
+-- the note of a noted tree, read off its record.
 use Prim.Native.Nat.{ℕ, _+_, _-_, _%_, _≤_, _<_}
 use mathlib.Core.Path.{_≡_, refl, sym, ap, _∙_, subst}
 use mathlib.Core.List.{List}

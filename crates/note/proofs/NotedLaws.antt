@@ -1,7 +1,7 @@
 -- Records of trees told of by h: how long they are, that with 0 for every node they are the paper's, and what a tree's own record tells
 -- where it stands before the trees behind it, whatever number it holds. As of the paper's own records, by induction on the tree; the
--- record's fields are read at its own bytes. Assumes nothing.
-use Prim.Native.Nat.{ℕ, _+_, _-_, _*_, _^_, _≤_, _<_}
+-- record's fields are read at its own bytes.
+use Prim.Native.Nat.{ℕ, _+_, _-_, _*_, _≤_, _<_}
 use mathlib.Core.Path.{_≡_, refl, sym, ap, _∙_}
 use mathlib.Core.List.{List, _++_, append-nil}
 use native.Mathlib.Omega.{arith}
@@ -15,12 +15,9 @@ use Rattle.paper.specs.Record.{kind, countIn, markIn, bits}
 use Rattle.paper.specs.Table.{recordOf, encode, encodes}
 use Rattle.paper.specs.Standing.{Stands, kindNumber}
 use Rattle.paper.proofs.EncodeLaws.{record-length, records-pos, count-records, kind-there, count-there, mark-there, bits-there}
+pub use Rattle.paper.proofs.Seen.{exponent-word}
 use Rattle.paper.proofs.Stands.{stands-first, stands-next}
 use Rattle.note.specs.Noted.{encodeBy, encodesBy, countOf, inner, bitsBy}
-
-pub exponent-word : (e : ℕ) → e < 2 ^ 63 → word (pos e) ≡ e
-unfolding word
-exponent-word e l = omega arith
 
 -- with 0 for every node they are the paper's
 mutual

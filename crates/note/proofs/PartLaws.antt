@@ -1,5 +1,5 @@
 -- Where one part takes up another their keys are the same, and the key stays: rests, or bases, that are equal have equal notes, and
--- all integer bases have one key. Assumes nothing.
+-- all integer bases have one key.
 use Prim.Native.Nat.{ℕ}
 use mathlib.Core.Path.{_≡_, refl, sym, ap, _∙_}
 use mathlib.Core.Bool.{Bool, true, false}

@@ -1,7 +1,7 @@
 -- Other numbers in the nodes of a tree that stands in a table, record by record from the last to the first. What stands from a record of a
 -- tree on is again trees one after the other: those behind the first one's record, then the others. So, when a record is reached,
 -- the table is as it was up to it, and behind it stand these trees with their new numbers; a node's members are the first of
--- them. Assumes nothing.
+-- them.
 use Prim.Native.Nat.{ℕ, zero, suc, _+_, _-_, _*_, _≤_, _<_}
 use mathlib.Core.Path.{_≡_, refl, sym, ap, _∙_, subst}
 use mathlib.Core.List.{List, [], _∷_, _++_, append-assoc, append-nil}
@@ -222,7 +222,10 @@ module _ {g : Tree → ℕ} {s₀ : List ℕ} {i n : ℕ} {t : Tree} (q : Whole 
       let u = next j (omega arith) .tree in
       ap (λ k. drop k s₀) e
       ∙ sym (drop-drop 16 ((i + j) * 16) s₀)
-      ∙ ap (drop 16) (stood j (omega arith) ∙ ap (λ (x : List ℕ). x ++ rest) (split g j (omega arith)) ∙ append-assoc (own u (bitsBy g u)) (encodesBy g (trees (suc j))) rest)
+      ∙ ap (drop 16)
+      (stood j (omega arith)
+      ∙ ap (λ (x : List ℕ). x ++ rest) (split g j (omega arith))
+      ∙ append-assoc (own u (bitsBy g u)) (encodesBy g (trees (suc j))) rest)
       ∙ drop-at (own u (bitsBy g u)) (encodesBy g (trees (suc j)) ++ rest) 16 (own-length u (bitsBy g u))
 
   stood-before : (j : ℕ) (l : j < n) → take ((i + suc j) * 16) s₀ ≡ take ((i + j) * 16) s₀ ++ own (next j l .tree) (bitsBy g (next j l .tree))
@@ -232,7 +235,10 @@ module _ {g : Tree → ℕ} {s₀ : List ℕ} {i n : ℕ} {t : Tree} (q : Whole 
       ap (λ k. take k s₀) e
       ∙ take-add ((i + j) * 16) 16 s₀
       ∙ ap (λ (x : List ℕ). take ((i + j) * 16) s₀ ++ x)
-      (ap (take 16) (stood j (omega arith) ∙ ap (λ (x : List ℕ). x ++ rest) (split g j l) ∙ append-assoc (own u (bitsBy g u)) (encodesBy g (trees (suc j))) rest)
+      (ap (take 16)
+      (stood j (omega arith)
+      ∙ ap (λ (x : List ℕ). x ++ rest) (split g j l)
+      ∙ append-assoc (own u (bitsBy g u)) (encodesBy g (trees (suc j))) rest)
       ∙ take-at (own u (bitsBy g u)) (encodesBy g (trees (suc j)) ++ rest) 16 (own-length u (bitsBy g u)))
 
   turn-within : (j : ℕ) → j < n → (i + j) * 16 + 16 ≤ length s₀
@@ -264,7 +270,8 @@ module _ {g : Tree → ℕ} {s₀ : List ℕ} {i n : ℕ} {t : Tree} (q : Whole 
       from-here : drop ((i + j) * 16) s ≡ own (next j l .tree) (bitsBy g (next j l .tree)) ++ (encodesBy h (trees (suc j)) ++ rest)
       from-here =
           ap (drop ((i + j) * 16)) reached
-          ∙ drop-at (take ((i + j) * 16) s₀) (own (next j l .tree) (bitsBy g (next j l .tree)) ++ (encodesBy h (trees (suc j)) ++ rest)) ((i + j) * 16) front-length
+          ∙ drop-at (take ((i + j) * 16) s₀) (own (next j l .tree) (bitsBy g (next j l .tree)) ++ (encodesBy h (trees (suc j)) ++ rest))
+          ((i + j) * 16) front-length
 
       turn-kind : kind s (i + j) ≡ kindNumber (next j l .tree)
       turn-kind =

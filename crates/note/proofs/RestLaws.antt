@@ -1,6 +1,6 @@
 -- The note of a product without its integers: the product's own note less their notes, modulo 2^64. Each integer adds to the product's
 -- note just what its own note has: one record, weight 1, and its key, for a leaf adds its key. Keys wrap around at the top of the 64
--- bits, so one difference does all three. Assumes nothing.
+-- bits, so one difference does all three.
 use Prim.Native.Nat.{ℕ, _+_, _%_, _≤_, _<_}
 use mathlib.Core.Path.{_≡_, refl, sym, ap, _∙_}
 use mathlib.Core.List.{List, [], _∷_}

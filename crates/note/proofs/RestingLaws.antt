@@ -172,7 +172,9 @@ module _ {s : List ℕ} {μ : ℕ} {f : Forest} {at left kept last out : ℕ} (a
 module _ {s : List ℕ} {i n μ : ℕ} {f : Forest} (q : Known s i 3 n (product μ f)) (two : count f ≡ 2) where
   pub pair-start : Resting s μ f (i + 1) 2 0 i 0
   unfolding inner kindNumber countOf
-  pair-start = resting-start (i + 1) 2 i (members-by (product μ f) note-tells (q .there) (omega arith) (omega arith) 2 (sym two ∙ sym (count-number (noted-told (q .there)))))
+  pair-start =
+      let counted = sym two ∙ sym (count-number (noted-told (q .there))) in
+      resting-start (i + 1) 2 i (members-by (product μ f) note-tells (q .there) (omega arith) (omega arith) 2 counted)
 
   pub two-left : 0 < 2
   two-left = omega arith

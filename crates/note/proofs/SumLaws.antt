@@ -1,6 +1,6 @@
 -- Notes of trees that stand one after the other, added up as code does it: what has been added and what the trees still to come add agree
 -- with one number, modulo 2^64, whatever the nodes' records hold. A tree adds by its kind and its note, and ends as many records later
--- as its note says. Assumes nothing.
+-- as its note says.
 use Prim.Native.Nat.{ℕ, _+_, _-_, _%_, _<_}
 use mathlib.Core.Path.{_≡_, sym, ap, _∙_, subst}
 use mathlib.Core.List.{List}

@@ -1,6 +1,6 @@
 -- Trees that stand in a table, told of by any h: where their records lie, what the first record tells, which tree it is by the kind of
 -- that record, that where trees stand their members do, and that no two trees stand at one record. As of the paper's own records, by
--- cases on the tree; plain and noted trees are told of so. Assumes nothing.
+-- cases on the tree; plain and noted trees are told of so.
 use Prim.Native.Nat.{ℕ, _+_, _-_, _*_, _^_, _%_, _≤_, _<_}
 use mathlib.Core.Path.{_≡_, refl, sym, ap, _∙_, subst}
 use mathlib.Core.List.{List, [], _++_}

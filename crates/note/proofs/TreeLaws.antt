@@ -1,5 +1,5 @@
 -- The note of a plain tree that stands in a table. A leaf's comes from its record; a node's is that of its record by itself, with what the
--- trees behind it add, a power's base among them, and last what an exponent adds, modulo 2^64. Assumes nothing.
+-- trees behind it add, a power's base among them, and last what an exponent adds, modulo 2^64.
 use Prim.Native.Nat.{ℕ, _+_, _-_, _*_, _%_, _≤_, _<_}
 use mathlib.Core.Path.{_≡_, refl, sym, ap, _∙_, subst}
 use mathlib.Core.List.{List, append-nil}

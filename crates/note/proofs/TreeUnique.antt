@@ -1,5 +1,5 @@
 -- The contract of `tree_note`, as the check reads it off the source, leaves one answer open: some tree stands at the record, and the answer
--- is its note. Assumes nothing.
+-- is its note.
 use mathlib.Core.Path.{sym, _∙_}
 use Rattle.paper.specs.Once.{Once}
 use Rattle.note.proofs.tree.tree_note.Reads as tree-note

@@ -1,10 +1,17 @@
 -- Each contract, as the check reads it off the source, leaves one answer open and no other, and one list of bytes: some tree stands at the
--- record, or some keys are kept, and both ends of a call equal one definition of these. What `still` leaves in its scratch is not said.
--- Assumes nothing.
+-- record, and both ends of a call equal one definition of it.
 use mathlib.Core.Path.{refl, sym, _∙_}
 use mathlib.Core.List.{List}
 use Prim.Native.Nat.{ℕ}
 use Rattle.paper.specs.Once.{Once, OnceLeft}
+use Rattle.note.proofs.records_of.Reads as records-of
+use Rattle.note.proofs.records_of.Kinds as records-of-kinds
+use Rattle.note.proofs.weight_of.Reads as weight-of
+use Rattle.note.proofs.weight_of.Kinds as weight-of-kinds
+use Rattle.note.proofs.key_of.Reads as key-of
+use Rattle.note.proofs.key_of.Kinds as key-of-kinds
+use Rattle.note.proofs.odd_key.Reads as odd-key
+use Rattle.note.proofs.odd_key.Kinds as odd-key-kinds
 use Rattle.note.proofs.leaf_note.Reads as leaf-note
 use Rattle.note.proofs.leaf_note.Kinds as leaf-note-kinds
 use Rattle.note.proofs.note_at.Reads as note-at
@@ -15,18 +22,24 @@ use Rattle.note.proofs.base_note.Reads as base-note
 use Rattle.note.proofs.base_note.Kinds as base-note-kinds
 use Rattle.note.proofs.part_key.Reads as part-key
 use Rattle.note.proofs.part_key.Kinds as part-key-kinds
-use Rattle.note.proofs.is_new.Reads as is-new
-use Rattle.note.proofs.is_new.Kinds as is-new-kinds
-use Rattle.note.proofs.still.Reads as still
-use Rattle.note.proofs.still.Kinds as still-kinds
 use Rattle.note.proofs.close.Reads as close
 use Rattle.note.proofs.close.Kinds as close-kinds
 use Rattle.note.proofs.note_all.Reads as note-all
 use Rattle.note.proofs.note_all.Kinds as note-all-kinds
 use Rattle.note.proofs.strip.Reads as strip
 use Rattle.note.proofs.strip.Kinds as strip-kinds
-use Rattle.note.proofs.keep_key.Reads as keep-key
-use Rattle.note.proofs.keep_key.Kinds as keep-key-kinds
+
+pub records-of-once : Once 0 records-of-kinds.ps records-of-kinds.r records-of.Pre records-of.Post
+records-of-once κs a v v' x x' h p q = p ∙ sym q
+
+pub weight-of-once : Once 0 weight-of-kinds.ps weight-of-kinds.r weight-of.Pre weight-of.Post
+weight-of-once κs a v v' x x' h p q = p ∙ sym q
+
+pub key-of-once : Once 0 key-of-kinds.ps key-of-kinds.r key-of.Pre key-of.Post
+key-of-once κs a v v' x x' h p q = p ∙ sym q
+
+pub odd-key-once : Once 1 odd-key-kinds.ps odd-key-kinds.r odd-key.Pre odd-key.Post
+odd-key-once κs a v v' x x' h p q = p ∙ sym q
 
 pub leaf-note-once : Once 0 leaf-note-kinds.ps leaf-note-kinds.r leaf-note.Pre leaf-note.Post
 leaf-note-once κs a v v' x x' h p q = p ∙ sym q
@@ -43,12 +56,6 @@ base-note-once κs a v v' x x' h p q = p (h .0) (h .1) ∙ sym (q (h .0) (h .1))
 pub part-key-once : Once 1 part-key-kinds.ps part-key-kinds.r part-key.Pre part-key.Post
 part-key-once κs a v v' x x' h p q = p (h .0) (h .1) ∙ sym (q (h .0) (h .1))
 
-pub is-new-once : Once 1 is-new-kinds.ps is-new-kinds.r is-new.Pre is-new.Post
-is-new-once κs a v v' x x' h p q = p (h .0) (h .1) ∙ sym (q (h .0) (h .1))
-
-pub still-once : Once 2 still-kinds.ps still-kinds.r still.Pre still.Post
-still-once κs a v v' x x' h p q = p .0 (h .0) (h .1) ∙ sym (q .0 (h .0) (h .1))
-
 pub close-once : OnceLeft 1 close-kinds.ps close-kinds.r close.Pre close.Post (List ℕ) (λ κs x. x .0 .now)
 close-once κs a v v' x x' h p q = (refl, p (h .0) (h .1) ∙ sym (q (h .0) (h .1)))
 
@@ -57,6 +64,3 @@ note-all-once κs a v v' x x' h p q = (refl, p (h .0) (h .1) ∙ sym (q (h .0) (
 
 pub strip-once : OnceLeft 1 strip-kinds.ps strip-kinds.r strip.Pre strip.Post (List ℕ) (λ κs x. x .0 .now)
 strip-once κs a v v' x x' h p q = (refl, p (h .0) (h .1) ∙ sym (q (h .0) (h .1)))
-
-pub keep-key-once : OnceLeft 1 keep-key-kinds.ps keep-key-kinds.r keep-key.Pre keep-key.Post (List ℕ) (λ κs x. x .0 .now)
-keep-key-once κs a v v' x x' h p q = (refl, p ∙ sym q)

@@ -1,5 +1,5 @@
 -- The records of a tree weigh what the tree weighs, whatever its nodes hold in their bytes 8-15: a record's weight depends on its kind alone.
--- By induction on the tree, as of the paper's own records. Assumes nothing.
+-- By induction on the tree, as of the paper's own records.
 use Prim.Native.Nat.{ℕ, _+_}
 use mathlib.Core.Path.{_≡_}
 use mathlib.Core.List.{List, _++_}

@@ -6,16 +6,19 @@ ghost use Rattle.paper.specs.Standing.{TreeIn};
 ghost use Rattle.paper.specs.Tree.{Tree, weight};
 ghost use Rattle.note.specs.Note.{note};
 ghost use Rattle.note.specs.Plain.{partsIn};
+use crate::KEY;
+use crate::RECORD_NOTE;
 use crate::added;
 use crate::added_exponent;
 use crate::leaf_note;
+use crate::records_of;
 
 // The number of trees that are added up behind the record i of a node of kind k: its members, or a power's base.
 fn parts(s: &[u8], i: usize, k: u8) -> usize
     requires { ⌜ i * 16 + 16 ≤ length (now s) ⌝ }
     ensures { λ r. ⌜ r ≡ partsIn (now (s .entry)) i k ⌝ }
 {
-    if k < 4 {
+    if k < record::POWER {
         return record::count(s, i);
     }
     1
@@ -28,19 +31,19 @@ fn note_from(s: &&[u8], i: usize) -> u64
     ensures { λ r. ⌜ ((t : Tree) → TreeIn (now (now (s .entry))) i t → weight t < 65536 → r ≡ note t) ⌝ }
 {
     let k = record::kind(*s, i);
-    if k < 2 {
+    if k < record::SUM {
         return leaf_note(k, record::bits(*s, i));
     }
-    let mut sum = 0x1_0001 + k as u64 * 0x1_0000_0000;
+    let mut sum = RECORD_NOTE + k as u64 * KEY;
     let mut at = i + 1;
     let mut left = parts(*s, i, k);
     while 0 < left {
         let n = note_from(s, at);
         sum = std::num::wrapping_add_u64(sum, added(record::kind(*s, at), n));
-        at += (n % 0x1_0000) as usize;
+        at += records_of(n);
         left -= 1;
     }
-    if 3 < k {
+    if record::PRODUCT < k {
         return std::num::wrapping_add_u64(sum, added_exponent(record::bits(*s, at)));
     }
     sum

@@ -1,5 +1,5 @@
 -- The product modulo 2^64 by 32-bit halves, and the turns of repeated squaring. Sums, products and powers keep congruence, so a factor
--- and a base may be reduced first; a multiple of the modulus counts for nothing. Assumes nothing.
+-- and a base may be reduced first; a multiple of the modulus counts for nothing.
 use Prim.Native.Nat.{ℕ, zero, suc, _+_, _*_, _/_, _%_, _^_, _<_}
 use mathlib.Core.Path.{_≡_, sym, ap, _∙_}
 use native.Mathlib.Nat.{add-mod, mod-add-div, pow-suc, pow-zero, lt-of-le-of-lt, mul-le-mul-left, le-of-lt, mul-lt-mul-of-pos-right}

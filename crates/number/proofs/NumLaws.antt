@@ -1,7 +1,7 @@
 -- What `numOf` answers, by cases, and the sum and the product of two signed numbers by their bits. A number's sign is its top bit, so
--- with the signs known an integer's arithmetic is that of natural numbers, which is decided. Assumes nothing.
+-- with the signs known an integer's arithmetic is that of natural numbers, which is decided.
 use Prim.Native.Nat.{ℕ, zero, suc, _+_, _-_, _*_, _/_, _%_, _^_, _<_, _≤_}
-use mathlib.Core.Path.{_≡_, refl, sym, ap, _∙_}
+use mathlib.Core.Path.{_≡_, refl, sym, ap, _∙_, subst}
 use mathlib.Core.Bool.{Bool, true, false, cond}
 use native.Mathlib.Nat.{le-div-iff-mul-le, lt-of-not-le, not-le-of-lt}
 use native.Mathlib.Decide.{decLe, decLt}
@@ -16,9 +16,15 @@ use Rattle.paper.proofs.LikeTermsWF.{fits-true}
 use Rattle.paper.specs.Bytes.{signed, word}
 use Rattle.paper.specs.Rules.{fits}
 use Rattle.paper.specs.WellFormed.{InRange}
+use Rattle.paper.specs.Equal.{eqZ}
+use Rattle.paper.proofs.Tests.{eqZ-self}
 use Rattle.paper.proofs.EncodeLaws.{signed-word, signed-negative}
 use Rattle.number.specs.declared.Num.the-variants.{Is, Out}
 use Rattle.number.specs.Num.{numOf, within, minus}
+
+-- ---- integers of the range are the same where their bits are
+pub same-number : (z y : ℤ) → InRange z → InRange y → word z ≡ word y → eqZ z y ≡ true
+same-number z y v w e = subst (λ x. eqZ z x ≡ true) (sym (signed-word z v) ∙ ap signed e ∙ signed-word y w) (eqZ-self z)
 
 -- ---- what `numOf` answers, and what an answer tells of the integer
 pub numOf-in : (z : ℤ) → InRange z → numOf z ≡ Is (word z)

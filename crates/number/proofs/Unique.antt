@@ -1,5 +1,5 @@
 -- Each contract, as the check reads it off the source, leaves one answer open and no other: two ends of a call that both meet it
--- give the same, since both equal one definition of what was given. Assumes nothing.
+-- give the same, since both equal one definition of what was given.
 use Prim.Native.Nat.{ℕ}
 use mathlib.Core.Path.{refl, sym, _∙_}
 use mathlib.Core.List.{List}
@@ -20,6 +20,8 @@ use Rattle.number.proofs.wrapping_mul.Reads as wrapping-mul
 use Rattle.number.proofs.wrapping_mul.Kinds as wrapping-mul-kinds
 use Rattle.number.proofs.wrapping_pow.Reads as wrapping-pow
 use Rattle.number.proofs.wrapping_pow.Kinds as wrapping-pow-kinds
+use Rattle.number.proofs.write_numbers.Reads as write-numbers
+use Rattle.number.proofs.write_numbers.Kinds as write-numbers-kinds
 
 pub read2-once : Once 1 read2-kinds.ps read2-kinds.r read2.Pre read2.Post
 read2-once κs a v v' x x' h p q = p .0 ∙ sym (q .0)
@@ -44,3 +46,6 @@ wrapping-mul-once κs a v v' x x' h p q = p ∙ sym q
 
 pub wrapping-pow-once : Once 0 wrapping-pow-kinds.ps wrapping-pow-kinds.r wrapping-pow.Pre wrapping-pow.Post
 wrapping-pow-once κs a v v' x x' h p q = p ∙ sym q
+
+pub write-numbers-once : OnceLeft 2 write-numbers-kinds.ps write-numbers-kinds.r write-numbers.Pre write-numbers.Post (List ℕ) (λ κs x. x .0 .now)
+write-numbers-once κs a v v' x x' h p q = (refl, p ∙ sym q)

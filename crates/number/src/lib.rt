@@ -1,10 +1,11 @@
 // Numbers in bytes, and arithmetic on the signed 64-bit range and modulo 2^64. A number is its 64 bits throughout.
 ghost use mathlib.Core.Path.{_≡_};
-ghost use mathlib.Core.List.{_∷_, []};
+ghost use mathlib.Core.List.{_∷_, [], _++_};
 ghost use Prim.Native.Nat.{_+_, _*_, _%_, _^_, _<_, _≤_};
-ghost use lib.ListN.{length};
+ghost use lib.ListN.{length, drop};
 ghost use lib.IntN.{_+ℤ_, _*ℤ_, natAbs};
 ghost use Rattle.paper.specs.Bytes.{le, le2, le8, bytes, signed};
+ghost use Rattle.paper.specs.Calls.{eights};
 ghost use Rattle.stretch.specs.Put.{put};
 ghost use Rattle.number.specs.Num.{numOf, within, minus};
 
@@ -20,11 +21,36 @@ const TOP: u64 = 0x8000_0000_0000_0000;
 // 2^63 - 1: the largest number of the range.
 const MOST: u64 = 0x7fff_ffff_ffff_ffff;
 
+// The bytes of a number.
+pub const SIZE: usize = 8;
+
+// How many values a byte has: what byte 1 of a number counts.
+const BYTE: u64 = 0x100;
+
+// The same of a number in two bytes.
+const BYTE_OF_2: usize = 0x100;
+
+// What bytes 2 to 7 of a number count.
+const BYTE_2: u64 = 0x1_0000;
+
+const BYTE_3: u64 = 0x100_0000;
+
+const BYTE_4: u64 = 0x1_0000_0000;
+
+const BYTE_5: u64 = 0x100_0000_0000;
+
+const BYTE_6: u64 = 0x1_0000_0000_0000;
+
+const BYTE_7: u64 = 0x100_0000_0000_0000;
+
+// What the upper half of a number counts.
+const HALF: u64 = 0x1_0000_0000;
+
 // The number that two bytes stand for.
 fn of_two(b0: u8, b1: u8) -> usize
     ensures { λ r. ⌜ (r ≡ le (b0 ∷ b1 ∷ [])) × (r < 65536) ⌝ }
 {
-    b0 as usize + b1 as usize * 0x100
+    b0 as usize + b1 as usize * BYTE_OF_2
 }
 
 // The number that eight bytes stand for.
@@ -32,13 +58,13 @@ fn of_eight(b0: u8, b1: u8, b2: u8, b3: u8, b4: u8, b5: u8, b6: u8, b7: u8) -> u
     ensures { λ r. ⌜ r ≡ le (b0 ∷ b1 ∷ b2 ∷ b3 ∷ b4 ∷ b5 ∷ b6 ∷ b7 ∷ []) ⌝ }
 {
     b0 as u64
-        + b1 as u64 * 0x100
-        + b2 as u64 * 0x1_0000
-        + b3 as u64 * 0x100_0000
-        + b4 as u64 * 0x1_0000_0000
-        + b5 as u64 * 0x100_0000_0000
-        + b6 as u64 * 0x1_0000_0000_0000
-        + b7 as u64 * 0x100_0000_0000_0000
+        + b1 as u64 * BYTE
+        + b2 as u64 * BYTE_2
+        + b3 as u64 * BYTE_3
+        + b4 as u64 * BYTE_4
+        + b5 as u64 * BYTE_5
+        + b6 as u64 * BYTE_6
+        + b7 as u64 * BYTE_7
 }
 
 // Reads the number in two bytes, as a count of members.
@@ -67,18 +93,18 @@ pub fn read8(s: &[u8], at: usize) -> u64
 }
 
 // The eight bytes of a number.
-pub fn bytes8(v: u64) -> [u8; 8]
+pub fn bytes8(v: u64) -> [u8; SIZE]
     ensures { λ r. ⌜ r ≡ bytes 8 v ⌝ }
 {
     [
-        (v % 256) as u8,
-        (v / 0x100 % 256) as u8,
-        (v / 0x1_0000 % 256) as u8,
-        (v / 0x100_0000 % 256) as u8,
-        (v / 0x1_0000_0000 % 256) as u8,
-        (v / 0x100_0000_0000 % 256) as u8,
-        (v / 0x1_0000_0000_0000 % 256) as u8,
-        (v / 0x100_0000_0000_0000 % 256) as u8,
+        (v % BYTE) as u8,
+        (v / BYTE % BYTE) as u8,
+        (v / BYTE_2 % BYTE) as u8,
+        (v / BYTE_3 % BYTE) as u8,
+        (v / BYTE_4 % BYTE) as u8,
+        (v / BYTE_5 % BYTE) as u8,
+        (v / BYTE_6 % BYTE) as u8,
+        (v / BYTE_7 % BYTE) as u8,
     ]
 }
 
@@ -88,7 +114,7 @@ pub fn write8(d: &mut [u8], at: usize, v: u64)
     ensures { λ _. ⌜ now (d .exit) ≡ put (now (d .entry)) at (bytes 8 v) ⌝ }
 {
     let b = bytes8(v);
-    stretch::copy_bytes(d, at, &b, 0, 8);
+    stretch::copy_bytes(d, at, &b, 0, SIZE);
 }
 
 // Adds two signed numbers: where the signs differ the sum is in range, and else it is where its sign is theirs.
@@ -166,12 +192,12 @@ pub fn mul(a: u64, b: u64) -> Num
 pub fn wrapping_mul(a: u64, b: u64) -> u64
     ensures { λ r. ⌜ r ≡ (a * b) % 2 ^ 64 ⌝ }
 {
-    let a0 = a % 0x1_0000_0000;
-    let a1 = a / 0x1_0000_0000;
-    let b0 = b % 0x1_0000_0000;
-    let b1 = b / 0x1_0000_0000;
-    let m = (a1 * b0 % 0x1_0000_0000 + a0 * b1 % 0x1_0000_0000) % 0x1_0000_0000;
-    std::num::wrapping_add_u64(a0 * b0, m * 0x1_0000_0000)
+    let a0 = a % HALF;
+    let a1 = a / HALF;
+    let b0 = b % HALF;
+    let b1 = b / HALF;
+    let m = (a1 * b0 % HALF + a0 * b1 % HALF) % HALF;
+    std::num::wrapping_add_u64(a0 * b0, m * HALF)
 }
 
 // Raises to a power modulo 2^64, by squaring.
@@ -189,4 +215,16 @@ pub fn wrapping_pow(b: u64, e: u64) -> u64
         left = left / 2;
     }
     acc
+}
+
+// Writes the numbers of an answer, eight bytes each, at the front of the slice; its bytes past them stay.
+pub fn write_numbers(answer: &mut [u8], numbers: &[u64])
+    requires { ⌜ 8 * length (now numbers) ≤ length (now answer) ⌝ }
+    ensures { λ _. ⌜ now (answer .exit) ≡ eights (now (numbers .entry)) ++ drop (8 * length (now (numbers .entry))) (now (answer .entry)) ⌝ }
+{
+    let mut i: usize = 0;
+    while i < numbers.len() {
+        write8(answer, i * SIZE, numbers[i]);
+        i += 1;
+    }
 }

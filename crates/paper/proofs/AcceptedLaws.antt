@@ -1,6 +1,6 @@
 -- Every accepted table holds a tree: its records are one tree's, each without a flaw and so the record of a tree with the members
 -- that stand after it, which are found by induction. Hence a table is accepted exactly when its bytes are the records of a
--- well-formed tree that is not too heavy, and reading and writing are inverse on it. Assumes nothing.
+-- well-formed tree that is not too heavy, and reading and writing are inverse on it.
 use Prim.Native.Nat.{ℕ, zero, suc, _+_, _*_, _^_, _<_, _≤_}
 use mathlib.Core.Path.{_≡_, refl, sym, ap, _∙_}
 use mathlib.Core.Bool.{Bool, true, false}
@@ -16,8 +16,7 @@ use Rattle.paper.specs.Limits.{isLimit}
 use Rattle.paper.specs.Bytes.{Bytes, word, signed}
 use Rattle.paper.specs.Tree.{Tree, Forest, integer, symbol, sum, product, power, nil, cons, count, records, recordses, weight}
 use Rattle.paper.specs.Record.{kind, countIn, markIn, bits, symbolIn, isNode, sound, flaw, arity}
-use Rattle.paper.specs.Verdict.{accepted, recordsIn, tableWeight, treeEnd, isPositive}
-use Rattle.paper.specs.Verdict.{badExponent, verdict}
+use Rattle.paper.specs.Verdict.{accepted, recordsIn, tableWeight, treeEnd, isPositive, badExponent, verdict}
 use Rattle.paper.specs.Refusals.{Spans, no-tree, one-tree}
 use Rattle.paper.specs.WellFormed.{WF, WFs}
 use Rattle.paper.specs.Table.{recordOf, encode, encodes, treeOf}
@@ -25,8 +24,7 @@ use Rattle.paper.proofs.Congruence.{word-lt}
 use Rattle.paper.proofs.EncodeLaws.{record-length, encode-length, records-pos, signed-in-range, word-signed, kind-there, bits-there, records-weight}
 use Rattle.paper.proofs.ReadLaws.{tree-of-written}
 use Rattle.paper.specs.Standing.{TreeIn}
-use Rattle.paper.proofs.Stands.{Stands, stands-both, first-member, other-members, stands-whole}
-use Rattle.paper.proofs.Stands.{sum-record, product-record, power-record}
+use Rattle.paper.proofs.Stands.{Stands, stands-both, first-member, other-members, stands-whole, sum-record, product-record, power-record}
 use Rattle.paper.proofs.SkipLaws.{end-step}
 use Rattle.paper.proofs.SpanLaws.{spans-within, spans-skip, spans-end}
 use Rattle.paper.proofs.FirstLaws.{All}
@@ -225,7 +223,15 @@ holds : (lim : ℕ) → isLimit lim ≡ true → (s : List ℕ) (t : Tree) → W
 holds lim known s t w e l =
     let weighs : tableWeight s ≡ weight t = ap tableWeight e ∙ encode-weight t in
     let light : weight t ≤ lim = omega arith in
-    record { known = known; tree = t; wf = w; light = light; written = e; read = ap treeOf e ∙ tree-of-written t w (omega (arith, limit-small lim known)); weighs = weighs }
+    record {
+      known = known;
+      tree = t;
+      wf = w;
+      light = light;
+      written = e;
+      read = ap treeOf e ∙ tree-of-written t w (omega (arith, limit-small lim known));
+      weighs = weighs;
+    }
 
 records-hold : (lim : ℕ) → isLimit lim ≡ true → (s : List ℕ) (n : ℕ) → Bytes s → length s ≡ 16 * n → n < 65536 → All (Fine s n) 0 n → treeEnd s n 0 ≡ n
     → tableWeight s ≤ lim → Holds lim s
@@ -239,7 +245,8 @@ unfolding recordsIn
 accepted-holds lim s b h =
     let p = accepted-passes lim s h in
     let l = p .long in
-    records-hold lim (p .known) s (recordsIn s) b (omega (arith, l .sixteens)) (omega (arith, l .short, limit-small lim (p .known))) (p .fine) (p .ends) (p .light)
+    records-hold lim (p .known) s (recordsIn s) b (omega (arith, l .sixteens)) (omega (arith, l .short, limit-small lim (p .known)))
+    (p .fine) (p .ends) (p .light)
 
 -- "fine" exactly when the bytes are the records of a well-formed tree that weighs at most the limit
 pub fine-exactly : (lim : ℕ) → isLimit lim ≡ true → (s : List ℕ) → Bytes s

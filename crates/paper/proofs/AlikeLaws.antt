@@ -1,12 +1,12 @@
--- A simplifier that gives on every table of bytes what another gives meets the demands, at each limit and in each edition, and takes over if the other does: nothing is said
--- of it that is not said of its calls. Assumes nothing.
+-- A simplifier that gives on every table of bytes what another gives meets the demands, at each limit and in each edition, and takes over if the other
+-- does: nothing is said of it that is not said of its calls.
 use Prim.Native.Nat.{ℕ}
 use mathlib.Core.Path.{_≡_, sym, subst}
 use mathlib.Core.List.{List}
 use Rattle.paper.specs.Bytes.{Bytes}
-use Rattle.paper.specs.Answers.{Lent, Given, simplified}
+use Rattle.paper.specs.Answers.{Lent, simplified}
 use Rattle.paper.specs.Demands.{Simplifier, Demands, result}
-use Rattle.paper.specs.Takeover.{Repeats, TakesOver, TakesOverInPlace}
+use Rattle.paper.specs.Takeover.{TakesOver, TakesOverInPlace}
 use Rattle.paper.proofs.EncodeLaws.{encode-bytes}
 use Rattle.paper.proofs.DemandLaws.{call-done, simplified-meets}
 use Rattle.paper.proofs.Takeover.{takeover, takeover-in-place}

@@ -1,5 +1,5 @@
 -- What `sameBag` says, for any test that is an equivalence: every element occurs as often in the one list as in the other. Each
--- element of the first list takes away one that it equals, which lowers both counts by the same. Assumes nothing.
+-- element of the first list takes away one that it equals, which lowers both counts by the same.
 use Prim.Native.Nat.{_+_}
 use mathlib.Core.Path.{_≡_, refl, sym, ap, _∙_}
 use mathlib.Core.Bool.{Bool, true, false}

@@ -1,26 +1,29 @@
 -- Without marks in the table of bytes, exactly the records that are marked or flawed are flawed: a mark is a byte 4 or 5 other than zero,
 -- where the search for a stray byte ends, and without a mark the two tables answer alike, since they differ in the columns 4 and 5 alone.
--- So a marked table is refused with 2 at the first such record, and an unmarked one is judged alike. Assumes nothing.
+-- So a marked table is refused with 2 at the first such record, and an unmarked one is judged alike.
 use Prim.Native.Nat.{ℕ, zero, suc, _+_, _*_, _<_, _≤_}
 use mathlib.Core.Path.{_≡_, refl, sym, ap, _∙_, subst}
 use mathlib.Core.Bool.{Bool, true, false, cond, _&&_, _||_, not}
 use mathlib.Core.List.{List, [], _∷_, map}
 use mathlib.Core.Logic.{_⊎_, inl, inr}
 use native.Mathlib.Omega.{arith}
-use borrow.Author.Tests.{eqb-true, eqb-false, eq-eqb, ne-eqb, lt-ltb, le-ltb, ltb-true, ltb-false}
+use borrow.Author.Tests.{eqb-true, eqb-false, eq-eqb, ne-eqb, lt-ltb, ltb-true, ltb-false}
 use lib.Dec.{eqb, ltb}
 use lib.ListN.{length, getD}
 use Rattle.paper.specs.Limits.{isLimit}
 use Rattle.paper.specs.Bytes.{le, le2}
-use Rattle.paper.specs.Record.{kind, countIn, markIn, mayTable, mayTableBefore, mayBe, stray, isNode, Flaw, sound, bad-kind, bad-byte, bad-count, flaw, isFlawed}
+use Rattle.paper.specs.Record.{kind, countIn, markIn, mayTable, mayTableBefore, mayBe, stray}
+use Rattle.paper.specs.Record.{isNode, Flaw, sound, bad-kind, bad-byte, bad-count, flaw, isFlawed}
 use Rattle.paper.specs.Verdict.{Verdict, refused, flawed, recordsIn, badLength, firstFlawed, judgeRecords, judgedTable, verdict}
-use Rattle.paper.specs.BeforeMarks.{mayBeBefore, strayBefore, flawBefore, firstFlawedBefore, judgedBefore, verdictBefore, MarkedOrFlawed, NoneBefore, RefusedBefore}
-use Rattle.paper.proofs.Tests.{or-left, or-right, or-either, true-not-false, not-so}
-use Rattle.paper.proofs.FirstLaws.{All, first, first-true, first-before, first-is}
+use Rattle.paper.specs.BeforeMarks.{mayBeBefore, strayBefore, flawBefore, firstFlawedBefore}
+use Rattle.paper.specs.BeforeMarks.{judgedBefore, verdictBefore, MarkedOrFlawed, NoneBefore, RefusedBefore}
+use Rattle.paper.proofs.Tests.{true-not-false}
+use Rattle.paper.proofs.FirstLaws.{first, first-true, first-before}
 use Rattle.paper.proofs.MayLaws.{below}
 
 -- entry by entry, all eighty
-pub before-rule : map (λ k. map (λ j. mayBeBefore k j) (below 16)) (below 5) ≡ map (λ k. map (λ j. cond (eqb j 4 || eqb j 5) 0 (mayBe k j)) (below 16)) (below 5)
+pub before-rule : map (λ k. map (λ j. mayBeBefore k j) (below 16)) (below 5)
+    ≡ map (λ k. map (λ j. cond (eqb j 4 || eqb j 5) 0 (mayBe k j)) (below 16)) (below 5)
 unfolding below mayTable mayTableBefore mayBe mayBeBefore
 before-rule = refl
 
@@ -126,10 +129,12 @@ module _ (s : List ℕ) (i : ℕ) where
       go true e m = refl
       go false e (inl m) =
           let l : kind s i ≤ 4 = ltb-false 4 (kind s i) e in
-          rw (lt-ltb (strayBefore s i (kind s i) 0 16) 16 (omega (arith, stray-ends (kind s i) 0 16 4 (omega arith) (omega arith) m (columns (kind s i) l .0)))) refl
+          rw (lt-ltb (strayBefore s i (kind s i) 0 16) 16
+          (omega (arith, stray-ends (kind s i) 0 16 4 (omega arith) (omega arith) m (columns (kind s i) l .0)))) refl
       go false e (inr m) =
           let l : kind s i ≤ 4 = ltb-false 4 (kind s i) e in
-          rw (lt-ltb (strayBefore s i (kind s i) 0 16) 16 (omega (arith, stray-ends (kind s i) 0 16 5 (omega arith) (omega arith) m (columns (kind s i) l .1)))) refl
+          rw (lt-ltb (strayBefore s i (kind s i) 0 16) 16
+          (omega (arith, stray-ends (kind s i) 0 16 5 (omega arith) (omega arith) m (columns (kind s i) l .1)))) refl
 
   pub unmarked-alike : markIn s i ≡ 0 → flawBefore s i ≡ flaw s i
   unfolding flawBefore flaw

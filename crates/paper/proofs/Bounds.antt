@@ -1,12 +1,11 @@
 -- The limits in figures hold: of weight and areas by the laws of the verdict and of the judgement, of the registers by computation.
--- Assumes nothing.
-use Prim.Native.Nat.{ℕ, _+_, _*_, _≤_, _<_}
-use mathlib.Core.Path.{_≡_, refl, _∙_}
+use Prim.Native.Nat.{ℕ, _+_, _≤_, _<_}
+use mathlib.Core.Path.{_≡_, refl}
 use mathlib.Core.Bool.{true}
 use mathlib.Core.List.{List}
 use native.Mathlib.Omega.{arith}
 use native.Mathlib.Nat.{ne-of-gt}
-use lib.ListN.{length, replicate}
+use lib.ListN.{length}
 use borrow.Author.Tests.{le-ltb, lt-ltb, ne-eqb}
 use Rattle.paper.specs.Limits.{isLimit, workBytes}
 use Rattle.paper.specs.Tree.{Tree, records, weight}

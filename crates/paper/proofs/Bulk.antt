@@ -1,5 +1,5 @@
 -- The bulk of a tree: what it weighs, but 3 at least if it is no integer. A well-formed tree that is no integer weighs 3 at least (a
--- symbol 3, a sum or product 1 and two members, a power 2 and its base), so its bulk is its weight. Assumes nothing.
+-- symbol 3, a sum or product 1 and two members, a power 2 and its base), so its bulk is its weight.
 use Prim.Native.Nat.{ℕ, _≤_, max}
 use mathlib.Core.Path.{_≡_, refl}
 use mathlib.Core.Option.{Option, none, some}

@@ -1,8 +1,8 @@
 -- Laws of bytes and of the little-endian numbers in them: writing a number into bytes and reading it back are inverse both ways,
 -- and what is read at a place of a list is what is read at the same place of the part that holds it. Each is an induction on the
--- list, one byte being the remainder and the others the quotient of a division by 256. Assumes nothing.
+-- list, one byte being the remainder and the others the quotient of a division by 256.
 use Prim.Native.Nat.{ℕ, zero, suc, _+_, _*_, _/_, _%_, _^_, _<_, _≤_}
-use mathlib.Core.Path.{_≡_, refl, ap}
+use mathlib.Core.Path.{_≡_, refl, ap, _∙_}
 use mathlib.Core.List.{List, [], _∷_, _++_}
 use native.Mathlib.Nat.{add-assoc, pow-suc, pow-zero, mod-lt}
 use native.Mathlib.Omega.{arith}
@@ -97,10 +97,6 @@ unfolding le8
 le8-drop n s a = simp (getD-drop, add-assoc)
 
 -- what stands before, and what stands after, does not count
-pub le2-append-add : (p s : List ℕ) (a : ℕ) → le2 (p ++ s) (length p + a) ≡ le2 s a
-unfolding le2
-le2-append-add p s a = simp (add-assoc, getD-append-add)
-
 pub le8-append-add : (p s : List ℕ) (a : ℕ) → le8 (p ++ s) (length p + a) ≡ le8 s a
 unfolding le8
 le8-append-add p s a = simp (add-assoc, getD-append-add)
@@ -122,6 +118,23 @@ le8-append s q a h =
       List·getD-append s q 0 (a + 6) (omega arith),
       List·getD-append s q 0 (a + 7) (omega arith),
     )
+
+-- a number of 64 bits is read from the bytes that it is written to
+pub first-eight : (n : ℕ) (rest : List ℕ) → n < 2 ^ 64 → le8 (bytes 8 n ++ rest) 0 ≡ n
+first-eight n rest h = le8-append (bytes 8 n) rest 0 (rw length-bytes (omega arith)) ∙ unfold le8 bytes in (le-bytes 8 n h)
+
+-- the number in the first eight bytes
+pub eight-front : (s : List ℕ) → 8 ≤ length s → le8 s 0 ≡ le (take 8 s)
+unfolding le8
+eight-front (x₀ ∷ x₁ ∷ x₂ ∷ x₃ ∷ x₄ ∷ x₅ ∷ x₆ ∷ x₇ ∷ s) h = refl
+eight-front [] h = absurd (omega arith)
+eight-front (x₀ ∷ []) h = absurd (omega arith)
+eight-front (x₀ ∷ x₁ ∷ []) h = absurd (omega arith)
+eight-front (x₀ ∷ x₁ ∷ x₂ ∷ []) h = absurd (omega arith)
+eight-front (x₀ ∷ x₁ ∷ x₂ ∷ x₃ ∷ []) h = absurd (omega arith)
+eight-front (x₀ ∷ x₁ ∷ x₂ ∷ x₃ ∷ x₄ ∷ []) h = absurd (omega arith)
+eight-front (x₀ ∷ x₁ ∷ x₂ ∷ x₃ ∷ x₄ ∷ x₅ ∷ []) h = absurd (omega arith)
+eight-front (x₀ ∷ x₁ ∷ x₂ ∷ x₃ ∷ x₄ ∷ x₅ ∷ x₆ ∷ []) h = absurd (omega arith)
 
 -- the elements of a slice of u8 are bytes
 pub are-bytes : (s : List ℕ) → ((k : ℕ) → Fits w8 (getD s k 0)) → Bytes s

@@ -1,6 +1,6 @@
 -- What becomes of a call: its judgement is one of the refusals 1 to 6, with nothing else to tell, or it is accepted, and then the
 -- table holds a well-formed tree (AcceptedLaws), the run on it is the driver's, and its laws hold. Everything that the demands
--- ask is read off these two cases. Assumes nothing.
+-- ask is read off these two cases.
 use Prim.Native.Nat.{ℕ, zero, suc, _*_, _≤_, min}
 use mathlib.Core.Path.{_≡_, refl, sym, ap, _∙_}
 use mathlib.Core.Bool.{Bool, true, false, cond, not}
@@ -16,9 +16,8 @@ use Rattle.paper.specs.Bytes.{Bytes, stretch}
 use Rattle.paper.specs.Tree.{Tree, weight, records}
 use Rattle.paper.specs.Table.{encode}
 use Rattle.paper.specs.Record.{weightFrom, Flaw, sound, flaw}
-use Rattle.paper.specs.Verdict.{Verdict, accepted, told, refused, isAccepted, badLength, firstFlawed, tableWeight, treeEnd}
-use Rattle.paper.specs.Verdict.{firstBadExponent}
-use Rattle.paper.specs.Verdict.{recordsIn, judgeRecords, judgedTable, verdict}
+use Rattle.paper.specs.Verdict.{Verdict, accepted, told, refused, isAccepted, badLength, firstFlawed, tableWeight, treeEnd, firstBadExponent, recordsIn}
+use Rattle.paper.specs.Verdict.{judgeRecords, judgedTable, verdict}
 use Rattle.paper.specs.Rules.{isEdition}
 use Rattle.paper.specs.Driver.{Ran}
 use Rattle.paper.specs.Answers.{Lent, Answer, Given, turned-down, ran, cramped, judgedCall, judgement, runOn, outcomeOf}
@@ -96,7 +95,8 @@ judgement-accepted lim ed s l e = limited (isLimit lim) refl e
     limited true p h = known (isEdition ed) refl h
     limited false p h = absurd (let z : _≡_ {A = ℕ} 19 0 = ap (λ v. v .number) h in omega arith)
 
-pub accepted-judgement : (lim ed : ℕ) (s : List ℕ) (l : Lent) → isLimit lim ≡ true → isEdition ed ≡ true → verdict lim s ≡ accepted → cramped lim (tableWeight s) l ≡ false
+pub accepted-judgement : (lim ed : ℕ) (s : List ℕ) (l : Lent) → isLimit lim ≡ true → isEdition ed ≡ true → verdict lim s ≡ accepted
+    → cramped lim (tableWeight s) l ≡ false
     → judgement lim ed s l ≡ accepted
 unfolding judgement judgedCall isAccepted
 accepted-judgement lim ed s l n k e h = rw (n, k, e, h)
@@ -151,7 +151,8 @@ module _ (lim ed : ℕ) (run : Tree → Ran) (s : List ℕ) (l : Lent) where
           })
         where
           some-number : (n : ℕ) → judgement lim ed s l .number ≡ n → eqb (judgement lim ed s l .number) 0 ≡ false → 1 ≤ n
-          some-number zero p q = absurd (let z : _≡_ {A = Bool} true false = sym (eq-eqb (judgement lim ed s l .number) 0 p) ∙ q in let y : _≡_ {A = ℕ} 0 1 = cc in omega arith)
+          some-number zero p q =
+              absurd (let z : _≡_ {A = Bool} true false = sym (eq-eqb (judgement lim ed s l .number) 0 p) ∙ q in let y : _≡_ {A = ℕ} 0 1 = cc in omega arith)
           some-number (suc n) p q = omega arith
 
 -- ---- what a refusal's answer tells

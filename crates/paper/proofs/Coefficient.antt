@@ -1,5 +1,5 @@
 -- The coefficient and the rest of a member. A product with no integer member has 1 and itself, as in document 01. A rest is never an integer
--- but 1, since the members that it is made of are none: where "two integers multiply", one of them is 1. Assumes nothing.
+-- but 1, since the members that it is made of are none: where "two integers multiply", one of them is 1.
 use Prim.Native.Nat.{ℕ}
 use mathlib.Core.Path.{_≡_, refl, sym, ap, _∙_}
 use mathlib.Core.List.{List, [], _∷_}

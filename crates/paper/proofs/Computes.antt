@@ -1,5 +1,5 @@
 -- Names that open whole layers of definitions, for proofs by computation: `unfolding equality-computes rules-compute ..` opens
--- every definition of that layer. They state nothing. Assumes nothing.
+-- every definition of that layer. They state nothing.
 use Rattle.paper.specs.Limits.{isLimit, workBytes}
 use Rattle.paper.specs.Bytes.{le, bytes, le2, le8, word, stretch}
 use Rattle.paper.specs.Tree.{toList, ofList, count, marked, records, weight, value}
@@ -10,12 +10,11 @@ use Rattle.paper.specs.Table.{recordOf, encode, then, kindOf, readMember
 use Rattle.paper.specs.Equal.{eqZ, onInteger, onSymbol, onSum, onProduct, onPower, keeping, takeIf, removeFirst, goOn, isEmpty, equal}
 use Rattle.paper.specs.Walk.{lastOf, initOf, lastFirst, oneRemoved, turn, walk}
 use Rattle.paper.specs.Walk as Walk
-use Rattle.paper.specs.Rules.{fits, collapse, sumOf, productOf, onSumMembers, onProductMembers, asInteger, isThe, unless, dropAll, anyOf}
-use Rattle.paper.specs.Rules.{appliesIf, addZero, multiplyZero, multiplyOne, allInRange, rebuilt, outcome, combine}
-use Rattle.paper.specs.Rules.{term, withInteger, integersOf, withOther, othersOf, timesOne, timesEach, unit, productTerm, termOf, added, addIf, mergeTerms, coefficientTimes, timesUnless}
-use Rattle.paper.specs.Rules.{fromTerm, combineLikeTerms, factor, factorOf, raiseIf, bothIntegers, multiplyIf, mergeFactors}
-use Rattle.paper.specs.Rules.{powerUnless, fromFactor, combineLikeFactors, editionOne}
-use Rattle.paper.specs.Rules.{onPowerParts, powerOne, powerConstant, raisedIf, powerPower, editionTwo, isEdition, rulesOf}
+use Rattle.paper.specs.Rules.{fits, collapse, sumOf, productOf, onSumMembers, onProductMembers, asInteger, isThe, unless, dropAll, anyOf, appliesIf}
+use Rattle.paper.specs.Rules.{addZero, multiplyZero, multiplyOne, allInRange, rebuilt, outcome, combine, term, withInteger, integersOf, withOther}
+use Rattle.paper.specs.Rules.{othersOf, timesOne, timesEach, unit, productTerm, termOf, added, addIf, mergeTerms, coefficientTimes, timesUnless, fromTerm}
+use Rattle.paper.specs.Rules.{combineLikeTerms, factor, factorOf, raiseIf, bothIntegers, multiplyIf, mergeFactors, powerUnless, fromFactor}
+use Rattle.paper.specs.Rules.{combineLikeFactors, editionOne, onPowerParts, powerOne, powerConstant, raisedIf, powerPower, editionTwo, isEdition, rulesOf}
 use Rattle.paper.specs.Driver.{ask, after, tried, andThen, each, members, asSum, asProduct, openOne, opened, baseFrom, gather}
 use Rattle.paper.specs.Driver.{settle, gathered, visit, run, simplify}
 use Rattle.paper.specs.Answers.{measured, weighed, register, treeValue, registersVerdict, valued, cramped, judgedCall, judgement, runOn, outcomeOf}
@@ -45,11 +44,11 @@ equality-computes = tt
 
 unfoldable pub rules-compute : Unit {0}
 unfolding
-    equality-computes toList ofList marked lastOf initOf lastFirst oneRemoved Walk.thenWalk turn walk fits collapse sumOf productOf
-    onSumMembers onProductMembers asInteger isThe unless dropAll anyOf appliesIf addZero multiplyZero multiplyOne allInRange rebuilt
-    outcome combine term withInteger integersOf withOther othersOf timesOne timesEach unit productTerm termOf added addIf mergeTerms coefficientTimes timesUnless fromTerm
-    combineLikeTerms factor factorOf raiseIf bothIntegers multiplyIf mergeFactors powerUnless fromFactor combineLikeFactors editionOne
-    onPowerParts powerOne powerConstant raisedIf powerPower editionTwo isEdition rulesOf
+    equality-computes toList ofList marked lastOf initOf lastFirst oneRemoved Walk.thenWalk turn walk fits collapse sumOf productOf onSumMembers
+    onProductMembers asInteger isThe unless dropAll anyOf appliesIf addZero multiplyZero multiplyOne allInRange rebuilt outcome combine term
+    withInteger integersOf withOther othersOf timesOne timesEach unit productTerm termOf added addIf mergeTerms coefficientTimes timesUnless fromTerm
+    combineLikeTerms factor factorOf raiseIf bothIntegers multiplyIf mergeFactors powerUnless fromFactor combineLikeFactors editionOne onPowerParts
+    powerOne powerConstant raisedIf powerPower editionTwo isEdition rulesOf
 rules-compute = tt
 
 unfoldable pub driver-computes : Unit {0}

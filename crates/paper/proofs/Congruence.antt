@@ -1,5 +1,5 @@
 -- Congruence modulo m is kept by sums, products and powers, and the word of an integer respects both: an integer is a difference of
--- two numbers, of which modulo 2^64 nothing but the word is left. Assumes nothing.
+-- two numbers, of which modulo 2^64 nothing but the word is left.
 use Prim.Native.Nat.{ℕ, zero, suc, _+_, _-_, _*_, _/_, _%_, _^_, _<_}
 use mathlib.Core.Path.{_≡_, refl, sym, ap, _∙_}
 use mathlib.Core.Bool.{Bool, true, false, cond}

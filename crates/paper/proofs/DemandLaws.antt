@@ -1,6 +1,6 @@
 -- The simplifier of the definitions meets the three demands: each field is read off the two cases of a call (CallLaws) and, where
 -- a run finished, off what a finished run gives (Simplified). And the demands leave no choice: two simplifiers that meet them
--- answer alike and leave alike bytes. Assumes nothing.
+-- answer alike and leave alike bytes.
 use Prim.Native.Nat.{ℕ, _*_, _≤_}
 use mathlib.Core.Path.{_≡_, refl, sym, ap, _∙_, subst}
 use mathlib.Core.List.{List, []}
@@ -14,15 +14,13 @@ use Rattle.paper.specs.Table.{encode, treeOf}
 use Rattle.paper.specs.Verdict.{Verdict, accepted, refused}
 use Rattle.paper.specs.Rules.{rulesOf}
 use Rattle.paper.specs.Driver.{Ran, done, over, simplify}
-use Rattle.paper.specs.Answers.{Lent, Answer, Given, ran, judgement, refusedBy, refusal, ranAnswer, written, noted, outAfter, stepsAfter}
-use Rattle.paper.specs.Answers.{workAfter}
+use Rattle.paper.specs.Answers.{Lent, Answer, Given, ran, judgement, refusedBy, refusal, ranAnswer, written, noted, outAfter, stepsAfter, workAfter}
 use Rattle.paper.specs.Answers.{lentAfter, simplifiedBy, simplified}
 use Rattle.paper.specs.Demands.{Simplifier, result, Refuses, LeavesAlone, Clears, RunsOver, Follows, Demands}
 use Rattle.paper.proofs.ReadLaws.{tree-of-written}
 use Rattle.paper.proofs.LimitLaws.{limit-small}
 use Rattle.paper.proofs.AcceptedLaws.{Holds}
-use Rattle.paper.proofs.CallLaws.{RunOn, Call, is-turned-down, is-run, call, refusal-tells, result-written}
-use Rattle.paper.proofs.CallLaws.{same-tree}
+use Rattle.paper.proofs.CallLaws.{RunOn, Call, is-turned-down, is-run, call, refusal-tells, result-written, same-tree}
 use Rattle.paper.proofs.EditionTwo.{edition-good}
 use Rattle.paper.proofs.Simplified.{Finished, simplify-finished}
 
@@ -83,7 +81,8 @@ runs-over : (lim ed : ℕ) → RunsOver lim ed (simplified lim ed)
 unfolding simplified ranAnswer
 runs-over lim ed s b l p = (there, λ x. back (call lim ed (simplify (rulesOf ed)) s l b) (x .0) (x .1 .0) (x .1 .1) (x .1 .2))
   where
-    there : simplified lim ed s l .answer ≡ refusal 7 p → (judgement lim ed s l ≡ accepted) × ((t : Tree) × (treeOf s ≡ some t) × (simplify (rulesOf ed) t ≡ over p))
+    there : simplified lim ed s l .answer ≡ refusal 7 p
+        → (judgement lim ed s l ≡ accepted) × ((t : Tree) × (treeOf s ≡ some t) × (simplify (rulesOf ed) t ≡ over p))
     there e =
         let x = went-over lim ed (simplify (rulesOf ed)) s b l p e in
         (x .on .accepts, (x .on .holds .tree, x .on .holds .read, x .at))
@@ -101,7 +100,8 @@ follows lim ed s b l j t u ks o n e h = go (call lim ed (simplify (rulesOf ed)) 
     f : Tree → Ran
     f = simplify (rulesOf ed)
 
-    go : Call lim ed f s l → (simplified lim ed s l .answer ≡ ranAnswer (weight t) (done u ks o n)) × (simplified lim ed s l .lent ≡ lentAfter lim (ran (weight t) (done u ks o n)) l)
+    go : Call lim ed f s l → (simplified lim ed s l .answer ≡ ranAnswer (weight t) (done u ks o n))
+        × (simplified lim ed s l .lent ≡ lentAfter lim (ran (weight t) (done u ks o n)) l)
     go (is-turned-down d) = absurd (let z : judgement lim ed s l .number ≡ 0 = ap (λ v. v .number) j in omega (arith, d .number))
     go (is-run r) =
         let x : r .holds .tree ≡ t = same-tree (r .holds .read) e in (
@@ -175,15 +175,19 @@ simplified-meets lim ed =
           (d .tree-out, d .read-back, omega (arith, ap weight (same-tree p (d .holds .read))));
       bounded = λ s b l e t p.
           let d = call-done lim ed s b l e in
-          let a : simplified lim ed s l .answer .tries ≡ d .tries = ap (λ x. x .tries) (d .answer) in
-          (d .tree-out, d .read-back, subst (λ i. simplified lim ed s l .answer .tries ≤ weight i * (weight i * weight i)) (same-tree (d .holds .read) p) (omega (arith, d .finished .bounded)));
+          let a : simplified lim ed s l .answer .tries ≡ d .tries = ap (λ x. x .tries) (d .answer) in (
+            d .tree-out,
+            d .read-back,
+            subst (λ i. simplified lim ed s l .answer .tries ≤ weight i * (weight i * weight i))
+                (same-tree (d .holds .read) p) (omega (arith, d .finished .bounded)),
+          );
       finishes = λ s b l e t p. let d = call-done lim ed s b l e in (d .tree-out, d .read-back, d .finished .admits-none);
       keeps-value = λ s b l e t p.
           let d = call-done lim ed s b l e in
           (d .tree-out, d .read-back, λ ρ. d .finished .keeps-value ρ ∙ ap (λ x. value x ρ) (same-tree (d .holds .read) p));
     }
 
-given-by : (g h : Given) → g .answer ≡ h .answer → g .lent ≡ h .lent → g ≡ h
+pub given-by : (g h : Given) → g .answer ≡ h .answer → g .lent ≡ h .lent → g ≡ h
 given-by g h x y = ap (λ a. record { answer = a; lent = g .lent }) x ∙ ap (λ a. record { answer = h .answer; lent = a }) y
 
 -- two simplifiers that meet the demands answer alike and leave alike bytes
@@ -197,7 +201,8 @@ demands-once lim ed f g p q s b l = alike f p ∙ sym (alike g q)
     both : (h : Simplifier) → h s l .answer ≡ simplified lim ed s l .answer → h s l .lent ≡ simplified lim ed s l .lent → h s l ≡ simplified lim ed s l
     both h x y = given-by (h s l) (simplified lim ed s l) x y
 
-    by-run : (h : Simplifier) → Demands lim ed h → (r : RunOn lim ed (simplify (rulesOf ed)) s l) (x : Ran) → simplify (rulesOf ed) (r .holds .tree) ≡ x → h s l ≡ simplified lim ed s l
+    by-run : (h : Simplifier) → Demands lim ed h → (r : RunOn lim ed (simplify (rulesOf ed)) s l) (x : Ran)
+        → simplify (rulesOf ed) (r .holds .tree) ≡ x → h s l ≡ simplified lim ed s l
     by-run h d r (over k) e =
         let x = d .runs-over s b l k .1 (r .accepts, (r .holds .tree, r .holds .read, e)) in
         let y = simplified-meets lim ed .runs-over s b l k .1 (r .accepts, (r .holds .tree, r .holds .read, e)) in

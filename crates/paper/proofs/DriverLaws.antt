@@ -1,20 +1,20 @@
 -- What a run keeps, over any list of good rules: its result is well-formed, has the value of the tree it began with, and weighs
 -- less by at least one for each step and each opening. By induction on the fuel: a rule that applies is good, members are runs
--- themselves, and gathering keeps (GatherLaws). Where the fuel is out the tree is kept as it is. Assumes nothing.
-use Prim.Native.Nat.{ℕ, zero, suc, _+_, _≤_, _<_}
-use mathlib.Core.Path.{_≡_, refl, sym, ap, _∙_, subst}
+-- themselves, and gathering keeps (GatherLaws). Where the fuel is out the tree is kept as it is.
+use Prim.Native.Nat.{ℕ, zero, suc, _+_}
+use mathlib.Core.Path.{_≡_, refl, subst}
 use mathlib.Core.Bool.{Bool, true, false}
-use mathlib.Core.List.{List, [], _∷_, _++_}
+use mathlib.Core.List.{List, [], _∷_}
 use native.Mathlib.Omega.{arith}
 use lib.ListN.{length, length-append}
 use lib.Dec.{eqb}
-use borrow.Author.Tests.{eqb-true, eqb-false}
-use Rattle.paper.specs.Tree.{Tree, weight}
+use borrow.Author.Tests.{eqb-true}
+use Rattle.paper.specs.Tree.{Tree}
 use Rattle.paper.specs.WellFormed.{WF, WFl}
 use Rattle.paper.specs.Rules.{Rule, Tried, does-not-apply, applies, range-exceeded}
 use Rattle.paper.specs.Driver.{Asked, no-rule, step, out-of-range, ask, Ran, done, over, Rans, dones, overs, after, tried, andThen, each, members}
 use Rattle.paper.specs.Driver.{gather, settle, gathered, visit, run}
-use Rattle.paper.specs.Good.{Kept, GoodAnswer, Good, Goods, no-rules, a-rule}
+use Rattle.paper.specs.Good.{Kept, GoodAnswer, Goods, no-rules, a-rule}
 use Rattle.paper.proofs.KeptLaws.{kept-refl, kept-then, kept-of}
 use Rattle.paper.proofs.GatherLaws.{Kepts, nothing, more, gather-kept, gather-wf, kepts-length, members-wf}
 

@@ -1,5 +1,5 @@
 -- Steps 1, 3 and 4 are good rules: a dropped 0 adds nothing and a dropped 1 multiplies nothing, a factor 0 makes the product 0, and
--- the weight of a dropped member, 1 at least, goes. Assumes nothing.
+-- the weight of a dropped member, 1 at least, goes.
 use Prim.Native.Nat.{ℕ, _+_, _*_, _≤_}
 use mathlib.Core.Path.{_≡_, refl, sym, ap, _∙_}
 use mathlib.Core.Bool.{Bool, true, false, _||_}
@@ -10,15 +10,14 @@ use lib.Dec.{lit<}
 use Rattle.paper.specs.Bytes.{word}
 use Rattle.paper.specs.Tree.{Tree, Forest, integer, symbol, sum, product, power, toList, weight}
 use Rattle.paper.specs.WellFormed.{WF, WFl}
-use Rattle.paper.specs.Rules.{sumOf, productOf, asInteger, isThe, unless, dropAll, anyOf}
-use Rattle.paper.specs.Rules.{appliesIf, addZero, multiplyZero, multiplyOne}
+use Rattle.paper.specs.Rules.{sumOf, productOf, asInteger, isThe, unless, dropAll, anyOf, appliesIf, addZero, multiplyZero, multiplyOne}
 use Rattle.paper.specs.Good.{Kept, GoodAnswer, Good}
 use Rattle.paper.proofs.Tests.{never, eqZ-true}
 use Rattle.paper.proofs.Congruence.{agree-of}
 use Rattle.paper.proofs.Value.{exact, total, multiplied, sum-list, product-list, weights-list, weight-pos}
 use Rattle.paper.proofs.WFLaws.{wf-list, sumOf-wf, productOf-wf}
 use Rattle.paper.proofs.OutcomeLaws.{sumOf-exact, sumOf-weight, productOf-exact, productOf-weight}
-use Rattle.paper.proofs.AnswerLaws.{on-sum-good, on-product-good, kept-agree}
+use Rattle.paper.proofs.AnswerLaws.{on-sum-good, on-product-good, applies-good, kept-agree}
 
 -- ---- dropping the members that p holds of
 module _ (p : Tree → Bool) where
@@ -86,17 +85,12 @@ unfolding exact
 isThe-exact z ρ t e = ap (λ u. exact u ρ) (isThe-true z t e .1)
 
 -- ---- the rules
-appliesIf-good : (t u : Tree) (b : Bool) → (b ≡ true → WF u × Kept 1 t u) → GoodAnswer t (appliesIf b u)
-unfolding appliesIf
-appliesIf-good t u true h = h refl
-appliesIf-good t u false h = tt
-
 -- steps 1 and 4 alike: t has the members l, and `node` makes a tree of those that are left
 module _ (p : Tree → Bool) (node : List Tree → Tree) (node-wf : (l : List Tree) → WFl l → WF (node l))
     (node-weight : (l : List Tree) → weight (node l) ≤ 1 + total weight l) where
   drop-good : (t : Tree) (l : List Tree) → WFl l → weight t ≡ 1 + total weight l
       → ((ρ : ℕ → ℕ) → exact (node (dropAll p l)) ρ ≡ exact t ρ) → GoodAnswer t (appliesIf (anyOf p l) (node (dropAll p l)))
-  drop-good t l w whole same = appliesIf-good t (node (dropAll p l)) (anyOf p l) (λ e. (node-wf (dropAll p l) (dropAll-wf p l w), kept e))
+  drop-good t l w whole same = applies-good t (node (dropAll p l)) (anyOf p l) (λ e. (node-wf (dropAll p l) (dropAll-wf p l w), kept e))
     where
       kept : anyOf p l ≡ true → Kept 1 t (node (dropAll p l))
       kept e = kept-agree t _ (λ ρ. agree-of (same ρ)) (omega (arith, whole, node-weight (dropAll p l), dropAll-lighter p l e))
@@ -116,12 +110,13 @@ add-zero-good = record { good = on-sum-good _ members }
         ∙ sum-list f ρ
 
     members : (μ : ℕ) (f : Forest) → WF (sum μ f) → GoodAnswer (sum μ f) (appliesIf (anyOf zero? (toList f)) (sumOf μ (dropAll zero? (toList f))))
-    members μ f w = drop-good zero? (sumOf μ) (sumOf-wf μ (w .2)) (sumOf-weight μ) (sum μ f) (toList f) (wf-list f (w .1)) (omega (arith, weights-list f)) (same μ f)
+    members μ f w =
+        drop-good zero? (sumOf μ) (sumOf-wf μ (w .2)) (sumOf-weight μ) (sum μ f) (toList f) (wf-list f (w .1)) (omega (arith, weights-list f)) (same μ f)
 
 -- step 3 is a good rule
 pub multiply-zero-good : Good (record { number = 3; try = multiplyZero })
 unfolding multiplyZero exact weight word
-multiply-zero-good = record { good = on-product-good _ (λ μ f w. appliesIf-good (product μ f) _ _ (λ e. ((lit< tt, w .2), kept μ f e))) }
+multiply-zero-good = record { good = on-product-good _ (λ μ f w. applies-good (product μ f) _ _ (λ e. ((lit< tt, w .2), kept μ f e))) }
   where
     zero? : Tree → Bool
     zero? = isThe (pos 0)
@@ -151,4 +146,5 @@ multiply-one-good = record { good = on-product-good _ members }
 
     members : (μ : ℕ) (f : Forest) → WF (product μ f) → GoodAnswer (product μ f) (appliesIf (anyOf one? (toList f)) (productOf μ (dropAll one? (toList f))))
     members μ f w =
-        drop-good one? (productOf μ) (productOf-wf μ (w .2)) (productOf-weight μ) (product μ f) (toList f) (wf-list f (w .1)) (omega (arith, weights-list f)) (same μ f)
+        drop-good one? (productOf μ) (productOf-wf μ (w .2)) (productOf-weight μ) (product μ f) (toList f) (wf-list f (w .1))
+        (omega (arith, weights-list f)) (same μ f)

@@ -1,4 +1,4 @@
--- Every rule of edition one is good: each was shown so on its own. Assumes nothing.
+-- Every rule of edition one is good: each was shown so on its own.
 use Rattle.paper.specs.Rules.{editionOne}
 use Rattle.paper.specs.Good.{Goods, no-rules, a-rule}
 use Rattle.paper.proofs.DropRules.{add-zero-good, multiply-zero-good, multiply-one-good}

@@ -1,6 +1,6 @@
 -- Edition one answers as before: its judgement is that of 1 to 6, and its run is the driver's over the rules of document 01. Edition two
 -- is judged alike, and its run is the driver's over those rules and the three on powers. An unknown edition is refused with 9 whatever else
--- is handed in, and changes no lent byte; so is another limit with 19, before all others. Assumes nothing.
+-- is handed in, and changes no lent byte; so is another limit with 19, before all others.
 use Prim.Native.Nat.{ℕ}
 use mathlib.Core.Path.{_≡_, refl}
 use mathlib.Core.Bool.{true, false}
@@ -9,9 +9,8 @@ use Rattle.paper.specs.Limits.{isLimit}
 use Rattle.paper.specs.Verdict.{refused, isAccepted, verdict}
 use Rattle.paper.specs.Rules.{editionOne, editionTwo, isEdition, rulesOf}
 use Rattle.paper.specs.Driver.{simplify}
-use Rattle.paper.specs.Answers.{Lent, measured, weighed, registersVerdict, valued, turnedDown, compared}
-use Rattle.paper.specs.Answers.{refusal, judgedCall, judgement, outcomeOf, answerOf, outAfter, stepsAfter, workAfter, lentAfter}
-use Rattle.paper.specs.Answers.{simplifiedBy, simplified}
+use Rattle.paper.specs.Answers.{Lent, measured, weighed, registersVerdict, valued, turnedDown, compared, refusal, judgedCall, judgement, outcomeOf}
+use Rattle.paper.specs.Answers.{answerOf, outAfter, stepsAfter, workAfter, lentAfter, simplifiedBy, simplified}
 
 module _ (lim : ℕ) (limited : isLimit lim ≡ true) (s : List ℕ) (l : Lent) where
   pub edition-one-same : (judgement lim 1 s l ≡ judgedCall lim s l) × (simplified lim 1 s l ≡ simplifiedBy lim 1 (simplify editionOne) s l)

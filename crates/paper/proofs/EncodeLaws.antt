@@ -1,10 +1,10 @@
 -- Laws of writing: how long the records of a tree are, that they are bytes, and that the fields of a record that stands in a table
 -- are those it was written with. A record is written out byte by byte, so its fields are read off; the rest is an induction on the
--- tree. Assumes nothing.
-use Prim.Native.Nat.{ℕ, suc, _-_, _*_, _^_, _<_, _≤_}
+-- tree.
+use Prim.Native.Nat.{ℕ, suc, _+_, _-_, _*_, _^_, _<_, _≤_}
 use mathlib.Core.Path.{_≡_, refl, sym, ap, _∙_}
 use mathlib.Core.Bool.{Bool, true, false}
-use mathlib.Core.List.{List, _++_}
+use mathlib.Core.List.{List, [], _∷_, _++_}
 use native.Mathlib.Nat.{add-zero, mod-eq-of-lt}
 use native.Mathlib.Omega.{arith}
 use borrow.Author.Tests.{ltb-true, ltb-false, le-ltb}
@@ -17,7 +17,7 @@ use mir.Val.{toZ}
 use mir.Facts.{toZ-pos, toZ-neg}
 use Rattle.paper.specs.Limits.{modulus}
 use Rattle.paper.specs.Bytes.{Bytes, bytes, le2, le8, signed, word}
-use Rattle.paper.specs.Tree.{Tree, Forest, integer, symbol, sum, product, power, nil, cons, count, records, recordses, weight, weights}
+use Rattle.paper.specs.Tree.{Tree, Forest, integer, symbol, sum, product, power, nil, cons, count, ofList, records, recordses, weight, weights}
 use Rattle.paper.specs.Record.{kind, countIn, markIn, bits, symbolIn}
 use Rattle.paper.specs.WellFormed.{InRange}
 use Rattle.paper.specs.Table.{recordOf, encode, encodes}
@@ -70,6 +70,16 @@ pub count-records : (f : Forest) → count f ≤ recordses f
 unfolding count records
 count-records nil = omega arith
 count-records (cons t f) = omega (arith, records-pos t, count-records f)
+
+-- the records of trees side by side
+pub recordses-append : (l m : List Tree) → recordses (ofList (l ++ m)) ≡ recordses (ofList l) + recordses (ofList m)
+unfolding records ofList
+recordses-append [] m = omega arith
+recordses-append (u ∷ l) m = omega (arith, recordses-append l m)
+
+pub recordses-snoc : (l : List Tree) (t : Tree) → recordses (ofList (l ++ (t ∷ []))) ≡ recordses (ofList l) + records t
+unfolding records ofList
+recordses-snoc l t = recordses-append l (t ∷ []) ∙ omega arith
 
 record-bytes : (k c m v : ℕ) → k < 256 → Bytes (recordOf k c m v)
 unfolding recordOf

@@ -1,5 +1,5 @@
 -- Equality as evidence: `same-view` inverts the test once, and what equal trees share (weight, records, value) follows by induction on
--- the evidence, since taking a member out of a list lowers any total by that member's part. Assumes nothing.
+-- the evidence, since taking a member out of a list lowers any total by that member's part.
 use Prim.Native.Nat.{ℕ, _+_, _*_, _%_, _^_}
 use mathlib.Core.Path.{_≡_, refl, sym, ap, _∙_, subst}
 use mathlib.Core.Bool.{Bool, true, _&&_}
@@ -155,14 +155,15 @@ pub equal-weight : (t u : Tree) → equal t u ≡ true → weight t ≡ weight u
 equal-weight t u e = same-weight (same-view t u e)
 
 -- equal trees have equally many records
-recordses-list : (f : Forest) → total records (toList f) ≡ recordses f
+pub recordses-list : (f : Forest) → total records (toList f) ≡ recordses f
 unfolding records total toList
 recordses-list nil = refl
 recordses-list (cons t f) = ap (λ n. records t + n) (recordses-list f)
 
 pub same-records : {t u : Tree} → Same t u → records t ≡ records u
 unfolding records
-same-records = same-size records (λ μ ν z. refl) (λ μ ν s. refl) (λ μ f. omega (arith, recordses-list f)) (λ μ f. omega (arith, recordses-list f)) (λ μ b ξ e. refl)
+same-records =
+    same-size records (λ μ ν z. refl) (λ μ ν s. refl) (λ μ f. omega (arith, recordses-list f)) (λ μ f. omega (arith, recordses-list f)) (λ μ b ξ e. refl)
 
 -- equal trees have the same value, whether or not it is reduced
 module _ (ρ : ℕ → ℕ) where

@@ -1,6 +1,6 @@
 -- Equality of trees is an equivalence, so two sums, or two products, are equal exactly when every tree occurs equally often among
 -- their members. The test cut off at a depth is an equivalence at each depth by the laws of bags, and is the test itself at any depth
--- that the tree does not reach. Assumes nothing.
+-- that the tree does not reach.
 use Prim.Native.Nat.{ℕ, zero, suc, _+_, _≤_}
 use mathlib.Core.Path.{_≡_, refl, sym, ap, _∙_, fun-ext}
 use mathlib.Core.Bool.{Bool, true, _&&_}

@@ -1,10 +1,10 @@
 -- Marks decide nothing, over any rules that do not look at them: the run on a tree without its marks is the run on the tree, without marks.
--- By induction on the fuel: asking, the members, their gathering and opening do not look at a mark. Assumes nothing.
+-- By induction on the fuel: asking, the members, their gathering and opening do not look at a mark.
 use Prim.Native.Nat.{ℕ, zero, suc, _+_}
 use mathlib.Core.Path.{_≡_, refl, sym, ap, _∙_}
 use mathlib.Core.Bool.{Bool, true, false, cond}
-use mathlib.Core.List.{List, [], _∷_, _++_, map}
-use mathlib.Core.Option.{Option, none, some}
+use mathlib.Core.List.{List, [], _∷_, map, map-append}
+use mathlib.Core.Option.{Option, none, some, Option·map}
 use lib.ListN.{length}
 use lib.Dec.{eqb}
 use Rattle.paper.specs.Tree.{Tree, integer, symbol, sum, product, power, ofList, weight}
@@ -46,37 +46,29 @@ members-erased (product μ f) = erases-list f
 members-erased (power μ b ξ e) = refl
 
 -- ---- opening
-through : Option (List Tree) → Option (List Tree)
-through none = none
-through (some l) = some (map erase l)
-
-sum-inside : (t : Tree) → asSum (erase t) ≡ through (asSum t)
-unfolding asSum erase through
+sum-inside : (t : Tree) → asSum (erase t) ≡ Option·map (map erase) (asSum t)
+unfolding asSum erase
 sum-inside (integer μ z) = refl
 sum-inside (symbol μ s) = refl
 sum-inside (sum μ f) = ap some (erases-list f)
 sum-inside (product μ f) = refl
 sum-inside (power μ b ξ e) = refl
 
-product-inside : (t : Tree) → asProduct (erase t) ≡ through (asProduct t)
-unfolding asProduct erase through
+product-inside : (t : Tree) → asProduct (erase t) ≡ Option·map (map erase) (asProduct t)
+unfolding asProduct erase
 product-inside (integer μ z) = refl
 product-inside (symbol μ s) = refl
 product-inside (sum μ f) = refl
 product-inside (product μ f) = ap some (erases-list f)
 product-inside (power μ b ξ e) = refl
 
-map-append : (l m : List Tree) → map erase (l ++ m) ≡ map erase l ++ map erase m
-map-append [] m = refl
-map-append (t ∷ l) m = ap (λ k. erase t ∷ k) (map-append l m)
-
 open-erased : (o : Option (List Tree)) (t : Tree) (r : List Tree × ℕ)
-    → openOne (through o) (erase t) (map erase (r .0), r .1) ≡ (map erase (openOne o t r .0), openOne o t r .1)
-unfolding openOne through
+    → openOne (Option·map (map erase) o) (erase t) (map erase (r .0), r .1) ≡ (map erase (openOne o t r .0), openOne o t r .1)
+unfolding openOne
 open-erased none t r = refl
-open-erased (some l) t r = ap (λ k. (k, suc (r .1))) (sym (map-append l (r .0)))
+open-erased (some l) t r = ap (λ k. (k, suc (r .1))) (sym (map-append erase l (r .0)))
 
-opened-erased : (ins : Tree → Option (List Tree)) → ((t : Tree) → ins (erase t) ≡ through (ins t)) → (l : List Tree)
+opened-erased : (ins : Tree → Option (List Tree)) → ((t : Tree) → ins (erase t) ≡ Option·map (map erase) (ins t)) → (l : List Tree)
     → opened ins (map erase l) ≡ (map erase (opened ins l .0), opened ins l .1)
 unfolding opened
 opened-erased ins h [] = refl

@@ -1,24 +1,23 @@
 -- No rule looks at a mark: on a tree without its marks each rule answers as on the tree, without marks. Steps 2 and 6 by the law of the walk
--- (ErasedWalk), the others by their tests. Assumes nothing.
+-- (ErasedWalk), the others by their tests.
 use Prim.Native.Nat.{ℕ, _*_, _^_}
 use mathlib.Core.Path.{_≡_, refl, sym, ap, _∙_}
 use mathlib.Core.Bool.{Bool, true, false, _&&_, _||_}
-use mathlib.Core.List.{List, [], _∷_, _++_, map}
-use mathlib.Core.Option.{Option, none, some}
+use mathlib.Core.List.{List, [], _∷_, _++_, map, map-append}
+use mathlib.Core.Option.{Option, none, some, Option·map}
 use lib.IntN.{ℤ, pos}
 use lib.Dec.{eqb, ltb}
 use Rattle.paper.specs.Tree.{Tree, integer, symbol, sum, product, power, toList, ofList, marked}
 use Rattle.paper.specs.Equal.{equal, eqZ}
-use Rattle.paper.specs.Rules.{Tried, Rule, sumOf, productOf, onSumMembers, onProductMembers, asInteger}
-use Rattle.paper.specs.Rules.{isThe, dropAll, appliesIf, addZero, multiplyZero, multiplyOne, Term, term}
-use Rattle.paper.specs.Rules.{integersOf, withOther, othersOf, productTerm, termOf, added, addIf, mergeTerms, coefficientTimes, timesUnless}
-use Rattle.paper.specs.Rules.{fromTerm, combineLikeTerms, Factor, factor, factorOf, raiseIf, bothIntegers, multiplyIf, mergeFactors}
-use Rattle.paper.specs.Rules.{powerUnless, fromFactor, combineLikeFactors, editionOne, onPowerParts, powerOne, powerConstant, raisedIf}
-use Rattle.paper.specs.Rules.{powerPower, editionTwo}
+use Rattle.paper.specs.Rules.{Tried, Rule, sumOf, productOf, onSumMembers, onProductMembers, asInteger, isThe, dropAll, appliesIf, addZero, multiplyZero}
+use Rattle.paper.specs.Rules.{multiplyOne, Term, term, integersOf, withOther, othersOf, productTerm, termOf, added, addIf, mergeTerms, coefficientTimes}
+use Rattle.paper.specs.Rules.{timesUnless, fromTerm, combineLikeTerms, Factor, factor, factorOf, raiseIf, bothIntegers, multiplyIf, mergeFactors}
+use Rattle.paper.specs.Rules.{powerUnless, fromFactor, combineLikeFactors, editionOne, onPowerParts, powerOne, powerConstant, raisedIf, powerPower}
+use Rattle.paper.specs.Rules.{editionTwo}
 use Rattle.paper.specs.Erased.{erase}
 use Rattle.paper.proofs.ErasedTrees.{erases-list, list-erases, marked-erased, equal-erased, integer-erased, the-erased, any-erased, drop-erased}
 use Rattle.paper.proofs.ErasedTrees.{sum-erased, product-erased, erasedTried, applies-erased}
-use Rattle.paper.proofs.ErasedWalk.{through, through-none, through-some, combine-erased}
+use Rattle.paper.proofs.ErasedWalk.{combine-erased}
 
 -- what is asked of a rule
 abbrev pub Blind : (Tree → Tried) → Type 0
@@ -93,18 +92,14 @@ term-erased (sum μ f) = refl
 term-erased (product μ f) = ap (productTerm 0) (erases-list f) ∙ product-term-erased μ (toList f)
 term-erased (power μ b ξ e) = refl
 
-add-erased : (b : Bool) (c x : Term) → addIf b (bare c) (bare x) ≡ through bare (addIf b c x)
+add-erased : (b : Bool) (c x : Term) → addIf b (bare c) (bare x) ≡ Option·map bare (addIf b c x)
 unfolding addIf added bare
-add-erased true c x = sym (through-some bare (added c x))
-add-erased false c x = sym (through-none bare)
+add-erased true c x = refl
+add-erased false c x = refl
 
-merge-terms-erased : (c x : Term) → mergeTerms (bare c) (bare x) ≡ through bare (mergeTerms c x)
+merge-terms-erased : (c x : Term) → mergeTerms (bare c) (bare x) ≡ Option·map bare (mergeTerms c x)
 unfolding mergeTerms bare
 merge-terms-erased c x = ap (λ b. addIf b (bare c) (bare x)) (equal-erased (c .rest) (x .rest)) ∙ add-erased (equal (c .rest) (x .rest)) c x
-
-map-append : (l m : List Tree) → map erase (l ++ m) ≡ map erase l ++ map erase m
-map-append [] m = refl
-map-append (t ∷ l) m = ap (λ k. erase t ∷ k) (map-append l m)
 
 times-erased : (μ : ℕ) (z : ℤ) (t : Tree) → coefficientTimes 0 z (erase t) ≡ (erase (coefficientTimes μ z t .0), coefficientTimes μ z t .1)
 unfolding coefficientTimes erase ofList
@@ -113,7 +108,8 @@ times-erased μ z (symbol ν s) = refl
 times-erased μ z (sum ν f) = refl
 times-erased μ z (product ν f) =
     ap (λ l. (product 0 l, true))
-    (ap (λ l. ofList (l ++ (integer 0 z ∷ []))) (erases-list f) ∙ ap ofList (sym (map-append (toList f) (integer μ z ∷ []))) ∙ list-erases (toList f ++ (integer μ z ∷ [])))
+    (ap (λ l. ofList (l ++ (integer 0 z ∷ []))) (erases-list f) ∙ ap ofList (sym (map-append erase (toList f) (integer μ z ∷ [])))
+    ∙ list-erases (toList f ++ (integer μ z ∷ [])))
 times-erased μ z (power ν b ξ e) = refl
 
 from-term-erased : (c : Term) → fromTerm (bare c) ≡ (erase (fromTerm c .0), fromTerm c .1)
@@ -141,23 +137,23 @@ factor-erased (sum μ f) = refl
 factor-erased (product μ f) = refl
 factor-erased (power μ b ξ e) = refl
 
-raise-erased : (b : Bool) (c x : Factor) → raiseIf b (plain c) (plain x) ≡ through plain (raiseIf b c x)
+raise-erased : (b : Bool) (c x : Factor) → raiseIf b (plain c) (plain x) ≡ Option·map plain (raiseIf b c x)
 unfolding raiseIf plain
-raise-erased true c x = sym (through-some plain _)
-raise-erased false c x = sym (through-none plain)
+raise-erased true c x = refl
+raise-erased false c x = refl
 
-raise-same : (c x : Factor) → raiseIf (equal (plain c .base) (plain x .base)) (plain c) (plain x) ≡ through plain (raiseIf (equal (c .base) (x .base)) c x)
+raise-same : (c x : Factor) → raiseIf (equal (plain c .base) (plain x .base)) (plain c) (plain x) ≡ Option·map plain (raiseIf (equal (c .base) (x .base)) c x)
 unfolding plain
 raise-same c x =
     ap (λ b. raiseIf b (plain c) (plain x)) (equal-erased (c .base) (x .base)) ∙ raise-erased (equal (c .base) (x .base)) c x
 
-multiply-erased : (b : Bool) (o : Option ℤ) (c x : Factor) → multiplyIf b o (plain c) (plain x) ≡ through plain (multiplyIf b o c x)
+multiply-erased : (b : Bool) (o : Option ℤ) (c x : Factor) → multiplyIf b o (plain c) (plain x) ≡ Option·map plain (multiplyIf b o c x)
 unfolding multiplyIf
-multiply-erased true (some z) c x = unfold plain erase in sym (through-some plain _)
+multiply-erased true (some z) c x = unfold plain erase in refl
 multiply-erased true none c x = raise-same c x
 multiply-erased false o c x = raise-same c x
 
-merge-factors-erased : (c x : Factor) → mergeFactors (plain c) (plain x) ≡ through plain (mergeFactors c x)
+merge-factors-erased : (c x : Factor) → mergeFactors (plain c) (plain x) ≡ Option·map plain (mergeFactors c x)
 unfolding mergeFactors plain
 merge-factors-erased c x =
     ap (λ o. multiplyIf (eqb (c .exponent) (x .exponent)) o (plain c) (plain x))
@@ -176,7 +172,8 @@ like-factors-blind : Blind combineLikeFactors
 unfolding combineLikeFactors
 like-factors-blind =
     on-products _
-    (λ μ l. combine-erased (productOf μ) (productOf 0) (product-erased μ) plain factorOf mergeFactors fromFactor factor-erased merge-factors-erased from-factor-erased l)
+    (λ μ l. combine-erased (productOf μ) (productOf 0)
+    (product-erased μ) plain factorOf mergeFactors fromFactor factor-erased merge-factors-erased from-factor-erased l)
 
 -- ---- steps 7, 8 and 9
 on-powers : (k : ℕ → Tree → ℕ → ℕ → Tried) → ((μ : ℕ) (b : Tree) (ξ e : ℕ) → k 0 (erase b) 0 e ≡ erasedTried (k μ b ξ e)) → Blind (onPowerParts k)

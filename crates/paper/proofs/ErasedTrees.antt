@@ -1,10 +1,10 @@
 -- What looks at trees and lists of trees without looking at marks: weight, equality, the tests and the collapse of the rules. Each law is an
--- induction. Assumes nothing.
+-- induction.
 use Prim.Native.Nat.{ℕ, _+_}
 use mathlib.Core.Path.{_≡_, refl, ap, _∙_}
 use mathlib.Core.Bool.{Bool, true, false, _&&_}
 use mathlib.Core.List.{List, [], _∷_, map}
-use mathlib.Core.Option.{Option, none, some}
+use mathlib.Core.Option.{Option, none, some, Option·map}
 use lib.IntN.{ℤ}
 use lib.Dec.{eqb}
 use Rattle.paper.specs.Tree.{Tree, Forest, integer, symbol, sum, product, power, nil, cons, toList, ofList, marked, weight, weights}
@@ -47,23 +47,21 @@ marked-erased ν (product μ f) = refl
 marked-erased ν (power μ b ξ e) = refl
 
 -- ---- equality
-through : Option (List Tree) → Option (List Tree)
-through none = none
-through (some l) = some (map erase l)
-
-take-erased : (b : Bool) (y : Tree) (ys : List Tree) (r : Option (List Tree)) → takeIf b (erase y) (map erase ys) (through r) ≡ through (takeIf b y ys r)
-unfolding takeIf keeping through
+take-erased : (b : Bool) (y : Tree) (ys : List Tree) (r : Option (List Tree))
+    → takeIf b (erase y) (map erase ys) (Option·map (map erase) r) ≡ Option·map (map erase) (takeIf b y ys r)
+unfolding takeIf keeping
 take-erased true y ys r = refl
 take-erased false y ys none = refl
 take-erased false y ys (some l) = refl
 
-remove-erased : (p q : Tree → Bool) → ((u : Tree) → q (erase u) ≡ p u) → (l : List Tree) → removeFirst q (map erase l) ≡ through (removeFirst p l)
-unfolding removeFirst through
+remove-erased : (p q : Tree → Bool) → ((u : Tree) → q (erase u) ≡ p u) → (l : List Tree)
+    → removeFirst q (map erase l) ≡ Option·map (map erase) (removeFirst p l)
+unfolding removeFirst
 remove-erased p q h [] = refl
 remove-erased p q h (y ∷ ys) = rw (h y, remove-erased p q h ys) (take-erased (p y) y ys (removeFirst p ys))
 
-go-erased : (k j : List Tree → Bool) → ((l : List Tree) → j (map erase l) ≡ k l) → (r : Option (List Tree)) → goOn (through r) j ≡ goOn r k
-unfolding goOn through
+go-erased : (k j : List Tree → Bool) → ((l : List Tree) → j (map erase l) ≡ k l) → (r : Option (List Tree)) → goOn (Option·map (map erase) r) j ≡ goOn r k
+unfolding goOn
 go-erased k j h none = refl
 go-erased k j h (some l) = h l
 

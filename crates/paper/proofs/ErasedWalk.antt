@@ -1,25 +1,17 @@
 -- A walk over parts that are changed by a map which the merge respects is the walk, changed: the same parts merge, and as many are
--- removed. So a rule that walks answers alike on members without their marks. Assumes nothing.
+-- removed. So a rule that walks answers alike on members without their marks.
 use Prim.Native.Nat.{ℕ, zero, suc}
 use mathlib.Core.Path.{_≡_, refl, sym, ap, _∙_}
 use mathlib.Core.Bool.{Bool, true, false, _&&_}
-use mathlib.Core.List.{List, [], _∷_, _++_, map}
-use mathlib.Core.Option.{Option, none, some}
-use lib.ListN.{length}
+use mathlib.Core.List.{List, [], _∷_, _++_, map, map-append}
+use mathlib.Core.Option.{Option, none, some, Option·map}
+use lib.ListN.{length, length-map}
 use Rattle.paper.specs.Tree.{Tree}
 use Rattle.paper.specs.Walk.{lastOf, initOf, lastFirst, Turn, WalkEnd, oneRemoved, turn, walk}
 use Rattle.paper.specs.Walk as Walk
 use Rattle.paper.specs.Rules.{applies, allInRange, rebuilt, outcome, combine}
 use Rattle.paper.specs.Erased.{erase}
 use Rattle.paper.proofs.ErasedTrees.{erasedTried}
-
-map-append : {A B : Type 0} (f : A → B) (l m : List A) → map f (l ++ m) ≡ map f l ++ map f m
-map-append f [] m = refl
-map-append f (x ∷ l) m = ap (λ k. f x ∷ k) (map-append f l m)
-
-map-length : {A B : Type 0} (f : A → B) (l : List A) → length (map f l) ≡ length l
-map-length f [] = refl
-map-length f (x ∷ l) = ap suc (map-length f l)
 
 map-map : {A B C D : Type 0} (f : A → B) (g : B → D) (h : A → C) (k : C → D) → ((x : A) → g (f x) ≡ k (h x)) → (l : List A) → map g (map f l) ≡ map k (map h l)
 map-map f g h k e [] = refl
@@ -41,19 +33,7 @@ module _ {A : Type 0} (f : A → A) where
   first-map [] = refl
   first-map (a ∷ l) = rw (last-map a l, init-map a l) refl
 
-  pub through : Option A → Option A
-  through none = none
-  through (some a) = some (f a)
-
-  pub through-none : through none ≡ none
-  unfolding through
-  through-none = refl
-
-  pub through-some : (a : A) → through (some a) ≡ some (f a)
-  unfolding through
-  through-some a = refl
-
-module _ {P : Type 0} (e : P → P) (merge : P → P → Option P) (h : (c x : P) → merge (e c) (e x) ≡ through e (merge c x)) where
+module _ {P : Type 0} (e : P → P) (merge : P → P → Option P) (h : (c x : P) → merge (e c) (e x) ≡ Option·map e (merge c x)) where
   turned : Turn P → Turn P
   turned t = record { current = e (t .current); later = map e (t .later); removed = t .removed }
 
@@ -69,14 +49,17 @@ module _ {P : Type 0} (e : P → P) (merge : P → P → Option P) (h : (c x : P
       (ap (λ k. turn merge n (e c) k (map e l)) (sym (map-append e passed (x ∷ []))) ∙ turn-map n c (passed ++ (x ∷ [])) l)
       (λ d. ap (turn merge n (e d) (map e passed)) (first-map e l) ∙ turn-map n d passed (lastFirst l))
     where
-      go : (o′ o : Option P) → o′ ≡ through e o
+      go : (o′ o : Option P) → o′ ≡ Option·map e o
           → turn merge n (e c) (map e passed ++ (e x ∷ [])) (map e l) ≡ turned (turn merge n c (passed ++ (x ∷ [])) l)
           → ((d : P) → turn merge n (e d) (map e passed) (lastFirst (map e l)) ≡ turned (turn merge n d passed (lastFirst l)))
           → _≡_ {A = Turn P}
-          (elim o′ as (λ o. Turn P) [ none ↦ turn merge n (e c) (map e passed ++ (e x ∷ [])) (map e l) | some d ↦ oneRemoved (turn merge n d (map e passed) (lastFirst (map e l))) ])
+          (elim o′ as (λ o. Turn P) [
+            | none ↦ turn merge n (e c) (map e passed ++ (e x ∷ [])) (map e l)
+            | some d ↦ oneRemoved (turn merge n d (map e passed) (lastFirst (map e l)))
+          ])
           (turned (elim o as (λ o. Turn P) [ none ↦ turn merge n c (passed ++ (x ∷ [])) l | some d ↦ oneRemoved (turn merge n d passed (lastFirst l)) ]))
-      go o′ none q k j = rw (q, through-none e) k
-      go o′ (some d) q k j = rw (q, through-some e d) (removed-one _ _ (j d))
+      go o′ none q k j = rw q k
+      go o′ (some d) q k j = rw q (removed-one _ _ (j d))
         where
           removed-one : (s t : Turn P) → s ≡ turned t → oneRemoved s ≡ turned (oneRemoved t)
           removed-one s t q = unfold oneRemoved turned in ap oneRemoved q
@@ -88,7 +71,7 @@ module _ {P : Type 0} (e : P → P) (merge : P → P → Option P) (h : (c x : P
   walk-map (suc n) (c ∷ l) =
       let t = turn merge (length l) c [] l in
       let q : turn merge (length (map e l)) (e c) [] (map e l) ≡ turned t =
-      ap (λ k. turn merge k (e c) [] (map e l)) (map-length e l) ∙ turn-map (length l) c [] l in
+      ap (λ k. turn merge k (e c) [] (map e l)) (length-map l e) ∙ turn-map (length l) c [] l in
       ap (λ (s : Turn P). Walk.thenWalk s (walk merge n (s .later))) q
       ∙ ap (Walk.thenWalk (turned t)) (walk-map n (t .later))
 
@@ -113,14 +96,14 @@ module _ (node node′ : List Tree → Tree) (nodes : (l : List Tree) → node�
   outcome-erased l (suc n) = rw (range-map l) (rebuilt-erased l (allInRange l))
 
   pub combine-erased : {P : Type 0} (e : P → P) (split : Tree → P) (merge : P → P → Option P) (join : P → Tree × Bool)
-      → ((t : Tree) → split (erase t) ≡ e (split t)) → ((c x : P) → merge (e c) (e x) ≡ through e (merge c x))
+      → ((t : Tree) → split (erase t) ≡ e (split t)) → ((c x : P) → merge (e c) (e x) ≡ Option·map e (merge c x))
       → ((c : P) → join (e c) ≡ (erase (join c .0), join c .1))
       → (l : List Tree) → combine node′ split merge join (map erase l) ≡ erasedTried (combine node split merge join l)
   unfolding combine joined walked
   combine-erased {P} e split merge join s m j l =
       let w = walk merge (length l) (map split l) in
       let q : walk merge (length (map erase l)) (map split (map erase l)) ≡ walked e merge m w =
-      ap (λ n. walk merge n (map split (map erase l))) (map-length erase l)
+      ap (λ n. walk merge n (map split (map erase l))) (length-map l erase)
       ∙ ap (walk merge (length l)) (map-map erase split split e s l) ∙ walk-map e merge m (length l) (map split l) in
       ap (λ (v : WalkEnd P). outcome node′ (map join (v .parts)) (v .removed)) q
       ∙ ap (λ k. outcome node′ k (w .removed)) (map-map e join join joined j (w .parts))

@@ -1,6 +1,6 @@
 -- A run that ends leaves a tree that admits no rule and no opening, at any node: a node is finished only where the rules were
 -- asked in vain and its members, finished themselves, came back unchanged and unopened; and a run with no step and no opening
--- leaves its tree as it was. Conversely, a tree that admits none is finished at once. Assumes nothing.
+-- leaves its tree as it was. Conversely, a tree that admits none is finished at once.
 use Prim.Native.Nat.{ℕ, zero, suc, _+_, _≤_, _<_}
 use mathlib.Core.Path.{_≡_, refl, sym, ap, _∙_, subst}
 use mathlib.Core.Bool.{Bool, true, false}
@@ -9,7 +9,7 @@ use native.Mathlib.Omega.{arith}
 use lib.ListN.{length, length-append}
 use lib.Dec.{eqb}
 use borrow.Author.Tests.{eqb-true, eqb-false, eq-eqb}
-use Rattle.paper.specs.Tree.{Tree, integer, symbol, sum, product, power, weight, toList}
+use Rattle.paper.specs.Tree.{Tree, integer, symbol, sum, product, power, weight, records}
 use Rattle.paper.specs.WellFormed.{WF, WFl}
 use Rattle.paper.specs.Rules.{Rule}
 use Rattle.paper.specs.Driver.{Asked, no-rule, step, out-of-range, ask, Ran, done, over, Rans, dones, overs, after, tried, andThen, each, members}
@@ -17,7 +17,7 @@ use Rattle.paper.specs.Driver.{gather, settle, gathered, visit, run, sim
 use Rattle.paper.specs.Admits.{openingsAt, AdmitsNone, admits-none, AllAdmitNone, no-more, and-more}
 use Rattle.paper.specs.Good.{Goods}
 use Rattle.paper.proofs.Value.{total, weight-pos}
-use Rattle.paper.specs.Tree.{Forest, nil, cons, records, recordses}
+use Rattle.paper.proofs.EqualView.{recordses-list}
 use Rattle.paper.proofs.GatherLaws.{members-wf, gather-same}
 use Rattle.paper.proofs.DriverLaws.{RunKept, RunsKept, AskedKept, ask-kept, each-kept, gathered-tree, run-kept}
 use Rattle.paper.proofs.Fuel.{members-lighter, gathered-lighter}
@@ -170,17 +170,12 @@ module _ (again : Tree → Ran) where
       ∙ ap (settle again [] k n (gather t (members t) .0)) (eq-eqb (0 + k) 0 z)
       ∙ ap (λ u. done u [] 0 n) (gather-same t w o)
 
-records-list : (f : Forest) → total records (toList f) ≡ recordses f
-unfolding total toList records
-records-list nil = refl
-records-list (cons t f) = ap (λ n. records t + n) (records-list f)
-
 node-records : (t : Tree) → suc (total records (members t)) ≡ records t
 unfolding members total records
 node-records (integer μ z) = refl
 node-records (symbol μ s) = refl
-node-records (sum μ f) = omega (arith, records-list f)
-node-records (product μ f) = omega (arith, records-list f)
+node-records (sum μ f) = omega (arith, recordses-list f)
+node-records (product μ f) = omega (arith, recordses-list f)
 node-records (power μ b ξ e) = omega arith
 
 mutual

@@ -1,6 +1,5 @@
 -- The first place of a stretch where a test holds, and what the definitions of the refusals that look for one say in these terms:
 -- the first flawed record, the first stray byte, the first bad exponent. Each is an induction on the places left.
--- Assumes nothing.
 use Prim.Native.Nat.{ℕ, zero, suc, _+_, _*_, _<_, _≤_, min}
 use mathlib.Core.Path.{_≡_, refl, ap, _∙_, subst}
 use mathlib.Core.Bool.{Bool, true, false, cond, _&&_, _||_, not}

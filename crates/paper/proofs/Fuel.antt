@@ -1,6 +1,6 @@
 -- The weight is fuel enough: with fuel of at least the weight, a run does not depend on the fuel. Every recursive call is on a
 -- tree that weighs less: a rule lowers the weight, members weigh less than their node, and a node that is begun again has lost
--- a step's or an opening's worth. Assumes nothing.
+-- a step's or an opening's worth.
 use Prim.Native.Nat.{ℕ, zero, suc, _+_, _≤_, _<_}
 use mathlib.Core.Path.{_≡_, refl, sym, ap, _∙_}
 use mathlib.Core.Bool.{Bool, true, false}
@@ -9,13 +9,14 @@ use native.Mathlib.Omega.{arith}
 use lib.ListN.{length}
 use lib.Dec.{eqb}
 use borrow.Author.Tests.{eqb-false}
-use Rattle.paper.specs.Tree.{Tree, integer, symbol, sum, product, power, weight}
+use Rattle.paper.specs.Tree.{Tree, integer, symbol, sum, product, power, ofList, records, recordses, weight}
 use Rattle.paper.specs.WellFormed.{WF, WFl}
 use Rattle.paper.specs.Rules.{Rule}
-use Rattle.paper.specs.Driver.{Asked, no-rule, step, out-of-range, ask, Ran, done, over, Rans, dones, overs, after, tried, andThen, each, members}
+use Rattle.paper.specs.Driver.{Asked, no-rule, step, out-of-range, ask, Ran, Rans, dones, overs, after, tried, andThen, each, members}
 use Rattle.paper.specs.Driver.{gather, settle, gathered, visit, run, simplify}
-use Rattle.paper.specs.Good.{Kept, Goods}
+use Rattle.paper.specs.Good.{Goods}
 use Rattle.paper.proofs.Value.{total, weights-list, weight-pos}
+use Rattle.paper.proofs.WFLaws.{of-to-list}
 use Rattle.paper.proofs.GatherLaws.{members-wf}
 use Rattle.paper.proofs.DriverLaws.{RunKept, RunsKept, AskedKept, ask-kept, each-kept, gathered-tree, run-kept}
 
@@ -26,6 +27,15 @@ members-lighter (symbol μ s) = omega arith
 members-lighter (sum μ f) = omega (arith, weights-list f)
 members-lighter (product μ f) = omega (arith, weights-list f)
 members-lighter (power μ b ξ e) = omega arith
+
+-- the records of a tree are its own and its members'
+pub records-first : (t : Tree) → records t ≡ 1 + recordses (ofList (members t))
+unfolding records members ofList
+records-first (integer μ z) = refl
+records-first (symbol μ s) = refl
+records-first (sum μ f) = ap (λ g. 1 + recordses g) (sym (of-to-list f))
+records-first (product μ f) = ap (λ g. 1 + recordses g) (sym (of-to-list f))
+records-first (power μ b ξ e) = omega arith
 
 -- a node that is begun again weighs less than before
 pub gathered-lighter : (t : Tree) (l : List Tree) (s : List ℕ) (o n : ℕ) → WF t → RunsKept (members t) (dones l s o n)

@@ -1,6 +1,6 @@
 -- Gathering: opening a sum among a sum's members, or a product among a product's, keeps the value and takes one off the weight
 -- for each opening; and since what is opened has two members or more, a gathered list never has fewer than two. Each is one
--- induction on the list, over either kind of node. Assumes nothing.
+-- induction on the list, over either kind of node.
 use Prim.Native.Nat.{ℕ, suc, _+_, _*_, _≤_, _<_}
 use mathlib.Core.Path.{_≡_, refl, sym, ap, _∙_, subst}
 use mathlib.Core.List.{List, [], _∷_, _++_}
@@ -90,7 +90,8 @@ as-sum Q h (sum μ f) l e = subst (Q (sum μ f)) (some-inj e) (h μ f)
 as-sum Q h (product μ f) l e = none-some e
 as-sum Q h (power μ b ξ x) l e = none-some e
 
-pub as-product : (Q : Tree → List Tree → Type 0) → ((μ : ℕ) (f : Forest) → Q (product μ f) (toList f)) → (t : Tree) (l : List Tree) → asProduct t ≡ some l → Q t l
+pub as-product : (Q : Tree → List Tree → Type 0) → ((μ : ℕ) (f : Forest) → Q (product μ f) (toList f)) → (t : Tree) (l : List Tree)
+    → asProduct t ≡ some l → Q t l
 unfolding asProduct
 as-product Q h (integer μ z) l e = none-some e
 as-product Q h (symbol μ s) l e = none-some e
@@ -149,7 +150,7 @@ unfolding multiplied
 kepts-multiplied nothing ρ = agree-refl
 kepts-multiplied (more h r) ρ = agree-mul (kept-exact h ρ) (kepts-multiplied r ρ)
 
-kepts-weight : {k : ℕ} {l m : List Tree} → Kepts k l m → total weight m + k ≤ total weight l
+pub kepts-weight : {k : ℕ} {l m : List Tree} → Kepts k l m → total weight m + k ≤ total weight l
 unfolding total
 kepts-weight nothing = omega arith
 kepts-weight (more h r) = omega (arith, h .lighter, kepts-weight r)
@@ -159,23 +160,24 @@ kepts-length nothing = refl
 kepts-length (more h r) = ap suc (kepts-length r)
 
 -- ---- the gathered node
-leaf : {k : ℕ} {l : List Tree} → Kepts k [] l → k ≡ 0
-leaf nothing = refl
+pub no-members : {k : ℕ} {l : List Tree} → Kepts k [] l → k ≡ 0
+no-members nothing = refl
 
 -- a power's exponent weighs 1, so its result can't have lost any weight
-power-kept : (μ : ℕ) (b x : Tree) (ξ e k : ℕ) (l : List Tree) → weight x ≡ 1 → Kepts k (b ∷ x ∷ []) l → Kept (k + 0) (power μ b ξ e) (power μ (baseFrom b l) ξ e)
+power-kept : (μ : ℕ) (b x : Tree) (ξ e k : ℕ) (l : List Tree) → weight x ≡ 1 → Kepts k (b ∷ x ∷ []) l
+    → Kept (k + 0) (power μ b ξ e) (power μ (baseFrom b l) ξ e)
 unfolding baseFrom exact weight
 power-kept μ b x ξ e k l w (more {u = u} h (more {u = y} h′ r)) =
     record {
       value-kept = value-of-exact (power μ b ξ e) (power μ u ξ e) (λ ρ. agree-pow e (kept-exact h ρ));
-      lighter = omega (arith, leaf r, h .lighter, h′ .lighter, weight-pos y);
+      lighter = omega (arith, no-members r, h .lighter, h′ .lighter, weight-pos y);
     }
 
 -- the gathered node keeps the value, and weighs less by what its members lost and by one for each opening
 pub gather-kept : (t : Tree) (l : List Tree) (k : ℕ) → Kepts k (members t) l → Kept (k + gather t l .1) t (gather t l .0)
 unfolding gather members exact weight
-gather-kept (integer μ z) l k h = record { value-kept = λ ρ. refl; lighter = omega (arith, leaf h) }
-gather-kept (symbol μ s) l k h = record { value-kept = λ ρ. refl; lighter = omega (arith, leaf h) }
+gather-kept (integer μ z) l k h = record { value-kept = λ ρ. refl; lighter = omega (arith, no-members h) }
+gather-kept (symbol μ s) l k h = record { value-kept = λ ρ. refl; lighter = omega (arith, no-members h) }
 gather-kept (sum μ f) l k h =
     let m = opened asSum l .0 in
     record {
@@ -187,7 +189,8 @@ gather-kept (product μ f) l k h =
     let m = opened asProduct l .0 in
     record {
       value-kept = value-of-exact (product μ f) (product μ (ofList m))
-          (λ ρ. agree-trans (agree-of (list-product m ρ ∙ opened-folds (products-fold ρ) l)) (agree-trans (kepts-multiplied h ρ) (agree-of (product-list f ρ))));
+          (λ ρ. agree-trans (agree-of (list-product m ρ ∙ opened-folds (products-fold ρ) l))
+          (agree-trans (kepts-multiplied h ρ) (agree-of (product-list f ρ))));
       lighter = omega (arith, list-weights m, opened-weight products-open l, kepts-weight h, weights-list f);
     }
 gather-kept (power μ b ξ e) l k h = power-kept μ b (integer ξ (pos e)) ξ e k l (unfold weight in refl) h

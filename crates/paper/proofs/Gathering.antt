@@ -1,6 +1,6 @@
 -- Where results are gathered, a sum or product has two members or more: the results are as many as the members, which are two or more
 -- in a well-formed tree, and an opening leaves no fewer. So a branch for fewer is never reached: by
--- induction on the fuel, since every tree that is visited is well-formed. Assumes nothing.
+-- induction on the fuel, since every tree that is visited is well-formed.
 use Prim.Native.Nat.{ℕ, zero, suc, _+_, _≤_, _<_}
 use mathlib.Core.Path.{_≡_, refl, sym, ap, _∙_, subst}
 use mathlib.Core.Bool.{Bool, true, false}
@@ -9,7 +9,6 @@ use mathlib.Core.Option.{Option, none, some, Option·none-ne-some}
 use native.Mathlib.Omega.{arith}
 use lib.ListN.{length}
 use lib.IntN.{pos}
-use lib.Dec.{eqb}
 use borrow.Author.Tests.{le-ltb, lt-ltb}
 use Rattle.paper.specs.Bytes.{Bytes}
 use Rattle.paper.specs.Tree.{Tree, Forest, integer, symbol, sum, product, power, weight}
@@ -20,8 +19,8 @@ use Rattle.paper.specs.Rules.{Rule, rulesOf, collapse, sumOf, productOf}
 use Rattle.paper.specs.Driver.{Asked, no-rule, step, out-of-range, ask, Ran, Rans, dones, overs, after, tried, each, members}
 use Rattle.paper.specs.Driver.{asSum, asProduct, openOne, opened, gather, settle, gathered, visit, run, simplify}
 use Rattle.paper.specs.Good.{Goods}
-use Rattle.paper.specs.Gathering.{Branch, tells, collapses, unlessFewer, gatherWith, onward, andThenWith, eachWith, settleWith, settleGathered, gatheredWith, visitWith, runWith}
-use Rattle.paper.specs.Gathering.{simplifyWith, BranchNotReached}
+use Rattle.paper.specs.Gathering.{Branch, tells, collapses, unlessFewer, gatherWith, onward, andThenWith, eachWith, settleWith, settleGathered}
+use Rattle.paper.specs.Gathering.{gatheredWith, visitWith, runWith, simplifyWith, BranchNotReached}
 use Rattle.paper.proofs.EditionTwo.{edition-good}
 use Rattle.paper.proofs.WFLaws.{count-list}
 use Rattle.paper.proofs.GatherLaws.{gatheredList, gathers-two, members-wf}
@@ -70,7 +69,8 @@ unfolding collapses opened openOne sumOf productOf collapse
 collapses-as-after-a-rule μ f t = (refl, refl, λ e. rw e refl, λ e. rw e refl)
 
 -- where two members or more are gathered, the two gatherings agree
-two-gathered : (fewer : Branch) (t : Tree) (l : List Tree) → WF t → (0 < length (members t) → 2 ≤ length (gatheredList t l)) → gatherWith fewer t l ≡ some (gather t l)
+two-gathered : (fewer : Branch) (t : Tree) (l : List Tree) → WF t → (0 < length (members t) → 2 ≤ length (gatheredList t l))
+    → gatherWith fewer t l ≡ some (gather t l)
 unfolding gatherWith unlessFewer gatheredList members
 two-gathered fewer (integer μ z) l w h = refl
 two-gathered fewer (symbol μ s) l w h = refl
@@ -79,7 +79,8 @@ two-gathered fewer (product μ f) l w h = rw (le-ltb (length (opened asProduct l
 two-gathered fewer (power μ b ξ e) l w h = refl
 
 -- ---- two drivers that agree on well-formed trees, one of them with the branch
-module _ (fewer : Branch) (a : Tree → Option Ran) (b : Tree → Ran) (alike : (u : Tree) → WF u → a u ≡ some (b u)) (kept : (u : Tree) → WF u → RunKept u (b u)) where
+module _ (fewer : Branch) (a : Tree → Option Ran) (b : Tree → Ran) (alike : (u : Tree) → WF u → a u ≡ some (b u))
+    (kept : (u : Tree) → WF u → RunKept u (b u)) where
   each-alike : (l : List Tree) → WFl l → eachWith a l ≡ some (each b l)
   unfolding each eachWith andThenWith
   each-alike [] w = refl

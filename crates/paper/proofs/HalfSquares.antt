@@ -3,7 +3,7 @@
 -- and of any tree, 4n + 2v² + 3 ≤ 3w² + 4w + 2v.
 -- So each pass over a node is paid by the weight lost since the last one (from weight w, w² falls by about 2w for each unit), but for the first
 -- after its members' own runs; such passes are paid by the weight of the nodes along a path, which fall by 2 with each level, and make a quarter of the
--- square at the most. Each law is one way that a run goes. Assumes nothing.
+-- square at the most. Each law is one way that a run goes.
 use Prim.Native.Nat.{ℕ, zero, suc, _+_, _*_, _≤_, _<_}
 use native.Mathlib.Omega.{arith}
 use native.Mathlib.Nat.{mul-le-mul-left, mul-le-mul}

@@ -1,6 +1,6 @@
 -- A well-formed tree is at most half as high as its records are many: each node that stands inside another has a fellow there, a second member or
 -- the exponent, and both are records. By induction on the tree; of members that stand side by side the tallest pays for the height and each
--- other one for itself. Assumes nothing.
+-- other one for itself.
 use Prim.Native.Nat.{_+_, _*_, _≤_}
 use native.Mathlib.Omega.{arith}
 use Rattle.paper.specs.Tree.{Tree, Forest, integer, symbol, sum, product, power, nil, cons, count, records, recordses, weight}

@@ -1,7 +1,7 @@
 -- What the walks of steps 2 and 6 judge: of two parts in range, the part that they become is judged in range exactly when its number is
--- one that a well-formed tree may hold: a coefficient, a base, an exponent. Assumes nothing.
-use Prim.Native.Nat.{ℕ, _+_, _^_, _≤_, _<_}
-use mathlib.Core.Path.{_≡_, refl, subst}
+-- one that a well-formed tree may hold: a coefficient, a base, an exponent.
+use Prim.Native.Nat.{_+_, _^_, _≤_, _<_}
+use mathlib.Core.Path.{_≡_, subst}
 use mathlib.Core.Bool.{true, false}
 use mathlib.Core.Option.{some, Option·some-injective}
 use mathlib.Core.Logic.{_↔_}
@@ -11,7 +11,7 @@ use lib.IntN.{ℤ}
 use lib.Dec.{eqb, ltb}
 use borrow.Author.Tests.{lt-ltb, ltb-true, ne-eqb}
 use Rattle.paper.specs.WellFormed.{InRange, Mark, WF}
-use Rattle.paper.specs.Rules.{fits, Term, added, Factor, raiseIf, multiplyIf, powerUnless, fromFactor}
+use Rattle.paper.specs.Rules.{Term, added, Factor, raiseIf, multiplyIf, powerUnless, fromFactor}
 use Rattle.paper.proofs.RangeLaws.{fits-exactly}
 
 -- step 2: the sum of two coefficients

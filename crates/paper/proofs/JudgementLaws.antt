@@ -1,6 +1,5 @@
 -- The refusals of a call but 7 are given exactly as the papers say, in their order. 1 to 5 are those of the table (Refusals); the tests
 -- of 6 and 9 are their words; 6 is tested only where none of 1 to 5 applies, these only where 9 does not, and 9 only where 19 does not.
--- Assumes nothing.
 use Prim.Native.Nat.{ℕ, _*_, _≤_, _<_}
 use mathlib.Core.Path.{_≡_, refl, sym, ap, subst}
 use mathlib.Core.Bool.{Bool, true, false, cond, _||_}
@@ -36,7 +35,7 @@ module _ (lim w : ℕ) (l : Lent) where
   work : Bool
   work = ltb (length (l .work)) (workBytes lim)
 
-  cramped-words : cramped lim w l ≡ true → Under lim w l
+  pub cramped-words : cramped lim w l ≡ true → Under lim w l
   unfolding cramped out steps work
   cramped-words h = go (or-either (out || steps) work h)
     where
@@ -81,11 +80,11 @@ applies-within (of-records x) = let y = faulty-within x in (y .0, inl (y .1))
 applies-within (refusal-19 x y) = (lit≤ tt, inr refl)
 
 -- 9: an edition is unknown as the paper says
-unknown-words : (ed : ℕ) → isEdition ed ≡ false → (¬ (ed ≡ 1)) × (¬ (ed ≡ 2))
+pub unknown-words : (ed : ℕ) → isEdition ed ≡ false → (¬ (ed ≡ 1)) × (¬ (ed ≡ 2))
 unfolding isEdition
 unknown-words ed h = let x = or-neither (eqb ed 1) (eqb ed 2) h in (eqb-false ed 1 (x .0), eqb-false ed 2 (x .1))
 
-words-unknown : (ed : ℕ) → ¬ (ed ≡ 1) → ¬ (ed ≡ 2) → isEdition ed ≡ false
+pub words-unknown : (ed : ℕ) → ¬ (ed ≡ 1) → ¬ (ed ≡ 2) → isEdition ed ≡ false
 unfolding isEdition
 words-unknown ed h g = rw (ne-eqb ed 1 h, ne-eqb ed 2 g)
 

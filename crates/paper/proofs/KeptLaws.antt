@@ -1,10 +1,10 @@
 -- What is kept from tree to tree composes, and passes between the paper's value and the unreduced one: equal values are congruent
--- unreduced values. Assumes nothing.
-use Prim.Native.Nat.{ℕ, _+_, _≤_}
+-- unreduced values.
+use Prim.Native.Nat.{ℕ, _+_}
 use mathlib.Core.Path.{_≡_, refl, sym, _∙_}
 use native.Mathlib.Omega.{arith}
 use Rattle.paper.specs.Limits.{modulus}
-use Rattle.paper.specs.Tree.{Tree, weight, value}
+use Rattle.paper.specs.Tree.{Tree, value}
 use Rattle.paper.specs.Good.{Kept}
 use Rattle.paper.proofs.Congruence.{Agree}
 use Rattle.paper.proofs.Value.{exact, value-exact}

@@ -1,6 +1,5 @@
 -- Step 6 keeps the value. A member is its base to its exponent; b^e b^f = b^(e + f) and a^e b^e = (a b)^e, and the word of a product of
 -- integers is that of their words modulo 2^64; so the factors that come out of the walk have the product of those that went in.
--- Assumes nothing.
 use Prim.Native.Nat.{ℕ, zero, suc, _*_, _^_}
 use mathlib.Core.Path.{_≡_, refl, sym, ap, _∙_}
 use mathlib.Core.Bool.{Bool, true, false}
@@ -28,7 +27,7 @@ mul-pow : (a b n : ℕ) → (a * b) ^ n ≡ a ^ n * b ^ n
 mul-pow a b zero = rw (pow-zero (a * b), pow-zero a, pow-zero b) refl
 mul-pow a b (suc n) = rw (pow-suc (a * b) n, pow-suc a n, pow-suc b n, mul-pow a b n) (omega arith)
 
-pow-one : (a : ℕ) → a ^ 1 ≡ a
+pub pow-one : (a : ℕ) → a ^ 1 ≡ a
 pow-one a = rw (pow-suc a 0, pow-zero a) (omega arith)
 
 times-laws : Commutes _*_ 1

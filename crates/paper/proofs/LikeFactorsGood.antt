@@ -1,5 +1,5 @@
 -- Step 6, "combine like factors", is a good rule: the product that it gives is well-formed, has the value of the product it was given,
--- and weighs less by one at least, since it applies only where something was removed. Assumes nothing.
+-- and weighs less by one at least, since it applies only where something was removed.
 use Prim.Native.Nat.{ℕ}
 use native.Mathlib.Omega.{arith}
 use Rattle.paper.specs.Tree.{Forest, product, toList, weight}

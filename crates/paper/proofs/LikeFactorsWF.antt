@@ -1,6 +1,6 @@
 -- Step 6 keeps trees well-formed. Where its flag says so, base and exponent of a factor make a well-formed power: this holds of the
 -- factors of well-formed members, and a merge keeps it, since its flag counts what it computes; so where the flags of the members that
--- come out say that all are in range, all are well-formed. Assumes nothing.
+-- come out say that all are in range, all are well-formed.
 use Prim.Native.Nat.{ℕ, _+_, _^_}
 use mathlib.Core.Path.{_≡_}
 use mathlib.Core.Bool.{Bool, true, false, _&&_}

@@ -1,6 +1,6 @@
 -- Step 6 lowers the weight by at least as many as it removes, on well-formed trees. A factor costs the bulk of its base, and 2 where
 -- its exponent is not 1. A merge saves a whole base, and adds an exponent only where both were 1: two equal bases are then no
--- integers, and the one that is saved costs 3 at least. Assumes nothing.
+-- integers, and the one that is saved costs 3 at least.
 use Prim.Native.Nat.{ℕ, _+_, _≤_}
 use mathlib.Core.Path.{_≡_, refl, sym, ap, _∙_}
 use mathlib.Core.Bool.{Bool, true, false}

@@ -1,6 +1,6 @@
 -- Step 2 keeps the value. A member is its coefficient times its rest; two terms with equal rests are the sum of their coefficients
 -- times that rest, and the word of a sum, or product, of integers is that of their words modulo 2^64; so the terms that come out of
--- the walk have the sum of those that went in. Assumes nothing.
+-- the walk have the sum of those that went in.
 use Prim.Native.Nat.{ℕ, _+_, _*_}
 use mathlib.Core.Path.{_≡_, refl, sym, ap, _∙_, subst}
 use mathlib.Core.Bool.{Bool, true, false}
@@ -12,11 +12,10 @@ use Rattle.paper.specs.Limits.{modulus}
 use Rattle.paper.specs.Bytes.{word}
 use Rattle.paper.specs.Tree.{Tree, Forest, integer, symbol, sum, product, power, toList, ofList, value}
 use Rattle.paper.specs.Equal.{equal, eqZ}
-use Rattle.paper.specs.Rules.{sumOf, asInteger, Term, term, withInteger, integersOf, withOther, othersOf, Multiplied, timesOne, timesEach, unit, productTerm, termOf}
-use Rattle.paper.specs.Rules.{added, addIf, mergeTerms, coefficientTimes, timesUnless, fromTerm}
+use Rattle.paper.specs.Rules.{sumOf, asInteger, Term, term, withInteger, integersOf, withOther, othersOf, Multiplied, timesOne, timesEach, unit}
+use Rattle.paper.specs.Rules.{productTerm, termOf, added, addIf, mergeTerms, coefficientTimes, timesUnless, fromTerm}
 use Rattle.paper.proofs.Congruence.{Agree, agree-refl, agree-of, agree-trans, agree-add, agree-mul, word-add, word-mul}
-use Rattle.paper.proofs.Value.{exact, value-exact, total, multiplied, multiplied-append}
-use Rattle.paper.proofs.Value.{sum-list, product-list, list-product}
+use Rattle.paper.proofs.Value.{exact, value-exact, total, multiplied, multiplied-append, sum-list, product-list, list-product}
 use Rattle.paper.proofs.Tests.{eqZ-true}
 use Rattle.paper.proofs.MarkLaws.{marked-exact}
 use Rattle.paper.proofs.EqualView.{equal-exact}
@@ -111,7 +110,8 @@ module _ (ρ : ℕ → ℕ) where
   fromTerm-worth c = go (eqZ (c .coefficient) (pos 1)) refl
     where
       go : (b : Bool) → eqZ (c .coefficient) (pos 1) ≡ b → Agree modulus (unreduced (timesUnless b c .0)) (worth c)
-      go true e = agree-of (marked-exact (c .mark) (c .rest) ρ ∙ sym (ap (λ z. word z * unreduced (c .rest)) (eqZ-true (c .coefficient) (pos 1) e) ∙ omega arith))
+      go true e =
+          agree-of (marked-exact (c .mark) (c .rest) ρ ∙ sym (ap (λ z. word z * unreduced (c .rest)) (eqZ-true (c .coefficient) (pos 1) e) ∙ omega arith))
       go false e = times-worth (c .mark) (c .coefficient) (c .rest)
 
   -- the members that come out have the sum of the members that went in, modulo 2^64

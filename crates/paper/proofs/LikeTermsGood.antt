@@ -1,5 +1,5 @@
 -- Step 2, "combine like terms", is a good rule: the sum that it gives is well-formed, has the value of the sum it was given, and weighs
--- less by one at least, since it applies only where something was removed. Assumes nothing.
+-- less by one at least, since it applies only where something was removed.
 use Prim.Native.Nat.{ℕ}
 use native.Mathlib.Omega.{arith}
 use Rattle.paper.specs.Tree.{Forest, sum, toList, weight}

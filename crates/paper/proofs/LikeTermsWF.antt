@@ -1,6 +1,6 @@
 -- Step 2 keeps trees well-formed. The rest of a term is well-formed all along, and its coefficient is in range where its flag says
 -- so: this holds of the terms of well-formed members, and a merge keeps it; so where the flags of the members that come out say that
--- all are in range, all are well-formed. Assumes nothing.
+-- all are in range, all are well-formed.
 use Prim.Native.Nat.{ℕ, _^_}
 use mathlib.Core.Path.{_≡_, subst}
 use mathlib.Core.Bool.{Bool, true, false, _&&_}
@@ -15,8 +15,8 @@ use borrow.Author.Tests.{ltb-true}
 use Rattle.paper.specs.Tree.{Tree, integer, symbol, sum, product, power, toList, ofList, count}
 use Rattle.paper.specs.WellFormed.{InRange, Mark, WF, WFl}
 use Rattle.paper.specs.Equal.{eqZ}
-use Rattle.paper.specs.Rules.{fits, sumOf, Term, term, asInteger, withOther, othersOf, integersOf, Multiplied, timesOne, timesEach, unit, productTerm, termOf}
-use Rattle.paper.specs.Rules.{added, mergeTerms, coefficientTimes, timesUnless, fromTerm}
+use Rattle.paper.specs.Rules.{fits, sumOf, Term, term, asInteger, withOther, othersOf, integersOf, Multiplied, timesOne, timesEach, unit, productTerm}
+use Rattle.paper.specs.Rules.{termOf, added, mergeTerms, coefficientTimes, timesUnless, fromTerm}
 use Rattle.paper.proofs.Tests.{and-left, and-right}
 use Rattle.paper.proofs.WFLaws.{wf-list, list-wf, count-list, list-count, wf-append, sumOf-wf, productOf-wf}
 use Rattle.paper.proofs.MarkLaws.{marked-wf}

@@ -1,7 +1,6 @@
 -- Step 2 lowers the weight by at least as many as it removes, on well-formed trees. A term costs what its rest weighs (3 at least if
 -- that is no integer) and what a coefficient other than 1 adds (2 at most, nothing to an integer). A merge saves a whole rest, which
 -- costs more than any coefficient can add; splitting a well-formed member and putting a member together cost nothing.
--- Assumes nothing.
 use Prim.Native.Nat.{ℕ, _+_, _≤_}
 use mathlib.Core.Path.{_≡_, refl, subst}
 use mathlib.Core.Bool.{Bool, true, false}
@@ -13,8 +12,8 @@ use lib.ListN.{length}
 use Rattle.paper.specs.Tree.{Tree, integer, symbol, sum, product, power, toList, ofList, weight}
 use Rattle.paper.specs.WellFormed.{WF, WFl}
 use Rattle.paper.specs.Equal.{eqZ}
-use Rattle.paper.specs.Rules.{asInteger, collapse, sumOf, productOf, Term, term, withInteger, withOther, integersOf, othersOf, timesEach, unit, productTerm, termOf}
-use Rattle.paper.specs.Rules.{added, mergeTerms, coefficientTimes, timesUnless, fromTerm}
+use Rattle.paper.specs.Rules.{asInteger, collapse, sumOf, productOf, Term, term, withInteger, withOther, integersOf, othersOf, timesEach, unit}
+use Rattle.paper.specs.Rules.{productTerm, termOf, added, mergeTerms, coefficientTimes, timesUnless, fromTerm}
 use Rattle.paper.proofs.Value.{total, total-append, weights-list, list-weights}
 use Rattle.paper.proofs.Bulk.{atLeast, bulk, weight-bulk, bulk-wf}
 use Rattle.paper.proofs.EqualView.{Same, s-integer, s-symbol, s-sum, s-product, s-power, same-view}

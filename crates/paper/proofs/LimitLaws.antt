@@ -1,9 +1,8 @@
--- What holds of both limits, so that no other law asks which one it is: each is one of two numbers. Assumes nothing.
+-- What holds of both limits, so that no other law asks which one it is: each is one of two numbers.
 use Prim.Native.Nat.{ℕ, _*_, _/_, _≤_}
 use mathlib.Core.Path.{_≡_, refl, sym, subst}
 use mathlib.Core.Bool.{true}
 use mathlib.Core.Logic.{_⊎_, inl, inr}
-use native.Mathlib.Omega.{arith}
 use lib.Dec.{eqb, lit≤}
 use borrow.Author.Tests.{eqb-true}
 use Rattle.paper.specs.Limits.{isLimit, workBytes}

@@ -1,4 +1,4 @@
--- Another mark at the root changes neither value nor weight, and keeps a tree well-formed. Assumes nothing.
+-- Another mark at the root changes neither value nor weight, and keeps a tree well-formed.
 use Prim.Native.Nat.{ℕ}
 use mathlib.Core.Path.{_≡_, refl}
 use Rattle.paper.specs.Tree.{Tree, integer, symbol, sum, product, power, marked, weight}

@@ -1,12 +1,12 @@
 -- Q-14's sentence about the walk, for every tree and every part: "every member that comes out of the walk, merged or not, has at its root the mark that the
 -- current member had when its turn began; its coefficient and exponent, changed or not, and a multiplied base take the same mark, and bases and rests keep
--- theirs below the root". A part has its member's mark from the beginning, merging keeps it, and what is built of the part has it at the root, at the coefficient
--- and at the exponent; the rest and the base are put below the root as they are. Each is read off the kinds of trees. Assumes nothing.
+-- theirs below the root". A part has its member's mark from the beginning, merging keeps it, and what is built of the part has it at the root, at the
+-- coefficient and at the exponent; the rest and the base are put below the root as they are. Each is read off the kinds of trees.
 use Prim.Native.Nat.{ℕ}
-use mathlib.Core.Path.{_≡_, refl, sym, ap, _∙_}
+use mathlib.Core.Path.{_≡_, refl, sym, ap}
 use mathlib.Core.Bool.{Bool, true, false}
 use mathlib.Core.List.{List, [], _∷_, _++_, append-nil}
-use mathlib.Core.Option.{Option, none, some, Option·none-ne-some}
+use mathlib.Core.Option.{none, some, Option·none-ne-some}
 use mathlib.Core.Logic.{_⊎_, inl, inr}
 use lib.IntN.{ℤ, pos, _*ℤ_}
 use lib.Dec.{eqb}

@@ -1,7 +1,7 @@
--- The table of kinds by bytes is the paper's rule: all eighty entries are compared by one computed test. Assumes nothing.
+-- The table of kinds by bytes is the paper's rule: all eighty entries are compared by one computed test.
 use Prim.Native.Nat.{ℕ, zero, suc}
 use mathlib.Core.Path.{_≡_, refl}
-use mathlib.Core.Bool.{Bool, not}
+use mathlib.Core.Bool.{not}
 use mathlib.Core.List.{List, [], _∷_, map}
 use lib.Dec.{eqb}
 use Rattle.paper.specs.Record.{mayTable, mayBe, mayRule, isNode}

@@ -1,5 +1,5 @@
 -- How step 6 merges two factors: by the product of two integer bases under equal exponents, or by the sum of the exponents of equal
--- bases. The test is inverted here once, into evidence. Assumes nothing.
+-- bases. The test is inverted here once, into evidence.
 use Prim.Native.Nat.{ℕ, _+_, _^_}
 use mathlib.Core.Path.{_≡_, refl, ap, _∙_, subst}
 use mathlib.Core.Bool.{Bool, true, false, _&&_}

@@ -1,6 +1,6 @@
 -- The two limits agree on tables up to the old one, since the limit is asked for in two tests only, and both pass; what is beyond the
--- old limit is refused there with 1 or 3. A judgement's number tells the rest of it, so calls that are judged by the same number give the same. And what is said of a
--- machine at the old limit, an equation for each case, leaves it no choice. Assumes nothing.
+-- old limit is refused there with 1 or 3. A judgement's number tells the rest of it, so calls that are judged by the same number give the same. And what
+-- is said of a machine at the old limit, an equation for each case, leaves it no choice.
 use Prim.Native.Nat.{ℕ, _/_, _≤_, _<_}
 use mathlib.Core.Path.{_≡_, refl, sym, ap, _∙_}
 use mathlib.Core.Bool.{Bool, true, false, cond}
@@ -54,7 +54,8 @@ call-numbered s true true v e = sym (numbered-plain s .1)
 call-numbered s true false v e = sym (numbered-plain s .0)
 call-numbered s false b v e = e
 
-judged-alike : (ed : ℕ) (s : List ℕ) (l l′ : Lent) → judgement old ed s l .number ≡ judgement higher ed s l′ .number → judgement old ed s l ≡ judgement higher ed s l′
+judged-alike : (ed : ℕ) (s : List ℕ) (l l′ : Lent) → judgement old ed s l .number ≡ judgement higher ed s l′ .number
+    → judgement old ed s l ≡ judgement higher ed s l′
 unfolding judgement judgedCall verdict isLimit
 judged-alike ed s l l′ = go (isEdition ed)
   where
@@ -75,11 +76,13 @@ pub same-results : SameResults
 unfolding simplified simplifiedBy lentAfter outcomeOf
 same-results ed s l l′ o k n =
     let f : Tree → Ran = simplify (rulesOf ed) in
-    let e : outcomeOf old ed f s l ≡ outcomeOf higher ed f s l′ = ap (λ v. cond (isAccepted v) (runOn f (tableWeight s) (treeOf s)) (turned-down v)) (judged-alike ed s l l′ n) in (
-      ap answerOf e,
-      ap (λ x. outAfter x (l .out)) e ∙ ap (outAfter (outcomeOf higher ed f s l′)) o,
-      ap (λ x. stepsAfter x (l .steps)) e ∙ ap (stepsAfter (outcomeOf higher ed f s l′)) k,
-    )
+    let e : outcomeOf old ed f s l ≡ outcomeOf higher ed f s l′ =
+    ap (λ v. cond (isAccepted v) (runOn f (tableWeight s) (treeOf s)) (turned-down v)) (judged-alike ed s l l′ n) in
+    record {
+      answer = ap answerOf e;
+      out = ap (λ x. outAfter x (l .out)) e ∙ ap (outAfter (outcomeOf higher ed f s l′)) o;
+      steps = ap (λ x. stepsAfter x (l .steps)) e ∙ ap (stepsAfter (outcomeOf higher ed f s l′)) k;
+    }
 
 pub accepted-higher : AcceptedHigher
 unfolding isLimit
@@ -159,13 +162,13 @@ module _ (m n : Machine) where
 -- the same of simplifiers. Calls that give alike answers and bytes differ in `work` alone
 pub alike-but-work : (g h : Given) → Alike g h → g .lent .work ≡ h .lent .work → g ≡ h
 alike-but-work g h e w =
-    ap (λ a. record { answer = a; lent = g .lent }) (e .0)
-    ∙ ap (λ o. record { answer = h .answer; lent = record { out = o; steps = g .lent .steps; work = g .lent .work } }) (e .1)
-    ∙ ap (λ o. record { answer = h .answer; lent = record { out = h .lent .out; steps = o; work = g .lent .work } }) (e .2)
+    ap (λ a. record { answer = a; lent = g .lent }) (e .answer)
+    ∙ ap (λ o. record { answer = h .answer; lent = record { out = o; steps = g .lent .steps; work = g .lent .work } }) (e .out)
+    ∙ ap (λ o. record { answer = h .answer; lent = record { out = h .lent .out; steps = o; work = g .lent .work } }) (e .steps)
     ∙ ap (λ o. record { answer = h .answer; lent = record { out = h .lent .out; steps = h .lent .steps; work = o } }) w
 
--- where enough `work` is lent (w is what the call at the higher limit is lent), two simplifiers give alike answers and bytes for a table up to the old limit, refused
--- or not
+-- where enough `work` is lent (w is what the call at the higher limit is lent), two simplifiers give alike answers and bytes for a table up to the old
+-- limit, refused or not
 judged-both : (ed : ℕ) (s : List ℕ) (l : Lent) (w : List ℕ) → UpToOld s → 65536 ≤ length (l .work) → 524288 ≤ length w
     → judgement old ed s l ≡ judgement higher ed s (record { out = l .out; steps = l .steps; work = w })
 unfolding judgement judgedCall cramped isLimit workBytes
@@ -178,4 +181,4 @@ calls-once f g h k ed s l u room w more =
     let n = ap (λ v. v .number) (judged-both ed s l w u room more) in
     let x = h ed s l l′ refl refl n in
     let y = k ed s l l′ refl refl n in
-    (x .0 ∙ sym (y .0), x .1 ∙ sym (y .1), x .2 ∙ sym (y .2))
+    record { answer = x .answer ∙ sym (y .answer); out = x .out ∙ sym (y .out); steps = x .steps ∙ sym (y .steps) }

@@ -1,7 +1,6 @@
 -- What holds of the answer of a rule that splits its members into parts, walks over them and puts the members together again, once
 -- for both such rules: if splitting, merging and joining each keep a value, a cost or a property of the parts, then so does the
 -- whole, by the laws of the walk; and the collapse of the members that come out changes no value and adds no weight.
--- Assumes nothing.
 use Prim.Native.Nat.{ℕ, zero, suc, _+_, _*_, _≤_}
 use mathlib.Core.Path.{_≡_, refl, ap}
 use mathlib.Core.Bool.{Bool, true, false}

@@ -1,7 +1,6 @@
 -- The place of 7 is at most the weight: each step completed before it has lightened the tree. By induction on the fuel, as for what a
--- run keeps (DriverLaws). Assumes nothing.
+-- run keeps (DriverLaws).
 use Prim.Native.Nat.{ℕ, zero, suc, _+_, _≤_}
-use mathlib.Core.Path.{_≡_, refl}
 use mathlib.Core.Bool.{Bool, true, false}
 use mathlib.Core.List.{List, [], _∷_}
 use native.Mathlib.Omega.{arith}

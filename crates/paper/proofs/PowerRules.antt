@@ -1,10 +1,11 @@
 -- Steps 7, 8 and 9 are good rules: each takes two off the weight; v^1 is v, 0^n is 0 and 1^n is 1 for n of at least 1, and a power of a
--- power has the product of the exponents. Assumes nothing.
-use Prim.Native.Nat.{ℕ, zero, suc, _+_, _*_, _^_, _≤_}
+-- power has the product of the exponents.
+use Prim.Native.Nat.{ℕ, zero, suc, _*_, _^_, _≤_}
 use mathlib.Core.Path.{_≡_, refl, sym, ap, _∙_}
 use mathlib.Core.Bool.{Bool, true, false, _||_}
 use native.Mathlib.Omega.{arith}
-use native.Mathlib.Nat.{pow-zero, pow-suc, add-zero, add-suc, mul-assoc, mul-zero, mul-suc, mul-one, mul-pos}
+use native.Mathlib.Nat.{pow-zero, pow-suc, mul-zero, mul-suc, mul-one, mul-pos}
+use lib.Pow.{pow-add}
 use lib.IntN.{pos}
 use lib.Dec.{eqb, ltb}
 use borrow.Author.Tests.{eqb-true, ltb-true}
@@ -12,13 +13,14 @@ use Rattle.paper.specs.Bytes.{word}
 use Rattle.paper.specs.Tree.{Tree, integer, symbol, sum, product, power, marked, weight}
 use Rattle.paper.specs.WellFormed.{Mark, WF}
 use Rattle.paper.specs.Equal.{eqZ}
-use Rattle.paper.specs.Rules.{Tried, asInteger, isThe, appliesIf, onPowerParts, powerOne, powerConstant, raisedIf, powerPower}
-use Rattle.paper.specs.Good.{Kept, GoodAnswer, Good}
+use Rattle.paper.specs.Rules.{Tried, asInteger, isThe, onPowerParts, powerOne, powerConstant, raisedIf, powerPower}
+use Rattle.paper.specs.Good.{GoodAnswer, Good}
 use Rattle.paper.proofs.Tests.{never, eqZ-true}
 use Rattle.paper.proofs.Congruence.{agree-of}
 use Rattle.paper.proofs.Value.{exact}
 use Rattle.paper.proofs.MarkLaws.{marked-exact, marked-weight, marked-wf}
-use Rattle.paper.proofs.AnswerLaws.{kept-agree}
+use Rattle.paper.proofs.LikeFactors.{pow-one}
+use Rattle.paper.proofs.AnswerLaws.{applies-good, kept-agree}
 
 on-power-good : (k : ℕ → Tree → ℕ → ℕ → Tried) → ((μ : ℕ) (b : Tree) (ξ e : ℕ) → WF (power μ b ξ e) → GoodAnswer (power μ b ξ e) (k μ b ξ e))
     → (t : Tree) → WF t → GoodAnswer t (onPowerParts k t)
@@ -29,15 +31,7 @@ on-power-good k h (sum μ f) w = tt
 on-power-good k h (product μ f) w = tt
 on-power-good k h (power μ b ξ e) w = h μ b ξ e w
 
-applies-good : (t u : Tree) (b : Bool) → (b ≡ true → WF u × Kept 1 t u) → GoodAnswer t (appliesIf b u)
-unfolding appliesIf
-applies-good t u true h = h refl
-applies-good t u false h = tt
-
 -- ---- powers of numbers
-one-exponent : (n : ℕ) → n ^ 1 ≡ n
-one-exponent n = pow-suc n 0 ∙ ap (λ (m : ℕ). m * n) (pow-zero n) ∙ omega arith
-
 zero-power : (e : ℕ) → 1 ≤ e → 0 ^ e ≡ 0
 zero-power zero h = absurd (omega arith)
 zero-power (suc e) h = pow-suc 0 e ∙ mul-zero (0 ^ e)
@@ -45,12 +39,6 @@ zero-power (suc e) h = pow-suc 0 e ∙ mul-zero (0 ^ e)
 one-power : (e : ℕ) → 1 ^ e ≡ 1
 one-power zero = pow-zero 1
 one-power (suc e) = pow-suc 1 e ∙ mul-one (1 ^ e) ∙ one-power e
-
-pow-add : (a m n : ℕ) → a ^ (m + n) ≡ a ^ m * a ^ n
-pow-add a m zero = ap (λ (x : ℕ). a ^ x) (add-zero m) ∙ sym (mul-one (a ^ m)) ∙ ap (λ (x : ℕ). a ^ m * x) (sym (pow-zero a))
-pow-add a m (suc n) =
-    ap (λ (x : ℕ). a ^ x) (add-suc m n) ∙ pow-suc a (m + n) ∙ ap (λ (x : ℕ). x * a) (pow-add a m n)
-    ∙ mul-assoc (a ^ m) (a ^ n) a ∙ ap (λ (x : ℕ). a ^ m * x) (sym (pow-suc a n))
 
 power-power : (a m n : ℕ) → a ^ (m * n) ≡ (a ^ m) ^ n
 power-power a m zero = ap (λ (x : ℕ). a ^ x) (mul-zero m) ∙ pow-zero a ∙ sym (pow-zero (a ^ m))
@@ -66,7 +54,7 @@ power-one-good =
           on-power-good _
           (λ μ b ξ e w.
           applies-good (power μ b ξ e) b (eqb e 1)
-          (λ h. (w .0, kept-agree (power μ b ξ e) b (λ ρ. agree-of (sym (ap (λ n. exact b ρ ^ n) (eqb-true e 1 h) ∙ one-exponent (exact b ρ)))) (omega arith))));
+          (λ h. (w .0, kept-agree (power μ b ξ e) b (λ ρ. agree-of (sym (ap (λ n. exact b ρ ^ n) (eqb-true e 1 h) ∙ pow-one (exact b ρ)))) (omega arith))));
     }
 
 -- ---- step 8

@@ -1,6 +1,6 @@
 -- When a tree is quiet from a level on: all its parts that stand so many levels down are finished, that is, admit no rule and no opening. A finished tree
 -- is quiet from level 0 on, and one whose members are finished from level 1 on. Quietness goes down to members; a step of a shallow rule costs one level
--- of it, no more; and a node that is gathered from finished results is quiet from level 1 on. Assumes nothing.
+-- of it, no more; and a node that is gathered from finished results is quiet from level 1 on.
 use Prim.Native.Nat.{ℕ, zero, suc, _≤_}
 use mathlib.Core.Path.{_≡_, refl}
 use mathlib.Core.List.{List, [], _∷_}

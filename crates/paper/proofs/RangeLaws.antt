@@ -1,4 +1,4 @@
--- The range that the rules judge is the range of well-formed trees, both ways: nothing in range is refused. Assumes nothing.
+-- The range that the rules judge is the range of well-formed trees, both ways: nothing in range is refused.
 use mathlib.Core.Path.{_≡_}
 use mathlib.Core.Bool.{true}
 use mathlib.Core.Logic.{_↔_}

@@ -1,5 +1,5 @@
 -- Reading gives back what was written, by induction on the tree: the reader sees the fields that the record was written with, and
--- reads the members from the bytes that follow it. Assumes nothing.
+-- reads the members from the bytes that follow it.
 use Prim.Native.Nat.{ℕ, zero, suc, _^_, _<_, _≤_}
 use mathlib.Core.Path.{_≡_, refl, ap, _∙_, subst}
 use mathlib.Core.Bool.{false}
@@ -78,9 +78,15 @@ read-product n c m rest k h =
 read-power : (n m : ℕ) (rest : List ℕ) → m < 65536 → readTree (suc n) (recordOf 4 0 m 0 ++ rest) ≡ then (readTree n rest) (readExponent m)
 unfolding readTree kindOf
 read-power n m rest k =
-    rw (record-long 4 0 m 0 rest, kind-there (recordOf 4 0 m 0 ++ rest) 0 4 0 m 0 rest refl, mark-there (recordOf 4 0 m 0 ++ rest) 0 4 0 m 0 rest refl k, record-drop 4 0 m 0 rest)
+    rw (
+      record-long 4 0 m 0 rest,
+      kind-there (recordOf 4 0 m 0 ++ rest) 0 4 0 m 0 rest refl,
+      mark-there (recordOf 4 0 m 0 ++ rest) 0 4 0 m 0 rest refl k,
+      record-drop 4 0 m 0 rest,
+    )
 
-read-exponent : (μ : ℕ) (b : Tree) (m e : ℕ) (rest : List ℕ) → m < 65536 → 1 ≤ e → e < 2 ^ 63 → readExponent μ b (recordOf 0 0 m e ++ rest) ≡ some (power μ b m e, rest)
+read-exponent : (μ : ℕ) (b : Tree) (m e : ℕ) (rest : List ℕ) → m < 65536 → 1 ≤ e → e < 2 ^ 63
+    → readExponent μ b (recordOf 0 0 m e ++ rest) ≡ some (power μ b m e, rest)
 unfolding readExponent kindOf raised
 read-exponent μ b m zero rest k h g = absurd (omega arith)
 read-exponent μ b m (suc e) rest k h g =

@@ -1,5 +1,5 @@
 -- A record without a flaw is one that writing makes: its kind is 0 to 4, and its 16 bytes are those of a record with its kind, its
--- count and its number, since every byte between these is zero. Assumes nothing.
+-- count and its number, since every byte between these is zero.
 use Prim.Native.Nat.{ℕ, zero, suc, _+_, _*_, _^_, _<_, _≤_}
 use mathlib.Core.Path.{_≡_, refl, sym, ap, _∙_}
 use mathlib.Core.Bool.{Bool, true, false, cond, _&&_, _||_, not}

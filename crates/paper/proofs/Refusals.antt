@@ -1,7 +1,7 @@
 -- Refusals 1 to 5 are given exactly as the paper's table of refusals says, with the place that it names, the lowest number winning, and
 -- 19 before them.
 -- For each number the test and the place of the checker are shown to be the condition and the place in words; the checker goes
--- through the tests in order and stops at the first that holds. Assumes nothing.
+-- through the tests in order and stops at the first that holds.
 use Prim.Native.Nat.{ℕ, zero, suc, _+_, _-_, _*_, _/_, _%_, _^_, _<_, _≤_, min}
 use mathlib.Core.Path.{_≡_, refl, sym, ap, _∙_, subst}
 use mathlib.Core.Bool.{Bool, true, false, cond, _&&_, _||_, not}
@@ -20,9 +20,9 @@ use Rattle.paper.specs.Limits.{isLimit, maxBytes}
 use Rattle.paper.specs.Record.{kind, countIn, bits, mayBe, stray, isNode, Flaw, sound, bad-kind, bad-byte, bad-count, flaw, isFlawed}
 use Rattle.paper.specs.Verdict.{Verdict, told, refused, flawed, accepted, recordsIn, badLength, firstFlawed, tableWeight, treeEnd, isPositive}
 use Rattle.paper.specs.Verdict.{badExponent, firstBadExponent, judgeRecords, judgedTable, verdict}
-use Rattle.paper.specs.Refusals.{First, BadLength, is-zero, no-multiple, is-over, Flawed, kind-over, byte-other, count-under}
-use Rattle.paper.specs.Refusals.{Stray, Names, names-kind, names-byte, names-count, Tells, BadShape, records-end, tree-ends, Exponent, after-base, AtLeastOne}
-use Rattle.paper.specs.Refusals.{Faulty, refusal-1, refusal-2, refusal-3, refusal-4, refusal-5, Applies, of-records, refusal-19, rank, Lowest}
+use Rattle.paper.specs.Refusals.{First, BadLength, is-zero, no-multiple, is-over, Flawed, kind-over, byte-other, count-under, Stray, Names, names-kind}
+use Rattle.paper.specs.Refusals.{names-byte, names-count, Tells, BadShape, records-end, tree-ends, Exponent, after-base, AtLeastOne, Faulty, refusal-1}
+use Rattle.paper.specs.Refusals.{refusal-2, refusal-3, refusal-4, refusal-5, Applies, of-records, refusal-19, rank, Lowest}
 use Rattle.paper.proofs.Tests.{true-not-false, not-so, and-both, or-neither, or-either, or-left, or-right}
 use Rattle.paper.proofs.EncodeLaws.{signed-negative}
 use Rattle.paper.proofs.SpanLaws.{spans-end}
@@ -503,7 +503,8 @@ table-exactly lim s v l = (down, λ h. up (h .0) (h .1))
         let y = words-test lim s k p (h .given) in
         table-ladder lim s
         ∙ ladder-up (test lim s) (place s) (what s) 5 1 k (y .2) (y .3) (y .0)
-        (λ j u v. not-so (test lim s j) (λ e. h .lowest j (place s j) (omega (arith, rank-small j (omega (arith, y .3)), rank-small k (omega (arith, y .3)))) (test-words lim s j e)))
+        (λ j u v. not-so (test lim s j)
+        (λ e. h .lowest j (place s j) (omega (arith, rank-small j (omega (arith, y .3)), rank-small k (omega (arith, y .3)))) (test-words lim s j e)))
         ∙ ap (λ (q : ℕ). told k q (what s k)) (y .1)
         ∙ ap (told k p) (what-told s k p (v .flaw) (y .1) w)
 
@@ -547,7 +548,7 @@ nineteen-under k h = go (eqb k 9) (eqb k 8) (ne-eqb k 19 (λ e. omega arith))
 
 module _ (lim : ℕ) (s : List ℕ) where
   -- at a known limit a refusal is one of 1 to 5
-  of-known : isLimit lim ≡ true → {k p : ℕ} → Applies lim s k p → Faulty lim s k p
+  pub of-known : isLimit lim ≡ true → {k p : ℕ} → Applies lim s k p → Faulty lim s k p
   of-known n (of-records x) = x
   of-known n (refusal-19 x y) = absurd (true-not-false n (limit-unknown lim x y))
 

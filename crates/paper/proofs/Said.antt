@@ -1,15 +1,16 @@
--- The small calls are answered so, by computation. Assumes nothing.
-use mathlib.Core.Path.{_≡_, refl}
-use lib.ListN.{replicate}
+-- The small calls are answered so, by computation.
+use mathlib.Core.Path.{refl}
 use Rattle.paper.specs.Sayings.{Sayings}
 use Rattle.paper.specs.Record.{flawNumbers}
 use Rattle.paper.specs.Equal.{one}
 use Rattle.paper.specs.Answers.{turnedDown, equalTrees, comparedTables, compared, refusedBy}
-use Rattle.paper.specs.Calls.{verdictNumbers, measuredNumbers, comparedNumbers, answerNumbers, eights, tooShort, returned, answered, checkAnswers, weightReturns, weightAnswers, valueAnswers, equalAnswers}
+use Rattle.paper.specs.Calls.{verdictNumbers, measuredNumbers, comparedNumbers, answerNumbers, eights, tooShort}
+use Rattle.paper.specs.Calls.{returned, answered, checkAnswers, weightReturns, weightAnswers, valueAnswers, equalAnswers}
 use Rattle.paper.proofs.Computes.{answers-compute}
 
 pub said : Sayings
-unfolding answers-compute turnedDown equalTrees comparedTables compared verdictNumbers measuredNumbers comparedNumbers answerNumbers eights tooShort returned answered checkAnswers weightReturns weightAnswers valueAnswers equalAnswers flawNumbers refusedBy one
+unfolding answers-compute turnedDown equalTrees comparedTables compared verdictNumbers measuredNumbers comparedNumbers answerNumbers eights tooShort
+    returned answered checkAnswers weightReturns weightAnswers valueAnswers equalAnswers flawNumbers refusedBy one
 said = record {
   lengths = (refl, refl, refl, refl, refl);
   limits = (refl, refl, refl, refl, refl, refl, refl, refl);

@@ -1,20 +1,20 @@
 -- What the first record of a tree that stands in a table tells, and the other way round: which tree stands there by the kind of
 -- its first record. For code that reads trees from records: one view in place of an inversion for each kind. By cases on the
--- tree, its fields being known (EncodeLaws). Assumes nothing.
-use Prim.Native.Nat.{ℕ, suc, _+_, _-_, _*_, _^_, _≤_, _<_}
+-- tree, its fields being known (EncodeLaws).
+use Prim.Native.Nat.{ℕ, _+_, _-_, _*_, _^_, _≤_, _<_}
 use mathlib.Core.Path.{_≡_, refl, sym, ap, _∙_, subst}
-use mathlib.Core.List.{List, _++_}
+use mathlib.Core.List.{List}
 use native.Mathlib.Omega.{arith}
-use lib.ListN.{length, drop, length-append, length-drop}
+use lib.ListN.{length, length-append, length-drop}
 use lib.IntN.{ℤ, pos}
 use Rattle.paper.specs.Bytes.{word}
-use Rattle.paper.specs.Tree.{Tree, Forest, integer, symbol, sum, product, power, nil, cons, count, records, recordses}
+use Rattle.paper.specs.Tree.{Tree, Forest, integer, symbol, sum, product, power, count, records}
 use Rattle.paper.specs.WellFormed.{WF, WFs, InRange}
 use Rattle.paper.specs.Record.{kind, countIn, bits, symbolIn}
 use Rattle.paper.specs.Table.{recordOf, encode, encodes}
 use Rattle.paper.specs.Standing.{Stands, SeenMembers}
 use Rattle.paper.proofs.Congruence.{word-lt}
-use Rattle.paper.proofs.EncodeLaws.{encode-length, encodes-length, records-pos, count-records, kind-there, count-there, bits-there, symbol-there}
+use Rattle.paper.proofs.EncodeLaws.{encode-length, records-pos, count-records, kind-there, count-there, bits-there, symbol-there}
 use Rattle.paper.proofs.Stands.{sum-record, sum-members, product-record, product-members, power-record, power-base, power-exponent}
 
 -- the tree t stands at record i of s, told by the fields of the record there and by what stands after it
@@ -28,7 +28,7 @@ pub data Seen (s : List ℕ) (i : ℕ) : Tree → Type 0 where
       → Stands s (i + 1 + records b) (encode (integer ξ (pos e))) → kind s (i + 1 + records b) ≡ 0 → bits s (i + 1 + records b) ≡ e
       → Seen s i (power μ b ξ e)
 
-exponent-word : (e : ℕ) → e < 2 ^ 63 → word (pos e) ≡ e
+pub exponent-word : (e : ℕ) → e < 2 ^ 63 → word (pos e) ≡ e
 unfolding word
 exponent-word e h = omega arith
 
@@ -117,9 +117,3 @@ stands-within s i t h =
     let e : length s - i * 16 ≡ length (encode t) + length (h .after) =
     sym (length-drop (i * 16) s) ∙ ap length (h .there) ∙ length-append (encode t) (h .after) in
     omega (arith, encode-length t, records-pos t)
-
-pub members-within : (s : List ℕ) (i : ℕ) (f : Forest) → i * 16 ≤ length s → Stands s i (encodes f) → (i + recordses f) * 16 ≤ length s
-members-within s i f l h =
-    let e : length s - i * 16 ≡ length (encodes f) + length (h .after) =
-    sym (length-drop (i * 16) s) ∙ ap length (h .there) ∙ length-append (encodes f) (h .after) in
-    omega (arith, encodes-length f)

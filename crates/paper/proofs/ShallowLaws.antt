@@ -1,6 +1,6 @@
 -- What makes the answer of a rule shallow, for any property P that goes down to members and holds of integers: if P holds of the members of each
 -- of the trees of a list, then what the list collapses to is shallow; another mark changes no member; and a rule on sums, on products or on powers
--- is judged by its answers there alone. Assumes nothing.
+-- is judged by its answers there alone.
 use Prim.Native.Nat.{ℕ}
 use mathlib.Core.Path.{_≡_, refl}
 use mathlib.Core.Bool.{Bool, true, false}

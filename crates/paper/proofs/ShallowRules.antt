@@ -13,11 +13,10 @@ use lib.Dec.{eqb, ltb}
 use Rattle.paper.specs.Tree.{Tree, integer, symbol, sum, product, power, toList, ofList, marked}
 use Rattle.paper.specs.Equal.{eqZ}
 use Rattle.paper.specs.Walk.{walk}
-use Rattle.paper.specs.Rules.{Rule, collapse, sumOf, productOf, asInteger, isThe, unless, dropAll}
-use Rattle.paper.specs.Rules.{onSumMembers, onProductMembers, onPowerParts, addZero, multiplyZero, multiplyOne, powerOne, powerConstant}
-use Rattle.paper.specs.Rules.{raisedIf, powerPower, allInRange, rebuilt, outcome, combine, Term, term, withOther, othersOf, productTerm, termOf}
-use Rattle.paper.specs.Rules.{added, mergeTerms, coefficientTimes, timesUnless, fromTerm, combineLikeTerms, Factor, factor, factorOf}
-use Rattle.paper.specs.Rules.{mergeFactors, powerUnless, fromFactor, combineLikeFactors, editionOne, editionTwo, rulesOf}
+use Rattle.paper.specs.Rules.{Rule, collapse, sumOf, productOf, asInteger, isThe, unless, dropAll, onSumMembers, onProductMembers, onPowerParts, addZero}
+use Rattle.paper.specs.Rules.{multiplyZero, multiplyOne, powerOne, powerConstant, raisedIf, powerPower, allInRange, rebuilt, outcome, combine, Term, term}
+use Rattle.paper.specs.Rules.{withOther, othersOf, productTerm, termOf, added, mergeTerms, coefficientTimes, timesUnless, fromTerm, combineLikeTerms}
+use Rattle.paper.specs.Rules.{Factor, factor, factorOf, mergeFactors, powerUnless, fromFactor, combineLikeFactors, editionOne, editionTwo, rulesOf}
 use Rattle.paper.specs.Driver.{members}
 use Rattle.paper.specs.Shallow.{Each, Under, GoesDown, ShallowAnswer, Shallow, Shallows, no-rules, a-rule}
 use Rattle.paper.proofs.WFLaws.{to-of-list}
@@ -235,7 +234,8 @@ like-factors-shallow =
     record {
       on-no-integer = λ μ z. refl;
       shallow = λ P d. on-product-shallow P _
-          (λ μ. combine-shallow factorOf mergeFactors fromFactor P (λ c. P (c .base)) (factor-base d) (merged-base d) (factor-under d) (productOf μ) (product-shallow d μ));
+          (λ μ. combine-shallow factorOf mergeFactors fromFactor P (λ c. P (c .base)) (factor-base d) (merged-base d)
+          (factor-under d) (productOf μ) (product-shallow d μ));
     }
 
 -- ---- the editions

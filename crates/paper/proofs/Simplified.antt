@@ -1,4 +1,4 @@
--- Demand 3 at the level of trees, over any list of good rules: what a finished run gives. Assumes nothing.
+-- Demand 3 at the level of trees, over any list of good rules: what a finished run gives.
 use Prim.Native.Nat.{ℕ, _+_, _*_, _≤_}
 use mathlib.Core.Path.{_≡_, subst}
 use mathlib.Core.List.{List, []}

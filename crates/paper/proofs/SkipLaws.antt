@@ -1,5 +1,5 @@
 -- Laws of `skip`: one step of it, its bounds, and that trees one after the other are skipped one after the other. By induction on
--- the records that are left; past the end of the records nothing changes any more, whatever is owed. Assumes nothing.
+-- the records that are left; past the end of the records nothing changes any more, whatever is owed.
 use Prim.Native.Nat.{ℕ, zero, suc, _+_, _-_, _<_, _≤_}
 use mathlib.Core.Path.{_≡_, refl, sym, ap, _∙_}
 use mathlib.Core.List.{List}
@@ -10,7 +10,7 @@ use borrow.Author.Tests.{ne-eqb}
 use Rattle.paper.specs.Record.{arity}
 use Rattle.paper.specs.Verdict.{skip, treeEnd}
 
-left : (n i : ℕ) → i < n → n - i ≡ suc (n - (i + 1))
+pub left : (n i : ℕ) → i < n → n - i ≡ suc (n - (i + 1))
 left n i h = omega arith
 
 -- where nothing is owed, the trees end

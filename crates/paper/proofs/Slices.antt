@@ -1,6 +1,6 @@
 -- The answer slice of the calls from C: each call is the same two definitions over its numbers, and there the test of the length
--- decides. Assumes nothing.
-use Prim.Native.Nat.{ℕ, _*_, _≤_, _<_}
+-- decides.
+use Prim.Native.Nat.{ℕ, _*_}
 use mathlib.Core.Path.{_≡_, refl}
 use mathlib.Core.List.{List, [], _∷_}
 use native.Mathlib.Omega.{arith}

@@ -1,11 +1,9 @@
--- The paper's words on small tables hold, by computation. Assumes nothing.
-use mathlib.Core.Path.{_≡_, refl}
-use lib.ListN.{replicate}
+-- The paper's words on small tables hold, by computation.
+use mathlib.Core.Path.{refl}
 use Rattle.paper.specs.Record.{flawNumbers}
 use Rattle.paper.specs.Equal.{one}
 use Rattle.paper.specs.Answers.{turnedDown, equalTrees, comparedTables, compared}
-use Rattle.paper.specs.Calls.{verdictNumbers, measuredNumbers, comparedNumbers, eights, tooShort, answered}
-use Rattle.paper.specs.Calls.{checkAnswers, valueAnswers, equalAnswers}
+use Rattle.paper.specs.Calls.{verdictNumbers, measuredNumbers, comparedNumbers, eights, tooShort, answered, checkAnswers, valueAnswers, equalAnswers}
 use Rattle.paper.specs.SmallTables.{Verdicts, Flaws, Values, Compares}
 use Rattle.paper.proofs.Computes.{verdict-computes, table-computes, answers-compute}
 

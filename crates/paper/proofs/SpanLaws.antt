@@ -1,5 +1,5 @@
 -- Trees one after the other, said by an inductive definition (`Spans`) and by the function that goes over the records (`skip`),
--- end at the same record: one way by induction on the evidence, the other on the records left. Assumes nothing.
+-- end at the same record: one way by induction on the evidence, the other on the records left.
 use Prim.Native.Nat.{ℕ, zero, suc, _+_, _-_, _<_, _≤_}
 use mathlib.Core.Path.{_≡_, sym, ap, _∙_, subst}
 use mathlib.Core.List.{List}

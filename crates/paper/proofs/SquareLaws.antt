@@ -5,7 +5,7 @@
 -- only after an opening, which loses weight; else what is shown of runs holds of theirs;
 -- and where the node is begun again, the members' results are finished: it is quiet from level 1 on, whatever it was before. That is why members are driven
 -- in earnest once, and begun again at little cost.
--- (HalfSquares has the arithmetic.) Assumes nothing.
+-- (HalfSquares has the arithmetic.)
 use Prim.Native.Nat.{ℕ, zero, suc, _+_, _*_, _≤_, _<_}
 use mathlib.Core.Path.{_≡_, refl, sym, ap, _∙_, subst}
 use mathlib.Core.Bool.{Bool, true, false}
@@ -28,7 +28,7 @@ use Rattle.paper.proofs.DriverLaws.{RunKept, RunsKept, AskedKept, ask-k
 use Rattle.paper.proofs.Fuel.{members-lighter, gathered-lighter}
 use Rattle.paper.proofs.FinishedLaws.{Stills, each-still, run-still, Endeds, each-ended, run-ended, each-finished}
 use Rattle.paper.proofs.EncodeLaws.{records-weight}
-use Rattle.paper.proofs.TryLaws.{gather-weight, kepts-weight}
+use Rattle.paper.proofs.TryLaws.{gather-weight, kepts-lighter}
 use Rattle.paper.proofs.QuietLaws.{Quiet, each-of-all, all-of-each, quiet-goes, AskedShallow, ask-shallow, gather-under}
 use Rattle.paper.proofs.HalfSquares.{Inside, Members, beside-inside, step-inside, still-inside, again-inside}
 use Rattle.paper.proofs.HalfSquares.{Whole, Wholes, beside-whole, step-whole, still-whole, again-whole, two-squares, three-quarters, square}
@@ -93,7 +93,7 @@ module _ {rs : List Rule} (gs : Goods rs) (hs : Shallows rs) where
             let quiet : Quiet rs 1 u = gather-under (quiet-goes hs 0) t l (kepts-length (p .1)) (each-of-all f) in
             let small : weight u ≤ suc (total weight l) = omega (arith, gather-weight t l (length s + o) (p .1) changed) in
             after-has I s k m (again u)
-            (run-map (λ v j. begun l m v j (kepts-weight (p .1)) lighter small h) (again u)
+            (run-map (λ v j. begun l m v j (kepts-lighter (p .1)) lighter small h) (again u)
             (inside u 0 (gathered-tree t l s o m w p .0) (omega arith) quiet))
 
     members-driven : RunsHave M (each again (members t)) → RunHas I (tried (gathered again t (each again (members t))))
@@ -119,7 +119,7 @@ module _ {rs : List Rule} (gs : Goods rs) (hs : Shallows rs) where
   and-inside k t l (over j) q a b x y = tt
   and-inside k t l (done u s o n) (overs j) a b x y = tt
   and-inside k t l (done u s o n) (dones m s′ o′ n′) a b x y =
-      beside-inside (weight t) (weight u) n (total weight l) (total weight m) n′ k (omega (arith, a .1 .lighter)) (kepts-weight (b .1)) x y
+      beside-inside (weight t) (weight u) n (total weight l) (total weight m) n′ k (omega (arith, a .1 .lighter)) (kepts-lighter (b .1)) x y
 
   module _ (n : ℕ) (inside : (u : Tree) (k : ℕ) → WF u → weight u ≤ n → Quiet rs (suc k) u → RunInside k u (run rs n u)) where
     each-inside : (k : ℕ) (l : List Tree) → WFl l → total weight l ≤ n → Each (Quiet rs k) l → RunsHave (Inner k l) (each (λ u. run rs n u) l)
@@ -166,7 +166,7 @@ module _ {rs : List Rule} (gs : Goods rs) (hs : Shallows rs) where
   and-whole t l (done u s o n) (overs j) a b x y = tt
   and-whole t l (done u s o n) (dones m s′ o′ n′) a b x y =
       beside-whole (weight t) (weight u) n (length l) (total squared l) (total weight l) (total weight m) n′
-      (omega (arith, a .1 .lighter)) (kepts-weight (b .1)) x y
+      (omega (arith, a .1 .lighter)) (kepts-lighter (b .1)) x y
 
   squares-small : (l : List Tree) → total squared l ≤ total weight l * total weight l
   unfolding total squared
@@ -181,7 +181,8 @@ module _ {rs : List Rule} (gs : Goods rs) (hs : Shallows rs) where
   spread (t ∷ u ∷ l) h = two-squares (weight t) _ _ (weight-pos t) (omega (arith, weight-pos u)) (squares-small (u ∷ l))
 
   -- a node has two members or more, and a leaf none
-  members-spread : (t : Tree) → WF t → total squared (members t) + 2 * total weight (members t) ≤ total weight (members t) * total weight (members t) + 3 * length (members t)
+  members-spread : (t : Tree) → WF t
+      → total squared (members t) + 2 * total weight (members t) ≤ total weight (members t) * total weight (members t) + 3 * length (members t)
   unfolding members total
   members-spread (integer μ z) w = omega arith
   members-spread (symbol μ s) w = omega arith

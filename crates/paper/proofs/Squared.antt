@@ -1,6 +1,6 @@
 -- The tries of either edition are at most the square of the weight going in: its rules are good and shallow. So are those of the simplifier of the
 -- definitions, on every accepted table without refusal 7, and of every simplifier that meets the demands, since it answers alike. And since an accepted
--- table weighs no more than the limit, they are within a budget that the limit alone tells. Assumes nothing.
+-- table weighs no more than the limit, they are within a budget that the limit alone tells.
 use Prim.Native.Nat.{ℕ, _+_, _*_, _≤_}
 use mathlib.Core.Path.{_≡_, ap, subst}
 use mathlib.Core.List.{List}

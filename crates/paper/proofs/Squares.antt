@@ -1,5 +1,5 @@
 -- The arithmetic of the bound on tries, by weights alone: a tree of weight w whose run ends in weight v takes n tries, and
--- n + v·w² ≤ w + w·w². Each law is one way that a run goes. Assumes nothing.
+-- n + v·w² ≤ w + w·w². Each law is one way that a run goes.
 use Prim.Native.Nat.{ℕ, suc, _+_, _*_, _-_, _≤_}
 use mathlib.Core.Path.{_≡_}
 use native.Mathlib.Omega.{arith}

@@ -1,5 +1,5 @@
 -- Trees that stand in a table, for code: where their records lie, what the first record tells, and that where trees stand their
--- members do. Each is a law of the records of trees, with the bounds carried along. Assumes nothing.
+-- members do. Each is a law of the records of trees, with the bounds carried along.
 use Prim.Native.Nat.{ℕ, _+_, _-_, _*_, _≤_, _<_}
 use mathlib.Core.Path.{_≡_, refl, sym, ap, _∙_}
 use mathlib.Core.List.{List, _++_}
@@ -7,14 +7,14 @@ use mathlib.Core.Option.{some}
 use native.Mathlib.Omega.{arith}
 use lib.ListN.{length}
 use Rattle.paper.specs.Bytes.{word}
-use Rattle.paper.specs.Record.{kind, countIn, markIn}
+use Rattle.paper.specs.Record.{countIn, markIn}
 use Rattle.paper.specs.Tree.{Tree, Forest, integer, symbol, sum, product, power, nil, cons, count, markOf, records, recordses}
 use Rattle.paper.specs.Table.{encode, Reading, readTree}
 use Rattle.paper.proofs.EncodeLaws.{records-pos, mark-there}
 use Rattle.paper.proofs.ReadLaws.{read-written}
 use Rattle.paper.proofs.Stands.{first-member, other-members, sum-record, product-record, power-record, power-exponent}
-use Rattle.paper.proofs.Seen.{Seen, see, an-integer, a-symbol, a-sum, a-product, a-power, SeenPower, stands-within}
-use Rattle.paper.specs.Standing.{TreeIn, TreesIn, kindNumber}
+use Rattle.paper.proofs.Seen.{Seen, see, a-sum, a-product, a-power, SeenPower, stands-within}
+use Rattle.paper.specs.Standing.{TreeIn, TreesIn}
 
 module _ {s : List ℕ} {i : ℕ} {t : Tree} (h : TreeIn s i t) where
   -- its records lie in the table, and it has one or more
@@ -96,19 +96,7 @@ one-tree {t = t} {u = u} h g =
     let both : _≡_ {A = Tree × List ℕ} (t, there) (u, other) = cc in
     ap (λ (r : Tree × List ℕ). r .0) both
 
-pub one-product : {s : List ℕ} {i μ ν : ℕ} {f g : Forest} → TreeIn s i (product μ f) → TreeIn s i (product ν g) → f ≡ g
-one-product h g = let same = one-tree h g in cc
-
--- the kind that a record tells is that of the tree which begins there
-pub kind-number : {s : List ℕ} {i : ℕ} {t : Tree} → Seen s i t → kind s i ≡ kindNumber t
-unfolding kindNumber
-kind-number (an-integer e b w) = e
-kind-number (a-symbol e b w) = e
-kind-number (a-sum e n c w m) = e
-kind-number (a-product e n c w m) = e
-kind-number (a-power e w m p q o y z) = e
-
--- and so is the mark; the mark of a power's exponent stands in the record after its base
+-- the mark that a record tells is that of the tree which begins there; the mark of a power's exponent stands in the record after its base
 module _ {s : List ℕ} {i : ℕ} where
   pub mark-number : (t : Tree) → TreeIn s i t → markIn s i ≡ markOf t
   unfolding markOf encode

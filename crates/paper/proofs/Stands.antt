@@ -1,6 +1,6 @@
 -- Bytes that stand in a table from a record on, and their parts: of two stretches one after the other the first stands where both
 -- do, the second as many records later as the first has, since dropping twice is dropping once. So where a tree stands, its
--- members do. Assumes nothing.
+-- members do.
 use Prim.Native.Nat.{ℕ, _+_, _*_}
 use mathlib.Core.Path.{_≡_, sym, ap, _∙_}
 use mathlib.Core.List.{List, [], _++_, append-assoc, append-nil}

@@ -1,4 +1,4 @@
--- The starred examples: one table, one statement, by computation; and the bytes of example 1's result. Assumes nothing.
+-- The starred examples: one table, one statement, by computation; and the bytes of example 1's result.
 use mathlib.Core.Path.{_≡_, refl}
 use mathlib.Core.List.{map}
 use Rattle.paper.specs.Examples.{exampleOne, exampleOneBytes, examples, lookalikes, edges, corners, examplesTwo, examplesMarked, examplesMarkedTwo}

@@ -1,6 +1,6 @@
 -- Trees that take a quarter of the square of their weight in tries, but for 5, in either edition: a step at the bottom of a tower of nodes. Each node
 -- of the tower is asked in vain, its members are driven, one of them changed, and it is begun again: and then it is finished, which takes a try for each
--- of its records. So each level that is built on takes more tries by two and by its records: these make the square. Assumes nothing.
+-- of its records. So each level that is built on takes more tries by two and by its records: these make the square.
 use Prim.Native.Nat.{ℕ, zero, suc, _+_, _*_, _≤_}
 use mathlib.Core.Path.{_≡_, refl, ap, _∙_}
 use mathlib.Core.Bool.{Bool, true, false, cond}
@@ -51,7 +51,9 @@ nested-wf (suc h) f c w =
 tall-wf : (h : ℕ) → WF (tall h)
 unfolding tall ofList count
 tall-wf h =
-    let r = nested-wf h (ofList (symbol 0 0 ∷ integer 0 (pos 1) ∷ integer 0 (pos 0) ∷ [])) (lit≤ tt) ((lit< tt, lit< tt), ((lit< tt, lit< tt), ((lit< tt, lit< tt), tt))) in
+    let r =
+    nested-wf h (ofList (symbol 0 0 ∷ integer 0 (pos 1) ∷ integer 0 (pos 0) ∷ [])) (lit≤ tt)
+    ((lit< tt, lit< tt), ((lit< tt, lit< tt), ((lit< tt, lit< tt), tt))) in
     (r .0, r .1, lit< tt)
 
 shorter-wf : (h : ℕ) → WF (shorter h)
@@ -105,7 +107,8 @@ module _ {rs : List Rule} (gs : Goods rs) (st : Steps rs) where
   unfolding tall shorter nested visit after tried
   bottom-runs =
       simplify-visits gs (tall 0) (tall-wf 0)
-      ∙ rw (st .at-bottom, simplify-again (sum 0 (ofList bottom)) (shorter-wf 0) (st .after-it)) (ap (done (shorter 0) (1 ∷ []) 0) (unfold records ofList in refl))
+      ∙ rw (st .at-bottom, simplify-again (sum 0 (ofList bottom)) (shorter-wf 0) (st .after-it))
+      (ap (done (shorter 0) (1 ∷ []) 0) (unfold records ofList in refl))
 
   product-runs : (h n : ℕ) → simplify rs (tall h) ≡ done (shorter h) (1 ∷ []) 0 n
       → simplify rs (over-product (tall h)) ≡ done (over-product (shorter h)) (1 ∷ []) 0 (2 + n + records (over-product (shorter h)))

@@ -1,4 +1,4 @@
--- The definitions give what is stored, by computation. Assumes nothing.
+-- The definitions give what is stored, by computation.
 use mathlib.Core.Path.{_≡_, refl}
 use mathlib.Core.List.{map}
 use Rattle.paper.specs.Rules.{editionOne}

@@ -1,6 +1,5 @@
 -- A written table is accepted, and weighs what its tree weighs. Each fact about the records of a tree that stands in a table is an
 -- induction on the tree: it holds of the first record, whose fields are known, and of the members' records after it.
--- Assumes nothing.
 use Prim.Native.Nat.{ℕ, zero, suc, _+_, _-_, _*_, _^_, _<_, _≤_}
 use mathlib.Core.Path.{_≡_, refl, sym, ap, _∙_}
 use mathlib.Core.Bool.{Bool, true, false, cond, _&&_, _||_, not}
@@ -15,12 +14,10 @@ use Rattle.paper.specs.Limits.{isLimit}
 use Rattle.paper.specs.Bytes.{bytes, word}
 use Rattle.paper.specs.Tree.{Tree, Forest, integer, symbol, sum, product, power, nil, cons, count, records, recordses, weight, weights}
 use Rattle.paper.specs.Record.{kind, countIn, mayTable, mayBe, stray, isNode, sound, flaw, arity, weightFrom}
-use Rattle.paper.specs.Verdict.{accepted, recordsIn, tableWeight, skip, treeEnd, isPositive}
-use Rattle.paper.specs.Verdict.{badExponent, verdict}
+use Rattle.paper.specs.Verdict.{accepted, recordsIn, tableWeight, skip, treeEnd, isPositive, badExponent, verdict}
 use Rattle.paper.specs.WellFormed.{WF, WFs}
 use Rattle.paper.specs.Table.{recordOf, encode, encodes}
-use Rattle.paper.proofs.EncodeLaws.{encode-length, records-pos, records-weight, count-records}
-use Rattle.paper.proofs.EncodeLaws.{kind-there, count-there, bits-there}
+use Rattle.paper.proofs.EncodeLaws.{encode-length, records-pos, records-weight, count-records, kind-there, count-there, bits-there}
 use Rattle.paper.proofs.Stands.{Stands, stands-whole, sum-record, sum-members, product-record, product-members}
 use Rattle.paper.proofs.Stands.{power-record, power-base, power-exponent, first-member, other-members}
 use Rattle.paper.proofs.FirstLaws.{All, all-one, all-both}

@@ -1,7 +1,7 @@
--- The takeover theorem, for one limit and one edition on both sides: for every accepted table without refusal 7, simplifying the result is accepted, gives the same bytes, and
--- takes no step and no opening. The result is the records of a well-formed tree that admits no rule and no opening and is no
--- heavier than the table, so it is accepted, read as that tree, and the run on it ends at once. The areas that the first call left
--- have room, since its stretches are as long as the table's weight asks. Assumes nothing.
+-- The takeover theorem, for one limit and one edition on both sides: for every accepted table without refusal 7, simplifying the result is accepted,
+-- gives the same bytes, and takes no step and no opening. The result is the records of a well-formed tree that admits no rule and no opening and is no
+-- heavier than the table, so it is accepted, read as that tree, and the run on it ends at once. The areas that the first call left have room, since its
+-- stretches are as long as the table's weight asks.
 use Prim.Native.Nat.{ℕ, _*_, _≤_}
 use mathlib.Core.Path.{_≡_, sym, ap, _∙_, subst}
 use mathlib.Core.List.{List, []}
@@ -33,8 +33,12 @@ takeover lim ed s b l e l′ room =
     let wf = d .finished .result-wf in
     let light : weight u ≤ lim = omega (arith, d .finished .lightens, d .holds .light) in
     let w : tableWeight (encode u) ≡ simplified lim ed s l .answer .weight-out = encode-weight u ∙ sym (ap (λ x. x .weight-out) (d .answer)) in
-    let j = accepted-judgement lim ed (encode u) l′ (d .holds .known) (judgement-accepted lim ed s l (d .accepts) .2) (written-accepted lim (d .holds .known) u wf light) (ap (λ n. cramped lim n l′) w ∙ of-room lim _ l′ room) in
-    let f = simplified-meets lim ed .follows (encode u) (encode-bytes u) l′ j u u [] 0 (records u) (tree-of-written u wf (omega (arith, limit-small lim (d .holds .known))))
+    let j =
+    accepted-judgement lim ed (encode u) l′ (d .holds .known) (judgement-accepted lim ed s l (d .accepts) .2)
+    (written-accepted lim (d .holds .known) u wf light) (ap (λ n. cramped lim n l′) w ∙ of-room lim _ l′ room) in
+    let f =
+    simplified-meets lim ed .follows (encode u) (encode-bytes u) l′ j u u [] 0 (records u)
+    (tree-of-written u wf (omega (arith, limit-small lim (d .holds .known))))
     (simplify-again u wf (d .finished .admits-none)) in
     subst (λ x. Repeats (simplified lim ed s l) (simplified lim ed x l′)) (sym (d .written-bytes))
     (record {
@@ -70,8 +74,8 @@ takeover-in-place lim ed s b l e =
     let room : Room lim (weight (d .holds .tree)) (simplified lim ed s l .lent) = rw (d .lent) (left-room lim _ _ l) in
     takeover lim ed s b l e (simplified lim ed s l .lent) (room-less _ (omega (arith, d .finished .lightens)) room)
 
--- ---- the statement turns wrong ones away: a second call has one answer and one result after the first, and a simplifier that refuses its own result, in areas that
--- have room for it, does not take over
+-- ---- the statement turns wrong ones away: a second call has one answer and one result after the first, and a simplifier that refuses its own
+-- result, in areas that have room for it, does not take over
 pub repeats-once : (g h k : Given) → Repeats g h → Repeats g k → (h .answer ≡ k .answer) × (result h ≡ result k)
 repeats-once g h k x y = (x .same-answer ∙ sym (y .same-answer), x .same-bytes ∙ sym (y .same-bytes))
 

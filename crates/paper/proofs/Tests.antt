@@ -1,4 +1,4 @@
--- What tests say: one test, tests joined by "and" and "or", and the test of integers. Assumes nothing.
+-- What tests say: one test, tests joined by "and" and "or", and the test of integers.
 use Prim.Native.Nat.{ℕ}
 use mathlib.Core.Path.{_≡_, refl, sym, ap, subst}
 use mathlib.Core.Bool.{Bool, true, false, _&&_, _||_}

@@ -1,5 +1,5 @@
 -- The numbers of every answer of the simplifier fit in 8 bytes, and so its slice tells them: a place is at most the number of records, or
--- of steps; steps, openings and weights are at most the weight of the table. Assumes nothing.
+-- of steps; steps, openings and weights are at most the weight of the table.
 use Prim.Native.Nat.{ℕ, zero, suc, _+_, _*_, _^_, _≤_, _<_, min}
 use mathlib.Core.Path.{_≡_, refl, sym, ap, ap₂, _∙_, subst}
 use mathlib.Core.Bool.{Bool, true, false, cond, not, _&&_}
@@ -10,7 +10,7 @@ use lib.ListN.{length, getD}
 use lib.Dec.{eqb, ltb, lit<}
 use borrow.Author.Tests.{ltb-true}
 use Rattle.paper.specs.Limits.{isLimit}
-use Rattle.paper.specs.Bytes.{Bytes, bytes, le, le8}
+use Rattle.paper.specs.Bytes.{Bytes, bytes, le8}
 use Rattle.paper.specs.Tree.{Tree, weight}
 use Rattle.paper.specs.WellFormed.{WF}
 use Rattle.paper.specs.Record.{kind, countIn, isNode, stray, Flaw, sound, bad-kind, bad-byte, bad-count, flaw, flawNumbers, weightFrom}
@@ -22,7 +22,7 @@ use Rattle.paper.specs.Answers.{Lent, Answer, cramped, judgedCall, judge
 use Rattle.paper.specs.Calls.{answerNumbers, eights}
 use Rattle.paper.specs.Told.{flawFrom, answerIn, FitEight}
 use Rattle.paper.proofs.Slices.{answer-count}
-use Rattle.paper.proofs.BytesLaws.{le-bytes, length-bytes, le8-append, le8-append-add}
+use Rattle.paper.proofs.BytesLaws.{length-bytes, le8-append-add, first-eight}
 use Rattle.paper.proofs.EncodeLaws.{records-weight}
 use Rattle.paper.proofs.LimitLaws.{limit-small}
 use Rattle.paper.proofs.VerdictLaws.{length-good}
@@ -30,7 +30,7 @@ use Rattle.paper.proofs.EditionTwo.{edition-good}
 use Rattle.paper.proofs.PlaceOfSeven.{Within, run-within}
 use Rattle.paper.proofs.Simplified.{simplify-finished}
 use Rattle.paper.proofs.TryLaws.{tries-cube}
-use Rattle.paper.proofs.CallLaws.{RunOn, Call, is-turned-down, is-run, call}
+use Rattle.paper.proofs.CallLaws.{Call, is-turned-down, is-run, call}
 
 -- ---- places, and what is wrong with a record
 record PlaceIn (n : ℕ) (v : Verdict) : Type 0 where
@@ -63,7 +63,8 @@ flaw-fits s i = kinds (ltb 4 (kind s i))
     bytes-fit true e r h = let l = ltb-true j 16 e in (omega arith, (omega arith, tt))
     bytes-fit false e r h = h
 
-    kinds : (b : Bool) → FitEight (flawNumbers (cond b bad-kind (cond (ltb j 16) (bad-byte j) (cond (isNode (kind s i) && ltb (countIn s i) 2) bad-count sound))))
+    kinds : (b : Bool)
+        → FitEight (flawNumbers (cond b bad-kind (cond (ltb j 16) (bad-byte j) (cond (isNode (kind s i) && ltb (countIn s i) 2) bad-count sound))))
     kinds true = (omega arith, (omega arith, tt))
     kinds false = bytes-fit (ltb j 16) refl _ (counts (isNode (kind s i) && ltb (countIn s i) 2))
 
@@ -147,18 +148,17 @@ unfolding simplified answerNumbers refusedBy
 numbers-fit lim ed s b l = go (call lim ed (simplify (rulesOf ed)) s l b)
   where
     small : (v : Verdict) → PlaceIn greatest v → FitEight (answerNumbers (refusedBy v))
-    small v p = let h = p .named in let m = p .most in (omega arith, (omega arith, (omega arith, (omega arith, (omega arith, (omega arith, (omega arith, with-none (v .flaw) (p .fits))))))))
+    small v p =
+        let h = p .named in let m = p .most in
+        (omega arith, (omega arith, (omega arith, (omega arith, (omega arith, (omega arith, (omega arith, with-none (v .flaw) (p .fits))))))))
 
     go : Call lim ed (simplify (rulesOf ed)) s l → FitEight (answerNumbers (simplified lim ed s l .answer))
     go (is-turned-down d) = subst (λ a. FitEight (answerNumbers a)) (sym (d .answer)) (small (judgement lim ed s l) (judgement-place lim ed s l))
     go (is-run r) =
-        subst (λ a. FitEight (answerNumbers a)) (sym (r .answer)) (run-fit ed (r .holds .tree) (r .holds .wf) (omega (arith, r .holds .light, limit-small lim (r .holds .known))) _ refl)
+        subst (λ a. FitEight (answerNumbers a)) (sym (r .answer))
+        (run-fit ed (r .holds .tree) (r .holds .wf) (omega (arith, r .holds .light, limit-small lim (r .holds .known))) _ refl)
 
 -- ---- reading them back
-first-eight : (n : ℕ) (rest : List ℕ) → n < 2 ^ 64 → le8 (bytes 8 n ++ rest) 0 ≡ n
-first-eight n rest h =
-    le8-append (bytes 8 n) rest 0 (rw length-bytes (omega arith)) ∙ unfold le8 bytes in (le-bytes 8 n h)
-
 -- the number at place i of a slice that begins with numbers
 pub number-at : (ns rest : List ℕ) (i : ℕ) → i < length ns → FitEight ns → le8 (eights ns ++ rest) (8 * i) ≡ getD ns i 0
 unfolding eights

@@ -1,6 +1,6 @@
 -- How many tries a run takes, over any list of good rules: a run from weight w to weight v takes n with n + v·w² ≤ w + w·w², so at most the
 -- cube of the weight going in. By induction on the fuel: a step loses weight; members that did not change take a try for each record;
--- members that did are gathered to a lighter tree (Squares has the arithmetic). Assumes nothing.
+-- members that did are gathered to a lighter tree (Squares has the arithmetic).
 use Prim.Native.Nat.{ℕ, zero, suc, _+_, _*_, _-_, _≤_}
 use mathlib.Core.Path.{_≡_, refl, sym, ap, subst}
 use mathlib.Core.Bool.{Bool, true, false}
@@ -18,7 +18,7 @@ use Rattle.paper.specs.Driver.{Asked, no-rule, step, out-of-range, ask, 
 use Rattle.paper.specs.Driver.{asSum, asProduct, opened, baseFrom, gather, settle, gathered, visit, run, simplify}
 use Rattle.paper.specs.Good.{Goods}
 use Rattle.paper.proofs.Value.{total, weight-pos, list-weights}
-use Rattle.paper.proofs.GatherLaws.{Kepts, nothing, more, members-wf, opened-weight, sums-open, products-open}
+use Rattle.paper.proofs.GatherLaws.{Kepts, more, no-members, kepts-weight, members-wf, opened-weight, sums-open, products-open}
 use Rattle.paper.proofs.DriverLaws.{RunKept, RunsKept, AskedKept, ask-kept, each-kept, gathered-tree, run-kept}
 use Rattle.paper.proofs.Fuel.{members-lighter, gathered-lighter}
 use Rattle.paper.proofs.FinishedLaws.{Still, Stills, each-still, run-still}
@@ -53,9 +53,6 @@ power-weight : (μ : ℕ) (b x : Tree) (ξ e k : ℕ) (l : List Tree) → Kepts 
 unfolding baseFrom weight total
 power-weight μ b x ξ e k l (more {u = u} h (more {u = y} h′ r)) = omega (arith, weight-pos y)
 
-no-members : {k : ℕ} {l : List Tree} → Kepts k [] l → k ≡ 0
-no-members nothing = refl
-
 pub gather-weight : (t : Tree) (l : List Tree) (k : ℕ) → Kepts k (members t) l → 1 ≤ k + gather t l .1 → weight (gather t l .0) ≤ 1 + total weight l
 unfolding gather members weight
 gather-weight (integer μ z) l k h c = absurd (omega (arith, no-members h))
@@ -65,10 +62,8 @@ gather-weight (product μ f) l k h c = omega (arith, list-weights (opened asProd
 gather-weight (power μ b ξ e) l k h c = power-weight μ b (integer ξ (pos e)) ξ e k l h
 
 -- where nothing changed the weights did not either
-pub kepts-weight : {k : ℕ} {l m : List Tree} → Kepts k l m → total weight m ≤ total weight l
-unfolding total
-kepts-weight nothing = omega arith
-kepts-weight (more h r) = omega (arith, h .lighter, kepts-weight r)
+pub kepts-lighter : {k : ℕ} {l m : List Tree} → Kepts k l m → total weight m ≤ total weight l
+kepts-lighter h = omega (arith, kepts-weight h)
 
 after-tries : (s : List ℕ) (o n w : ℕ) (r : Ran) → ((u : Tree) (s′ : List ℕ) (o′ m : ℕ) → r ≡ done u s′ o′ m → Within w (weight u) (suc (n + m)))
     → (t : Tree) → weight t ≡ w → RunTries t (tried (after s o n r))

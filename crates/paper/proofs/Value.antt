@@ -1,5 +1,5 @@
 -- The value without any reduction, in the natural numbers, and its agreement with the paper's: reducing at each node equals reducing
--- once, since sums, products and powers respect congruence. Assumes nothing.
+-- once, since sums, products and powers respect congruence.
 use Prim.Native.Nat.{ℕ, _+_, _*_, _%_, _<_}
 use mathlib.Core.Path.{_≡_, refl, sym, ap, _∙_}
 use mathlib.Core.List.{List, [], _∷_, _++_}

@@ -1,5 +1,5 @@
 -- The evaluator says the same of the result of an accepted call as of its table, whatever registers it is given: the result is the
--- records of a tree that is accepted and has the value of the table's tree. Assumes nothing.
+-- records of a tree that is accepted and has the value of the table's tree.
 use Prim.Native.Nat.{ℕ, _≤_}
 use mathlib.Core.Path.{_≡_, refl, ap, _∙_}
 use mathlib.Core.List.{List}

@@ -1,6 +1,5 @@
 -- A table is accepted exactly when the limit is one and it passes the checker's five tests: its length is good, every record is fine, it
 -- is not too heavy, and the tree ends with the records. The checker is a chain of tests that answers at the first one that holds.
--- Assumes nothing.
 use Prim.Native.Nat.{ℕ, _%_, _<_, _≤_, min}
 use mathlib.Core.Path.{_≡_, refl, ap}
 use mathlib.Core.Bool.{Bool, true, false, cond, _||_, not}

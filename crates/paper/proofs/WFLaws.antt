@@ -1,5 +1,5 @@
 -- Well-formed trees and lists of members: a list of well-formed members, of any length, collapses to a well-formed tree.
--- By cases on the list. Assumes nothing.
+-- By cases on the list.
 use Prim.Native.Nat.{ℕ, suc, _≤_}
 use mathlib.Core.Path.{_≡_, refl, ap}
 use mathlib.Core.List.{List, [], _∷_, _++_}

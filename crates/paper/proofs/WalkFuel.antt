@@ -1,7 +1,7 @@
 -- The numbers that bound a walk are enough: with at least the length of the list, a turn and a walk do not depend on them. Each look
--- leaves one fewer to look at, and a turn leaves no more than it was given. Assumes nothing.
+-- leaves one fewer to look at, and a turn leaves no more than it was given.
 use Prim.Native.Nat.{ℕ, zero, suc, _+_, _≤_}
-use mathlib.Core.Path.{_≡_, refl, ap, _∙_}
+use mathlib.Core.Path.{_≡_, refl, ap}
 use mathlib.Core.List.{List, [], _∷_, _++_, map}
 use mathlib.Core.Bool.{Bool}
 use Rattle.paper.specs.Tree.{Tree}
@@ -9,10 +9,10 @@ use Rattle.paper.specs.Rules.{outcome, combine}
 use mathlib.Core.Option.{Option, none, some}
 use native.Mathlib.Omega.{arith}
 use lib.ListN.{length, length-append}
-use Rattle.paper.specs.Walk.{lastOf, initOf, lastFirst, Turn, WalkEnd, oneRemoved, thenWalk, turn, walk}
+use Rattle.paper.specs.Walk.{initOf, lastFirst, Turn, WalkEnd, oneRemoved, thenWalk, turn, walk}
 
 module _ {A : Type 0} where
-  init-length : (a : A) (l : List A) → length (initOf a l) ≡ length l
+  pub init-length : (a : A) (l : List A) → length (initOf a l) ≡ length l
   unfolding initOf
   init-length a [] = refl
   init-length a (b ∷ l) = ap suc (init-length b l)
@@ -33,7 +33,8 @@ module _ {P : Type 0} (merge : P → P → Option P) where
       go : (o : Option P)
           → length (turn merge n c (passed ++ (x ∷ [])) l .later) ≤ length (passed ++ (x ∷ [])) + length l
           → ((d : P) → length (turn merge n d passed (lastFirst l) .later) ≤ length passed + length (lastFirst l))
-          → length ((elim o as (λ o. Turn P) [ none ↦ turn merge n c (passed ++ (x ∷ [])) l | some d ↦ oneRemoved (turn merge n d passed (lastFirst l)) ]) .later)
+          → length
+          ((elim o as (λ o. Turn P) [ none ↦ turn merge n c (passed ++ (x ∷ [])) l | some d ↦ oneRemoved (turn merge n d passed (lastFirst l)) ]) .later)
           ≤ length passed + suc (length l)
       go none h k = omega (arith, h, length-append passed (x ∷ []))
       go (some d) h k = omega (arith, k d, lastFirst-length l)

@@ -1,7 +1,7 @@
 -- What a walk keeps, once for both rules that walk. A merge takes up one part into another, and the last member moves into its
 -- place; so a commutative fold stays as it was, up to a relation that it respects, if each merge keeps it; a cost that each merge
 -- lowers has fallen by as much as was removed; and what holds of every part that goes in holds of every part that comes out, if
--- merging keeps it. By induction along the walk. Assumes nothing.
+-- merging keeps it. By induction along the walk.
 use Prim.Native.Nat.{ℕ, zero, suc, _+_, _≤_}
 use mathlib.Core.Path.{_≡_, refl, sym, ap, _∙_}
 use mathlib.Core.List.{List, [], _∷_, _++_}

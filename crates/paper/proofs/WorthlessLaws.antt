@@ -1,6 +1,6 @@
 -- The worthless simplifiers are turned away, each at the field that the paper names for it: one small table apiece that breaks
 -- the field. The tables are the records of a tree (TableLaws), the lent areas have just the room that 6 asks for, and what the
--- simplifier makes of them is read off the cases of a call (CallLaws). Assumes nothing.
+-- simplifier makes of them is read off the cases of a call (CallLaws).
 use Prim.Native.Nat.{ℕ, zero, suc, _+_, _*_, _≤_, _<_}
 use mathlib.Core.Path.{_≡_, refl, sym, ap, _∙_, subst}
 use mathlib.Core.Bool.{Bool, true, false, cond}
@@ -21,11 +21,11 @@ use Rattle.paper.specs.Verdict.{Verdict, accepted, refused}
 use Rattle.paper.specs.Rules.{Rule, editionOne, editionTwo, isEdition, rulesOf}
 use Rattle.paper.specs.Driver.{Ran, done, over, no-rule, step, out-of-range, ask, after, tried, members, simplify}
 use Rattle.paper.specs.Admits.{openingsAt, AdmitsNone, admits-none, AllAdmitNone, and-more}
-use Rattle.paper.specs.Answers.{Lent, ran, judgement, cramped, refusedBy, refusal, ranAnswer, written, outAfter, lentAfter, simplifiedBy}
+use Rattle.paper.specs.Answers.{Lent, Answer, ran, judgement, cramped, refusedBy, refusal, ranAnswer, written, outAfter, lentAfter, simplifiedBy}
 use Rattle.paper.specs.Demands.{Simplifier, result, Refuses, LeavesAlone, RunsOver, Follows, Lightens, Bounded, Finishes, KeepsValue, Accepted}
 use Rattle.paper.specs.Takeover.{Room}
-use Rattle.paper.specs.Worthless.{RefusesEverything, RefusesInForm, refusesAll, returnsZero, returnsInput, firstPass, passesOnce, rootOnly, staysAtRoot, oneStepMore}
-use Rattle.paper.specs.Worthless.{oneOpeningMore, inventsSteps, inventsOpenings, oneTryLess, hidesTries, takesCube}
+use Rattle.paper.specs.Worthless.{RefusesEverything, RefusesInForm, refusesAll, returnsZero, returnsInput, firstPass, passesOnce, rootOnly, staysAtRoot}
+use Rattle.paper.specs.Worthless.{oneStepMore, oneOpeningMore, inventsSteps, inventsOpenings, oneTryLess, hidesTries, takesCube}
 use Rattle.paper.specs.WorthlessKinds.{Makes, ReturnsZero, ReturnsInput, StopsAfterPass, NeverEnters, Invents}
 use Rattle.paper.proofs.LimitLaws.{limit-least, limit-small}
 use Rattle.paper.proofs.EncodeLaws.{encode-bytes}
@@ -54,34 +54,6 @@ module _ (lim ed : ℕ) (limited : isLimit lim ≡ true) (known : isEdition ed �
   tree-accepted =
       accepted-judgement lim ed (encode t) (areas lim (weight t)) limited known (written-accepted lim limited t w (omega (arith, limit-least lim limited)))
       (ap (λ n. cramped lim n (areas lim (weight t))) (encode-weight t) ∙ of-room lim (weight t) (areas lim (weight t)) (areas-room lim (weight t)))
-
-  -- a simplifier around a run that ends on t with u answers with u's records
-  record Gives (run : Tree → Ran) (u : Tree) (ks : List ℕ) (o n : ℕ) : Type 0 where
-    answer : simplifiedBy lim ed run (encode t) (areas lim (weight t)) .answer ≡ ranAnswer (weight t) (done u ks o n)
-    bytes : result (simplifiedBy lim ed run (encode t) (areas lim (weight t))) ≡ encode u
-
-  gives : (run : Tree → Ran) (u : Tree) (ks : List ℕ) (o n : ℕ) → run t ≡ done u ks o n → Gives run u ks o n
-  unfolding ranAnswer lentAfter outAfter written
-  gives run u ks o n e = go (call lim ed run (encode t) (areas lim (weight t)) (encode-bytes t))
-    where
-      s : List ℕ
-      s = encode t
-
-      l : Lent
-      l = areas lim (weight t)
-
-      go : Call lim ed run s l → Gives run u ks o n
-      go (is-turned-down d) = absurd (let z : judgement lim ed s l .number ≡ 0 = ap (λ v. v .number) tree-accepted in omega (arith, d .number))
-      go (is-run r) =
-          let x : r .holds .tree ≡ t = same-tree (r .holds .read) (tree-of-written t w (omega arith)) in
-          let a : simplifiedBy lim ed run s l .answer ≡ ranAnswer (weight t) (done u ks o n) =
-          r .answer ∙ ap (λ y. ranAnswer (weight y) (run y)) x ∙ ap (ranAnswer (weight t)) e in
-          let g : simplifiedBy lim ed run s l .lent ≡ lentAfter lim (ran (weight t) (done u ks o n)) l =
-          r .lent ∙ ap (λ y. lentAfter lim (ran (weight y) (run y)) l) x ∙ ap (λ y. lentAfter lim (ran (weight t) y) l) e in
-          record {
-            answer = a;
-            bytes = result-written (simplifiedBy lim ed run s l) (weight t) u (l .out) (ap (λ y. y .records-written) a) (ap (λ y. y .out) g);
-          }
 
 -- ---- the tables: 1; a + (-1)*a, which takes two steps
 one : Tree
@@ -122,6 +94,49 @@ in-each ed P p q = go (eqb ed 2)
 ran-one : (ed : ℕ) → simplify (rulesOf ed) one ≡ done one [] 0 1
 ran-one ed = in-each ed (λ rs. simplify rs one ≡ done one [] 0 1) (unfold one driver-computes in refl) (unfold one driver-computes in refl)
 
+-- ---- the call of the table 1: what demand 2 says of it, and what a simplifier around a run answers
+module _ (lim ed : ℕ) (limited : isLimit lim ≡ true) (known : isEdition ed ≡ true) where
+  abbrev lent-one : Lent
+  lent-one = areas lim (weight one)
+
+  one-read : treeOf (encode one) ≡ some one
+  one-read = tree-of-written one one-wf (omega (arith, one-light))
+
+  one-accepted : judgement lim ed (encode one) lent-one ≡ accepted
+  one-accepted = tree-accepted lim ed limited known one one-wf one-light
+
+  follows-one : (f : Simplifier) → Follows lim ed f → f (encode one) lent-one .answer ≡ ranAnswer (weight one) (done one [] 0 1)
+  unfolding ranAnswer
+  follows-one f k = k (encode one) (encode-bytes one) lent-one one-accepted one one [] 0 1 one-read (ran-one ed) .0
+
+  runs-one : (run : Tree → Ran) → simplifiedBy lim ed run (encode one) lent-one .answer ≡ ranAnswer (weight one) (run one)
+  runs-one run = go (call lim ed run (encode one) lent-one (encode-bytes one))
+    where
+      go : Call lim ed run (encode one) lent-one → simplifiedBy lim ed run (encode one) lent-one .answer ≡ ranAnswer (weight one) (run one)
+      go (is-turned-down d) = absurd (let z = ap (λ v. v .number) one-accepted in omega (arith, z, d .number))
+      go (is-run r) = r .answer ∙ ap (λ y. ranAnswer (weight y) (run y)) (same-tree (r .holds .read) one-read)
+
+  -- one that tells of the driver's run what is not so falls to demand 2
+  told-alike : (changed : Ran → Ran) (told : Answer → ℕ) → Follows lim ed (simplifiedBy lim ed (λ t. changed (simplify (rulesOf ed) t)))
+      → told (ranAnswer (weight one) (done one [] 0 1)) ≡ told (ranAnswer (weight one) (changed (done one [] 0 1)))
+  told-alike changed told k =
+      ap told
+      (sym (follows-one _ k) ∙ runs-one (λ t. changed (simplify (rulesOf ed) t)) ∙ ap (λ y. ranAnswer (weight one) (changed y)) (ran-one ed))
+
+  -- "Invented steps or openings fall to demand 2, since both are those of the driver."
+  pub steps-are-refused : ¬ Follows lim ed (inventsSteps lim ed)
+  unfolding inventsSteps oneStepMore ranAnswer
+  steps-are-refused k = let z : _≡_ {A = ℕ} 0 1 = told-alike oneStepMore (λ y. y .steps-taken) k in omega arith
+
+  pub openings-are-refused : ¬ Follows lim ed (inventsOpenings lim ed)
+  unfolding inventsOpenings oneOpeningMore ranAnswer
+  openings-are-refused k = let z : _≡_ {A = ℕ} 0 1 = told-alike oneOpeningMore (λ y. y .openings) k in omega arith
+
+  -- and so does a hidden try
+  pub tries-are-refused : ¬ Follows lim ed (hidesTries lim ed)
+  unfolding hidesTries oneTryLess ranAnswer
+  tries-are-refused k = let z : _≡_ {A = ℕ} 1 0 = told-alike oneTryLess (λ y. y .tries) k in omega arith
+
 -- ---- "One that refuses everything: by the exact conditions of 1 to 6 in demand 1 and of 7 in demand 2." The table 1 is accepted, and
 -- its run meets no integer outside the range.
 module _ (lim ed : ℕ) (limited : isLimit lim ≡ true) (known : isEdition ed ≡ true) (f : Simplifier) where
@@ -131,13 +146,13 @@ module _ (lim ed : ℕ) (limited : isLimit lim ≡ true) (known : isEdition ed �
   not-but-7 : (v : Verdict) → 1 ≤ v .number → ¬ (v .number ≡ 7) → Refused v → ¬ Refuses lim ed f
   not-but-7 v h g e r =
       let j = r (encode one) (encode-bytes one) (areas lim (weight one)) v h g .0 e in
-      let z : 0 ≡ v .number = ap (λ v. v .number) (sym (tree-accepted lim ed limited known one one-wf one-light) ∙ j) in
+      let z : 0 ≡ v .number = ap (λ v. v .number) (sym (one-accepted lim ed limited known) ∙ j) in
       omega arith
 
   not-by-7 : (p : ℕ) → Refused (refused 7 p) → ¬ RunsOver lim ed f
   not-by-7 p e r =
       let x = r (encode one) (encode-bytes one) (areas lim (weight one)) p .0 e in
-      let t : x .1 .0 ≡ one = same-tree (x .1 .1) (tree-of-written one one-wf (omega (arith, one-light))) in
+      let t : x .1 .0 ≡ one = same-tree (x .1 .1) (one-read lim ed limited known) in
       no (sym (ran-one ed) ∙ sym (ap (simplify (rulesOf ed)) t) ∙ x .1 .2)
     where
       no : done one [] 0 1 ≡ over p → ⊥
@@ -146,22 +161,23 @@ module _ (lim ed : ℕ) (limited : isLimit lim ≡ true) (known : isEdition ed �
   pub refusing-in-form-is-refused : RefusesInForm f → (¬ Refuses lim ed f) ⊎ (¬ RunsOver lim ed f)
   refusing-in-form-is-refused h = go (h (encode one) (encode-bytes one) (areas lim (weight one)))
     where
-      go : ((v : Verdict) × (1 ≤ v .number) × (¬ (v .number ≡ 7)) × Refused v) ⊎ ((p : ℕ) × Refused (refused 7 p)) → (¬ Refuses lim ed f) ⊎ (¬ RunsOver lim ed f)
+      go : ((v : Verdict) × (1 ≤ v .number) × (¬ (v .number ≡ 7)) × Refused v) ⊎ ((p : ℕ) × Refused (refused 7 p))
+          → (¬ Refuses lim ed f) ⊎ (¬ RunsOver lim ed f)
       go (inl x) = inl (not-but-7 (x .0) (x .1) (x .2) (x .3))
       go (inr x) = inr (not-by-7 (x .0) (x .1))
 
   -- whatever else it answers: demand 2 has an answer for this call
   pub refusing-is-refused : RefusesEverything f → ¬ Follows lim ed f
+  unfolding ranAnswer
   refusing-is-refused h k =
-      let x = k (encode one) (encode-bytes one) (areas lim (weight one)) (tree-accepted lim ed limited known one one-wf one-light) one one [] 0 1
-      (tree-of-written one one-wf (omega (arith, one-light))) (ran-one ed) .0 in
-      omega (arith, h (encode one) (encode-bytes one) (areas lim (weight one)), ap (λ a. a .number) x)
+      omega (arith, h (encode one) (encode-bytes one) (areas lim (weight one)), ap (λ a. a .number) (follows-one lim ed limited known f k))
 
 pub in-form-refuses : (f : Simplifier) → RefusesInForm f → RefusesEverything f
 unfolding refusedBy
 in-form-refuses f h s b l = go (h s b l)
   where
-    go : ((v : Verdict) × (1 ≤ v .number) × (¬ (v .number ≡ 7)) × (f s l .answer ≡ refusedBy v)) ⊎ ((p : ℕ) × (f s l .answer ≡ refusal 7 p)) → 1 ≤ f s l .answer .number
+    go : ((v : Verdict) × (1 ≤ v .number) × (¬ (v .number ≡ 7)) × (f s l .answer ≡ refusedBy v)) ⊎ ((p : ℕ) × (f s l .answer ≡ refusal 7 p))
+        → 1 ≤ f s l .answer .number
     go (inl x) = omega (arith, x .1, ap (λ a. a .number) (x .3))
     go (inr x) = omega (arith, ap (λ a. a .number) (x .1))
 
@@ -183,16 +199,6 @@ pub always-7-is-refused : (lim ed : ℕ) → isLimit lim ≡ true → isEdition 
 unfolding refusesAll
 always-7-is-refused lim ed limited known = not-by-7 lim ed limited known (refusesAll 7) 0 refl
 
--- ---- "One that returns 0 for all: by the value in demand 3."
-pub zero-is-refused : (lim ed : ℕ) → isLimit lim ≡ true → isEdition ed ≡ true → ¬ KeepsValue lim ed (returnsZero lim ed)
-unfolding returnsZero trees-compute one ranAnswer
-zero-is-refused lim ed limited known k =
-    let g = gives lim ed limited known one one-wf one-light (λ t. done (integer 0 (pos 0)) [] 0 0) (integer 0 (pos 0)) [] 0 0 refl in
-    let x = k (encode one) (encode-bytes one) (areas lim (weight one)) (ap (λ y. y .number) (g .answer)) one (tree-of-written one one-wf (omega (arith, one-light))) in
-    let b = ap treeOf (g .bytes) ∙ tree-of-written (integer 0 (pos 0)) (lit< tt, lit< tt) (lit< tt) in
-    let u : integer 0 (pos 0) ≡ x .0 = same-tree b (x .1) in
-    let z : _≡_ {A = ℕ} 0 1 = ap (λ y. value y (λ n. 0)) u ∙ x .2 (λ n. 0) in omega arith
-
 -- ---- a tree that admits a rule is no finished one, nor is one whose rule would leave the range, nor one with an opening
 pub admits-a-rule : {rs : List Rule} (t u : Tree) (k : ℕ) → ask rs t ≡ step k u → ¬ AdmitsNone rs t
 admits-a-rule t u k e (admits-none a o ms) = let z : step k u ≡ no-rule = sym e ∙ a in let y : _≡_ {A = ℕ} 0 1 = cc in omega arith
@@ -203,117 +209,17 @@ admits-out-of-range t e (admits-none a o ms) = let z : out-of-range ≡ no-rule 
 pub admits-an-opening : {rs : List Rule} (t : Tree) → ¬ (openingsAt t ≡ 0) → ¬ AdmitsNone rs t
 admits-an-opening t e (admits-none a o ms) = e o
 
--- "One that returns its input: by "admits no rule"."
-pub input-is-refused : (lim ed : ℕ) → isLimit lim ≡ true → isEdition ed ≡ true → ¬ Finishes lim ed (returnsInput lim ed)
-unfolding returnsInput ranAnswer
-input-is-refused lim ed limited known f =
-    let g = gives lim ed limited known difference difference-wf difference-light (λ t. done t [] 0 0) difference [] 0 0 refl in
-    let r = tree-of-written difference difference-wf (omega (arith, difference-light)) in
-    let x = f (encode difference) (encode-bytes difference) (areas lim (weight difference)) (ap (λ y. y .number) (g .answer)) difference r in
-    let u : x .0 ≡ difference = same-tree (x .1) (ap treeOf (g .bytes) ∙ r) in
-    admits-a-rule difference once 2 first-step (subst (AdmitsNone (rulesOf ed)) u (x .2))
-  where
-    first-step : ask (rulesOf ed) difference ≡ step 2 once
-    first-step = in-each ed (λ rs. ask rs difference ≡ step 2 once) (unfold difference once driver-computes in refl) (unfold difference once driver-computes in refl)
-
--- "One that makes a first pass and then stops: the same clause, over the rules above."
-pub pass-is-refused : (lim ed : ℕ) → isLimit lim ≡ true → isEdition ed ≡ true → ¬ Finishes lim ed (passesOnce lim ed)
-unfolding passesOnce ranAnswer
-pass-is-refused lim ed limited known f =
-    let g = gives lim ed limited known difference difference-wf difference-light (λ t. firstPass (rulesOf ed) (weight t) t) once (2 ∷ []) 0 1 passed in
-    let r = tree-of-written once once-wf (omega (arith, once-light)) in
-    let x = f (encode difference) (encode-bytes difference) (areas lim (weight difference)) (ap (λ y. y .number) (g .answer)) difference
-    (tree-of-written difference difference-wf (omega (arith, difference-light))) in
-    let u : x .0 ≡ once = same-tree (x .1) (ap treeOf (g .bytes) ∙ r) in
-    admits-a-rule once (integer 0 (pos 0)) 3 second-step (subst (AdmitsNone (rulesOf ed)) u (x .2))
-  where
-    passed : firstPass (rulesOf ed) (weight difference) difference ≡ done once (2 ∷ []) 0 1
-    passed =
-        in-each ed (λ rs. firstPass rs (weight difference) difference ≡ done once (2 ∷ []) 0 1) (unfold difference once firstPass driver-computes trees-compute in refl)
-        (unfold difference once firstPass driver-computes trees-compute in refl)
-
-    second-step : ask (rulesOf ed) once ≡ step 3 (integer 0 (pos 0))
-    second-step = in-each ed (λ rs. ask rs once ≡ step 3 (integer 0 (pos 0))) (unfold once driver-computes in refl) (unfold once driver-computes in refl)
-
-    once-wf : WF once
-    once-wf = unfold once trees-compute in (lit≤ tt, ((lit< tt, lit< tt), ((lit< tt, lit< tt), tt)), lit< tt)
-
-    once-light : weight once ≤ 16
-    once-light = unfold once weight in (lit≤ tt)
-
--- one that never enters a member, by the same clause at a member: (a + a)^2 stays as it is, and its base admits step 2
+-- (a + a)^2: no rule applies to it, but step 2 to its base
 twice : Tree
 twice = sum 0 (cons (symbol 0 0) (cons (symbol 0 0) nil))
 
 inside : Tree
 inside = power 0 twice 0 2
 
-pub root-is-refused : (lim ed : ℕ) → isLimit lim ≡ true → isEdition ed ≡ true → ¬ Finishes lim ed (staysAtRoot lim ed)
-unfolding staysAtRoot ranAnswer
-root-is-refused lim ed limited known f =
-    let g = gives lim ed limited known inside inside-wf inside-light (λ t. rootOnly (rulesOf ed) (weight t) t) inside [] 0 1 stays in
-    let r = tree-of-written inside inside-wf (omega (arith, inside-light)) in
-    let x = f (encode inside) (encode-bytes inside) (areas lim (weight inside)) (ap (λ y. y .number) (g .answer)) inside r in
-    let u : x .0 ≡ inside = same-tree (x .1) (ap treeOf (g .bytes) ∙ r) in
-    base-admits (subst (AdmitsNone (rulesOf ed)) u (x .2))
-  where
-    inside-wf : WF inside
-    inside-wf = unfold inside twice trees-compute in ((lit≤ tt, ((lit< tt, lit< tt), ((lit< tt, lit< tt), tt)), lit< tt), lit≤ tt, lit< tt, lit< tt, lit< tt)
-
-    inside-light : weight inside ≤ 16
-    inside-light = unfold inside twice weight in (lit≤ tt)
-
-    stays : rootOnly (rulesOf ed) (weight inside) inside ≡ done inside [] 0 1
-    stays =
-        in-each ed (λ rs. rootOnly rs (weight inside) inside ≡ done inside [] 0 1) (unfold inside twice rootOnly driver-computes trees-compute in refl)
-        (unfold inside twice rootOnly driver-computes trees-compute in refl)
-
-    double : Tree
-    double = product 0 (cons (integer 0 (pos 2)) (cons (symbol 0 0) nil))
-
-    step-inside : ask (rulesOf ed) twice ≡ step 2 double
-    step-inside = in-each ed (λ rs. ask rs twice ≡ step 2 double) (unfold twice driver-computes in refl) (unfold twice driver-computes in refl)
-
-    its-members : members inside ≡ twice ∷ integer 0 (pos 2) ∷ []
-    its-members = unfold inside members in refl
-
-    first-of : {t : Tree} {l : List Tree} → AllAdmitNone (rulesOf ed) (t ∷ l) → AdmitsNone (rulesOf ed) t
-    first-of (and-more h hs) = h
-
-    base-admits : ¬ AdmitsNone (rulesOf ed) inside
-    base-admits (admits-none a o ms) =
-        admits-a-rule twice double 2 step-inside (first-of (subst (AllAdmitNone (rulesOf ed)) its-members ms))
-
--- ---- "Invented steps or openings fall to demand 2, since both are those of the driver."
-module _ where
-  pub steps-are-refused : (lim ed : ℕ) → isLimit lim ≡ true → isEdition ed ≡ true → ¬ Follows lim ed (inventsSteps lim ed)
-  unfolding inventsSteps oneStepMore ranAnswer
-  steps-are-refused lim ed limited known f =
-      let g = gives lim ed limited known one one-wf one-light (λ t. oneStepMore (simplify (rulesOf ed) t)) one (1 ∷ []) 0 1 (ap oneStepMore (ran-one ed)) in
-      let x = f (encode one) (encode-bytes one) (areas lim (weight one)) (tree-accepted lim ed limited known one one-wf one-light) one one [] 0 1
-      (tree-of-written one one-wf (omega (arith, one-light))) (ran-one ed) .0 in
-      let z : _≡_ {A = ℕ} 0 1 = ap (λ y. y .steps-taken) (sym x ∙ g .answer) in omega arith
-
-  pub openings-are-refused : (lim ed : ℕ) → isLimit lim ≡ true → isEdition ed ≡ true → ¬ Follows lim ed (inventsOpenings lim ed)
-  unfolding inventsOpenings oneOpeningMore ranAnswer
-  openings-are-refused lim ed limited known f =
-      let g = gives lim ed limited known one one-wf one-light (λ t. oneOpeningMore (simplify (rulesOf ed) t)) one [] 1 1 (ap oneOpeningMore (ran-one ed)) in
-      let x = f (encode one) (encode-bytes one) (areas lim (weight one)) (tree-accepted lim ed limited known one one-wf one-light) one one [] 0 1
-      (tree-of-written one one-wf (omega (arith, one-light))) (ran-one ed) .0 in
-      let z : _≡_ {A = ℕ} 0 1 = ap (λ y. y .openings) (sym x ∙ g .answer) in omega arith
-
-  -- and so does a hidden try
-  pub tries-are-refused : (lim ed : ℕ) → isLimit lim ≡ true → isEdition ed ≡ true → ¬ Follows lim ed (hidesTries lim ed)
-  unfolding hidesTries oneTryLess ranAnswer
-  tries-are-refused lim ed limited known f =
-      let g = gives lim ed limited known one one-wf one-light (λ t. oneTryLess (simplify (rulesOf ed) t)) one [] 0 0 (ap oneTryLess (ran-one ed)) in
-      let x = f (encode one) (encode-bytes one) (areas lim (weight one)) (tree-accepted lim ed limited known one one-wf one-light) one one [] 0 1
-      (tree-of-written one one-wf (omega (arith, one-light))) (ran-one ed) .0 in
-      let z : _≡_ {A = ℕ} 1 0 = ap (λ y. y .tries) (sym x ∙ g .answer) in omega arith
-
 -- ---- the same of any simplifier that does as they do. What such a one gives for the table of t is the table of u; so what demand 3 says
 -- of its result is said of u.
-module _ (lim ed : ℕ) (limited : isLimit lim ≡ true) (known : isEdition ed ≡ true) {P : Tree → Tree → Type 0} (f : Simplifier) (g : Makes lim ed P f) (t u : Tree) (p : P t u) where
+module _ (lim ed : ℕ) (limited : isLimit lim ≡ true) (known : isEdition ed ≡ true) {P : Tree → Tree → Type 0} (f : Simplifier)
+    (g : Makes lim ed P f) (t u : Tree) (p : P t u) where
   said-of : WF t → weight t ≤ 16 → WF u → weight u ≤ 16 → (Q : Tree → Tree → Type 0) → Accepted lim ed f (λ s l. Q) → Q t u
   said-of w h v k Q demand =
       let r = tree-of-written t w (omega arith) in
@@ -325,7 +231,9 @@ module _ (lim ed : ℕ) (limited : isLimit lim ≡ true) (known : isEdition ed �
 pub returning-zero-is-refused : (lim ed : ℕ) → isLimit lim ≡ true → isEdition ed ≡ true → (f : Simplifier) → ReturnsZero lim ed f → ¬ KeepsValue lim ed f
 unfolding one trees-compute
 returning-zero-is-refused lim ed limited known f g k =
-    let x = said-of lim ed limited known f g one (integer 0 (pos 0)) refl one-wf one-light (lit< tt, lit< tt) (lit≤ tt) (λ t u. (ρ : ℕ → ℕ) → value u ρ ≡ value t ρ) k in
+    let x =
+    said-of lim ed limited known f g one (integer 0 (pos 0)) refl one-wf one-light (lit< tt, lit< tt) (lit≤ tt)
+    (λ t u. (ρ : ℕ → ℕ) → value u ρ ≡ value t ρ) k in
     let z : _≡_ {A = ℕ} 0 1 = x (λ n. 0) in omega arith
 
 module _ (lim ed : ℕ) (limited : isLimit lim ≡ true) (known : isEdition ed ≡ true) where
@@ -336,14 +244,16 @@ module _ (lim ed : ℕ) (limited : isLimit lim ≡ true) (known : isEdition ed �
   pub returning-input-is-refused : (f : Simplifier) → ReturnsInput lim ed f → ¬ Finishes lim ed f
   returning-input-is-refused f g k =
       admits-a-rule difference once 2 first-step
-      (said-of lim ed limited known f g difference difference refl difference-wf difference-light difference-wf difference-light (λ t u. AdmitsNone (rulesOf ed) u) k)
+      (said-of lim ed limited known f g difference difference refl difference-wf difference-light difference-wf difference-light
+      (λ t u. AdmitsNone (rulesOf ed) u) k)
 
   second-step : ask (rulesOf ed) once ≡ step 3 (integer 0 (pos 0))
   second-step = in-each ed (λ rs. ask rs once ≡ step 3 (integer 0 (pos 0))) (unfold once driver-computes in refl) (unfold once driver-computes in refl)
 
   passed-once : firstPass (rulesOf ed) (weight difference) difference ≡ done once (2 ∷ []) 0 1
   passed-once =
-      in-each ed (λ rs. firstPass rs (weight difference) difference ≡ done once (2 ∷ []) 0 1) (unfold difference once firstPass driver-computes trees-compute in refl)
+      in-each ed (λ rs. firstPass rs (weight difference) difference ≡ done once (2 ∷ []) 0 1)
+      (unfold difference once firstPass driver-computes trees-compute in refl)
       (unfold difference once firstPass driver-computes trees-compute in refl)
 
   once-wf : WF once
@@ -355,7 +265,8 @@ module _ (lim ed : ℕ) (limited : isLimit lim ≡ true) (known : isEdition ed �
   pub stopping-is-refused : (f : Simplifier) → StopsAfterPass lim ed f → ¬ Finishes lim ed f
   stopping-is-refused f g k =
       admits-a-rule once (integer 0 (pos 0)) 3 second-step
-      (said-of lim ed limited known f g difference once (2 ∷ [], 0, 1, passed-once) difference-wf difference-light once-wf once-light (λ t u. AdmitsNone (rulesOf ed) u) k)
+      (said-of lim ed limited known f g difference once
+      (2 ∷ [], 0, 1, passed-once) difference-wf difference-light once-wf once-light (λ t u. AdmitsNone (rulesOf ed) u) k)
 
   inside-is-wf : WF inside
   inside-is-wf = unfold inside twice trees-compute in ((lit≤ tt, ((lit< tt, lit< tt), ((lit< tt, lit< tt), tt)), lit< tt), lit≤ tt, lit< tt, lit< tt, lit< tt)
@@ -386,7 +297,8 @@ module _ (lim ed : ℕ) (limited : isLimit lim ≡ true) (known : isEdition ed �
   pub never-entering-is-refused : (f : Simplifier) → NeverEnters lim ed f → ¬ Finishes lim ed f
   never-entering-is-refused f g k =
       inside-admits
-      (said-of lim ed limited known f g inside inside (no-rule-outside, refl) inside-is-wf inside-is-light inside-is-wf inside-is-light (λ t u. AdmitsNone (rulesOf ed) u) k)
+      (said-of lim ed limited known f g inside inside
+      (no-rule-outside, refl) inside-is-wf inside-is-light inside-is-wf inside-is-light (λ t u. AdmitsNone (rulesOf ed) u) k)
 
 -- told another number of steps or of openings than the driver has
 pub inventing-is-refused : (lim ed : ℕ) (f : Simplifier) (told : ℕ → ℕ → ℕ) → Invents lim ed f told → ¬ Follows lim ed f
@@ -395,7 +307,8 @@ inventing-is-refused lim ed f told i k =
     i .other (ap (λ a. told (a .steps-taken) (a .openings)) x)
 
 -- ---- there are such simplifiers: each of the programs above is one of its kind
-module _ (lim ed : ℕ) (run : Tree → Ran) (P : Tree → Tree → Type 0) (ends : (t u : Tree) → P t u → (ks : List ℕ) × (o : ℕ) × (n : ℕ) × (run t ≡ done u ks o n)) where
+module _ (lim ed : ℕ) (run : Tree → Ran) (P : Tree → Tree → Type 0)
+    (ends : (t u : Tree) → P t u → (ks : List ℕ) × (o : ℕ) × (n : ℕ) × (run t ≡ done u ks o n)) where
   run-makes : Makes lim ed P (simplifiedBy lim ed run)
   unfolding ranAnswer lentAfter outAfter written
   run-makes s b l j t u r p = go (call lim ed run s l b)
@@ -430,6 +343,23 @@ root-never-enters lim ed = run-makes lim ed _ _ (λ t u e. let s = stays t (weig
     stays : (t : Tree) (n : ℕ) → ask (rulesOf ed) t ≡ no-rule → (m : ℕ) × (rootOnly (rulesOf ed) n t ≡ done t [] 0 m)
     stays t zero e = (0, unfold rootOnly in refl)
     stays t (suc n) e = (1, unfold rootOnly tried after in rw (e, rootOnly) refl)
+
+-- so these fall where the paper says: "One that returns 0 for all: by the value in demand 3"
+module _ (lim ed : ℕ) (limited : isLimit lim ≡ true) (known : isEdition ed ≡ true) where
+  pub zero-is-refused : ¬ KeepsValue lim ed (returnsZero lim ed)
+  zero-is-refused = returning-zero-is-refused lim ed limited known _ (zero-returns-zero lim ed)
+
+  -- "One that returns its input: by "admits no rule""
+  pub input-is-refused : ¬ Finishes lim ed (returnsInput lim ed)
+  input-is-refused = returning-input-is-refused lim ed limited known _ (input-returns-input lim ed)
+
+  -- "One that makes a first pass and then stops: the same clause, over the rules above"
+  pub pass-is-refused : ¬ Finishes lim ed (passesOnce lim ed)
+  pass-is-refused = stopping-is-refused lim ed limited known _ (pass-stops lim ed)
+
+  -- and one that never enters a member, by the same clause at a member
+  pub root-is-refused : ¬ Finishes lim ed (staysAtRoot lim ed)
+  root-is-refused = never-entering-is-refused lim ed limited known _ (root-never-enters lim ed)
 
 -- told more steps and openings than the weight that is lost, on some accepted call: it fails `lightens`
 pub overcounting-is-refused : (lim ed : ℕ) (f : Simplifier) (s : List ℕ) → Bytes s → (l : Lent) → f s l .answer .number ≡ 0 → (t : Tree) → treeOf s ≡ some t

@@ -109,7 +109,8 @@ lookalikes =
       weight-out = 0;
     }
     ∷ gives (plus (times (i 0 ∷ i 4611686018427387904 ∷ i 4 ∷ a ∷ []) ∷ b ∷ b ∷ [])) 14 (times (i 2 ∷ b ∷ [])) (2 ∷ 3 ∷ 1 ∷ []) 0 5
-    ∷ gives (plus (times (i 4611686018427387904 ∷ minus 1 ∷ a ∷ []) ∷ times (i 4611686018427387904 ∷ minus 1 ∷ a ∷ []) ∷ [])) 13 (times (minus 9223372036854775808 ∷ a ∷ [])) (2 ∷ []) 0 5
+    ∷ gives (plus (times (i 4611686018427387904 ∷ minus 1 ∷ a ∷ []) ∷ times (i 4611686018427387904 ∷ minus 1 ∷ a ∷ []) ∷ [])) 13
+    (times (minus 9223372036854775808 ∷ a ∷ [])) (2 ∷ []) 0 5
     -- 2 * 2^3 * 3^4 is one step, 6^4; 2 * 6^2 * 3 is two, 6^3
     ∷ gives (times (i 2 ∷ raised (i 2) 3 ∷ raised (i 3) 4 ∷ [])) 8 (raised (i 6) 4) (6 ∷ []) 0 3
     ∷ gives (times (i 2 ∷ raised (i 6) 2 ∷ i 3 ∷ [])) 6 (raised (i 6) 3) (6 ∷ 6 ∷ []) 0 3
@@ -255,11 +256,14 @@ examplesMarked =
     ∷ gives (plus (b # 3 ∷ a # 1 ∷ a # 2 ∷ []) # 9) 10 (plus (b # 3 ∷ times (i 2 # 1 ∷ a # 1 ∷ []) # 1 ∷ []) # 9) (2 ∷ []) 0 9
     -- "merged or not": 1*a becomes a with its member's mark, and a rest keeps its own below the root
     ∷ gives (plus (times (i 1 # 5 ∷ a # 6 ∷ []) # 4 ∷ b # 1 ∷ b # 2 ∷ []) # 9) 12 (plus (a # 4 ∷ times (i 2 # 1 ∷ b # 1 ∷ []) # 1 ∷ []) # 9) (2 ∷ []) 0 9
-    ∷ gives (plus (times (a # 6 ∷ i 2 # 5 ∷ []) # 4 ∷ b # 1 ∷ b # 2 ∷ []) # 9) 12 (plus (times (i 2 # 4 ∷ a # 6 ∷ []) # 4 ∷ times (i 2 # 1 ∷ b # 1 ∷ []) # 1 ∷ []) # 9) (2 ∷ []) 0 11
+    ∷ gives (plus (times (a # 6 ∷ i 2 # 5 ∷ []) # 4 ∷ b # 1 ∷ b # 2 ∷ []) # 9) 12
+    (plus (times (i 2 # 4 ∷ a # 6 ∷ []) # 4 ∷ times (i 2 # 1 ∷ b # 1 ∷ []) # 1 ∷ []) # 9) (2 ∷ []) 0 11
     ∷ gives (plus (times (i 2 # 5 ∷ a # 6 ∷ []) # 4 ∷ times (a # 8 ∷ i 3 # 3 ∷ []) # 7 ∷ []) # 9) 11 (times (i 5 # 4 ∷ a # 6 ∷ []) # 4) (2 ∷ []) 0 5
     -- the root of a sum and of a power keeps its own as well
-    ∷ gives (plus (times (i 2 # 5 ∷ plus (a # 1 ∷ b # 2 ∷ []) # 6 ∷ []) # 4 ∷ times (plus (a # 1 ∷ b # 2 ∷ []) # 7 ∷ i 3 # 3 ∷ []) # 8 ∷ []) # 9) 19 (times (i 5 # 4 ∷ plus (a # 1 ∷ b # 2 ∷ []) # 6 ∷ []) # 4) (2 ∷ []) 0 9
-    ∷ gives (plus (times (i 2 # 5 ∷ toThe (a # 1) 2 2 # 6 ∷ []) # 4 ∷ times (toThe (a # 1) 2 2 # 7 ∷ i 3 # 3 ∷ []) # 8 ∷ []) # 9) 15 (times (i 5 # 4 ∷ toThe (a # 1) 2 2 # 6 ∷ []) # 4) (2 ∷ []) 0 7
+    ∷ gives (plus (times (i 2 # 5 ∷ plus (a # 1 ∷ b # 2 ∷ []) # 6 ∷ []) # 4 ∷ times (plus (a # 1 ∷ b # 2 ∷ []) # 7 ∷ i 3 # 3 ∷ []) # 8 ∷ []) # 9) 19
+    (times (i 5 # 4 ∷ plus (a # 1 ∷ b # 2 ∷ []) # 6 ∷ []) # 4) (2 ∷ []) 0 9
+    ∷ gives (plus (times (i 2 # 5 ∷ toThe (a # 1) 2 2 # 6 ∷ []) # 4 ∷ times (toThe (a # 1) 2 2 # 7 ∷ i 3 # 3 ∷ []) # 8 ∷ []) # 9) 15
+    (times (i 5 # 4 ∷ toThe (a # 1) 2 2 # 6 ∷ []) # 4) (2 ∷ []) 0 7
     -- a product rest; two integers; a + (-1)*a, whose 0 is given by step 3
     ∷ gives (plus (times (a # 1 ∷ b # 2 ∷ []) # 4 ∷ times (b # 3 ∷ a # 6 ∷ []) # 5 ∷ []) # 9) 15 (times (a # 1 ∷ b # 2 ∷ i 2 # 4 ∷ []) # 4) (2 ∷ []) 0 8
     ∷ gives (plus (times (i 2 # 1 ∷ i 3 # 2 ∷ []) # 4 ∷ i 4 # 5 ∷ []) # 9) 5 (i 10 # 4) (2 ∷ []) 0 1
@@ -310,14 +314,17 @@ cornersMarked =
     ∷ gives (plus (times (i 1 # 5 ∷ toThe (a # 1) 2 2 # 6 ∷ []) # 4 ∷ b # 3 ∷ b # 8 ∷ []) # 9) 14
     (plus (toThe (a # 1) 2 2 # 4 ∷ times (i 2 # 3 ∷ b # 3 ∷ []) # 3 ∷ []) # 9) (2 ∷ []) 0 11
     ∷ gives (plus (times (i 2 # 5 ∷ ab 6 ∷ []) # 4 ∷ times (minus 1 # 3 ∷ ab 7 ∷ []) # 8 ∷ []) # 9) 19 (ab 4) (2 ∷ []) 0 7
-    ∷ gives (plus (times (i 1 # 5 ∷ ab 6 ∷ []) # 4 ∷ c # 3 ∷ c # 8 ∷ []) # 9) 16 (plus (a # 1 ∷ b # 2 ∷ times (i 2 # 3 ∷ c # 3 ∷ []) # 3 ∷ []) # 9) (2 ∷ []) 1 12
+    ∷ gives (plus (times (i 1 # 5 ∷ ab 6 ∷ []) # 4 ∷ c # 3 ∷ c # 8 ∷ []) # 9) 16
+    (plus (a # 1 ∷ b # 2 ∷ times (i 2 # 3 ∷ c # 3 ∷ []) # 3 ∷ []) # 9) (2 ∷ []) 1 12
     -- a base that becomes the member: a sum, an integer, a power
     ∷ gives (times (toThe (ab 6) 5 1 # 4 ∷ c # 3 ∷ c # 8 ∷ []) # 9) 16 (times (ab 4 ∷ toThe (c # 3) 3 2 # 3 ∷ []) # 9) (6 ∷ []) 0 13
     ∷ gives (times (toThe (i 2 # 6) 5 1 # 4 ∷ c # 3 ∷ c # 8 ∷ []) # 9) 10 (times (i 2 # 4 ∷ toThe (c # 3) 3 2 # 3 ∷ []) # 9) (6 ∷ []) 0 7
-    ∷ gives (times (toThe (toThe (a # 1) 2 2 # 6) 5 1 # 4 ∷ c # 3 ∷ c # 8 ∷ []) # 9) 14 (times (toThe (a # 1) 2 2 # 4 ∷ toThe (c # 3) 3 2 # 3 ∷ []) # 9) (6 ∷ []) 0 11
+    ∷ gives (times (toThe (toThe (a # 1) 2 2 # 6) 5 1 # 4 ∷ c # 3 ∷ c # 8 ∷ []) # 9) 14
+    (times (toThe (a # 1) 2 2 # 4 ∷ toThe (c # 3) 3 2 # 3 ∷ []) # 9) (6 ∷ []) 0 11
     -- what is its own base keeps its mark below the root: a sum, a product, an integer
     ∷ gives (times (ab 4 ∷ plus (b # 5 ∷ a # 6 ∷ []) # 7 ∷ []) # 9) 15 (toThe (ab 4) 4 2 # 4) (6 ∷ []) 0 9
-    ∷ gives (times (times (a # 2 ∷ b # 3 ∷ []) # 1 ∷ toThe (times (b ∷ a ∷ []) # 7) 5 2 # 4 ∷ []) # 9) 17 (toThe (times (a # 2 ∷ b # 3 ∷ []) # 1) 1 3 # 1) (6 ∷ []) 0 9
+    ∷ gives (times (times (a # 2 ∷ b # 3 ∷ []) # 1 ∷ toThe (times (b ∷ a ∷ []) # 7) 5 2 # 4 ∷ []) # 9) 17
+    (toThe (times (a # 2 ∷ b # 3 ∷ []) # 1) 1 3 # 1) (6 ∷ []) 0 9
     ∷ gives (times (i 2 # 1 ∷ toThe (i 2 # 2) 5 3 # 4 ∷ []) # 9) 5 (toThe (i 2 # 1) 1 4 # 1) (6 ∷ []) 0 3
     -- steps 1 and 4: a single member that is left keeps its own, a node that keeps two keeps its mark; and a sum that is opened loses it
     ∷ gives (times (i 1 # 1 ∷ a # 2 ∷ []) # 9) 5 (a # 2) (4 ∷ []) 0 3

@@ -85,4 +85,5 @@ simplifyWith fewer rs t = runWith fewer rs (weight t) t
 -- branch's own outcome
 abbrev pub BranchNotReached : List Rule → Type 0
 BranchNotReached rs =
-    (fewer : Branch) (lim : ℕ) (s : List ℕ) → Bytes s → verdict lim s ≡ accepted → (t : Tree) → treeOf s ≡ some t → simplifyWith fewer rs t ≡ some (simplify rs t)
+    (fewer : Branch) (lim : ℕ) (s : List ℕ) → Bytes s → verdict lim s ≡ accepted → (t : Tree) → treeOf s ≡ some t
+    → simplifyWith fewer rs t ≡ some (simplify rs t)

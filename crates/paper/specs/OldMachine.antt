@@ -69,8 +69,10 @@ abbrev pub AcceptedHigher : Type 0
 AcceptedHigher = (s : List ℕ) → verdict old s ≡ accepted → verdict higher s ≡ accepted
 
 -- ---- the simplifier: the same answer, and the same bytes in `out` and `steps`
-abbrev pub Alike : Given → Given → Type 0
-Alike g h = (g .answer ≡ h .answer) × (g .lent .out ≡ h .lent .out) × (g .lent .steps ≡ h .lent .steps)
+pub record Alike (g h : Given) : Type 0 where
+  pub answer : g .answer ≡ h .answer
+  pub out : g .lent .out ≡ h .lent .out
+  pub steps : g .lent .steps ≡ h .lent .steps
 
 -- of one at the old limit, where its call and the call at the higher limit are both lent enough, or refused by the same number
 abbrev pub AgreesOnCalls : (ℕ → Simplifier) → Type 0

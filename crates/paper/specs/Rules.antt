@@ -247,7 +247,8 @@ bothIntegers (some a) (some b) = some (a *ℤ b)
 -- "If the exponents are equal and both bases are integers, multiply the bases; else ..": z is the product of two integer bases, which
 -- takes the same mark
 unfoldable pub multiplyIf : Bool → Option ℤ → Factor → Factor → Option Factor
-multiplyIf true (some z) c x = some (record { mark = c .mark; base = integer (c .mark) z; exponent = c .exponent; inRange = c .inRange && x .inRange && fits z })
+multiplyIf true (some z) c x =
+    some (record { mark = c .mark; base = integer (c .mark) z; exponent = c .exponent; inRange = c .inRange && x .inRange && fits z })
 multiplyIf true none c x = raiseIf (equal (c .base) (x .base)) c x
 multiplyIf false z c x = raiseIf (equal (c .base) (x .base)) c x
 

@@ -43,7 +43,8 @@ abbrev badCount : List ℕ
 badCount = 3 ∷ 0 ∷ 1 ∷ replicate 13 0
 
 pub record Sayings : Type 0 where
-  pub lengths : (badLength 3072 49152 ≡ false) × (badLength 3072 49168 ≡ true) × (badLength 16384 262144 ≡ false) × (badLength 16384 262160 ≡ true) × (registerBytes ≡ 256 * 8)
+  pub lengths : (badLength 3072 49152 ≡ false) × (badLength 3072 49168 ≡ true) × (badLength 16384 262144 ≡ false)
+      × (badLength 16384 262160 ≡ true) × (registerBytes ≡ 256 * 8)
   pub limits : (isLimit 3072 ≡ true) × (isLimit 16384 ≡ true) × (isLimit 3071 ≡ false) × (isLimit 3073 ≡ false)
       × (isLimit 16383 ≡ false) × (isLimit 16385 ≡ false) × (isLimit 65536 ≡ false) × (isLimit 0 ≡ false)
   pub works : (workBytes 3072 ≡ 65536) × (workBytes 16384 ≡ 524288)

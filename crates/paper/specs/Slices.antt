@@ -32,13 +32,16 @@ TellsIn n number ns returns answers =
 
 pub record Slices : Type 0 where
   pub check : (lim : ℕ) (s : List ℕ) → TellsIn checkBytes (verdict lim s .number) (verdictNumbers (verdict lim s)) (checkReturns lim s) (checkAnswers lim s)
-  pub weight : (lim : ℕ) (s : List ℕ) → TellsIn measureBytes (weighed lim s .number) (measuredNumbers (weighed lim s)) (weightReturns lim s) (weightAnswers lim s)
+  pub weight : (lim : ℕ) (s : List ℕ)
+      → TellsIn measureBytes (weighed lim s .number) (measuredNumbers (weighed lim s)) (weightReturns lim s) (weightAnswers lim s)
   pub value : (lim : ℕ) (s regs : List ℕ)
       → TellsIn measureBytes (valued lim s regs .number) (measuredNumbers (valued lim s regs)) (valueReturns lim s regs) (valueAnswers lim s regs)
   pub equal : (lim : ℕ) (s t : List ℕ)
       → TellsIn equalBytes (compared lim s t .number) (comparedNumbers (compared lim s t)) (equalReturns lim s t) (equalAnswers lim s t)
   pub simplify : (lim ed : ℕ) (s : List ℕ) (l : Lent)
-      → TellsIn simplifyBytes (simplified lim ed s l .answer .number) (answerNumbers (simplified lim ed s l .answer)) (simplifyReturns lim ed s l) (simplifyAnswers lim ed s l)
+      → TellsIn simplifyBytes (simplified lim ed s l .answer .number) (answerNumbers (simplified lim ed s l .answer))
+      (simplifyReturns lim ed s l) (simplifyAnswers lim ed s l)
   -- and the three areas
   pub areas : (lim ed : ℕ) (s : List ℕ) (l : Lent) (slice : List ℕ)
-      → (length slice < simplifyBytes → simplifyLeaves lim ed s l slice ≡ l) × (simplifyBytes ≤ length slice → simplifyLeaves lim ed s l slice ≡ simplified lim ed s l .lent)
+      → (length slice < simplifyBytes → simplifyLeaves lim ed s l slice ≡ l)
+      × (simplifyBytes ≤ length slice → simplifyLeaves lim ed s l slice ≡ simplified lim ed s l .lent)

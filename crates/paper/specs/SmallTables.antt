@@ -45,29 +45,29 @@ abbrev aPower : List ℕ
 aPower = recordOf 4 0 0 0
 
 -- refusals 1 to 5 by number and place
-abbrev says : List ℕ → ℕ → ℕ → Type 0
-says s k p = verdict 3072 s ≡ refused k p
+abbrev refuses : List ℕ → ℕ → ℕ → Type 0
+refuses s k p = verdict 3072 s ≡ refused k p
 
 pub record Verdicts : Type 0 where
   -- 1: "length is zero, no multiple of 16"
-  pub empty : says [] 1 0
-  pub fifteen : says (replicate 15 0) 1 0
-  pub seventeen : says (replicate 17 0) 1 0
+  pub empty : refuses [] 1 0
+  pub fifteen : refuses (replicate 15 0) 1 0
+  pub seventeen : refuses (replicate 17 0) 1 0
   -- 4: "the records end before the tree, or the tree before the records": "number of records; or first record too many"
-  pub records-end : says (sumOf 3 ++ (encode a ++ encode b)) 4 3
-  pub tree-ends : says (encode (plus a b) ++ (encode a ++ encode a)) 4 3
+  pub records-end : refuses (sumOf 3 ++ (encode a ++ encode b)) 4 3
+  pub tree-ends : refuses (encode (plus a b) ++ (encode a ++ encode a)) 4 3
   -- 5: "an exponent is no integer record of at least 1": "first such exponent record", wherever its power stands
-  pub exponent-zero : says (encode (raised a 0)) 5 2
-  pub exponent-negative : says (aPower ++ (encode a ++ encode (minus 1))) 5 2
-  pub exponent-least : says (aPower ++ (encode a ++ encode (minus 9223372036854775808))) 5 2
-  pub exponent-symbol : says (aPower ++ (encode a ++ encode b)) 5 2
-  pub exponent-sum : says (aPower ++ (encode a ++ encode (plus (i 1) (i 2)))) 5 2
-  pub exponent-after-base : says (aPower ++ (encode (plus a b) ++ encode (i 0))) 5 4
-  pub first-exponent : says (sumOf 2 ++ (encode (raised a 0) ++ (aPower ++ (encode b ++ encode a)))) 5 3
-  pub inner-exponent : says (aPower ++ (encode (raised a 0) ++ encode b)) 5 3
+  pub exponent-zero : refuses (encode (raised a 0)) 5 2
+  pub exponent-negative : refuses (aPower ++ (encode a ++ encode (minus 1))) 5 2
+  pub exponent-least : refuses (aPower ++ (encode a ++ encode (minus 9223372036854775808))) 5 2
+  pub exponent-symbol : refuses (aPower ++ (encode a ++ encode b)) 5 2
+  pub exponent-sum : refuses (aPower ++ (encode a ++ encode (plus (i 1) (i 2)))) 5 2
+  pub exponent-after-base : refuses (aPower ++ (encode (plus a b) ++ encode (i 0))) 5 4
+  pub first-exponent : refuses (sumOf 2 ++ (encode (raised a 0) ++ (aPower ++ (encode b ++ encode a)))) 5 3
+  pub inner-exponent : refuses (aPower ++ (encode (raised a 0) ++ encode b)) 5 3
   -- "The lowest number wins"
   pub flaw-before-shape : verdict 3072 (sumOf 3 ++ (encode a ++ sumOf 1)) ≡ flawed 2 bad-count
-  pub shape-before-exponent : says (encode (raised a 0) ++ encode a) 4 3
+  pub shape-before-exponent : refuses (encode (raised a 0) ++ encode a) 4 3
   -- a sum in a sum, a product in a product, a power of a power, the greatest exponent: nothing is wrong with them
   pub nested : verdict 3072 (encode (plus (plus a b) (times (times a b) (raised (raised a 1) 9223372036854775807)))) ≡ accepted
   -- the answer's bytes

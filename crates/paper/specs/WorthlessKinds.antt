@@ -17,7 +17,8 @@ use Rattle.paper.specs.Answers.{Lent, judgement}
 use Rattle.paper.specs.Demands.{Simplifier, result}
 use Rattle.paper.specs.Worthless.{firstPass}
 
--- at the limit lim and in the edition ed, f accepts each call that 1 to 6, 9 and 19 let pass where the table's tree is t and P t u holds, and its result is the records of u
+-- at the limit lim and in the edition ed, f accepts each call that 1 to 6, 9 and 19 let pass where the table's tree is t and P t u holds, and its result
+-- is the records of u
 abbrev pub Makes : ℕ → ℕ → (Tree → Tree → Type 0) → Simplifier → Type 0
 Makes lim ed P f =
     (s : List ℕ) → Bytes s → (l : Lent) → judgement lim ed s l ≡ accepted → (t u : Tree) → treeOf s ≡ some t → P t u

@@ -1,6 +1,6 @@
 -- With room for all, each answer is that of a call on the item alone: an answer depends on the areas only by whether they are too short for its
--- table, and no item uses up more than its table weighs. Assumes nothing.
-use Prim.Native.Nat.{ℕ, zero, suc, _+_, _*_, _<_, _≤_}
+-- table, and no item uses up more than its table weighs.
+use Prim.Native.Nat.{ℕ, zero, suc, _<_}
 use mathlib.Core.Path.{_≡_, refl, sym, ap, _∙_}
 use mathlib.Core.Bool.{Bool, true, false, cond}
 use mathlib.Core.List.{List, [], _∷_}

@@ -1,6 +1,6 @@
 -- A whole site at once gives what separate calls would give. The paper's simplifier is orderly, so the laws of separate items hold of it; `work`
--- is cleared by the first item that runs, and stays so. Each item is a call of the simplifier, so it meets the demands. Assumes nothing.
-use Prim.Native.Nat.{ℕ, zero, suc, _+_, _*_, _≤_, _<_}
+-- is cleared by the first item that runs, and stays so. Each item is a call of the simplifier, so it meets the demands.
+use Prim.Native.Nat.{ℕ, zero, suc, _*_, _≤_, _<_}
 use mathlib.Core.Path.{_≡_, refl, sym, ap, _∙_}
 use mathlib.Core.Bool.{Bool, true, false, cond, _||_}
 use mathlib.Core.List.{List, [], _∷_}

@@ -1,4 +1,4 @@
--- The examples of a whole site: one table, one statement, by computation. Assumes nothing.
+-- The examples of a whole site: one table, one statement, by computation.
 use mathlib.Core.Path.{_≡_, refl}
 use mathlib.Core.List.{map}
 use Rattle.paper.specs.Record.{flawNumbers}

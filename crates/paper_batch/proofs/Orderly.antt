@@ -1,12 +1,12 @@
 -- What an item does to what it is handed: it uses up stretches at the front, within the areas, and leaves what is past them. The paper's
--- simplifier does, in every edition: refused it leaves all, and a run writes no more than its stretches hold. Assumes nothing.
+-- simplifier does, in every edition: refused it leaves all, and a run writes no more than its stretches hold.
 use Prim.Native.Nat.{ℕ, _+_, _-_, _*_, _≤_}
 use mathlib.Core.Path.{_≡_, refl, sym, ap, _∙_}
 use mathlib.Core.Bool.{true, false, cond, _||_}
 use mathlib.Core.List.{List, [], _++_, append-assoc}
 use native.Mathlib.Omega.{arith}
 use borrow.Author.Tests.{ne-eqb, ltb-false}
-use lib.Dec.{eqb, ltb}
+use lib.Dec.{ltb}
 use lib.ListN.{length, drop, replicate, length-append, length-drop, length-replicate}
 use lib.Seq.{drop-at}
 use Rattle.paper.specs.Limits.{workBytes}
@@ -15,7 +15,7 @@ use Rattle.paper.specs.Tree.{weight}
 use Rattle.paper.specs.Verdict.{Verdict, isAccepted, tableWeight, verdict}
 use Rattle.paper.specs.Rules.{rulesOf}
 use Rattle.paper.specs.Driver.{Ran, done, over, simplify}
-use Rattle.paper.specs.Answers.{Lent, Answer, Given, cramped, judgement, refusedBy, ran, ranAnswer, written, noted, outAfter, stepsAfter}
+use Rattle.paper.specs.Answers.{Lent, Given, cramped, judgement, refusedBy, ran, ranAnswer, written, noted, outAfter, stepsAfter}
 use Rattle.paper.specs.Answers.{workAfter, lentAfter, simplifiedBy, simplified}
 use Rattle.paper.proofs.Tests.{or-neither}
 use Rattle.paper.proofs.AcceptedLaws.{Holds}

@@ -1,5 +1,5 @@
 -- The items of a site as separate calls, of any simplifier that is orderly: what a later item is handed is what it finds, and what it leaves
--- stands behind the stretches before it; an induction on the items, stated once for `out` and `steps`. Assumes nothing.
+-- stands behind the stretches before it; an induction on the items, stated once for `out` and `steps`.
 use Prim.Native.Nat.{ℕ, zero, suc, _+_, _*_, _<_, _≤_}
 use mathlib.Core.Path.{_≡_, refl, sym, ap, _∙_}
 use mathlib.Core.List.{List, [], _∷_, _++_}

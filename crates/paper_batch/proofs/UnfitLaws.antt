@@ -1,6 +1,5 @@
 -- The refusals of the call as a whole: 19, then 9, then 8, each exactly when the requests say so, and nothing is changed. The tests of 8 are its words.
--- Assumes nothing.
-use Prim.Native.Nat.{ℕ, _*_, _/_, _%_, _<_, _≤_}
+use Prim.Native.Nat.{ℕ, _/_, _%_}
 use mathlib.Core.Path.{_≡_, refl, ap}
 use mathlib.Core.Bool.{Bool, true, false, cond, _||_, not}
 use mathlib.Core.List.{List}

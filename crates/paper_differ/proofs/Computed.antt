@@ -1,6 +1,6 @@
--- The examples of what differs: one table, one statement, by computation. Assumes nothing.
+-- The examples of what differs: one table, one statement, by computation.
 use mathlib.Core.Path.{_≡_, refl}
-use mathlib.Core.List.{List, map}
+use mathlib.Core.List.{map}
 use Rattle.paper.specs.Record.{flawNumbers}
 use Rattle.paper.specs.Equal.{one}
 use Rattle.paper.specs.Limits.{isLimit}
@@ -17,9 +17,9 @@ use Rattle.paper.proofs.Computes.{verdict-computes, table-computes, equality-co
 -- a name that opens every definition of the walk and of the call; it states nothing
 unfoldable pub differ-computes : Unit {0}
 unfolding
-    verdict-computes table-computes equality-computes members eights tooShort returned answered flawNumbers sameFields markOf alike orPair
-    withFirst exponents differences inStep between differencesOf isLimit tooFewPlaces refusedFor differedTables differed numbersOf atFront listAfter differedNumbers
-    differReturns differAnswers differLeaves
+    verdict-computes table-computes equality-computes members eights tooShort returned answered flawNumbers sameFields markOf alike orPair withFirst
+    exponents differences inStep between differencesOf isLimit tooFewPlaces refusedFor differedTables differed numbersOf atFront listAfter
+    differedNumbers differReturns differAnswers differLeaves
 differ-computes = tt
 
 -- the definitions give each example as the request has it

@@ -1,6 +1,6 @@
 -- The walk of two trees in step, at a node: that two first records agree is inverted once into evidence (`Alike`), and the pairs of two trees
 -- are their own or those of their members in step (`differ-node`). So no pair is reported exactly when the trees are the same, and then the
--- tables' bytes are. Every law is proved of a tree from its members' (`by-members`). Assumes nothing.
+-- tables' bytes are. Every law is proved of a tree from its members' (`by-members`).
 use Prim.Native.Nat.{ℕ, _+_}
 use mathlib.Core.Path.{_≡_, refl, sym, ap, ap₂, _∙_, subst}
 use mathlib.Core.Bool.{Bool, true, false}
@@ -12,15 +12,15 @@ use lib.ListN.{length}
 use lib.IntN.{ℤ, pos}
 use lib.Dec.{eqb}
 use Rattle.paper.specs.Bytes.{Bytes}
-use Rattle.paper.specs.Tree.{Tree, Forest, integer, symbol, sum, product, power, nil, cons, toList, ofList, count, records, recordses}
+use Rattle.paper.specs.Tree.{Tree, Forest, integer, symbol, sum, product, power, nil, cons, toList, ofList, count, records, recordses, markOf}
 use Rattle.paper.specs.Equal.{onInteger, onSymbol, onSum, onProduct, onPower, equal}
 use Rattle.paper.specs.Table.{encode, treeOf}
 use Rattle.paper.specs.Verdict.{accepted, verdict}
 use Rattle.paper.specs.Driver.{members}
-use Rattle.paper.specs.Tree.{markOf}
 use Rattle.paper_differ.specs.Differ.{sameFields, alike, orPair, withFirst, exponents, differences, inStep, between, differencesOf}
 use Rattle.paper.proofs.Tests.{never, and-both, eqZ-true, eqZ-self}
 use Rattle.paper.proofs.WFLaws.{count-list, of-to-list}
+pub use Rattle.paper.proofs.Fuel.{records-first}
 use Rattle.paper.proofs.AcceptedLaws.{accepted-holds}
 use Rattle.paper.proofs.Equality.{equal-refl}
 use Rattle.paper.proofs.Computes.{trees-compute, equality-computes}
@@ -36,13 +36,15 @@ pub data Alike : Tree → Tree → Type 0 where
 -- the mark given apart from the other fields
 fields-view : (t u : Tree) → markOf t ≡ markOf u → sameFields t u ≡ true → Alike t u
 unfolding markOf sameFields onInteger onSymbol onSum onProduct onPower
-fields-view (integer μ z) (integer ν y) h e = subst (λ k. Alike (integer μ z) (integer k y)) h (subst (λ w. Alike (integer μ z) (integer μ w)) (eqZ-true z y e) a-integer)
+fields-view (integer μ z) (integer ν y) h e =
+    subst (λ k. Alike (integer μ z) (integer k y)) h (subst (λ w. Alike (integer μ z) (integer μ w)) (eqZ-true z y e) a-integer)
 fields-view (integer μ z) (symbol ν r) h e = never e
 fields-view (integer μ z) (sum ν g) h e = never e
 fields-view (integer μ z) (product ν g) h e = never e
 fields-view (integer μ z) (power ν c ζ m) h e = never e
 fields-view (symbol μ s) (integer ν y) h e = never e
-fields-view (symbol μ s) (symbol ν r) h e = subst (λ k. Alike (symbol μ s) (symbol k r)) h (subst (λ w. Alike (symbol μ s) (symbol μ w)) (eqb-true s r e) a-symbol)
+fields-view (symbol μ s) (symbol ν r) h e =
+    subst (λ k. Alike (symbol μ s) (symbol k r)) h (subst (λ w. Alike (symbol μ s) (symbol μ w)) (eqb-true s r e) a-symbol)
 fields-view (symbol μ s) (sum ν g) h e = never e
 fields-view (symbol μ s) (product ν g) h e = never e
 fields-view (symbol μ s) (power ν c ζ m) h e = never e
@@ -124,23 +126,9 @@ module _ (P : Tree → Type 0) (step : (t : Tree) → Every P (members t) → P 
     by-each nil = tt
     by-each (cons t f) = (by-members t, by-each f)
 
--- the records of a tree are its own and its members'
-unfoldable pub recordsAll : List Tree → ℕ
-recordsAll [] = 0
-recordsAll (t ∷ l) = records t + recordsAll l
-
-records-list : (f : Forest) → recordses f ≡ recordsAll (toList f)
-unfolding records recordsAll toList
-records-list nil = refl
-records-list (cons t f) = ap (λ (n : ℕ). records t + n) (records-list f)
-
-pub records-members : (t : Tree) → records t ≡ 1 + recordsAll (members t)
-unfolding records recordsAll members
-records-members (integer μ z) = refl
-records-members (symbol μ s) = refl
-records-members (sum μ f) = ap (λ (n : ℕ). 1 + n) (records-list f)
-records-members (product μ f) = ap (λ (n : ℕ). 1 + n) (records-list f)
-records-members (power μ b ξ e) = omega arith
+-- the records of trees one after the other
+abbrev pub recordsAll : List Tree → ℕ
+recordsAll l = recordses (ofList l)
 
 -- ---- the walk: at a node, and over members in step
 unfoldable pub steps : List Tree → List Tree → ℕ → ℕ → List (ℕ × ℕ)

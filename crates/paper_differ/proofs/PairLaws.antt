@@ -1,8 +1,8 @@
 -- The walk reports exactly the pairs that it comes to and that do not agree, each once, in walking order, and no more than the shorter tree has
 -- records. A pair of the list is the trees' own or one of their members' in step (`differ-node`), and every law is proved of a tree from its
--- members' (`by-members`). Assumes nothing.
+-- members' (`by-members`).
 use Prim.Native.Nat.{ℕ, _+_, _*_, _/_, _<_, _≤_, min}
-use mathlib.Core.Path.{_≡_, refl, sym, ap, _∙_, subst}
+use mathlib.Core.Path.{_≡_, refl, ap, _∙_, subst}
 use mathlib.Core.Bool.{Bool, true, false}
 use mathlib.Core.List.{List, [], _∷_, _++_}
 use mathlib.Core.Logic.{_⊎_, inl, inr, _↔_}
@@ -11,7 +11,7 @@ use native.Mathlib.Omega.{arith}
 use borrow.Author.Tests.{le-ltb}
 use lib.ListN.{length}
 use Rattle.paper.specs.Bytes.{Bytes}
-use Rattle.paper.specs.Tree.{Tree, records}
+use Rattle.paper.specs.Tree.{Tree, records, ofList}
 use Rattle.paper.specs.Table.{treeOf}
 use Rattle.paper.specs.Verdict.{accepted, verdict}
 use Rattle.paper.specs.Driver.{members}
@@ -19,7 +19,7 @@ use Rattle.paper_differ.specs.Differ.{alike, orPair, differences, betwee
 use Rattle.paper_differ.specs.Apart.{Partners, first, later, Reached, itself, below, Apart, ApartIn, Listed, here, there, Rises}
 use Rattle.paper.proofs.EncodeLaws.{records-pos, encode-length}
 use Rattle.paper.proofs.AcceptedLaws.{accepted-holds}
-use Rattle.paper_differ.proofs.DifferLaws.{Every, by-members, recordsAll, records-members, steps, differ-node}
+use Rattle.paper_differ.proofs.DifferLaws.{Every, by-members, recordsAll, records-first, steps, differ-node}
 
 -- ---- exactly the pairs that are apart
 none-listed : {p q : ℕ} (ds : List (ℕ × ℕ)) → ds ≡ [] → Listed p q ds → ⊥
@@ -142,7 +142,7 @@ InOrder t = (u : Tree) (i j : ℕ) → Rises i j (differences t u i j) × Within
 
 steps-order : (l : List Tree) → Every InOrder l → (m : List Tree) (i j : ℕ)
     → Rises i j (steps l m i j) × Within (i + recordsAll l) (j + recordsAll m) (steps l m i j)
-unfolding steps recordsAll
+unfolding steps records ofList
 steps-order [] h m i j = (tt, tt)
 steps-order (t ∷ l) h [] i j = (tt, tt)
 steps-order (t ∷ l) h (u ∷ m) i j =
@@ -166,7 +166,7 @@ in-order =
         let ds = steps (members t) (members u) (i + 1) (j + 1) in
         let x = steps-order (members t) h (members u) (i + 1) (j + 1) in (
           rises-from ds i j (i + 1) (j + 1) (omega arith) (omega arith) (x .0),
-          within-up ds _ _ _ _ (omega (arith, records-members t)) (omega (arith, records-members u)) (x .1),
+          within-up ds _ _ _ _ (omega (arith, records-first t)) (omega (arith, records-first u)) (x .1),
         )
     go t h u i j false = ((omega arith, (omega arith, tt)), (omega (arith, records-pos t), (omega (arith, records-pos u), tt)))
 

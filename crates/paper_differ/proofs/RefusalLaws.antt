@@ -1,7 +1,7 @@
 -- The call is refused exactly as the request's words have it: the tests of the definition, taken one after the other, are those of the words,
 -- and a refusal's answer tells its verdict and its table. The list is chosen by the number that is answered: after a refusal it stays, without one
--- it begins with every pair (`refused-stays`, `accepted-lists`). Assumes nothing.
-use Prim.Native.Nat.{ℕ, _*_, _/_, _<_, _≤_}
+-- it begins with every pair (`refused-stays`, `accepted-lists`).
+use Prim.Native.Nat.{ℕ, _*_, _/_, _≤_}
 use mathlib.Core.Path.{_≡_, refl, sym, ap, _∙_, subst}
 use mathlib.Core.Bool.{Bool, true, false}
 use mathlib.Core.List.{List, _++_}

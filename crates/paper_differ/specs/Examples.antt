@@ -124,7 +124,9 @@ computed e =
 
 -- the second mode: whether the trees are equal, pairs or none
 unfoldable pub equalities : List Bool
-equalities = true ∷ true ∷ false ∷ false ∷ false ∷ false ∷ false ∷ false ∷ false ∷ false ∷ false ∷ false ∷ true ∷ false ∷ false ∷ false ∷ false ∷ false ∷ false ∷ false ∷ false ∷ []
+equalities =
+    true ∷ true ∷ false ∷ false ∷ false ∷ false ∷ false ∷ false ∷ false ∷ false ∷ false ∷ false ∷ true ∷ false ∷ false ∷ false
+    ∷ false ∷ false ∷ false ∷ false ∷ false ∷ []
 
 unfoldable pub areEqual : Example → Bool
 areEqual e = compared (e .limit) (e .first) (e .second) .yes

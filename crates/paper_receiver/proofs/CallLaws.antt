@@ -1,11 +1,10 @@
 -- The link task's record in its 16 bytes. What one call writes, the next one reads; and a record that stays as it is keeps every byte, so a
 -- call that is refused changes nothing. Zero bytes are an empty receiver. Each number is written in the eight bytes that it was read from.
--- Assumes nothing.
 use Prim.Native.Nat.{ℕ, _+_, _^_, _≤_, _<_}
-use mathlib.Core.Path.{_≡_, refl, sym, ap, _∙_}
-use mathlib.Core.Bool.{Bool, true, false, cond, _||_}
+use mathlib.Core.Path.{_≡_, sym, ap, _∙_}
+use mathlib.Core.Bool.{true, false}
 use mathlib.Core.Logic.{_⊎_, inl, inr}
-use mathlib.Core.List.{List, [], _∷_, _++_, append-assoc, append-nil}
+use mathlib.Core.List.{List, [], _++_, append-assoc, append-nil}
 use native.Mathlib.Omega.{arith}
 use lib.ListN.{length, take, drop, length-drop, take-append-drop}
 use lib.Seq.{length-take-le, drop-drop}
@@ -14,11 +13,10 @@ use borrow.Author.Tests.{le-ltb, ltb-false}
 use Rattle.paper.specs.Bytes.{Bytes, le, le8, bytes}
 use Rattle.paper.specs.Limits.{isLimit}
 use Rattle.paper.specs.Calls.{eights, tooShort, returned, answered}
-use Rattle.paper.proofs.BytesLaws.{le-bytes, bytes-le, length-bytes, take-bytes, drop-bytes, le8-append, le8-append-add, le8-drop}
+use Rattle.paper.proofs.BytesLaws.{bytes-le, length-bytes, take-bytes, drop-bytes, le8-append-add, le8-drop, first-eight, eight-front}
 use Rattle.paper.proofs.Tests.{or-neither}
 use Rattle.paper_receiver.specs.Receiver.{Receiver, Held, isShort, received, finishState}
-use Rattle.paper_receiver.specs.Calls.{receiverIn, receiverNumbers, heldIn, receiveReturns, receiveRecord, receiveArea}
-use Rattle.paper_receiver.specs.Calls.{noRoom, finishRecord}
+use Rattle.paper_receiver.specs.Calls.{receiverIn, receiverNumbers, heldIn, receiveReturns, receiveRecord, receiveArea, noRoom, finishRecord}
 use Rattle.paper_receiver.proofs.PieceLaws.{either-way}
 use Rattle.paper_receiver.proofs.ReceiverLaws.{refused-changes-nothing}
 
@@ -31,10 +29,6 @@ two-numbers r s h =
     (append-assoc (bytes 8 (r .count)) (bytes 8 (r .past) ++ []) (drop 16 s)
     ∙ ap (λ (l : List ℕ). bytes 8 (r .count) ++ (l ++ drop 16 s)) (append-nil (bytes 8 (r .past))))
 
--- a number of 64 bits is read from the bytes that it is written to
-read-first : (n : ℕ) (rest : List ℕ) → n < 2 ^ 64 → le8 (bytes 8 n ++ rest) 0 ≡ n
-read-first n rest h = le8-append (bytes 8 n) rest 0 (rw length-bytes (omega arith)) ∙ unfold le8 bytes in (le-bytes 8 n h)
-
 pub reads-back : (r : Receiver) (s : List ℕ) → r .count < 2 ^ 64 → r .past < 2 ^ 64 → 16 ≤ length s
     → receiverIn (answered (receiverNumbers r) s) ≡ r
 unfolding receiverIn
@@ -42,22 +36,10 @@ reads-back r s c p h =
     let l : 8 ≡ length (bytes 8 (r .count)) + 0 = rw length-bytes (omega arith) in
     let rest = bytes 8 (r .past) ++ drop 16 s in
     let second : le8 (bytes 8 (r .count) ++ rest) 8 ≡ r .past =
-    ap (le8 (bytes 8 (r .count) ++ rest)) l ∙ le8-append-add (bytes 8 (r .count)) rest 0 ∙ read-first (r .past) (drop 16 s) p in
-    rw (two-numbers r s h, read-first (r .count) rest c, second)
+    ap (le8 (bytes 8 (r .count) ++ rest)) l ∙ le8-append-add (bytes 8 (r .count)) rest 0 ∙ first-eight (r .past) (drop 16 s) p in
+    rw (two-numbers r s h, first-eight (r .count) rest c, second)
 
 -- ---- the bytes of a record that stays
-eight-front : (s : List ℕ) → 8 ≤ length s → le8 s 0 ≡ le (take 8 s)
-unfolding le8
-eight-front (x₀ ∷ x₁ ∷ x₂ ∷ x₃ ∷ x₄ ∷ x₅ ∷ x₆ ∷ x₇ ∷ s) h = refl
-eight-front [] h = absurd (omega arith)
-eight-front (x₀ ∷ []) h = absurd (omega arith)
-eight-front (x₀ ∷ x₁ ∷ []) h = absurd (omega arith)
-eight-front (x₀ ∷ x₁ ∷ x₂ ∷ []) h = absurd (omega arith)
-eight-front (x₀ ∷ x₁ ∷ x₂ ∷ x₃ ∷ []) h = absurd (omega arith)
-eight-front (x₀ ∷ x₁ ∷ x₂ ∷ x₃ ∷ x₄ ∷ []) h = absurd (omega arith)
-eight-front (x₀ ∷ x₁ ∷ x₂ ∷ x₃ ∷ x₄ ∷ x₅ ∷ []) h = absurd (omega arith)
-eight-front (x₀ ∷ x₁ ∷ x₂ ∷ x₃ ∷ x₄ ∷ x₅ ∷ x₆ ∷ []) h = absurd (omega arith)
-
 eight-stay : (s : List ℕ) → Bytes s → 8 ≤ length s → bytes 8 (le8 s 0) ≡ take 8 s
 eight-stay s b h =
     ap (bytes 8) (eight-front s h)

@@ -1,10 +1,10 @@
 -- What a piece leaves, m bytes being kept at the most: past the limit nothing changes; a piece that fits is put behind what came before; of
 -- one that does not, the front is put there that there is room for. So a piece and then another leave what the two leave as one piece, from
--- every record, also one that is past the limit or ill. Assumes nothing.
-use Prim.Native.Nat.{ℕ, zero, suc, _+_, _-_, _≤_, _<_, min}
+-- every record, also one that is past the limit or ill.
+use Prim.Native.Nat.{ℕ, _+_, _-_, _≤_, _<_, min}
 use mathlib.Core.Path.{_≡_, refl, sym, ap, _∙_}
-use mathlib.Core.Bool.{Bool, true, false, cond, _||_, not}
-use mathlib.Core.List.{List, [], _∷_, _++_}
+use mathlib.Core.Bool.{Bool, true, false, not}
+use mathlib.Core.List.{List, [], _++_}
 use native.Mathlib.Omega.{arith}
 use lib.ListN.{length, take, drop, length-append, take-append-drop}
 use lib.Seq.{length-take-le, take-append-le, take-append-add, take-all}

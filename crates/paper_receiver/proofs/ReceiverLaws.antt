@@ -1,10 +1,10 @@
 -- "No cut may alter the answer, place or bytes kept": a piece and then another answer and leave what the two as one piece do, for every limit,
 -- record and area; so any pieces leave what their whole leaves. From an empty receiver the first bytes of the whole are kept, and the
 -- finish answers as the checker does on the whole. A refusal changes nothing, any other finish empties the receiver, and what comes after it
--- is received as by a fresh one. Each theorem is a case on the limit and on the area's length over the laws of a piece. Assumes nothing.
+-- is received as by a fresh one. Each theorem is a case on the limit and on the area's length over the laws of a piece.
 use Prim.Native.Nat.{ℕ, _+_, _-_, _≤_, _<_, min}
 use mathlib.Core.Path.{_≡_, refl, sym, ap, _∙_}
-use mathlib.Core.Bool.{Bool, true, false, cond, _||_}
+use mathlib.Core.Bool.{true, false}
 use mathlib.Core.List.{List, [], _∷_, _++_}
 use native.Mathlib.Nat.{zero-add}
 use native.Mathlib.Omega.{arith}

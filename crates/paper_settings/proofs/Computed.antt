@@ -1,7 +1,7 @@
--- The examples of the settings store: one table, one statement, by computation. Assumes nothing.
-use Prim.Native.Nat.{ℕ, _/_}
+-- The examples of the settings store: one table, one statement, by computation.
+use Prim.Native.Nat.{_/_}
 use mathlib.Core.Path.{_≡_, refl}
-use mathlib.Core.List.{List, [], _∷_, map}
+use mathlib.Core.List.{[], _∷_, map}
 use native.Mathlib.Omega.{arith}
 use lib.ListN.{length}
 use Rattle.paper.specs.Bytes.{bytes, le, le2, le8}

@@ -1,6 +1,6 @@
 -- Fetch and remove by the area's bytes, on any area that is not refused, whatever versions stand side by side in it: the slot that has the key tells
 -- the answer, and its bytes are what goes out. In slots in order a key stands once, so the first slot that has it is that slot (`shown-at`,
--- `out-at`, by induction over the order); a slot's bytes are the area's. Assumes nothing.
+-- `out-at`, by induction over the order); a slot's bytes are the area's.
 use Prim.Native.Nat.{ℕ, zero, suc, _+_, _*_, _/_, _<_, _≤_}
 use mathlib.Core.Path.{_≡_, refl, sym, ap, _∙_}
 use mathlib.Core.Bool.{Bool, true, false, cond}
@@ -8,17 +8,15 @@ use mathlib.Core.List.{List, [], _∷_, _++_}
 use mathlib.Core.Option.{none, some}
 use native.Mathlib.Numerals.{add-one}
 use native.Mathlib.Omega.{arith}
-use borrow.Author.Tests.{eqb-true, eqb-false}
-use lib.Dec.{eqb}
 use lib.ListN.{length, getD, take, drop, replicate, length-drop, take-append-drop}
 use lib.Seq.{length-take-le}
 use Rattle.paper.specs.Bytes.{le2, le8}
 use Rattle.paper.proofs.BytesLaws.{le2-append, le8-append, le2-drop, le8-drop}
 use Rattle.paper.proofs.Tests.{true-not-false, not-so}
-use Rattle.paper_settings.specs.Settings.{keyIn, unitIn, settingIn, isMalformed, allFree, holds, freeSlot, settingOf, joined, slotsOf, shown, known, areaVerdict}
-use Rattle.paper_settings.specs.Settings.{to-remove, only, fetchReply, replies, takeOut, onSlots, called, fetched, KeyAt}
+use Rattle.paper_settings.specs.Settings.{keyIn, unitIn, settingIn, isMalformed, allFree, holds, freeSlot, settingOf, joined, slotsOf, shown, known}
+use Rattle.paper_settings.specs.Settings.{areaVerdict, to-remove, only, fetchReply, replies, takeOut, onSlots, called, fetched, KeyAt}
 use Rattle.paper_settings.proofs.SlotLaws.{old-unit, Ordered, no-slot, free-last, record-first, free-holds}
-use Rattle.paper_settings.proofs.SettingsLaws.{area-whole, area-joined, area-slots, kept, called-kept}
+use Rattle.paper_settings.proofs.SettingsLaws.{area-whole, area-joined, area-slots, kept, called-kept, accepted-area}
 use Rattle.paper_settings.proofs.SettingsUpgrade.{slot-at, slot-version-at, joined-append, joined-take, joined-drop}
 use Rattle.paper_settings.proofs.SettingsRefusals.{free-sound, holds-used, known-at, at-known, free-at, key-words, words-key}
 
@@ -117,30 +115,21 @@ pub record Removed (k : ℕ) (a b : List ℕ) : Type 0 where
   pub bytes-after : b ≡ take (32 * slot) a ++ (drop (32 * (slot + 1)) a ++ replicate 32 0)
 
 module _ (k : ℕ) (a : List ℕ) (h : called (to-remove k) a .reply .number ≡ 0) where
-  -- an accepted remove is one on an area that is not refused, and that has the key
-  accepted-remove : (areaVerdict 2 a ≡ 0) × (known (shown (slotsOf a) k) ≡ true)
-  unfolding called onSlots
-  accepted-remove = go (eqb (areaVerdict 2 a) 0) refl (known (shown (slotsOf a) k)) h
-    where
-      xs : List (List ℕ)
-      xs = slotsOf a
+  accepted : areaVerdict 2 a ≡ 0
+  accepted = accepted-area (to-remove k) a h
 
-      go : (b : Bool) → eqb (areaVerdict 2 a) 0 ≡ b → (c : Bool)
-          → cond b
-          (replies (cond c (replies (only 0) (takeOut k xs)) (replies (only 12) xs) .reply)
-          (joined (cond c (replies (only 0) (takeOut k xs)) (replies (only 12) xs) .after)))
-          (replies (only (areaVerdict 2 a)) a)
-          .reply
-          .number
-          ≡ 0
-          → (areaVerdict 2 a ≡ 0) × (c ≡ true)
-      go true e true h = (eqb-true (areaVerdict 2 a) 0 e, refl)
-      go true e false h = absurd (omega arith)
-      go false e c h = absurd (eqb-false (areaVerdict 2 a) 0 e h)
+  -- and it has the key
+  has-key : known (shown (slotsOf a) k) ≡ true
+  unfolding onSlots
+  has-key = go (known (shown (slotsOf a) k)) (rw (called-kept (to-remove k) a accepted) at h)
+    where
+      go : (c : Bool) → cond c (replies (only 0) (takeOut k (slotsOf a))) (replies (only 12) (slotsOf a)) .reply .number ≡ 0 → c ≡ true
+      go true h = refl
+      go false h = absurd (omega arith)
 
   pub remove-removes : Removed k a (called (to-remove k) a .after)
   remove-removes =
-      let r = known-at (slotsOf a) k (accepted-remove .1) in
+      let r = known-at (slotsOf a) k has-key in
       let l : r .0 < length a / 32 = omega (arith, area-slots a, r .1) in
       let w = key-words a (r .0) l k (r .2) in
-      record { slot = r .0; within = l; had-key = w; bytes-after = rw (removes-slot k a (r .0) (accepted-remove .0) l w) refl }
+      record { slot = r .0; within = l; had-key = w; bytes-after = rw (removes-slot k a (r .0) accepted l w) refl }

@@ -1,23 +1,22 @@
 -- The settings store answers as a plain map does, and survives an upgrade. On slots in order each operation does to what they show what
 -- the map's operation does (SlotLaws); an area of whole slots is its slots end to end, so the same holds of bytes, and of sequences by
--- induction. The upgrade theorems follow from what a record's version says of its bytes. Assumes nothing.
+-- induction. The upgrade theorems follow from what a record's version says of its bytes.
 use Prim.Native.Nat.{ℕ, zero, suc, _+_, _*_, _/_, _%_, _^_, _<_, _≤_}
 use mathlib.Core.Path.{_≡_, refl, sym, ap, ap₂, _∙_, subst, fun-ext}
 use mathlib.Core.Bool.{Bool, true, false, cond, _||_, not}
 use mathlib.Core.List.{List, [], _∷_, _++_}
 use mathlib.Core.Option.{Option, some}
 use native.Mathlib.Omega.{arith}
-use borrow.Author.Tests.{eq-eqb, ne-eqb, eqb-true}
+use borrow.Author.Tests.{eq-eqb, ne-eqb, eqb-true, eqb-false}
 use lib.Dec.{eqb}
 use lib.ListN.{length, take, drop, replicate, length-append, length-drop, length-replicate, take-append-drop, replicate-append-replicate}
 use lib.Seq.{length-take-le, take-at, drop-at}
-use Rattle.paper_settings.specs.Settings.{slotOf, freeSlot, Setting, slots, joined, slotsOf, shown, known, used, anyNewer, allFree, inOrder}
-use Rattle.paper_settings.specs.Settings.{isDisordered, areaVerdict, Op, to-store, to-fetch, to-remove, Fits, AllFit, Reply, only}
-use Rattle.paper_settings.specs.Settings.{replies, Map, noSettings, with, without, isFull, onMap, mapOf, put, takeOut, onSlots, called}
-use Rattle.paper_settings.specs.Settings.{fetchReply, fetched, callEach, askEach}
+use Rattle.paper_settings.specs.Settings.{slotOf, freeSlot, Setting, slots, joined, slotsOf, shown, known, used, anyNewer, allFree, inOrder, isDisordered}
+use Rattle.paper_settings.specs.Settings.{areaVerdict, Op, to-store, to-fetch, to-remove, Fits, AllFit, Reply, only, replies, Map, noSettings, with}
+use Rattle.paper_settings.specs.Settings.{without, isFull, onMap, mapOf, put, takeOut, onSlots, called, fetchReply, fetched, callEach, askEach}
 use Rattle.paper_settings.proofs.SlotLaws.{slot-length, slot-used, slot-sound, slot-key, slot-setting, free-slot, free-shown, free-used, free-order}
-use Rattle.paper_settings.proofs.SlotLaws.{Ordered, in-order, order-in, place, shown-put, used-put, order-put, shown-out, used-out, order-out, length-put, length-out, Each, each-put}
-use Rattle.paper_settings.proofs.SlotLaws.{each-out, newer-none, order-versions}
+use Rattle.paper_settings.proofs.SlotLaws.{Ordered, in-order, order-in, place, shown-put, used-put, order-put, shown-out, used-out, order-out}
+use Rattle.paper_settings.proofs.SlotLaws.{length-put, length-out, Each, each-put, each-out, newer-none, order-versions}
 
 -- ---- an area and its slots
 abbrev pub Whole : List (List ℕ) → Type 0
@@ -184,6 +183,17 @@ pub called-kept : (op : Op) (a : List ℕ) → areaVerdict 2 a ≡ 0
     → called op a ≡ replies (onSlots op (slotsOf a) .reply) (joined (onSlots op (slotsOf a) .after))
 unfolding called
 called-kept op a h = rw h
+
+-- an accepted call is one on an area that is not refused
+pub accepted-area : (op : Op) (a : List ℕ) → called op a .reply .number ≡ 0 → areaVerdict 2 a ≡ 0
+unfolding called
+accepted-area op a h = go (eqb (areaVerdict 2 a) 0) refl h
+  where
+    go : (b : Bool) → eqb (areaVerdict 2 a) 0 ≡ b
+        → cond b (replies (onSlots op (slotsOf a) .reply) (joined (onSlots op (slotsOf a) .after))) (replies (only (areaVerdict 2 a)) a) .reply .number ≡ 0
+        → areaVerdict 2 a ≡ 0
+    go true e h = eqb-true (areaVerdict 2 a) 0 e
+    go false e h = absurd (eqb-false (areaVerdict 2 a) 0 e h)
 
 module _ (op : Op) (fits : Fits op) (a : List ℕ) (h : areaVerdict 2 a ≡ 0) where
   pub stays : Stays (slotsOf a) (onSlots op (slotsOf a) .after)

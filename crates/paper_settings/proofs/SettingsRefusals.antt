@@ -1,6 +1,6 @@
 -- Refusals 10 to 13 of the settings store are given exactly as the request says. Each test of the definitions is shown to be the condition
 -- in words: first of the slots by their places, then of the area's bytes; the call goes through the tests in order (`ladder` of
--- Refusals). Assumes nothing.
+-- Refusals).
 use Prim.Native.Nat.{ℕ, zero, suc, _+_, _*_, _/_, _%_, _<_, _≤_}
 use mathlib.Core.Path.{_≡_, refl, sym, ap, _∙_, subst}
 use mathlib.Core.Bool.{Bool, true, false, cond, _&&_, _||_, not}
@@ -14,14 +14,16 @@ use lib.ListN.{length, getD}
 use Rattle.paper.specs.Bytes.{le2}
 use Rattle.paper.specs.Verdict.{Verdict, refused, accepted}
 use Rattle.paper.specs.Refusals.{rank, Lowest}
-use Rattle.paper_settings.specs.Settings.{version, keyIn, mayBe, strays, isMalformed, isFree, holds, Setting, settingOf, slotsOf, shown, known, used, anyNewer}
-use Rattle.paper_settings.specs.Settings.{allFree, inOrder, isDisordered, areaVerdict, Op, to-store, to-fetch, to-remove, only, fetchReply, replies}
-use Rattle.paper_settings.specs.Settings.{isFull, slotOf, put, takeOut, onSlots, called, fetched, fetchedOld, joined, FreeAt, KeyAt, Disorder, malformed, key-twice}
-use Rattle.paper_settings.specs.Settings.{record-after-free, no-multiple, Refuses, newer, disordered, fetch-absent, remove-absent, full}
+use Rattle.paper_settings.specs.Settings.{version, keyIn, mayBe, strays, isMalformed, isFree, holds, Setting, settingOf, slotsOf, shown, known, used}
+use Rattle.paper_settings.specs.Settings.{anyNewer, allFree, inOrder, isDisordered, areaVerdict, Op, to-store, to-fetch, to-remove, only, fetchReply}
+use Rattle.paper_settings.specs.Settings.{replies, isFull, slotOf, put, takeOut, onSlots, called, fetched, fetchedOld, joined, FreeAt, KeyAt, Disorder}
+use Rattle.paper_settings.specs.Settings.{malformed, key-twice, record-after-free, no-multiple, Refuses, newer, disordered, fetch-absent, remove-absent}
+use Rattle.paper_settings.specs.Settings.{full}
 use Rattle.paper.proofs.Tests.{true-not-false, not-so, and-both, or-either}
 use Rattle.paper.specs.Record.{sound}
 use Rattle.paper.proofs.Refusals.{ladder, ladder-down, ladder-up, none-holds, holds-none}
-use Rattle.paper_settings.proofs.SlotLaws.{no-stray, some-stray, Ordered, no-slot, free-last, record-first, in-order, free-holds, each-at, newer-at, used-most}
+use Rattle.paper_settings.proofs.SlotLaws.{no-stray, some-stray, Ordered, no-slot, free-last}
+use Rattle.paper_settings.proofs.SlotLaws.{record-first, in-order, free-holds, each-at, newer-at, used-most}
 use Rattle.paper_settings.proofs.SettingsLaws.{area-whole, area-slots, fetch-called}
 use Rattle.paper_settings.proofs.SettingsUpgrade.{slot-at, slot-byte, key-there, slot-version-at}
 
@@ -423,7 +425,8 @@ module _ (newest : ℕ) (op : Op) (a : List ℕ) (n : ℕ) (tested : Tested newe
           record {
             given = test-words newest op a k (r .0);
             lowest = λ j q u x. let y = words-test newest op a j q x in
-                true-not-false (y .0) (r .2 j (y .2) (omega (arith, in-order-of-numbers j (y .2) (omega (arith, y .3)), in-order-of-numbers k (z .2) (omega (arith, z .3)))));
+                true-not-false (y .0)
+                (r .2 j (y .2) (omega (arith, in-order-of-numbers j (y .2) (omega (arith, y .3)), in-order-of-numbers k (z .2) (omega (arith, z .3)))));
           }
 
       up : Lowest (Refuses newest a op) k 0 → n ≡ k
@@ -432,7 +435,8 @@ module _ (newest : ℕ) (op : Op) (a : List ℕ) (n : ℕ) (tested : Tested newe
           ap (λ (v : Verdict). v .number)
           (tested
           ∙ ladder-up (test newest op a) (λ j. 0) (λ j. sound) 4 10 k (y .2) (y .3) (y .0)
-          (λ j u v. not-so (test newest op a j) (λ e. h .lowest j 0 (omega (arith, in-order-of-numbers j u (omega (arith, y .3)), in-order-of-numbers k (y .2) (omega (arith, y .3)))) (test-words newest op a j e))))
+          (λ j u v. not-so (test newest op a j) (λ e. h .lowest j 0
+          (omega (arith, in-order-of-numbers j u (omega (arith, y .3)), in-order-of-numbers k (y .2) (omega (arith, y .3)))) (test-words newest op a j e))))
 
   none-exactly : (n ≡ 0) ↔ ((k p : ℕ) → ¬ Refuses newest a op k p)
   none-exactly = (

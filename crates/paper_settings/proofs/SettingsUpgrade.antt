@@ -1,6 +1,6 @@
 -- Settings survive an upgrade. The new release shows the old one's records as the old one does, with unit 0, since their bytes 4 and 5 are
 -- zero; the old release answers 10 to any area with a record of version 2 and shows nothing of it; a store writes version 2 in one slot
--- and leaves the others; a remove brings no version in. Assumes nothing.
+-- and leaves the others; a remove brings no version in.
 use Prim.Native.Nat.{ℕ, zero, suc, _+_, _*_, _/_, _<_, _≤_}
 use mathlib.Core.Path.{_≡_, refl, sym, ap, ap₂, _∙_}
 use mathlib.Core.Bool.{Bool, true, false, cond}
@@ -9,7 +9,7 @@ use mathlib.Core.Option.{some}
 use native.Mathlib.Nat.{add-assoc}
 use native.Mathlib.Numerals.{add-one}
 use native.Mathlib.Omega.{arith}
-use borrow.Author.Tests.{eqb-true, eqb-false}
+use borrow.Author.Tests.{eqb-true}
 use lib.Dec.{eqb}
 use lib.ListN.{length, getD, take, drop, length-append}
 use lib.Seq.{take-nil, drop-nil, getD-at, getD-take, getD-drop, take-append-add, drop-append-add, length-take-le, drop-drop}
@@ -19,8 +19,8 @@ use Rattle.paper_settings.specs.Settings.{anyNewer, areaVerdict, to-stor
 use Rattle.paper_settings.specs.Settings.{isFull, put, takeOut, onSlots, called, fetched, fetchedOld}
 use Rattle.paper_settings.proofs.SlotLaws.{slot-length, old-unit, Ordered, no-slot, free-last, record-first, free-holds, free-shown, place, Each}
 use Rattle.paper_settings.proofs.SlotLaws.{each-out, none-newer, newer-none, newer-at, put-at}
-use Rattle.paper_settings.proofs.SettingsLaws.{Whole, area-whole, area-joined, area-slots, kept, not-refused}
-use Rattle.paper_settings.proofs.SettingsLaws.{order-kept, called-kept, after-slots}
+use Rattle.paper_settings.proofs.SettingsLaws.{Whole, area-whole, area-joined, area-slots, kept}
+use Rattle.paper_settings.proofs.SettingsLaws.{not-refused, order-kept, called-kept, accepted-area, after-slots}
 
 -- the versions that the old release knows, the new one knows
 newer-up : (xs : List (List ℕ)) → Each (λ x. version x ≤ 1) xs → Each (λ x. version x ≤ 2) xs
@@ -128,39 +128,30 @@ pub record Wrote (k v u : ℕ) (a b : List ℕ) : Type 0 where
   pub bytes-after : b ≡ take (32 * slot) a ++ (slotOf k v u ++ drop (32 * (slot + 1)) a)
 
 module _ (k v u : ℕ) (a : List ℕ) (h : called (to-store k v u) a .reply .number ≡ 0) where
-  -- an accepted store is one on an area that is not refused, and has a place
-  accepted-store : (areaVerdict 2 a ≡ 0) × (isFull (length (slotsOf a)) (used (slotsOf a)) (shown (slotsOf a) k) ≡ false)
-  unfolding called onSlots
-  accepted-store = go (eqb (areaVerdict 2 a) 0) refl (isFull (length (slotsOf a)) (used (slotsOf a)) (shown (slotsOf a) k)) h
-    where
-      x : List (List ℕ)
-      x = slotsOf a
+  accepted : areaVerdict 2 a ≡ 0
+  accepted = accepted-area (to-store k v u) a h
 
-      go : (b : Bool) → eqb (areaVerdict 2 a) 0 ≡ b → (c : Bool)
-          → cond b
-          (replies (cond c (replies (only 13) x) (replies (only 0) (put k (slotOf k v u) x)) .reply)
-          (joined (cond c (replies (only 13) x) (replies (only 0) (put k (slotOf k v u) x)) .after)))
-          (replies (only (areaVerdict 2 a)) a)
-          .reply
-          .number
-          ≡ 0
-          → (areaVerdict 2 a ≡ 0) × (c ≡ false)
-      go true e true h = absurd (omega arith)
-      go true e false h = (eqb-true (areaVerdict 2 a) 0 e, refl)
-      go false e c h = absurd (eqb-false (areaVerdict 2 a) 0 e h)
+  -- and it has a place
+  has-place : isFull (length (slotsOf a)) (used (slotsOf a)) (shown (slotsOf a) k) ≡ false
+  unfolding onSlots
+  has-place = go (isFull (length (slotsOf a)) (used (slotsOf a)) (shown (slotsOf a) k)) (rw (called-kept (to-store k v u) a accepted) at h)
+    where
+      go : (c : Bool) → cond c (replies (only 13) (slotsOf a)) (replies (only 0) (put k (slotOf k v u) (slotsOf a))) .reply .number ≡ 0 → c ≡ false
+      go true h = absurd (omega arith)
+      go false h = refl
 
   after-store : called (to-store k v u) a .after ≡ joined (put k (slotOf k v u) (slotsOf a))
   unfolding onSlots
-  after-store = rw (called-kept (to-store k v u) a (accepted-store .0), accepted-store .1)
+  after-store = rw (called-kept (to-store k v u) a accepted, has-place)
 
   pub new-writes-2 : Wrote k v u a (called (to-store k v u) a .after)
   unfolding joined
   new-writes-2 =
       let xs = slotsOf a in
       let w = area-whole a in
-      let p = put-at k (slotOf k v u) xs (place k xs (accepted-store .1)) in
+      let p = put-at k (slotOf k v u) xs (place k xs has-place) in
       let i = p .0 in
-      let e = area-joined a (kept 2 a (accepted-store .0) .whole) in
+      let e = area-joined a (kept 2 a accepted .whole) in
       record {
         slot = i;
         within = omega (arith, p .1, area-slots a);

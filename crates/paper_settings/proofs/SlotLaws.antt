@@ -1,6 +1,6 @@
 -- Laws of the slots of a settings area: what a record that the new release writes holds, and what storing and taking out do to what the
 -- slots show, to their number of records and to their order. Order is inverted once into evidence (`Ordered`); then each law is an
--- induction over it, a slot being free, the key's own, or another key's. Assumes nothing.
+-- induction over it, a slot being free, the key's own, or another key's.
 use Prim.Native.Nat.{ℕ, zero, suc, _+_, _^_, _<_, _≤_}
 use mathlib.Core.Path.{_≡_, refl, sym, ap, _∙_, subst}
 use mathlib.Core.Bool.{Bool, true, false, cond, _&&_, _||_, not}

@@ -1,19 +1,20 @@
 -- 17 is given exactly when there is a circle. A tree from which a circle is reached has a defined symbol from whose tree it is reached
 -- again, so no depth opens it. A tree that is not opened n deep has a chain of n + 1 defined symbols; out of n definitions one comes
--- twice, and leads back to itself. Assumes nothing.
-use Prim.Native.Nat.{ℕ, zero, suc, _+_, _<_, _≤_}
+-- twice, and leads back to itself.
+use Prim.Native.Nat.{ℕ, zero, suc, _<_}
 use mathlib.Core.Path.{_≡_, refl, sym, ap, _∙_, subst}
 use mathlib.Core.Bool.{Bool, true, false, cond}
-use mathlib.Core.List.{List, [], _∷_, map}
+use mathlib.Core.List.{List, [], _∷_}
 use mathlib.Core.Option.{Option, none, some}
 use mathlib.Core.Logic.{_⊎_, inl, inr}
 use native.Mathlib.Omega.{arith}
-use borrow.Author.Tests.{eqb-true, eqb-false, eq-eqb, ne-eqb}
+use borrow.Author.Tests.{eqb-true, eqb-false}
 use lib.Dec.{eqb}
 use lib.ListN.{length}
 use Rattle.paper.specs.Tree.{Tree, Forest, integer, symbol, sum, product, power, nil, cons}
 use Rattle.paper_shared.proofs.SharedLaws.{reached-from}
-use Rattle.paper_shared.specs.Shared.{Definition, defined, both, make, replaced, openBy, opensBy, openWithin, opened, Stands, Among, Reached, stands, leads, Circle}
+use Rattle.paper_shared.specs.Shared.{Definition, defined, both, make, replaced, openBy, opensBy}
+use Rattle.paper_shared.specs.Shared.{openWithin, opened, Stands, Among, Reached, stands, leads, Circle}
 
 -- ---- a defined symbol that stands in t and cannot be opened
 pub record Stuck (ds : List Definition) (again : Tree → Option Tree) (In : ℕ → Type 0) : Type 0 where
@@ -219,7 +220,8 @@ all-kept x (z ∷ l) pool n a = (kept x z pool (λ e. n (inl e)) (a .0), all-kep
 
 pigeonhole : (l pool : List ℕ) → AllIn l pool → length pool < length l → Repeats l
 pigeonhole [] pool a h = absurd (omega (arith, h))
-pigeonhole (x ∷ l) pool a h = go (is-in x l) (λ n. pigeonhole l (without x pool) (all-kept x l pool n (a .1)) (let o = one-less x pool (a .0) in omega (arith, o, h)))
+pigeonhole (x ∷ l) pool a h =
+    go (is-in x l) (λ n. pigeonhole l (without x pool) (all-kept x l pool n (a .1)) (let o = one-less x pool (a .0) in omega (arith, o, h)))
   where
     go : In x l ⊎ (In x l → ⊥) → ((In x l → ⊥) → Repeats l) → In x l ⊎ Repeats l
     go (inl i) g = inl i
@@ -240,7 +242,8 @@ unfolding namesOf defined
 has-name [] s u e = absurd (some-none (sym e))
 has-name (d ∷ ds) s u e = go (eqb (d .name) s) refl e (λ q. has-name ds s u q)
   where
-    go : (b : Bool) → eqb (d .name) s ≡ b → cond b (some (d .tree)) (defined ds s) ≡ some u → (defined ds s ≡ some u → In s (namesOf ds)) → In s (d .name ∷ namesOf ds)
+    go : (b : Bool) → eqb (d .name) s ≡ b → cond b (some (d .tree)) (defined ds s) ≡ some u
+        → (defined ds s ≡ some u → In s (namesOf ds)) → In s (d .name ∷ namesOf ds)
     go true q e ih = inl (eqb-true (d .name) s q)
     go false q e ih = inr (ih e)
 

@@ -1,23 +1,22 @@
--- The examples of shared sub-formulas: each table by one statement, by computation. Assumes nothing.
-use Prim.Native.Nat.{ℕ}
+-- The examples of shared sub-formulas: each table by one statement, by computation.
 use mathlib.Core.Path.{_≡_, refl}
-use mathlib.Core.List.{List, [], _∷_, _++_, map}
+use mathlib.Core.List.{[], _∷_, _++_, map}
 use lib.ListN.{replicate}
 use Rattle.paper.specs.Tree.{marked}
-use Rattle.paper.specs.Record.{sound, bad-byte, flawNumbers}
+use Rattle.paper.specs.Record.{bad-byte, flawNumbers}
 use Rattle.paper.specs.Verdict.{flawed, refused}
 use Rattle.paper.specs.Limits.{isLimit, workBytes}
 use Rattle.paper.specs.Rules.{isEdition}
 use Rattle.paper.specs.Answers.{cramped}
-use Rattle.paper.specs.Calls.{eights, tooShort, returned, answered}
+use Rattle.paper.specs.Calls.{eights, tooShort, answered}
 use Rattle.paper.proofs.Computes.{verdict-computes, table-computes}
 use Rattle.paper_shared.specs.Shared.{defined, both, make, replaced, openBy, openWithin, opened}
 use Rattle.paper_shared.specs.Answers.{lengthAt, lengthsFrom, beginning, tableAt, misses, anyRefused, isAmong, twice, crowded, orNought, treeIn}
 use Rattle.paper_shared.specs.Answers.{definitionsFrom, definitionsOf, openedOf, openingOf, judgedSite, opening, verdictOn, noRoom, openVerdict, holding}
 use Rattle.paper_shared.specs.Answers.{unopened, openOf, openGiven, openingBy, sharedVerdict}
-use Rattle.paper_shared.specs.Calls.{openNumbers, openReturns, openAnswers, openLeaves}
-use Rattle.paper_shared.specs.Examples.{symbolsOf, lengthsOf, tablesOf, site, manyOf, examples, heavy, byBytes, computed, flawedFormula, flawedDefinition, plainSite}
-use Rattle.paper_shared.specs.Examples.{orders, ordered}
+use Rattle.paper_shared.specs.Calls.{openNumbers, openAnswers}
+use Rattle.paper_shared.specs.Examples.{symbolsOf, lengthsOf, tablesOf, site, manyOf, examples, heavy, byBytes, computed, flawedFormula, flawedDefinition}
+use Rattle.paper_shared.specs.Examples.{plainSite, orders, ordered}
 
 -- a name that opens every definition of the opening, and `marked`, which an opening that kept a mark would use; it states nothing
 unfoldable pub opening-computes : Unit {0}

@@ -1,6 +1,6 @@
 -- Where a shared formula is simplified, the run is the simplifier's on the table of the opened tree, so what the simplifier meets holds of it:
 -- demand 3, the bound on the tries and the takeover, by citation; and the value is that of the formula itself where the registers hold
--- the values of the definitions reached. Assumes nothing.
+-- the values of the definitions reached.
 use Prim.Native.Nat.{ℕ, _+_, _*_, _≤_}
 use mathlib.Core.Path.{_≡_, refl, sym, ap, _∙_, subst}
 use mathlib.Core.Bool.{Bool, true, false, cond, _||_}
@@ -12,7 +12,7 @@ use Rattle.paper.specs.Bytes.{Bytes}
 use Rattle.paper.specs.Tree.{Tree, weight, value}
 use Rattle.paper.specs.WellFormed.{WF}
 use Rattle.paper.specs.Table.{encode, treeOf}
-use Rattle.paper.specs.Verdict.{Verdict, refused}
+use Rattle.paper.specs.Verdict.{refused}
 use Rattle.paper.specs.Rules.{isEdition, rulesOf}
 use Rattle.paper.specs.Admits.{AdmitsNone}
 use Rattle.paper.specs.Answers.{Lent, Answer, Given, cramped, refusedBy, ranAnswer, simplified}
@@ -34,7 +34,7 @@ use Rattle.paper_shared.proofs.SharedLaws.{opened-value}
 use Rattle.paper_shared.proofs.OpenedLaws.{told-of, opened-none-left}
 use Rattle.paper_shared.proofs.Words.{why}
 use Rattle.paper_shared.proofs.Refusals.{Past16, Judged, judged, by-8, by-formula, by-15, by-16, by-17, by-18, through}
-use Rattle.paper_shared.proofs.Tables.{Sound, opened-is-wf}
+use Rattle.paper_shared.proofs.Tables.{opened-is-wf}
 
 -- a call without a refusal: the tree is opened, and the simplifier runs on its table
 pub record Went (lim ed : ℕ) (h : Handed) (area : List ℕ) (l : Lent) : Type 0 where
@@ -61,7 +61,8 @@ module _ (lim ed : ℕ) (h : Handed) (area : List ℕ) (l : Lent) where
   went-as n (opens v) e (through p s w) z = go (noRoom area (weight v) || cramped lim (weight v) l) refl z
     where
       go : (b : Bool) → (noRoom area (weight v) || cramped lim (weight v) l) ≡ b
-          → cond b (unshared (refused 6 0) area l) (record { given = simplified lim ed (encode v) l; area = holding v area }) .given .answer .number ≡ 0 → Went lim ed h area l
+          → cond b (unshared (refused 6 0) area l) (record { given = simplified lim ed (encode v) l; area = holding v area }) .given .answer .number ≡ 0
+          → Went lim ed h area l
       go true q z = absurd (omega arith)
       go false q z = record { known = n; tree = v; past = p; is-opened = s; light = w; given = rw (e, q); holds = rw (e, q) }
 
@@ -82,7 +83,8 @@ module _ (lim ed : ℕ) (h : Handed) (area : List ℕ) (l : Lent) where
 
     opened-fine : WF (w .tree)
     opened-fine =
-        opened-is-wf lim h (record { known = w .known; bytes = d; met = w .past .past .met; fine = w .past .all-fine }) b (w .past .past .fine) (w .tree) (w .is-opened)
+        opened-is-wf lim h (record { known = w .known; bytes = d; met = w .past .past .met; fine = w .past .all-fine }) b
+        (w .past .past .fine) (w .tree) (w .is-opened)
 
     number-0 : simplified lim ed (encode (w .tree)) l .answer .number ≡ 0
     number-0 = sym (ap (λ (g : Given). g .answer .number) (w .given)) ∙ z
@@ -123,7 +125,8 @@ module _ (lim ed : ℕ) (h : Handed) (area : List ℕ) (l : Lent) where
     shared-squared v e =
         let x = simplified-squared lim ed (encode (w .tree)) (encode-bytes (w .tree)) l number-0 (w .tree) read-in in
         let a : sharedGiven lim ed h area l .given .answer .tries ≤ weight (w .tree) * weight (w .tree) = rw (w .given) (x .2) in
-        subst (λ (u : Tree). sharedGiven lim ed h area l .given .answer .tries ≤ weight u * weight u) (Option·some-injective (w .tree) v (sym (w .is-opened) ∙ e)) a
+        subst (λ (u : Tree). sharedGiven lim ed h area l .given .answer .tries ≤ weight u * weight u)
+        (Option·some-injective (w .tree) v (sym (w .is-opened) ∙ e)) a
 
     pub shared-takes-over : TakenOver lim ed h area l
     shared-takes-over l′ room =

@@ -1,14 +1,13 @@
 -- Opening is flat: the opened records of a tree are its records in order, each record of a defined symbol giving way to what replaces it; and the
 -- opened weight is the sum of what the records count. Both are one law, over anything that is joined record by record (`Flat`): by
--- induction on the tree, what stands after a record being joined to it. Assumes nothing.
-use Prim.Native.Nat.{ℕ, zero, suc, _+_, _*_, _<_}
+-- induction on the tree, what stands after a record being joined to it.
+use Prim.Native.Nat.{ℕ, zero, suc, _+_, _<_}
 use mathlib.Core.Path.{_≡_, refl, sym, ap, _∙_}
 use mathlib.Core.Bool.{false, cond}
-use mathlib.Core.List.{List, [], _∷_, _++_, append-assoc, append-nil}
+use mathlib.Core.List.{List, [], _++_, append-assoc, append-nil}
 use mathlib.Core.Option.{Option, none, some}
 use native.Mathlib.Nat.{zero-add, add-zero, suc-add, add-assoc}
 use native.Mathlib.Omega.{arith}
-use lib.ListN.{length}
 use lib.Dec.{eqb}
 use lib.Seq.{take-at}
 use Rattle.paper.specs.Bytes.{word}
@@ -153,7 +152,8 @@ module _ {A : Type 0} (F : Flat A) where
             over-one (tellsOf ds again) s (i + 1 + records b) 0 0 ξ e refl (power-exponent μ b ξ e h),
           ) (power-told μ ξ e (openBy ds again b))
 
-      theres : (f : Forest) (s : List ℕ) (i : ℕ) → WFs f → Stands s i (encodes f) → over (tellsOf ds again) s i (recordses f) ≡ make (F .ofs) (opensBy ds again f)
+      theres : (f : Forest) (s : List ℕ) (i : ℕ) → WFs f → Stands s i (encodes f)
+          → over (tellsOf ds again) s i (recordses f) ≡ make (F .ofs) (opensBy ds again f)
       theres nil s i w h = nothing s i
       theres (cons t f) s i w h =
           over-both (tellsOf ds again) s i (records t) (recordses f)

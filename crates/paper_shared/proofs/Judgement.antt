@@ -1,7 +1,7 @@
 -- The two calls answer as they are judged: the way through the tests ends in a refusal, or in the opened tree, and there the test of the areas
--- decides. Assumes nothing.
+-- decides.
 use Prim.Native.Nat.{ℕ, _≤_}
-use mathlib.Core.Path.{_≡_, refl, sym, ap, _∙_}
+use mathlib.Core.Path.{_≡_, refl, ap, _∙_}
 use mathlib.Core.Bool.{Bool, true, false, cond, _||_}
 use mathlib.Core.List.{List, _++_}
 use mathlib.Core.Option.{some}
@@ -17,8 +17,8 @@ use Rattle.paper.specs.Rules.{isEdition}
 use Rattle.paper.specs.Answers.{Lent, cramped, simplified}
 use Rattle.paper.proofs.Refusals.{faulty-within}
 use Rattle.paper.proofs.CallLaws.{same-tree}
-use Rattle.paper_shared.specs.Answers.{Handed, openedOf, Opening, turned-away, opens, judgedSite, opening, openingBy, verdictOn, noRoom, openVerdict, holding}
-use Rattle.paper_shared.specs.Answers.{OpenGiven, unopened, openOf, openGiven, SharedGiven, unshared, sharedOf, sharedVerdict, sharedGiven}
+use Rattle.paper_shared.specs.Answers.{Handed, openedOf, Opening, turned-away, opens, judgedSite, opening, openingBy, verdictOn, noRoom, openVerdict}
+use Rattle.paper_shared.specs.Answers.{holding, OpenGiven, unopened, openOf, openGiven, SharedGiven, unshared, sharedOf, sharedVerdict, sharedGiven}
 use Rattle.paper_shared.specs.Demands.{OpensAsJudged, SharesAsJudged}
 use Rattle.paper_shared.proofs.Words.{why}
 use Rattle.paper_shared.proofs.Refusals.{Judged, judged, by-8, by-formula, by-15, by-16, by-17, by-18, through}

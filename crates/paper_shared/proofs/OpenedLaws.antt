@@ -1,19 +1,17 @@
 -- What holds of opened trees. A property that each node passes on from its members, and each replacement has, holds of what is opened
 -- (`opens-so`); so what is opened is well-formed, has no defined symbol left, and stays the same where more may be opened.
 -- From as deep as there are definitions on, more depth changes nothing: a tree that is not opened then has a circle, which no depth opens.
--- Assumes nothing.
-use Prim.Native.Nat.{ℕ, zero, suc, _+_, _≤_, _<_}
+use Prim.Native.Nat.{ℕ, zero, suc, _+_, _≤_}
 use mathlib.Core.Path.{_≡_, refl, sym, ap, _∙_, subst}
-use mathlib.Core.List.{List, [], _∷_}
+use mathlib.Core.List.{List}
 use mathlib.Core.Logic.{_⊎_, inl, inr}
 use mathlib.Core.Option.{Option, none, some}
 use native.Mathlib.Nat.{zero-add, suc-add}
-use native.Mathlib.Omega.{arith}
 use lib.ListN.{length}
 use Rattle.paper.specs.Tree.{Tree, Forest, integer, symbol, sum, product, power, nil, cons, count}
 use Rattle.paper.specs.WellFormed.{WF, WFs}
 use Rattle.paper_shared.proofs.CircleLaws.{shut-circle, circle-shuts}
-use Rattle.paper_shared.specs.Shared.{Definition, defined, both, make, replaced, openBy, opensBy, openWithin, againWithin, opened, Stands, Among, NoneLeft, Tells}
+use Rattle.paper_shared.specs.Shared.{Definition, defined, both, make, replaced, openBy, opensBy, openWithin, againWithin, opened, Among, NoneLeft, Tells}
 
 -- what is told of an answer carries over
 pub tells : {A : Type 0} {P Q : A → Type 0} (o : Option A) → ((a : A) → P a → Q a) → Tells P o → Tells Q o

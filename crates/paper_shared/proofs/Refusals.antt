@@ -1,7 +1,7 @@
 -- 19, 9, 8, 1 to 5, 15 to 18 and 6 are given exactly as the requests say, in their order, with the places that they name. The tests are their
 -- words (Words); under a limit that there is, the way through them is one of seven (`Judged`); at each the refusal given applies and none does
 -- whose turn comes earlier (`Clear`); and there is only one such, since a turn tells the number (`back`) and a number its place. 19, and then 9,
--- come before all of these (`alone`). Assumes nothing.
+-- come before all of these (`alone`).
 use Prim.Native.Nat.{ℕ, _+_, _-_, _≤_, _<_}
 use mathlib.Core.Path.{_≡_, refl, sym, ap, _∙_, subst}
 use mathlib.Core.Bool.{Bool, true, false, cond, _||_, not}
@@ -14,21 +14,21 @@ use lib.Dec.{eqb, ltb, lit<, lit≤}
 use borrow.Author.Tests.{eqb-true, eqb-false, ne-eqb, ltb-true, ltb-false}
 use Rattle.paper.specs.Limits.{isLimit}
 use Rattle.paper.specs.Tree.{Tree, weight}
-use Rattle.paper.specs.Record.{Flaw}
 use Rattle.paper.specs.Verdict.{Verdict, accepted, told, refused, isAccepted, verdict}
 use Rattle.paper.specs.Rules.{isEdition}
 use Rattle.paper.specs.Answers.{Lent, cramped}
-use Rattle.paper.specs.Refusals.{Faulty, of-records, Lowest, Tells, rank}
-use Rattle.paper.proofs.Tests.{true-not-false, or-neither}
-use Rattle.paper.proofs.Refusals.{verdict-exactly, accepted-exactly, rank-small, faulty-within, unknown-limit, limit-unknown}
+use Rattle.paper.specs.Refusals.{Faulty, of-records, Tells, rank}
+use Rattle.paper.proofs.Tests.{true-not-false}
+use Rattle.paper.proofs.Refusals.{verdict-exactly, accepted-exactly, rank-small, faulty-within, unknown-limit, limit-unknown, of-known}
 use Rattle.paper.proofs.CallLaws.{verdict-accepted, same-tree}
+use Rattle.paper.proofs.JudgementLaws.{unknown-words, words-unknown}
 use Rattle.paper_shared.specs.Shared.{Circle}
-use Rattle.paper_shared.specs.Answers.{Handed, tableAt, misses, anyRefused, crowded, treeIn, definitionsOf, openedOf}
-use Rattle.paper_shared.specs.Answers.{Opening, turned-away, opens, openingOf, judgedSite, opening, openingBy, verdictOn, noRoom, openVerdict, sharedVerdict}
+use Rattle.paper_shared.specs.Answers.{Handed, tableAt, misses, anyRefused, crowded, treeIn, definitionsOf, openedOf, Opening, turned-away, opens}
+use Rattle.paper_shared.specs.Answers.{openingOf, judgedSite, opening, openingBy, verdictOn, noRoom, openVerdict, sharedVerdict}
 use Rattle.paper_shared.specs.Refusals.{Misses, Crowded, NoRoom, Shorter, turnOf, Foremost, AppliesToShared, of-opening, refusal-9}
 use Rattle.paper_shared.specs.Refusals.{AppliesToOpening, refusal-19, refusal-8, of-formula, refusal-15, refusal-16, refusal-17, refusal-18, refusal-6}
 use Rattle.paper_shared.proofs.CircleLaws.{circle-exactly}
-use Rattle.paper_shared.proofs.Words.{faulty, why, misses-words, words-misses, any-words, all-none, crowded-words, words-crowded}
+use Rattle.paper_shared.proofs.Words.{why, misses-words, words-misses, any-words, all-none, crowded-words, words-crowded}
 use Rattle.paper_shared.proofs.Words.{room-words, words-room, shorter-words, words-shorter}
 
 -- ---- the ways through the tests, under a limit that there is
@@ -104,7 +104,8 @@ module _ {lim : ℕ} {h : Handed} {Short : ℕ → Type 0} where
       let w = faulty-within x in
       let a = w .0 in
       let b = w .1 in
-      ap back (turn-small k b) ∙ rw (ne-eqb (k + 2) 0 (λ e. omega arith), ne-eqb (k + 2) 2 (λ e. omega arith), ne-eqb (k + 2) 21 (λ e. omega arith)) (omega arith)
+      ap back (turn-small k b)
+      ∙ rw (ne-eqb (k + 2) 0 (λ e. omega arith), ne-eqb (k + 2) 2 (λ e. omega arith), ne-eqb (k + 2) 21 (λ e. omega arith)) (omega arith)
   back-turn (refusal-15 i x) = refl
   back-turn (refusal-16 x) = refl
   back-turn (refusal-17 x) = refl
@@ -197,7 +198,8 @@ module _ (lim : ℕ) (h : Handed) (n : isLimit lim ≡ true) where
     no-18 = λ l. absurd (omega arith);
   }
 
-  clear-formula : misses (h .symbols) (h .lengths) (h .definitions) ≡ false → isAccepted (verdict lim (h .table)) ≡ false → Clear (turnOf (verdict lim (h .table) .number))
+  clear-formula : misses (h .symbols) (h .lengths) (h .definitions) ≡ false → isAccepted (verdict lim (h .table)) ≡ false
+      → Clear (turnOf (verdict lim (h .table) .number))
   unfolding turnOf rank
   clear-formula m r =
       let w = why lim (h .table) n r .0 in
@@ -389,7 +391,7 @@ module _
         record {
           given = of-records (formula's l (s .0 .given));
           lowest = λ j q u x.
-              let y = faulty n x in
+              let y = of-known lim _ n x in
               s .0 .foremost j q (omega (arith, u, turn-table j (faulty-within y .1), turn-table (v .number) l)) (of-formula y);
         },
         s .1,
@@ -418,8 +420,12 @@ module _
           sym (checker's u (omega (arith, same-number)) f) ∙ checker's v l g
 
   -- a refusal is given exactly when the request says so, at the place that it says, and tells what is wrong with the formula's record
-  pub site-exactly : (v : Verdict) → 0 < v .number → (verdictOn short (judgedSite lim h) ≡ v) ↔ (Foremost (AppliesToOpening lim h Short) (v .number) (v .place) × Tells (h .table) v)
-  site-exactly v z = (λ e. subst Says e (given (judged lim h) (subst (λ (u : Verdict). 0 < u .number) (sym e) z)), λ f. up (eqb (verdictOn short (judgedSite lim h) .number) 0) refl f)
+  pub site-exactly : (v : Verdict) → 0 < v .number
+      → (verdictOn short (judgedSite lim h) ≡ v) ↔ (Foremost (AppliesToOpening lim h Short) (v .number) (v .place) × Tells (h .table) v)
+  site-exactly v z = (
+    λ e. subst Says e (given (judged lim h) (subst (λ (u : Verdict). 0 < u .number) (sym e) z)),
+    λ f. up (eqb (verdictOn short (judgedSite lim h) .number) 0) refl f,
+  )
     where
       up : (b : Bool) → eqb (verdictOn short (judgedSite lim h) .number) 0 ≡ b → Says v → verdictOn short (judgedSite lim h) ≡ v
       up true q f =
@@ -433,7 +439,8 @@ module _
   pub site-accepted-exactly : (verdictOn short (judgedSite lim h) ≡ accepted) ↔ ((k p : ℕ) → ¬ AppliesToOpening lim h Short k p)
   site-accepted-exactly = (λ e k p x. accepted-none (judged lim h) e x, λ f. up (eqb (verdictOn short (judgedSite lim h) .number) 0) refl f)
     where
-      up : (b : Bool) → eqb (verdictOn short (judgedSite lim h) .number) 0 ≡ b → ((k p : ℕ) → ¬ AppliesToOpening lim h Short k p) → verdictOn short (judgedSite lim h) ≡ accepted
+      up : (b : Bool) → eqb (verdictOn short (judgedSite lim h) .number) 0 ≡ b → ((k p : ℕ) → ¬ AppliesToOpening lim h Short k p)
+          → verdictOn short (judgedSite lim h) ≡ accepted
       up true q f = accepted-whole (judged lim h) (eqb-true (verdictOn short (judgedSite lim h) .number) 0 q)
       up false q f =
           let d = eqb-false (verdictOn short (judgedSite lim h) .number) 0 q in
@@ -494,7 +501,8 @@ module _ (lim : ℕ) (h : Handed) (area : List ℕ) where
       → (openVerdict lim h area ≡ v) ↔ (Foremost (AppliesToOpening lim h (NoRoom area)) (v .number) (v .place) × Tells (h .table) v)
   open-refusal-exactly v z = go (isLimit lim) refl
     where
-      go : (b : Bool) → isLimit lim ≡ b → (openVerdict lim h area ≡ v) ↔ (Foremost (AppliesToOpening lim h (NoRoom area)) (v .number) (v .place) × Tells (h .table) v)
+      go : (b : Bool) → isLimit lim ≡ b
+          → (openVerdict lim h area ≡ v) ↔ (Foremost (AppliesToOpening lim h (NoRoom area)) (v .number) (v .place) × Tells (h .table) v)
       go true n =
           let w = site-exactly lim h (NoRoom area) (noRoom area) (room-words area) (words-room area) n v z in
           (λ e. w .0 (sym (known-site n) ∙ e), λ f. known-site n ∙ w .1 f)
@@ -516,14 +524,6 @@ module _ (lim : ℕ) (h : Handed) (area : List ℕ) where
       )
 
 -- ---- of the call that opens and simplifies
-unknown-words : (ed : ℕ) → isEdition ed ≡ false → (¬ (ed ≡ 1)) × (¬ (ed ≡ 2))
-unfolding isEdition
-unknown-words ed h = let x = or-neither (eqb ed 1) (eqb ed 2) h in (eqb-false ed 1 (x .0), eqb-false ed 2 (x .1))
-
-words-unknown : (ed : ℕ) → ¬ (ed ≡ 1) → ¬ (ed ≡ 2) → isEdition ed ≡ false
-unfolding isEdition
-words-unknown ed h g = rw (ne-eqb ed 1 h, ne-eqb ed 2 g)
-
 module _ (lim ed : ℕ) (h : Handed) (area : List ℕ) (l : Lent) where
   -- what the tests say under a limit and an edition that there are
   abbrev Tested : Verdict
@@ -555,7 +555,8 @@ module _ (lim ed : ℕ) (h : Handed) (area : List ℕ) (l : Lent) where
   after-9 : isLimit lim ≡ true → {k p : ℕ} → Applying k p → ((k ≡ 9) × (p ≡ 0)) ⊎ (turnOf 9 < turnOf k)
   after-9 n (of-opening x) = go (after-nine lim h (Shorter lim area l) x) x
     where
-      go : {k p : ℕ} → ((k ≡ 19) × (p ≡ 0)) ⊎ (turnOf 9 < turnOf k) → AppliesToOpening lim h (Shorter lim area l) k p → ((k ≡ 9) × (p ≡ 0)) ⊎ (turnOf 9 < turnOf k)
+      go : {k p : ℕ} → ((k ≡ 19) × (p ≡ 0)) ⊎ (turnOf 9 < turnOf k) → AppliesToOpening lim h (Shorter lim area l) k p
+          → ((k ≡ 9) × (p ≡ 0)) ⊎ (turnOf 9 < turnOf k)
       go (inr u) y = inr u
       go (inl e) (refusal-19 a b) = absurd (true-not-false n (limit-unknown lim a b))
       go (inl e) (refusal-8 m) = absurd (omega (arith, e .0))
@@ -586,7 +587,8 @@ module _ (lim ed : ℕ) (h : Handed) (area : List ℕ) (l : Lent) where
       go : (b : Bool) → isLimit lim ≡ b → (c : Bool) → isEdition ed ≡ c
           → (sharedVerdict lim ed h area l ≡ v) ↔ (Foremost Applying (v .number) (v .place) × Tells (h .table) v)
       go true n true e =
-          let w = site-exactly lim h (Shorter lim area l) (λ w. noRoom area w || cramped lim w l) (shorter-words lim area l) (words-shorter lim area l) n v z in (
+          let short = Shorter lim area l in
+          let w = site-exactly lim h short (λ w. noRoom area w || cramped lim w l) (shorter-words lim area l) (words-shorter lim area l) n v z in (
             λ q. let x = w .0 (sym (known n e) ∙ q) in
                 (record { given = of-opening (x .0 .given); foremost = λ j i u y. x .0 .foremost j i u (opening's e y) }, x .1),
             λ f. known n e ∙ w .1 (record { given = opening's e (f .0 .given); foremost = λ j i u y. f .0 .foremost j i u (of-opening y) }, f .1),
@@ -595,7 +597,9 @@ module _ (lim ed : ℕ) (h : Handed) (area : List ℕ) (l : Lent) where
           let w = alone (h .table) Applying 9 (λ q. omega arith) (nine e) (before-9 n) (λ k p x. after-9 n x) v in
           (λ q. w .0 (sym (no-edition n e) ∙ q), λ f. no-edition n e ∙ w .1 f)
       go false n c e =
-          let w = alone (h .table) Applying 19 (λ q. omega arith) (of-opening (nineteen lim h (Shorter lim area l) n)) (λ j i u. none-before-19 j u) (λ k p x. after-19 x) v in
+          let w =
+          alone (h .table) Applying 19 (λ q. omega arith) (of-opening (nineteen lim h (Shorter lim area l) n))
+          (λ j i u. none-before-19 j u) (λ k p x. after-19 x) v in
           (λ q. w .0 (sym (no-limit n) ∙ q), λ f. no-limit n ∙ w .1 f)
 
   pub shared-accepted-exactly : (sharedVerdict lim ed h area l ≡ accepted) ↔ ((k p : ℕ) → ¬ AppliesToShared lim ed h area l k p)
@@ -603,7 +607,8 @@ module _ (lim ed : ℕ) (h : Handed) (area : List ℕ) (l : Lent) where
     where
       go : (b : Bool) → isLimit lim ≡ b → (c : Bool) → isEdition ed ≡ c → (sharedVerdict lim ed h area l ≡ accepted) ↔ ((k p : ℕ) → ¬ Applying k p)
       go true n true e =
-          let w = site-accepted-exactly lim h (Shorter lim area l) (λ w. noRoom area w || cramped lim w l) (shorter-words lim area l) (words-shorter lim area l) n in
+          let short = Shorter lim area l in
+          let w = site-accepted-exactly lim h short (λ w. noRoom area w || cramped lim w l) (shorter-words lim area l) (words-shorter lim area l) n in
           (λ q k p x. w .0 (sym (known n e) ∙ q) k p (opening's e x), λ f. known n e ∙ w .1 (λ k p x. f k p (of-opening x)))
       go true n false e = (λ q. absurd (number-not 9 (sym (no-edition n e) ∙ q) (lit≤ tt)), λ f. absurd (f 9 0 (nine e)))
       go false n c e =

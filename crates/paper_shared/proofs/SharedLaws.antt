@@ -1,16 +1,15 @@
 -- What is opened has the value of the original where the registers of the defined symbols reached hold the values of
--- their definitions. By induction on the depth, and on the tree. Assumes nothing.
-use Prim.Native.Nat.{ℕ, zero, suc, _+_, _*_, _%_, _^_, _<_, _≤_}
-use mathlib.Core.Path.{_≡_, refl, sym, ap, _∙_, subst}
-use mathlib.Core.Bool.{Bool, true, false, cond}
-use mathlib.Core.List.{List, [], _∷_}
+-- their definitions. By induction on the depth, and on the tree.
+use Prim.Native.Nat.{ℕ, zero, suc, _%_, _^_}
+use mathlib.Core.Path.{_≡_, refl, sym, ap, _∙_}
+use mathlib.Core.List.{List}
 use mathlib.Core.Option.{Option, none, some}
-use native.Mathlib.Omega.{arith}
 use mathlib.Core.Logic.{inl, inr}
 use lib.ListN.{length}
 use Rattle.paper.specs.Limits.{modulus}
-use Rattle.paper.specs.Tree.{Tree, Forest, integer, symbol, sum, product, power, nil, cons, count, value, sumValue, productValue}
-use Rattle.paper_shared.specs.Shared.{Definition, defined, both, make, replaced, openBy, opensBy, openWithin, opened, Stands, Among, Reached, stands, leads, Holds, Tells}
+use Rattle.paper.specs.Tree.{Tree, Forest, integer, symbol, sum, product, power, nil, cons, value, sumValue, productValue}
+use Rattle.paper_shared.specs.Shared.{Definition, defined, both, make, replaced, openBy, opensBy}
+use Rattle.paper_shared.specs.Shared.{openWithin, opened, Stands, Among, Reached, stands, leads, Holds, Tells}
 
 -- every defined symbol that stands in t holds the value of what `again` gives for its definition
 module _ (ds : List Definition) (again : Tree → Option Tree) (ρ : ℕ → ℕ) where
@@ -46,7 +45,8 @@ module _ (ds : List Definition) (again : Tree → Option Tree) (ρ : ℕ → ℕ
         make-told (λ g. (sumValue g ρ ≡ sumValue f ρ) × (productValue g ρ ≡ productValue f ρ)) (λ v. value v ρ ≡ sumValue f ρ) (sum μ) (opensBy ds again f)
         (opens-value f (λ s u i e. h s u i e)) (λ g e. e .0)
     open-value (product μ f) h =
-        make-told (λ g. (sumValue g ρ ≡ sumValue f ρ) × (productValue g ρ ≡ productValue f ρ)) (λ v. value v ρ ≡ productValue f ρ) (product μ) (opensBy ds again f)
+        make-told (λ g. (sumValue g ρ ≡ sumValue f ρ) × (productValue g ρ ≡ productValue f ρ)) (λ v. value v ρ ≡ productValue f ρ)
+        (product μ) (opensBy ds again f)
         (opens-value f (λ s u i e. h s u i e)) (λ g e. e .1)
     open-value (power μ b ξ n) h =
         make-told (λ v. value v ρ ≡ value b ρ) (λ v. value v ρ ≡ value (power μ b ξ n) ρ) (λ u. power μ u ξ n) (openBy ds again b)

@@ -1,6 +1,6 @@
 -- The answer slices of the two calls: each is the same two definitions over its numbers, and there the test of the length decides. Assumes
 -- nothing.
-use Prim.Native.Nat.{ℕ, _*_}
+use Prim.Native.Nat.{_*_}
 use mathlib.Core.Path.{_≡_, refl}
 use native.Mathlib.Omega.{arith}
 use borrow.Author.Tests.{le-ltb, lt-ltb}

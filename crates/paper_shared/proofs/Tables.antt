@@ -1,10 +1,9 @@
 -- Definitions that no refusal met are trees: each is an accepted table, and holds a well-formed tree. So what is opened is well-formed.
--- Assumes nothing.
 use Prim.Native.Nat.{ℕ, zero, suc, _+_, _≤_, _<_}
-use mathlib.Core.Path.{_≡_, refl, sym, subst}
+use mathlib.Core.Path.{_≡_, sym, subst}
 use mathlib.Core.Bool.{Bool, true, false, cond}
 use mathlib.Core.List.{List}
-use mathlib.Core.Option.{Option, none, some}
+use mathlib.Core.Option.{some}
 use native.Mathlib.Omega.{arith}
 use lib.ListN.{length, getD, drop}
 use lib.Dec.{eqb}
@@ -17,11 +16,12 @@ use Rattle.paper.specs.Verdict.{accepted, isAccepted, verdict}
 use Rattle.paper.proofs.BytesLaws.{take-bytes, drop-bytes}
 use Rattle.paper.proofs.AcceptedLaws.{Holds, accepted-holds}
 use Rattle.paper.proofs.CallLaws.{verdict-accepted}
-use Rattle.paper.proofs.Refusals.{accepted-exactly}
-use Rattle.paper_shared.specs.Shared.{Definition, defined, opened, Tells}
-use Rattle.paper_shared.specs.Answers.{Handed, lengthAt, beginning, tableAt, misses, anyRefused, orNought, treeIn, definitionsFrom, definitionsOf, openedOf}
+use Rattle.paper.proofs.Refusals.{accepted-exactly, of-known}
+use Rattle.paper_shared.specs.Shared.{defined, Tells}
+use Rattle.paper_shared.specs.Answers.{Handed, lengthAt, beginning, tableAt, misses, anyRefused}
+use Rattle.paper_shared.specs.Answers.{orNought, treeIn, definitionsFrom, definitionsOf, openedOf}
 use Rattle.paper_shared.proofs.OpenedLaws.{AllWF, told-of, opened-wf}
-use Rattle.paper_shared.proofs.Words.{faulty, all-none}
+use Rattle.paper_shared.proofs.Words.{all-none}
 
 -- the tree of an accepted table
 pub tree-held : (lim : ℕ) (s : List ℕ) (h : Holds lim s) → treeIn s ≡ h .tree
@@ -58,7 +58,7 @@ module _ (lim : ℕ) (h : Handed) (k : Sound lim h) where
       (drop-bytes (beginning (h .lengths) i) (h .definitions) (k .bytes))
 
   pub table-fine : (i : ℕ) → i < length (h .symbols) → verdict lim (tableAt (h .lengths) (h .definitions) i) ≡ accepted
-  table-fine i l = accepted-exactly lim (tableAt (h .lengths) (h .definitions) i) .1 (λ j p x. all-none lim h (k .fine) i j p l (faulty (k .known) x))
+  table-fine i l = accepted-exactly lim (tableAt (h .lengths) (h .definitions) i) .1 (λ j p x. all-none lim h (k .fine) i j p l (of-known lim _ (k .known) x))
 
   pub table-whole : (i : ℕ) → i < length (h .symbols) → Whole lim (tableAt (h .lengths) (h .definitions) i)
   table-whole i l = whole lim (tableAt (h .lengths) (h .definitions) i) (table-bytes i) (table-fine i l)
@@ -69,7 +69,8 @@ module _ (lim : ℕ) (h : Handed) (k : Sound lim h) where
   wf-from x (suc m) i e = go (eqb (getD (h .symbols) i 0) x) (wf-from x m (i + 1) (omega arith))
     where
       go : (b : Bool) → Tells WF (defined (definitionsFrom (h .symbols) (h .lengths) (h .definitions) (i + 1) m) x)
-          → Tells WF (cond b (some (treeIn (tableAt (h .lengths) (h .definitions) i))) (defined (definitionsFrom (h .symbols) (h .lengths) (h .definitions) (i + 1) m) x))
+          → Tells WF
+          (cond b (some (treeIn (tableAt (h .lengths) (h .definitions) i))) (defined (definitionsFrom (h .symbols) (h .lengths) (h .definitions) (i + 1) m) x))
       go true ih = table-whole i (omega arith) .wf
       go false ih = ih
 

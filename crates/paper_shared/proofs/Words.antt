@@ -1,4 +1,4 @@
--- The tests of 8, 15, 16 and 6 are the request's words, one by one: each way by cases on the test. Assumes nothing.
+-- The tests of 8, 15, 16 and 6 are the request's words, one by one: each way by cases on the test.
 use Prim.Native.Nat.{ℕ, zero, suc, _+_, _*_, _≤_, _<_}
 use mathlib.Core.Path.{_≡_, refl, sym, ap, _∙_}
 use mathlib.Core.Bool.{Bool, true, false, _||_, not}
@@ -6,24 +6,19 @@ use mathlib.Core.List.{List}
 use mathlib.Core.Logic.{_⊎_, inl, inr}
 use native.Mathlib.Omega.{arith}
 use lib.ListN.{length, getD}
-use lib.Dec.{eqb, ltb, lit≤}
-use borrow.Author.Tests.{eqb-true, eqb-false, eq-eqb, ne-eqb, lt-ltb, ltb-true, ltb-false}
-use Rattle.paper.specs.Limits.{isLimit, workBytes}
-use Rattle.paper.specs.Verdict.{Verdict, isAccepted, verdict}
+use lib.Dec.{eqb, ltb}
+use borrow.Author.Tests.{not-true, eqb-true, eqb-false, eq-eqb, ne-eqb, lt-ltb, ltb-true}
+use Rattle.paper.specs.Limits.{isLimit}
+use Rattle.paper.specs.Verdict.{isAccepted, verdict}
 use Rattle.paper.specs.Answers.{Lent, cramped}
-use Rattle.paper.specs.Refusals.{Faulty, Applies, of-records, refusal-19, Lowest, Tells, Under, out-under, steps-under, work-under}
-use Rattle.paper.specs.Takeover.{Room}
+use Rattle.paper.specs.Refusals.{Faulty, of-records, Lowest, Tells}
 use Rattle.paper.proofs.Tests.{true-not-false, not-so, or-either, or-left, or-right}
-use Rattle.paper.proofs.Refusals.{verdict-exactly, accepted-exactly, limit-unknown}
+use Rattle.paper.proofs.Refusals.{verdict-exactly, accepted-exactly, of-known}
 use Rattle.paper.proofs.CallLaws.{verdict-accepted}
-use Rattle.paper.proofs.JudgementLaws.{words-cramped, of-room}
+use Rattle.paper.proofs.JudgementLaws.{cramped-words, words-cramped}
 use Rattle.paper_shared.specs.Answers.{Handed, maxDefinitions, beginning, tableAt, misses, anyRefused, isAmong, twice, crowded, noRoom}
 use Rattle.paper_shared.specs.Refusals.{Misses, lists-differ, lengths-miss, Crowded, over-sixteen, defined-twice}
 use Rattle.paper_shared.specs.Refusals.{NoRoom, area-under, Shorter, the-area, the-others}
-
-not-true : (b : Bool) → not b ≡ true → b ≡ false
-not-true true e = absurd (true-not-false e refl)
-not-true false e = refl
 
 false-not : (b : Bool) → b ≡ false → not b ≡ true
 false-not b e = rw e
@@ -57,10 +52,6 @@ module _ (h : Handed) where
       or-right lists sums (false-not _ (ne-eqb (beginning (h .lengths) (length (h .symbols))) (length (h .definitions)) n))
 
 -- ---- 1 to 5, under a limit that there is
-pub faulty : {lim : ℕ} {s : List ℕ} {k p : ℕ} → isLimit lim ≡ true → Applies lim s k p → Faulty lim s k p
-faulty n (of-records x) = x
-faulty {lim} n (refusal-19 x y) = absurd (true-not-false n (limit-unknown lim x y))
-
 -- a table that is not accepted is refused, and for a reason
 pub why : (lim : ℕ) (s : List ℕ) → isLimit lim ≡ true → isAccepted (verdict lim s) ≡ false
     → Lowest (Faulty lim s) (verdict lim s .number) (verdict lim s .place) × Tells s (verdict lim s)
@@ -68,7 +59,7 @@ unfolding isAccepted
 why lim s n e =
     let d = eqb-false (verdict lim s .number) 0 e in
     let w = verdict-exactly lim s (verdict lim s) (omega (arith, d)) .0 refl in
-    (record { given = faulty n (w .0 .given); lowest = λ j q u x. w .0 .lowest j q u (of-records x) }, w .1)
+    (record { given = of-known lim s n (w .0 .given); lowest = λ j q u x. w .0 .lowest j q u (of-records x) }, w .1)
 
 -- ---- 15
 pub record OneRefused (lim : ℕ) (lengths definitions : List ℕ) (i n : ℕ) : Type 0 where
@@ -229,28 +220,12 @@ module _ (area : List ℕ) where
   words-room w (area-under l) = lt-ltb (length area) (16 * w) l
 
 module _ (lim : ℕ) (area : List ℕ) (l : Lent) where
-  -- one of the simplifier's areas is too short where they are cramped, since else they would have room
-  cramped-words : (w : ℕ) → cramped lim w l ≡ true → Under lim w l
-  cramped-words w h = go (ltb (length (l .out)) (16 * w)) refl (ltb (length (l .steps)) w) refl (ltb (length (l .work)) (workBytes lim)) refl
-    where
-      go : (a : Bool) → ltb (length (l .out)) (16 * w) ≡ a → (b : Bool) → ltb (length (l .steps)) w ≡ b → (c : Bool) → ltb (length (l .work)) (workBytes lim) ≡ c → Under lim w l
-      go true e b f c g = out-under (ltb-true (length (l .out)) (16 * w) e)
-      go false e true f c g = steps-under (ltb-true (length (l .steps)) w f)
-      go false e false f true g = work-under (ltb-true (length (l .work)) (workBytes lim) g)
-      go false e false f false g =
-          absurd
-          (true-not-false h (of-room lim w l (record {
-            out-room = ltb-false (length (l .out)) (16 * w) e;
-            steps-room = ltb-false (length (l .steps)) w f;
-            work-room = ltb-false (length (l .work)) (workBytes lim) g;
-          })))
-
   pub shorter-words : (w : ℕ) → (noRoom area w || cramped lim w l) ≡ true → Shorter lim area l w
   shorter-words w e = go (or-either (noRoom area w) (cramped lim w l) e)
     where
       go : (noRoom area w ≡ true) ⊎ (cramped lim w l ≡ true) → Shorter lim area l w
       go (inl q) = the-area (room-words area w q)
-      go (inr q) = the-others (cramped-words w q)
+      go (inr q) = the-others (cramped-words lim w l q)
 
   pub words-shorter : (w : ℕ) → Shorter lim area l w → (noRoom area w || cramped lim w l) ≡ true
   words-shorter w (the-area x) = or-left (noRoom area w) (cramped lim w l) (words-room area w x)

@@ -25,4 +25,5 @@ pub record Slices : Type 0 where
   pub shared-areas : (lim ed : ℕ) (h : Handed) (area : List ℕ) (l : Lent) (slice : List ℕ)
       → (length slice < simplifyBytes → (sharedArea lim ed h area l slice ≡ area) × (sharedLeaves lim ed h area l slice ≡ l))
       × (simplifyBytes ≤ length slice
-      → (sharedArea lim ed h area l slice ≡ sharedGiven lim ed h area l .area) × (sharedLeaves lim ed h area l slice ≡ sharedGiven lim ed h area l .given .lent))
+      → (sharedArea lim ed h area l slice ≡ sharedGiven lim ed h area l .area)
+      × (sharedLeaves lim ed h area l slice ≡ sharedGiven lim ed h area l .given .lent))

@@ -1,4 +1,4 @@
--- The examples of what a second machine is handed: one statement, by computation. Assumes nothing.
+-- The examples of what a second machine is handed: one statement, by computation.
 use mathlib.Core.Path.{_≡_, refl}
 use mathlib.Core.List.{[], _∷_}
 use Rattle.paper.specs.Told.{flawFrom, answerIn}
@@ -9,7 +9,8 @@ use Rattle.paper_shared.specs.Answers.{sharedOf, sharedGiven, unshared}
 use Rattle.paper_shared.proofs.Computed.{opening-computes}
 use Rattle.paper_text.specs.Answers.{textIn, writeVerdict, writeAnswer, writeGiven}
 use Rattle.paper_text.proofs.Computed.{text-computes}
-use Rattle.paper_takeover.specs.TakenOver.{isDone, restored, restoredLengths, restoredWeight, againEach, answersIn, writtenText, readRecords, heldBytes, withTable}
+use Rattle.paper_takeover.specs.TakenOver.{isDone, restored, restoredLengths, restoredWeight, againEach}
+use Rattle.paper_takeover.specs.TakenOver.{answersIn, writtenText, readRecords, heldBytes, withTable}
 use Rattle.paper_takeover.specs.Examples.{lends, site, tablesAgain, wantedTables, lengthsAgain, weightAgain, numbersAgain, wantedNumbers, toldAgain}
 use Rattle.paper_takeover.specs.Examples.{line, wantedLine, arrived, wantedRecords, threeHeld, shares, sharesAgain}
 
@@ -27,9 +28,9 @@ pub record Handed-again : Type 0 where
 
 pub handed-again : Handed-again
 unfolding
-    batch-computes opening-computes text-computes isDone restored restoredLengths restoredWeight againEach again answersIn answerIn flawFrom writtenText readRecords
-    textIn writeVerdict writeAnswer writeGiven withTable sharedOf sharedGiven unshared lends site tablesAgain wantedTables lengthsAgain weightAgain numbersAgain wantedNumbers toldAgain line wantedLine
-    arrived wantedRecords heldBytes threeHeld shares sharesAgain
+    batch-computes opening-computes text-computes isDone restored restoredLengths restoredWeight againEach again answersIn answerIn flawFrom
+    writtenText readRecords textIn writeVerdict writeAnswer writeGiven withTable sharedOf sharedGiven unshared lends site tablesAgain wantedTables
+    lengthsAgain weightAgain numbersAgain wantedNumbers toldAgain line wantedLine arrived wantedRecords heldBytes threeHeld shares sharesAgain
 handed-again =
     record {
       tables = refl;

@@ -1,5 +1,5 @@
 -- What the statements about the two limits come to: at the very edge, a unit of weight or a byte over the old limit; and up to it, for what a machine
--- reads of a call. Each is the statement put to use. Assumes nothing.
+-- reads of a call. Each is the statement put to use.
 use Prim.Native.Nat.{ℕ, _*_, _<_}
 use mathlib.Core.Path.{_≡_, ap, ap₂}
 use mathlib.Core.Bool.{true}
@@ -13,13 +13,14 @@ use Rattle.paper.specs.Refusals.{Flawed}
 use Rattle.paper.specs.Rules.{isEdition}
 use Rattle.paper.specs.Answers.{Lent, Answer, Given, refusal, simplified}
 use Rattle.paper.specs.Demands.{result}
-use Rattle.paper.specs.OldMachine.{UpToOld}
+use Rattle.paper.specs.OldMachine.{UpToOld, Alike}
 use Rattle.paper_batch.specs.Batch.{inTurn, lengthsIn, SiteCall, siteCalled}
 use Rattle.paper_batch.specs.Sentences.{item}
 use Rattle.paper_shared.specs.Answers.{Handed, tableAt, opens, judgedSite, sharedGiven}
 use Rattle.paper_takeover.specs.TakenOver.{answersIn}
 use Rattle.paper_takeover.specs.SiteRestored.{restoredWhole}
-use Rattle.paper_takeover.specs.OtherLimit.{SameAreas, SameGiven, SameSite, ItemsUpToOld, ItemTooLong, ItemTooHeavy, DefinitionsUpToOld, SharedUpToOld, BothRefuse, OldRefusesShared}
+use Rattle.paper_takeover.specs.OtherLimit.{SameAreas, SameSite, ItemsUpToOld, ItemTooLong, ItemTooHeavy}
+use Rattle.paper_takeover.specs.OtherLimit.{DefinitionsUpToOld, SharedUpToOld, BothRefuse, OldRefusesShared}
 use Rattle.paper_takeover.proofs.OtherLimit.{same-calls, same-sites, item-too-long, item-too-heavy, shares-alike, old-refuses-shared}
 
 -- ---- over the old limit
@@ -55,7 +56,7 @@ pub record ReadsAlike (g g′ : Given) : Type 0 where
   pub result-bytes : result g ≡ result g′
   pub noted : take (g .answer .steps-taken) (g .lent .steps) ≡ take (g′ .answer .steps-taken) (g′ .lent .steps)
 
-reads-alike : {g g′ : Given} → SameGiven g g′ → ReadsAlike g g′
+reads-alike : {g g′ : Given} → Alike g g′ → ReadsAlike g g′
 unfolding result
 reads-alike s =
     record {

@@ -1,5 +1,5 @@
 -- A finished tree on any machine: where the limit holds it, its records are accepted, and simplifying them takes no step and no opening. The result of
--- an accepted call is the records of such a tree, so the takeover holds at another limit as well. Assumes nothing.
+-- an accepted call is the records of such a tree, so the takeover holds at another limit as well.
 use Prim.Native.Nat.{ℕ, _≤_}
 use mathlib.Core.Path.{_≡_, sym, ap, _∙_, subst}
 use mathlib.Core.Bool.{true}
@@ -48,10 +48,11 @@ unfolding finishedAnswer
 finished-again there ed known edition u wf light ends l room =
     let fits = ap (λ (n : ℕ). cramped there n l) (encode-weight u) ∙ of-room there (weight u) l room in
     let j = accepted-judgement there ed (encode u) l known edition (written-accepted there known u wf light) fits in
-    let small = limit-small there known in
-    let f = simplified-meets there ed .follows (encode u) (encode-bytes u) l j u u [] 0 (records u) (tree-of-written u wf (omega (arith, light, small))) ends in (
+    let read = let small = limit-small there known in tree-of-written u wf (omega (arith, light, small)) in
+    let f = simplified-meets there ed .follows (encode u) (encode-bytes u) l j u u [] 0 (records u) read ends in (
       f .0,
-      result-written (simplified there ed (encode u) l) (weight u) u (l .out) (ap (λ (x : Answer). x .records-written) (f .0)) (ap (λ (x : Lent). x .out) (f .1)),
+      result-written (simplified there ed (encode u) l) (weight u) u (l .out) (ap (λ (x : Answer). x .records-written) (f .0))
+          (ap (λ (x : Lent). x .out) (f .1)),
     )
 
 -- ---- an accepted call: the tree of its result, which is finished
@@ -86,7 +87,8 @@ takes-over-at lim there ed s b l e h l′ room =
     let u = d .tree-out in
     let w = out-weight lim ed s l d in
     let second =
-    finished-again there ed (h .known) (out-edition lim ed s l d) u (d .finished .result-wf) (let k = h .light in omega (arith, w, k)) (out-ends lim ed s l d) l′
+    finished-again there ed (h .known) (out-edition lim ed s l d) u (d .finished .result-wf)
+    (let k = h .light in omega (arith, w, k)) (out-ends lim ed s l d) l′
     (subst (λ (n : ℕ). Room there n l′) w room) in
     subst (λ (x : List ℕ). Repeats (simplified lim ed s l) (simplified there ed x l′)) (sym (d .written-bytes))
     (record { same-answer = second .0 ∙ sym (out-again lim ed s l d); same-bytes = second .1 ∙ sym (d .written-bytes) })

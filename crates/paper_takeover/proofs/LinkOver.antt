@@ -1,7 +1,6 @@
 -- The calls of the link, one after the other. Each call writes the record that the next one reads, since its numbers are below 2^64, so the calls are the
 -- receivings of the definitions; the finish answers as the checker does on the whole, and a result is accepted where the limit holds its weight
 -- and else is refused by 1 or 3. What comes after a swap depends on the record and the bytes that it counts alone: a piece is put behind them.
--- Assumes nothing.
 use Prim.Native.Nat.{ℕ, _+_, _-_, _^_, _%_, _≤_, _<_}
 use mathlib.Core.Path.{_≡_, refl, sym, ap, ap₂, _∙_, subst}
 use mathlib.Core.Bool.{Bool, true, false, cond, _||_, not}
@@ -33,15 +32,16 @@ use Rattle.paper.proofs.Tests.{or-right}
 use Rattle.paper.proofs.BytesLaws.{length-bytes}
 use Rattle.paper.proofs.FirstLaws.{no-flaw}
 use Rattle.paper.proofs.VerdictLaws.{accepted-passes, good-length}
-use Rattle.paper_receiver.specs.Receiver.{Receiver, isPast, kept, counted, areaAfter, Held, fresh, withPiece, isShort, Receipt, receipt, received, finishVerdict, receivedAll, whole}
+use Rattle.paper_receiver.specs.Receiver.{Receiver, isPast, kept, counted, areaAfter, Held, fresh, withPiece}
+use Rattle.paper_receiver.specs.Receiver.{isShort, Receipt, receipt, received, finishVerdict, receivedAll, whole}
 use Rattle.paper_receiver.specs.Calls.{receiverIn, receiverNumbers, heldIn, receiveReturns, receiveRecord, receiveArea, noRoom, finishReturns, finishAnswers}
 use Rattle.paper_receiver.proofs.PieceLaws.{either-way, open-count, past-leaves, keeps-length}
 use Rattle.paper_receiver.proofs.ReceiverLaws.{unknown-receives, receives, is-long, answer-whole}
 use Rattle.paper_receiver.proofs.CallLaws.{reads-back}
 use Rattle.paper_takeover.specs.TakenOver.{heldBytes}
 use Rattle.paper_takeover.specs.LimitOver.{Holds}
-use Rattle.paper_takeover.specs.LinkOver.{Task, afterCall, afterCalls, returns, holding, tableIn, Ready, Arrived, CallsTakeOver, overBy, CallsTooHeavy, LinkNeverMisread}
-use Rattle.paper_takeover.specs.LinkOver.{SwapsOver, Copied, CopySuffices, CopiedTask, SwapTakesOver}
+use Rattle.paper_takeover.specs.LinkOver.{Task, afterCall, afterCalls, returns, holding, tableIn, Ready, Arrived, CallsTakeOver, overBy, CallsTooHeavy}
+use Rattle.paper_takeover.specs.LinkOver.{LinkNeverMisread, SwapsOver, Copied, CopySuffices, CopiedTask, SwapTakesOver}
 use Rattle.paper_takeover.proofs.LinkTaken.{area-whole, held-whole}
 use Rattle.paper_takeover.proofs.LimitTaken.{out-weight, out-light, takes-over-at}
 
@@ -320,7 +320,8 @@ module _ (lim there ed : ℕ) (s : List ℕ) (b : Bytes s) (l : Lent) (e : simpl
 
   -- a record and an area that hold the whole, and whose finish is the checker's
   arrived-so : (y : Task) → 16 ≤ length (y .record-bytes) → finishVerdict there (holding y) ≡ verdict there (whole ps) → tableIn y ≡ whole ps
-      → (slice : List ℕ) → 32 ≤ length slice → (l′ : Lent) → Room there (simplified lim ed s l .answer .weight-out) l′ → Arrived there ed (simplified lim ed s l) y slice l′
+      → (slice : List ℕ) → 32 ≤ length slice → (l′ : Lent) → Room there (simplified lim ed s l .answer .weight-out) l′
+      → Arrived there ed (simplified lim ed s l) y slice l′
   arrived-so y long-record v t slice room l′ roomy =
       let finish = finish-says there y slice long-record room accepted (v ∙ fine) in
       record {
@@ -360,7 +361,8 @@ swap-takes-over lim there ed s b l e h x ready ps qs q y c slice room l′ roomy
       second-taken = all-taken there known qs y is;
       arrived =
           arrived-so lim there ed s b l e h (ps ++ qs) q (afterCalls there y qs) (all-sane there known qs y is .record-room)
-          (ap (finishVerdict there) held-now ∙ same-finishes there _ _ copied ∙ ap (finishVerdict there) whole-held ∙ verdict-whole there known x ready (ps ++ qs))
+          (ap (finishVerdict there) held-now ∙ same-finishes there _ _ copied ∙ ap (finishVerdict there) whole-held
+          ∙ verdict-whole there known x ready (ps ++ qs))
           (ap heldBytes held-now ∙ copied .same-bytes ∙ ap heldBytes whole-held ∙ table-whole there known x ready (ps ++ qs) fits)
           slice room l′ roomy;
     }
@@ -376,10 +378,12 @@ over-verdict lim there known known′ u wf light heavy =
     let weight-is : weightFrom s 0 (recordsIn s) ≡ weight u = unfold tableWeight in encode-weight u in
     let weighs : there < weightFrom s 0 (recordsIn s) = omega (arith, weight-is, heavy) in
     either-way (ltb (maxBytes there) (length s))
-    (λ e. let bad : badLength there (length s) ≡ true = unfold badLength in or-right (eqb (length s) 0 || not (eqb (length s % 16) 0)) (ltb (maxBytes there) (length s)) e in rw (known′, bad, e))
+    (λ e. let bad : badLength there (length s) ≡ true =
+    unfold badLength in or-right (eqb (length s) 0 || not (eqb (length s % 16) 0)) (ltb (maxBytes there) (length s)) e in rw (known′, bad, e))
     (λ e. let fits = ltb-false (maxBytes there) (length s) e in
     let good = good-length there (length s) (record { positive = passes .long .positive; sixteens = passes .long .sixteens; short = fits }) in
-    rw (known′, good, e) (unfold judgeRecords in rw (flawless, le-ltb (recordsIn s) (recordsIn s) (omega arith), lt-ltb there (weightFrom s 0 (recordsIn s)) weighs)))
+    rw (known′, good, e)
+    (unfold judgeRecords in rw (flawless, le-ltb (recordsIn s) (recordsIn s) (omega arith), lt-ltb there (weightFrom s 0 (recordsIn s)) weighs)))
 
 pub calls-too-heavy : (lim there ed : ℕ) → CallsTooHeavy lim there ed
 calls-too-heavy lim there ed s b l e known heavy x ready ps q slice room =
@@ -388,7 +392,8 @@ calls-too-heavy lim there ed s b l e known heavy x ready ps q slice room =
     let u = d .tree-out in
     let over : verdict there (whole ps) ≡ overBy there (result g) =
     ap (verdict there) (q ∙ d .written-bytes)
-    ∙ over-verdict lim there (d .holds .known) known u (d .finished .result-wf) (out-light lim ed s l d) (let k = out-weight lim ed s l d in omega (arith, k, heavy))
+    ∙ over-verdict lim there (d .holds .known) known u (d .finished .result-wf) (out-light lim ed s l d)
+    (let k = out-weight lim ed s l d in omega (arith, k, heavy))
     ∙ sym (ap (overBy there) (d .written-bytes)) in
     let finish = finish-whole there known x ready ps slice room in
     record {

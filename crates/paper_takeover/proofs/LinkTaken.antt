@@ -1,5 +1,5 @@
 -- A result that comes over the link: it is no longer than the limit's tables, so all of it is kept, whatever the pieces, and what is held is the
--- result. The checker accepts a result, and simplifying it is paper's takeover. Assumes nothing.
+-- result. The checker accepts a result, and simplifying it is paper's takeover.
 use Prim.Native.Nat.{ℕ, _≤_, min}
 use mathlib.Core.Path.{_≡_, refl, sym, ap, ap₂, _∙_, subst}
 use mathlib.Core.Bool.{true}

@@ -1,5 +1,5 @@
--- Text and link at the two limits: the reader asks for the limit in one test, the writer and the finish by the checker alone, and the checker agrees up to the old
--- limit and refuses beyond it (paper's OldMachine). Assumes nothing.
+-- Text and link at the two limits: the reader asks for the limit in one test, the writer and the finish by the checker alone, and the checker agrees up
+-- to the old limit and refuses beyond it (paper's OldMachine).
 use Prim.Native.Nat.{ℕ, _≤_, _<_}
 use mathlib.Core.Path.{_≡_, refl, sym, _∙_}
 use mathlib.Core.List.{List}

@@ -1,6 +1,6 @@
 -- A site and a shared formula at the two limits. Up to the old limit the verdicts are the same (paper's `limits-agree`), and with the `work` that each
 -- limit asks for so are the judgements, and then the answers and the bytes; of a site by induction on the items. What the higher limit opens passes
--- every test but those that ask for the limit. Assumes nothing.
+-- every test but those that ask for the limit.
 use Prim.Native.Nat.{ℕ, zero, suc, _+_, _*_, _≤_, _<_}
 use mathlib.Core.Path.{_≡_, refl, sym, ap, ap₂, _∙_, subst}
 use mathlib.Core.Bool.{Bool, true, false, cond, _||_, not}
@@ -28,8 +28,9 @@ use Rattle.paper.proofs.TableLaws.{encode-weight}
 use Rattle.paper.proofs.FirstLaws.{no-flaw}
 use Rattle.paper.proofs.VerdictLaws.{accepted-passes, good-length}
 use Rattle.paper.proofs.CallLaws.{verdict-accepted}
-use Rattle.paper.proofs.OldMachine.{limits-agree, old-too-long, old-too-heavy}
-use Rattle.paper_batch.specs.Batch.{usedUp, remaining, inFront, firstUses, handedOn, Site, inTurn, lengthsIn, siteNumber, untouched, carriedOut, SiteCall, siteCalled}
+use Rattle.paper.proofs.OldMachine.{limits-agree, old-too-long, old-too-heavy, accepted-up-to-old}
+use Rattle.paper_batch.specs.Batch.{usedUp, remaining, inFront, firstUses, handedOn, Site, inTurn}
+use Rattle.paper_batch.specs.Batch.{lengthsIn, siteNumber, untouched, carriedOut, SiteCall, siteCalled}
 use Rattle.paper_batch.specs.Sentences.{item, handed}
 use Rattle.paper_batch.proofs.Orderly.{simplified-orderly}
 use Rattle.paper_batch.proofs.SeparateLaws.{each-answer}
@@ -119,7 +120,8 @@ same-sites ed tables lengths b u l l′ h answers =
         cond (eqb k 0) (carriedOut k (lengthsIn lengths) (inTurn (simplified lim ed) (lengthsIn lengths) tables m) answers) (untouched k m answers)
 
     go : (c : Bool) (k : ℕ) {x x′ : Site} → SameTurns x x′
-        → SameSite (cond c (carriedOut k (lengthsIn lengths) x answers) (untouched k l answers)) (cond c (carriedOut k (lengthsIn lengths) x′ answers) (untouched k l′ answers))
+        → SameSite (cond c (carriedOut k (lengthsIn lengths) x answers) (untouched k l answers))
+        (cond c (carriedOut k (lengthsIn lengths) x′ answers) (untouched k l′ answers))
     go true k t = record { number = refl; answers = rw (t .answers); out = t .out; steps = t .steps }
     go false k t = record { number = refl; answers = refl; out = h .same-out; steps = h .same-steps }
 
@@ -132,7 +134,8 @@ refused-so ed known s l k z e = rw (known, e, z, z)
 pub item-too-long : ItemTooLong
 unfolding isAccepted
 item-too-long ed known ns s l i h long d =
-    each-answer (simplified old ed) ns s l i d h ∙ refused-so ed known (item ns s i) (handed (simplified old ed) ns s l i) 1 refl (old-too-long (item ns s i) long)
+    each-answer (simplified old ed) ns s l i d h
+    ∙ refused-so ed known (item ns s i) (handed (simplified old ed) ns s l i) 1 refl (old-too-long (item ns s i) long)
 
 pub item-too-heavy : ItemTooHeavy
 unfolding isAccepted
@@ -172,7 +175,8 @@ up-to-old v h = (omega (arith, encode-length v, records-weight v), omega (arith,
 pub shares-alike : SharesAlike
 unfolding sharedGiven openingBy isLimit unshared sharedOf
 shares-alike ed h u area l l′ a =
-    subst (λ (x : Opening). SameShared (sharedOf old ed (cond (isEdition ed) x (turned-away (refused 9 0))) area l) (sharedGiven higher ed h area l′)) (sym (same-judged h u))
+    subst (λ (x : Opening). SameShared (sharedOf old ed (cond (isEdition ed) x (turned-away (refused 9 0))) area l) (sharedGiven higher ed h area l′))
+    (sym (same-judged h u))
     (known (isEdition ed) (judgedSite higher h) (judged higher h))
   where
     down : (v : Verdict) → SameShared (unshared v area l) (unshared v area l′)
@@ -197,9 +201,6 @@ shares-alike ed h u area l l′ a =
     known false x j = down (refused 9 0)
 
 -- ---- what opens at the higher limit
-accepted-up : (s : List ℕ) → verdict old s ≡ accepted → UpToOld s
-accepted-up s e = let p = accepted-passes old s e in (p .long .short, p .light)
-
 heavy-3 : (s : List ℕ) → verdict higher s ≡ accepted → length s ≤ 49152 → old < tableWeight s → verdict old s ≡ refused 3 0
 unfolding verdict judgedTable judgeRecords tableWeight isLimit
 heavy-3 s e short heavy =
@@ -223,7 +224,8 @@ one-refused lengths definitions i (suc n) j a b e =
     go : (c : Bool) → eqb i j ≡ c → (¬ (i ≡ j) → anyRefused old lengths definitions (i + 1) n ≡ true)
         → (not (isAccepted (verdict old (tableAt lengths definitions i))) || anyRefused old lengths definitions (i + 1) n) ≡ true
     go true c rest = let same : i ≡ j = eqb-true i j c in rw (same, e)
-    go false c rest = or-right (not (isAccepted (verdict old (tableAt lengths definitions i)))) (anyRefused old lengths definitions (i + 1) n) (rest (eqb-false i j c))
+    go false c rest =
+        or-right (not (isAccepted (verdict old (tableAt lengths definitions i)))) (anyRefused old lengths definitions (i + 1) n) (rest (eqb-false i j c))
 
 both-refuse : (h : Handed) (k : ℕ) → judgedSite old h ≡ turned-away (refused k 0) → BothRefuse h k
 unfolding openGiven opening openOf sharedGiven openingBy sharedOf isLimit
@@ -242,8 +244,9 @@ old-refuses-shared h v e = go (judgedSite higher h) e (judged higher h)
           too-heavy = λ short heavy. both-refuse h 3 (rw (p .past .met, heavy-3 (h .table) fine short heavy));
           definition = λ u i k no.
               let down = not-so (isAccepted (verdict old (tableAt (h .lengths) (h .definitions) i)))
-              (λ a. no (accepted-up _ (verdict-accepted old _ a))) in
-              both-refuse h 15 (rw (p .past .met, at-old u, one-refused (h .lengths) (h .definitions) 0 (length (h .symbols)) i (omega arith) (omega arith) down));
+              (λ a. no (accepted-up-to-old _ (verdict-accepted old _ a))) in
+              both-refuse h 15
+              (rw (p .past .met, at-old u, one-refused (h .lengths) (h .definitions) 0 (length (h .symbols)) i (omega arith) (omega arith) down));
           opened = λ u d heavy.
               let same = same-refused (h .lengths) (h .definitions) 0 (length (h .symbols)) (λ j k. d j (omega arith)) in
               both-refuse h 18 (rw (p .past .met, at-old u, same, p .all-fine, p .few, o, lt-ltb old (weight v) heavy));

@@ -1,5 +1,5 @@
--- The examples of the link's calls, by computation, and the takeover at its very edges: a record of 16 bytes, an area, an answer slice and lent areas with not a
--- byte to spare, from the higher limit to the lower. Assumes nothing.
+-- The examples of the link's calls, by computation, and the takeover at its very edges: a record of 16 bytes, an area, an answer slice and lent areas
+-- with not a byte to spare, from the higher limit to the lower.
 use mathlib.Core.Path.{_≡_, refl, sym, _∙_}
 use mathlib.Core.List.{[], _∷_, _++_}
 use lib.ListN.{replicate}
@@ -35,8 +35,8 @@ pub record Link-shown : Type 0 where
 
 pub link-shown : Link-shown
 unfolding
-    batch-computes receiver-computes heldBytes afterCall afterCalls returns overBy 2*a cuts received-whole wanted-whole numbers table-come refused-numbers refused-whole copied-table
-    over-just over-longer
+    batch-computes receiver-computes heldBytes afterCall afterCalls returns overBy 2*a cuts received-whole wanted-whole numbers table-come
+    refused-numbers refused-whole copied-table over-just over-longer
 link-shown =
     record { comes = refl; each = refl; table = refl; too-short = refl; stays = refl; copied = refl; just = refl; longer = refl }
 
@@ -72,7 +72,8 @@ edge-ready = record { record-room = lit≤ tt; nothing-yet = refl; area-room = l
 pub link-edge : CallsRepeat 3072 1 simplifiedFirst edge-task cuts (replicate 32 165) (lends 80 5 65536)
 unfolding first-table simplifiedFirst
 link-edge =
-    calls-take-over 16384 3072 1 first-table (encode-bytes (sum 0 (ofList (symbol 7 0 ∷ symbol 0 0 ∷ [])))) (lends 112 7 524288) (first .accepted) first-held edge-task
+    calls-take-over 16384 3072 1 first-table (encode-bytes (sum 0 (ofList (symbol 7 0 ∷ symbol 0 0 ∷ [])))) (lends 112 7 524288)
+    (first .accepted) first-held edge-task
     edge-ready cuts (first .joins ∙ sym (first .bytes)) (replicate 32 165) (lit≤ tt) (lends 80 5 65536) edge-room
 
 -- as text

@@ -1,21 +1,18 @@
 -- A formula that shares sub-formulas, simplified: no defined symbol is left in the opened tree, and no rule brings one in, so none stands in the
--- result. Opened with the same definitions it is itself, and the run on it is the simplifier's takeover (paper_shared). Assumes nothing.
+-- result. Opened with the same definitions it is itself, and the run on it is the simplifier's takeover (paper_shared).
 use Prim.Native.Nat.{ℕ, zero, suc, _*_, _≤_}
 use mathlib.Core.Path.{_≡_, refl, sym, ap, _∙_, subst}
-use mathlib.Core.Bool.{Bool, true, false, cond, _||_, not}
-use mathlib.Core.List.{List, [], _∷_, _++_}
+use mathlib.Core.Bool.{false}
+use mathlib.Core.List.{List, _++_}
 use mathlib.Core.Logic.{inl, inr}
 use mathlib.Core.Option.{Option, none, some}
 use native.Mathlib.Omega.{arith}
 use borrow.Author.Tests.{le-ltb}
 use lib.ListN.{length, drop}
-use Rattle.paper.specs.Limits.{isLimit}
 use Rattle.paper.specs.Bytes.{Bytes}
 use Rattle.paper.specs.Tree.{Tree, Forest, integer, symbol, sum, product, power, nil, cons, weight}
 use Rattle.paper.specs.Table.{encode, treeOf}
 use Rattle.paper.specs.Verdict.{Verdict, isAccepted, verdict}
-use Rattle.paper.specs.Rules.{isEdition, rulesOf}
-use Rattle.paper.specs.Driver.{done, simplify}
 use Rattle.paper.specs.Answers.{Lent, Answer, Given, cramped, ranAnswer, simplified}
 use Rattle.paper.specs.Demands.{result}
 use Rattle.paper.specs.Takeover.{Room, Repeats}
@@ -27,7 +24,8 @@ use Rattle.paper.proofs.CallLaws.{judgement-accepted, same-tree}
 use Rattle.paper.proofs.JudgementLaws.{of-room}
 use Rattle.paper.proofs.DemandLaws.{Done, call-done}
 use Rattle.paper_shared.specs.Shared.{Definition, defined, both, make, replaced, openBy, opensBy, openWithin, opened, Stands, Among, NoneLeft}
-use Rattle.paper_shared.specs.Answers.{Handed, orNought, treeIn, definitionsOf, openedOf, openingOf, judgedSite, openingBy, noRoom, holding, SharedGiven, sharedOf, sharedGiven}
+use Rattle.paper_shared.specs.Answers.{Handed, orNought, treeIn, definitionsOf, openedOf, openingOf}
+use Rattle.paper_shared.specs.Answers.{judgedSite, openingBy, noRoom, holding, SharedGiven, sharedOf, sharedGiven}
 use Rattle.paper_shared.proofs.OpenedLaws.{told-of, opened-none-left}
 use Rattle.paper_shared.proofs.Tables.{opened-is-wf}
 use Rattle.paper_shared.proofs.Demands.{Went, went, shared-takes-over}

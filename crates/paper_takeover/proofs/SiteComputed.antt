@@ -1,4 +1,4 @@
--- The sites restored whole in figures, by computation; and the theorem is about the first of them: its hypotheses hold of it. Assumes nothing.
+-- The sites restored whole in figures, by computation; and the theorem is about the first of them: its hypotheses hold of it.
 use mathlib.Core.Path.{_≡_, refl}
 use mathlib.Core.Bool.{Bool, true, _&&_, not}
 use mathlib.Core.List.{List, [], _∷_, map}
@@ -12,8 +12,9 @@ use Rattle.paper_batch.specs.Batch.{total}
 use Rattle.paper_batch.proofs.Computed.{batch-computes}
 use Rattle.paper_takeover.specs.TakenOver.{isDone}
 use Rattle.paper_takeover.specs.SiteRestored.{restoredWhole, wholeLengths, wholeWeight, againInPlace, NoSix}
-use Rattle.paper_takeover.specs.SiteExamples.{mixedLengths, mixedTables, mixed, mixedAgain, wantedAgain, wantedLengths, mixedLengthsAgain, mixedWeight, second, secondNumbers}
-use Rattle.paper_takeover.specs.SiteExamples.{inPlaceNumbers, wantedSecond, returnsWhole, returnsResults, crowded, crowdedNumbers, crowdedWeight, crowdedAgain}
+use Rattle.paper_takeover.specs.SiteExamples.{mixedLengths, mixedTables, mixed, mixedAgain, wantedAgain, wantedLengths, mixedLengthsAgain, mixedWeight}
+use Rattle.paper_takeover.specs.SiteExamples.{second, secondNumbers, inPlaceNumbers, wantedSecond, returnsWhole, returnsResults, crowded, crowdedNumbers}
+use Rattle.paper_takeover.specs.SiteExamples.{crowdedWeight, crowdedAgain}
 
 pub record Restored-whole : Type 0 where
   pub tables : mixedAgain ≡ wantedAgain

@@ -1,12 +1,12 @@
 -- A site restored whole. An item that was accepted is paper's takeover; one that was refused, and not for want of room, is judged again as it was,
 -- since the areas decide 6 alone, and one with 7 has its room again. So each item uses up what it is counted for, and the others have
--- theirs: by induction on the items. The lengths of what is restored add up to its bytes, so 8 does not refuse it. Assumes nothing.
+-- theirs: by induction on the items. The lengths of what is restored add up to its bytes, so 8 does not refuse it.
 use Prim.Native.Nat.{ℕ, suc, _+_, _*_, _/_, _%_, _≤_}
 use mathlib.Core.Path.{_≡_, refl, sym, ap, ap₂, _∙_, subst}
 use mathlib.Core.Bool.{Bool, true, false, cond, not}
 use mathlib.Core.List.{List, [], _∷_, _++_}
 use native.Mathlib.Omega.{arith}
-use borrow.Author.Tests.{eq-eqb, eqb-true, le-ltb, ltb-false}
+use borrow.Author.Tests.{not-false, eq-eqb, eqb-true, le-ltb, ltb-false}
 use lib.Dec.{eqb, ltb}
 use lib.ListN.{length, take, drop, length-append, length-drop}
 use lib.Seq.{length-take-le, take-at, drop-at}
@@ -26,12 +26,14 @@ use Rattle.paper.proofs.Takeover.{takeover}
 use Rattle.paper_batch.specs.Batch.{usedUp, remaining, firstUses, handedOn, inTurn, lengthsIn, total, unfit, turnsDown, siteNumber}
 use Rattle.paper_batch.proofs.Orderly.{simplified-orderly, uses-run}
 use Rattle.paper_takeover.specs.TakenOver.{isDone, restored}
-use Rattle.paper_takeover.specs.SiteRestored.{restoredWhole, wholeLengths, wholeWeight, againInPlace, RepeatsWhole, SiteRestored, AsLong, SwapsAgain, ResultsPass, WholePasses}
+use Rattle.paper_takeover.specs.SiteRestored.{restoredWhole, wholeLengths, wholeWeight, againInPlace}
+use Rattle.paper_takeover.specs.SiteRestored.{RepeatsWhole, SiteRestored, AsLong, SwapsAgain, ResultsPass, WholePasses}
 use Rattle.paper_takeover.proofs.SiteTaken.{left, done-number, rest-behind, result-in-front, first-restored, room-behind, restored-adds-up}
 
 module _ (lim ed : ℕ) where
   -- ---- an item that is handed in again as it was: refused, but not with 6, or with room for what it used up, it is answered as it was
-  down-again : (a b c x y : Bool) (v : Verdict) → let judged : Bool → Verdict = λ z. cond a (cond b (cond c (cond z (refused 6 0) accepted) v) (refused 9 0)) (refused 19 0) in
+  down-again : (a b c x y : Bool) (v : Verdict)
+      → let judged : Bool → Verdict = λ z. cond a (cond b (cond c (cond z (refused 6 0) accepted) v) (refused 9 0)) (refused 19 0) in
       1 ≤ judged x .number → ¬ (judged x .number ≡ 6) → judged y ≡ judged x
   down-again true true true true y v h k = absurd (k refl)
   down-again true true true false y v h k = absurd (omega arith)
@@ -39,7 +41,8 @@ module _ (lim ed : ℕ) where
   down-again true false c x y v h k = refl
   down-again false b c x y v h k = refl
 
-  turned-again : (s : List ℕ) (l m : Lent) → 1 ≤ judgement lim ed s l .number → ¬ (judgement lim ed s l .number ≡ 6) → judgement lim ed s m ≡ judgement lim ed s l
+  turned-again : (s : List ℕ) (l m : Lent) → 1 ≤ judgement lim ed s l .number → ¬ (judgement lim ed s l .number ≡ 6)
+      → judgement lim ed s m ≡ judgement lim ed s l
   unfolding judgement judgedCall
   turned-again s l m =
       down-again (isLimit lim) (isEdition ed) (isAccepted (verdict lim s)) (cramped lim (tableWeight s) l) (cramped lim (tableWeight s) m) (verdict lim s)
@@ -285,7 +288,8 @@ swaps-by : (lim ed : ℕ) → SiteRestored lim ed → SwapsAgain lim ed
 swaps-by lim ed restores ns s b a l m m′ none-6 room room′ =
     let once = restores ns s b a l m none-6 room in
     let twice = restores ns s b a l m′ none-6 room′ in
-    ap₂ (λ (ms t : List ℕ). inTurn (simplified lim ed) ms t m′ .answers) (once .same-lengths) (once .same-tables) ∙ twice .same-answers ∙ sym (once .same-answers)
+    ap₂ (λ (ms t : List ℕ). inTurn (simplified lim ed) ms t m′ .answers) (once .same-lengths) (once .same-tables)
+    ∙ twice .same-answers ∙ sym (once .same-answers)
 
 pub swaps-again : (lim ed : ℕ) → SwapsAgain lim ed
 swaps-again lim ed = swaps-by lim ed (site-restored-whole lim ed)
@@ -309,7 +313,7 @@ fit lim ed tables lengths answers e =
       known = u .0;
       edition-known = u .1;
       few = ltb-false 200 (length ns) (y .0);
-      adds-up = eqb-true (total ns) (length tables) (un-not (eqb (total ns) (length tables)) (z .0));
+      adds-up = eqb-true (total ns) (length tables) (not-false (eqb (total ns) (length tables)) (z .0));
     }
   where
     passed : (a b c : Bool) → _≡_ {A = ℕ} (cond a (cond b (cond c 8 0) 9) 19) 0 → (a ≡ true) × (b ≡ true) × (c ≡ false)
@@ -317,10 +321,6 @@ fit lim ed tables lengths answers e =
     passed true true false e = (refl, refl, refl)
     passed true false c e = absurd (omega arith)
     passed false b c e = absurd (omega arith)
-
-    un-not : (b : Bool) → not b ≡ false → b ≡ true
-    un-not true e = refl
-    un-not false e = sym e
 
 fits-again : (lim ed : ℕ) (tables ns : List ℕ) → Fit lim ed tables ns → (t ls places : List ℕ) → length ls % 8 ≡ 0
     → total (lengthsIn ls) ≡ length t → length (lengthsIn ls) ≤ length ns → 80 * length (lengthsIn ls) ≤ length places → siteNumber lim ed t ls places ≡ 0
@@ -339,7 +339,8 @@ pub results-pass : (lim ed : ℕ) → ResultsPass lim ed
 results-pass lim ed tables lengths answers b e l ls places whole q room =
     let ns = lengthsIn lengths in
     let up = restored-adds-up lim ed ns tables b l in
-    fits-again lim ed tables ns (fit lim ed tables lengths answers e) _ ls places whole (ap total q ∙ up .0) (omega (arith, ap length q, up .1)) (omega (arith, ap length q, room))
+    fits-again lim ed tables ns (fit lim ed tables lengths answers e) _ ls places whole (ap total q ∙ up .0)
+    (omega (arith, ap length q, up .1)) (omega (arith, ap length q, room))
 
 pub whole-passes : (lim ed : ℕ) → WholePasses lim ed
 whole-passes lim ed tables lengths answers b e l ls places whole q room =

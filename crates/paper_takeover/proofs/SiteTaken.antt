@@ -1,6 +1,6 @@
 -- A whole site, restored: what the items left in `out` are the results of their separate calls, one behind the other, so of a second site whose
 -- tables they are each item is paper's takeover, and leaves the same bytes in turn. By induction on the items; an item that is refused
--- leaves nothing to restore. Assumes nothing.
+-- leaves nothing to restore.
 use Prim.Native.Nat.{ℕ, suc, _+_, _*_, _≤_}
 use mathlib.Core.Path.{_≡_, refl, sym, ap, ap₂, _∙_, subst}
 use mathlib.Core.Bool.{Bool, true, false, cond}
@@ -265,6 +265,7 @@ module _ (lim ed : ℕ) where
           simp length-append (omega (arith, d .long, ih .0))
       adds ih false e = ih .0
 
-      fewer : Ih → (c : Bool) → length (cond c (16 * g .answer .records-written ∷ restoredLengths (x .answers)) (restoredLengths (x .answers))) ≤ suc (length ns)
+      fewer : Ih → (c : Bool)
+          → length (cond c (16 * g .answer .records-written ∷ restoredLengths (x .answers)) (restoredLengths (x .answers))) ≤ suc (length ns)
       fewer ih true = omega (arith, ih .1)
       fewer ih false = omega (arith, ih .1)

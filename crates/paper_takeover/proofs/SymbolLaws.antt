@@ -1,11 +1,11 @@
 -- No rule and no opening brings in a symbol: whatever stands in the result of a run stands in the tree that it began with. Shown over any
 -- property P of symbols: where every symbol of a tree has P, so has every symbol of what is dropped from it, split off, merged, put together
--- again and gathered, and so of what a run ends with. Assumes nothing.
+-- again and gathered, and so of what a run ends with.
 use Prim.Native.Nat.{ℕ, zero, suc, _+_, _*_, _^_}
 use mathlib.Core.Path.{_≡_, refl, subst}
 use mathlib.Core.Bool.{Bool, true, false, cond, _||_}
 use mathlib.Core.List.{List, [], _∷_, _++_, map}
-use mathlib.Core.Logic.{_⊎_, inl, inr}
+use mathlib.Core.Logic.{inl, inr}
 use mathlib.Core.Option.{Option, none, some, Option·some-injective, Option·none-ne-some}
 use lib.ListN.{length}
 use lib.IntN.{ℤ, pos}
@@ -13,11 +13,11 @@ use lib.Dec.{eqb, ltb}
 use Rattle.paper.specs.Tree.{Tree, Forest, integer, symbol, sum, product, power, nil, cons, toList, ofList, marked, weight}
 use Rattle.paper.specs.Equal.{eqZ}
 use Rattle.paper.specs.Walk.{walk}
-use Rattle.paper.specs.Rules.{Tried, does-not-apply, applies, range-exceeded, Rule, collapse, sumOf, productOf, onSumMembers, onProductMembers}
-use Rattle.paper.specs.Rules.{asInteger, isThe, unless, dropAll, anyOf, appliesIf, addZero, multiplyZero, multiplyOne, allInRange, rebuilt, outcome, combine}
-use Rattle.paper.specs.Rules.{Term, term, withOther, othersOf, productTerm, termOf, added, mergeTerms, coefficientTimes, timesUnless, fromTerm, combineLikeTerms}
-use Rattle.paper.specs.Rules.{Factor, factor, factorOf, mergeFactors, powerUnless, fromFactor, combineLikeFactors, editionOne}
-use Rattle.paper.specs.Rules.{onPowerParts, powerOne, powerConstant, raisedIf, powerPower, editionTwo, rulesOf}
+use Rattle.paper.specs.Rules.{Tried, does-not-apply, applies, range-exceeded, Rule, collapse, sumOf, productOf, onSumMembers, onProductMembers, asInteger}
+use Rattle.paper.specs.Rules.{isThe, unless, dropAll, anyOf, appliesIf, addZero, multiplyZero, multiplyOne, allInRange, rebuilt, outcome, combine, Term, term}
+use Rattle.paper.specs.Rules.{withOther, othersOf, productTerm, termOf, added, mergeTerms, coefficientTimes, timesUnless, fromTerm, combineLikeTerms, Factor}
+use Rattle.paper.specs.Rules.{factor, factorOf, mergeFactors, powerUnless, fromFactor, combineLikeFactors, editionOne, onPowerParts, powerOne, powerConstant}
+use Rattle.paper.specs.Rules.{raisedIf, powerPower, editionTwo, rulesOf}
 use Rattle.paper.specs.Driver.{Asked, no-rule, step, out-of-range, ask, Ran, done, over, Rans, dones, overs, after, tried, andThen, each, members}
 use Rattle.paper.specs.Driver.{asSum, asProduct, openOne, opened, baseFrom, gather, settle, gathered, visit, run, simplify}
 use Rattle.paper.proofs.WalkLaws.{All, all-append, walk-all}
@@ -113,7 +113,8 @@ module _ (P : ℕ → Type 0) where
   on-sum-only k h (product μ f) w = tt
   on-sum-only k h (power μ b ξ e) w = tt
 
-  on-product-only : (k : ℕ → List Tree → Tried) → ((μ : ℕ) (l : List Tree) → All Only l → TriedOnly (k μ l)) → (t : Tree) → Only t → TriedOnly (onProductMembers k t)
+  on-product-only : (k : ℕ → List Tree → Tried) → ((μ : ℕ) (l : List Tree) → All Only l → TriedOnly (k μ l)) → (t : Tree) → Only t
+      → TriedOnly (onProductMembers k t)
   unfolding onProductMembers
   on-product-only k h (integer μ z) w = tt
   on-product-only k h (symbol μ s) w = tt
@@ -121,7 +122,8 @@ module _ (P : ℕ → Type 0) where
   on-product-only k h (product μ f) w = h μ (toList f) (list-only f w)
   on-product-only k h (power μ b ξ e) w = tt
 
-  on-power-only : (k : ℕ → Tree → ℕ → ℕ → Tried) → ((μ : ℕ) (b : Tree) (ξ e : ℕ) → Only b → TriedOnly (k μ b ξ e)) → (t : Tree) → Only t → TriedOnly (onPowerParts k t)
+  on-power-only : (k : ℕ → Tree → ℕ → ℕ → Tried) → ((μ : ℕ) (b : Tree) (ξ e : ℕ) → Only b → TriedOnly (k μ b ξ e)) → (t : Tree)
+      → Only t → TriedOnly (onPowerParts k t)
   unfolding onPowerParts
   on-power-only k h (integer μ z) w = tt
   on-power-only k h (symbol μ s) w = tt
@@ -261,7 +263,8 @@ module _ (P : ℕ → Type 0) where
   like-factors-only : (t : Tree) → Only t → TriedOnly (combineLikeFactors t)
   unfolding combineLikeFactors
   like-factors-only =
-      on-product-only _ (λ μ. combine-only (productOf μ) factorOf mergeFactors fromFactor BaseOnly (productOf-only μ) factor-only merge-factors-only from-factor-only)
+      on-product-only _
+      (λ μ. combine-only (productOf μ) factorOf mergeFactors fromFactor BaseOnly (productOf-only μ) factor-only merge-factors-only from-factor-only)
 
   -- ---- steps 7, 8 and 9
   power-one-only : (t : Tree) → Only t → TriedOnly (powerOne t)

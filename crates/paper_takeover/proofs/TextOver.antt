@@ -1,6 +1,6 @@
 -- A result that travels as text, to a machine at any limit that holds it: it is the records of a finished tree, so it has a text, and what is read of
 -- that is the tree without its marks. Marks decide nothing, so that tree is finished as well, and simplifying it takes no step and no opening; the
--- value does not look at a mark; and no record of it is marked, so a release before marks judges it as this one does. Assumes nothing.
+-- value does not look at a mark; and no record of it is marked, so a release before marks judges it as this one does.
 use Prim.Native.Nat.{ℕ, _+_, _*_, _^_, _%_, _≤_}
 use mathlib.Core.Path.{_≡_, refl, sym, ap, ap₂, _∙_, subst}
 use mathlib.Core.List.{List, [], _++_}
@@ -39,13 +39,12 @@ use Rattle.paper.proofs.ErasedTrees.{erase-weight}
 use Rattle.paper.proofs.Erased.{edition-marks-decide-nothing}
 use Rattle.paper.proofs.BeforeMarks.{before-agrees}
 use Rattle.paper_text.specs.Text.{text, readText}
-use Rattle.paper_text.specs.Answers.{Filled, Taken, taken, areaAfter, readVerdict, readAnswer, writeGiven, readGiven, takenNumbers}
+use Rattle.paper_text.specs.Answers.{Filled, Taken, taken, areaAfter, readVerdict, readAnswer, writeGiven, readGiven, takenNumbers, too-heavy}
 use Rattle.paper_text.proofs.Erasing.{erase-records}
 use Rattle.paper_text.proofs.RoundTrip.{text-read}
 use Rattle.paper_text.proofs.ReadTold.{TextIs, read-text}
 use Rattle.paper_text.proofs.LengthLaws.{text-length}
 use Rattle.paper_text.proofs.TextCallLaws.{writes, reads, read-refusal-exactly}
-use Rattle.paper_text.specs.Answers.{too-heavy}
 use Rattle.paper_receiver.proofs.PieceLaws.{either-way}
 use Rattle.paper_takeover.specs.TakenOver.{writtenText, readRecords}
 use Rattle.paper_takeover.specs.LimitOver.{Holds}
@@ -172,7 +171,8 @@ module _ (lim ed : ℕ) (s : List ℕ) (b : Bytes s) (l : Lent) (e : simplified 
     write-fits =
         let small = limit-small lim (d .holds .known) in
         let n = text-length u wf in
-        subst (λ (x : Filled Measured). FitEight (measuredNumbers (x .answer))) (sym wrote) (omega arith, (omega arith, (omega (arith, n, light, small), (omega arith, (omega arith, tt)))))
+        subst (λ (x : Filled Measured). FitEight (measuredNumbers (x .answer))) (sym wrote)
+        (omega arith, (omega arith, (omega (arith, n, light, small), (omega arith, (omega arith, tt)))))
 
   -- ---- and read at a limit that holds it
   module _ (there : ℕ) (h : Holds there (simplified lim ed s l)) where

@@ -1,5 +1,5 @@
 -- A result that travels as text between two machines at one limit: it is what travels to a machine at any limit that holds it (TextOver), and its own
--- limit does. Assumes nothing.
+-- limit does.
 use Prim.Native.Nat.{ℕ}
 use Rattle.paper_takeover.specs.TakenOver.{arrives, TextTakesOver}
 use Rattle.paper_takeover.proofs.LimitTaken.{own-limit}

@@ -9,7 +9,8 @@ use Rattle.paper.specs.Answers.{Lent, Answer, simplified}
 use Rattle.paper.specs.Calls.{answerNumbers, eights}
 use Rattle.paper_batch.specs.Batch.{Site, inTurn, allNumbers}
 use Rattle.paper_shared.specs.Answers.{Handed, sharedGiven}
-use Rattle.paper_takeover.specs.TakenOver.{restored, restoredLengths, restoredWeight, againEach, answersIn, writtenText, readRecords, heldBytes, withTable}
+use Rattle.paper_takeover.specs.TakenOver.{restored, restoredLengths, restoredWeight, againEach}
+use Rattle.paper_takeover.specs.TakenOver.{answersIn, writtenText, readRecords, heldBytes, withTable}
 
 abbrev a : Tree
 a = symbol 0 0

@@ -1,5 +1,5 @@
--- Text and link on machines at the two limits, as paper's OldMachine has it of tables: of any text and of any pieces, not of results alone. Up to the old limit both
--- answer alike; beyond it the machine at the old limit refuses, by 3 or by 1 and 3.
+-- Text and link on machines at the two limits, as paper's OldMachine has it of tables: of any text and of any pieces, not of results alone. Up to the
+-- old limit both answer alike; beyond it the machine at the old limit refuses, by 3 or by 1 and 3.
 use Prim.Native.Nat.{ℕ, _%_, _≤_, _<_}
 use mathlib.Core.Path.{_≡_}
 use mathlib.Core.List.{List}

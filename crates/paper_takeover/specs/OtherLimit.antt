@@ -12,8 +12,8 @@ use Rattle.paper.specs.Tree.{Tree, weight}
 use Rattle.paper.specs.Verdict.{refused, recordsIn, tableWeight}
 use Rattle.paper.specs.Refusals.{Flawed}
 use Rattle.paper.specs.Rules.{isEdition}
-use Rattle.paper.specs.Answers.{Lent, Answer, Given, refusal, simplified}
-use Rattle.paper.specs.OldMachine.{old, higher, UpToOld}
+use Rattle.paper.specs.Answers.{Lent, Answer, refusal, simplified}
+use Rattle.paper.specs.OldMachine.{old, higher, UpToOld, Alike}
 use Rattle.paper_batch.specs.Batch.{inTurn, lengthsIn, SiteCall, siteCalled}
 use Rattle.paper_batch.specs.Sentences.{item}
 use Rattle.paper_shared.specs.Answers.{Handed, tableAt, openedOf, opens, judgedSite, unopened, openGiven, SharedGiven, unshared, sharedGiven}
@@ -25,15 +25,9 @@ pub record SameAreas (l l′ : Lent) : Type 0 where
   pub old-work : workBytes old ≤ length (l .work)
   pub higher-work : workBytes higher ≤ length (l′ .work)
 
--- the same answer, and the same bytes in `out` and `steps`
-pub record SameGiven (g g′ : Given) : Type 0 where
-  pub answer : g .answer ≡ g′ .answer
-  pub out : g .lent .out ≡ g′ .lent .out
-  pub steps : g .lent .steps ≡ g′ .lent .steps
-
 -- a table, refused or not
 abbrev pub SameCalls : Type 0
-SameCalls = (ed : ℕ) (s : List ℕ) → UpToOld s → (l l′ : Lent) → SameAreas l l′ → SameGiven (simplified old ed s l) (simplified higher ed s l′)
+SameCalls = (ed : ℕ) (s : List ℕ) → UpToOld s → (l l′ : Lent) → SameAreas l l′ → Alike (simplified old ed s l) (simplified higher ed s l′)
 
 -- ---- a whole site, each item of which is up to the old limit
 abbrev pub ItemsUpToOld : List ℕ → List ℕ → Type 0
@@ -73,7 +67,7 @@ pub record SharedUpToOld (h : Handed) : Type 0 where
 
 -- the call that opens, and the call that opens and simplifies
 pub record SameShared (g g′ : SharedGiven) : Type 0 where
-  pub given : SameGiven (g .given) (g′ .given)
+  pub given : Alike (g .given) (g′ .given)
   pub area : g .area ≡ g′ .area
 
 abbrev pub SameOpenings : Type 0

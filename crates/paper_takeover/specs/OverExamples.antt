@@ -53,7 +53,8 @@ refused-whole = afterCalls 3072 (begun 49151) cuts
 -- the second machine has the 16 bytes of the record after two pieces, and the 20 bytes that it counts, in an area of its own
 unfoldable pub copied-table : List ℕ
 copied-table =
-    tableIn (afterCalls 3072 (record { record-bytes = 20 ∷ (replicate 15 0 ++ (165 ∷ [])); area = take 20 (encode 2*a) ++ replicate 49132 7 }) (drop 20 (encode 2*a) ∷ []))
+    tableIn (afterCalls 3072
+    (record { record-bytes = 20 ∷ (replicate 15 0 ++ (165 ∷ [])); area = take 20 (encode 2*a) ++ replicate 49132 7 }) (drop 20 (encode 2*a) ∷ []))
 
 -- just as long as the limit's tables is too heavy; a byte longer is too long
 unfoldable pub over-just : Verdict

@@ -1,14 +1,14 @@
 -- Digits: what is spelt is read again, and the highest digit of a number over 0 is not 0. By induction on the bound of the digits: the
--- last digit is the remainder by ten, those before it spell the quotient. Assumes nothing.
+-- last digit is the remainder by ten, those before it spell the quotient.
 use Prim.Native.Nat.{ℕ, zero, suc, _+_, _-_, _*_, _/_, _%_, _^_, _<_, _≤_}
-use mathlib.Core.Path.{_≡_, refl, sym, ap, _∙_, subst}
-use mathlib.Core.Bool.{Bool, true, false, cond, _&&_}
+use mathlib.Core.Path.{_≡_, refl, sym, ap, _∙_}
+use mathlib.Core.Bool.{Bool, true, false, cond}
 use mathlib.Core.List.{List, [], _∷_, _++_}
 use mathlib.Core.Option.{some}
 use native.Mathlib.Omega.{arith}
 use native.Mathlib.Nat.{pow-suc}
-use borrow.Author.Tests.{ltb-true, ltb-false, lt-ltb, le-ltb, le-leb, ne-eqb, eqb-true}
-use lib.Dec.{eqb, ltb, leb}
+use borrow.Author.Tests.{ltb-true, ltb-false, lt-ltb, le-leb, ne-eqb, eqb-true}
+use lib.Dec.{eqb, ltb}
 use Rattle.paper_text.specs.Text.{nought, digitsOf, digits, begins, tail, isDigit, digitAhead, readDigits, below, readNumber}
 
 -- a digit is seen to be one
@@ -65,7 +65,8 @@ digit-first zero v after p h = absurd (omega (arith, h))
 digit-first (suc n) v after p h = go (ltb v 10) refl (λ q. digit-first n (v / 10) ((nought + v % 10) ∷ after) q (quotient-below n v h))
   where
     go : (b : Bool) → ltb v 10 ≡ b
-        → (0 < v / 10 → (digitAhead (digitsOf n (v / 10) ((nought + v % 10) ∷ after)) ≡ true) × (begins nought (digitsOf n (v / 10) ((nought + v % 10) ∷ after)) ≡ false))
+        → (0 < v / 10
+        → (digitAhead (digitsOf n (v / 10) ((nought + v % 10) ∷ after)) ≡ true) × (begins nought (digitsOf n (v / 10) ((nought + v % 10) ∷ after)) ≡ false))
         → (digitAhead (cond b ((nought + v) ∷ after) (digitsOf n (v / 10) ((nought + v % 10) ∷ after))) ≡ true)
         × (begins nought (cond b ((nought + v) ∷ after) (digitsOf n (v / 10) ((nought + v % 10) ∷ after))) ≡ false)
     go true e ih = (digit-is v (ltb-true v 10 e), ne-eqb (48 + v) 48 (λ x. absurd (omega arith)))

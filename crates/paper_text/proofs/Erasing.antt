@@ -1,4 +1,4 @@
--- Marks off: a tree has as many records without its marks. By induction on the tree, with its members. Assumes nothing.
+-- Marks off: a tree has as many records without its marks. By induction on the tree, with its members.
 use Prim.Native.Nat.{ℕ, _+_}
 use mathlib.Core.Path.{_≡_, refl, ap}
 use Rattle.paper.specs.Tree.{Tree, Forest, integer, symbol, sum, product, power, nil, cons, records, recordses}

@@ -1,17 +1,17 @@
 -- One level read by two readers of groups: where the second reads each group that the first reads, and alike, it reads the whole alike.
--- Each reader is followed along its branches, as in ReadTold; `P` holds of every place of the text that is come to. Assumes nothing.
-use Prim.Native.Nat.{ℕ, zero, suc, _+_, _-_, _*_, _^_, _<_, _≤_}
-use mathlib.Core.Path.{_≡_, refl, sym, ap, _∙_, subst}
+-- Each reader is followed along its branches, as in ReadTold; `P` holds of every place of the text that is come to.
+use Prim.Native.Nat.{ℕ, zero, suc, _+_, _-_, _*_, _^_}
+use mathlib.Core.Path.{_≡_, refl, ap, subst}
 use mathlib.Core.Bool.{Bool, true, false, cond, _&&_, not}
-use mathlib.Core.List.{List, [], _∷_, _++_}
+use mathlib.Core.List.{List, [], _∷_}
 use mathlib.Core.Option.{Option, none, some}
 use native.Mathlib.Omega.{arith}
-use borrow.Author.Tests.{eqb-true, ne-eqb, leb-true}
+use borrow.Author.Tests.{ne-eqb, leb-true}
 use lib.Dec.{eqb, ltb, leb}
 use lib.ListN.{length}
-use lib.IntN.{ℤ, pos, negsuc}
-use Rattle.paper.proofs.Tests.{and-left, and-right}
-use Rattle.paper.specs.Tree.{Tree, Forest, integer, symbol, sum, product, power, ofList}
+use lib.IntN.{pos}
+use Rattle.paper.proofs.Tests.{and-left}
+use Rattle.paper.specs.Tree.{Tree, integer, symbol, sum, product, power, ofList}
 use Rattle.paper_text.specs.Text.{opens, closes, times, plus, minus, power-sign, ess, nought, Place, in-sum, in-product, as-base}
 use Rattle.paper_text.specs.Text.{needs, Reading, then, begins, tail, digitAhead, isDigit, readDigits, below, readNumber, negative, readLeaf}
 use Rattle.paper_text.specs.Text.{Item, bare, grouped, fit, fits, alone, also, allFit, leaving, closed, exponentAfter, raisedBy, readOthers}
@@ -126,9 +126,12 @@ module _ (R : Tree → Tree → Type 0) (like : Alike R) (P : List ℕ → Type 
   past-leaf s h =
       cond-told (λ t r. P r) (begins ess s) (then (readNumber 256 (tail s)) (λ v r. some (symbol 0 v, r)))
       (cond (begins minus s) (then (readNumber (2 ^ 63 + 1) (tail s)) negative) (then (readNumber (2 ^ 63) s) (λ v r. some (integer 0 (pos v), r))))
-      (λ b. then-told (λ v r. P r) (λ t r. P r) (readNumber 256 (tail s)) (λ v r. some (symbol 0 v, r)) (past-number 256 (tail s) (past-tail ess s refl b h)) (λ v r g. g))
-      (λ n. cond-told (λ t r. P r) (begins minus s) (then (readNumber (2 ^ 63 + 1) (tail s)) negative) (then (readNumber (2 ^ 63) s) (λ v r. some (integer 0 (pos v), r)))
-      (λ b. then-told (λ v r. P r) (λ t r. P r) (readNumber (2 ^ 63 + 1) (tail s)) negative (past-number (2 ^ 63 + 1) (tail s) (past-tail minus s refl b h)) past-negative)
+      (λ b. then-told (λ v r. P r) (λ t r. P r) (readNumber 256 (tail s)) (λ v r. some (symbol 0 v, r))
+      (past-number 256 (tail s) (past-tail ess s refl b h)) (λ v r g. g))
+      (λ n. cond-told (λ t r. P r) (begins minus s) (then (readNumber (2 ^ 63 + 1) (tail s)) negative)
+      (then (readNumber (2 ^ 63) s) (λ v r. some (integer 0 (pos v), r)))
+      (λ b. then-told (λ v r. P r) (λ t r. P r) (readNumber (2 ^ 63 + 1) (tail s)) negative
+      (past-number (2 ^ 63 + 1) (tail s) (past-tail minus s refl b h)) past-negative)
       (λ b. then-told (λ v r. P r) (λ t r. P r) (readNumber (2 ^ 63) s) (λ v r. some (integer 0 (pos v), r)) (past-number (2 ^ 63) s h) (λ v r g. g)))
 
   -- ---- members at their place
@@ -180,7 +183,8 @@ module _ (R : Tree → Tree → Type 0) (like : Alike R) (P : List ℕ → Type 
       (λ b. then-follows (Like R) (Likes R) P P (r (tail s)) (r' (tail s))
       (λ i s′. then (readOthers r sign n s′) (λ l s″. some (i ∷ l, s″))) (λ i s′. then (readOthers r' sign n s′) (λ l s″. some (i ∷ l, s″)))
       (g (tail s) (past-tail sign s c b h))
-      (λ i j s′ e k. then-follows (Likes R) (Likes R) P P (readOthers r sign n s′) (readOthers r' sign n s′) (λ l s″. some (i ∷ l, s″)) (λ l s″. some (j ∷ l, s″))
+      (λ i j s′ e k. then-follows (Likes R) (Likes R) P P (readOthers r sign n s′) (readOthers r' sign n s′)
+      (λ l s″. some (i ∷ l, s″)) (λ l s″. some (j ∷ l, s″))
       (others-follow r r' sign c g n s′ k) (λ l m s″ f z. ((e, f), refl, z))))
       (λ b. (tt, refl, h))
 
@@ -216,7 +220,8 @@ module _ (R : Tree → Tree → Type 0) (like : Alike R) (P : List ℕ → Type 
         then-follows (Like R) (Like R) P P (readBase inner s) (readBase inner' s)
         (λ i r. cond (begins power-sign r) (raisedBy (tail r) (fits as-base i)) (some (i, r)))
         (λ i r. cond (begins power-sign r) (raisedBy (tail r) (fits as-base i)) (some (i, r))) (base-follows s h)
-        (λ i j r e k. cond-follows (Like R) P (begins power-sign r) (raisedBy (tail r) (fits as-base i)) (some (i, r)) (raisedBy (tail r) (fits as-base j)) (some (j, r))
+        (λ i j r e k. cond-follows (Like R) P (begins power-sign r) (raisedBy (tail r) (fits as-base i)) (some (i, r))
+        (raisedBy (tail r) (fits as-base j)) (some (j, r))
         (λ b. raised-follows (tail r) (fits as-base i) (fits as-base j) (fits-like as-base i j e) (past-tail power-sign r refl b k))
         (λ b. (e, refl, k)))
 

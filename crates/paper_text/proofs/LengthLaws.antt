@@ -1,18 +1,18 @@
 -- How long a text is, and how light. A text has at most 21 characters for each unit of weight: an integer has 20 at the most, and the sign
 -- after it; parentheses are paid by the record of their node. The other way, a tree weighs less than twice its characters. Both by
--- induction on the tree, with its members. Assumes nothing.
+-- induction on the tree, with its members.
 use Prim.Native.Nat.{ℕ, zero, suc, _+_, _-_, _*_, _/_, _%_, _^_, _<_, _≤_}
-use mathlib.Core.Path.{_≡_, refl, sym, ap, _∙_}
+use mathlib.Core.Path.{_≡_, refl}
 use mathlib.Core.Bool.{Bool, true, false, cond}
-use mathlib.Core.List.{List, [], _∷_, _++_}
+use mathlib.Core.List.{List, [], _∷_}
 use native.Mathlib.Omega.{arith}
-use borrow.Author.Tests.{ltb-true, ltb-false}
+use borrow.Author.Tests.{ltb-false}
 use lib.Dec.{ltb}
 use lib.ListN.{length, length-append}
-use lib.IntN.{ℤ, pos, negsuc}
+use lib.IntN.{pos, negsuc}
 use Rattle.paper.specs.Tree.{Tree, Forest, integer, symbol, sum, product, power, nil, cons, count, weight, weights}
 use Rattle.paper.specs.WellFormed.{WF, WFs}
-use Rattle.paper_text.specs.Text.{opens, closes, times, plus, minus, power-sign, ess, nought, digits, digitsOf, signedDigits, Place, in-sum, in-product, as-base}
+use Rattle.paper_text.specs.Text.{closes, times, plus, power-sign, nought, digits, digitsOf, signedDigits, Place, in-sum, in-product, as-base}
 use Rattle.paper_text.specs.Text.{needs, enclosed, text, joined, others}
 use Rattle.paper_text.proofs.DigitLaws.{quotient-below}
 use Rattle.paper_text.proofs.RoundTrip.{digits-one, enclosed-long}

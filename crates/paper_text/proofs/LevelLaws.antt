@@ -1,24 +1,25 @@
 -- The judge by blocks of levels is exact, and so is the cut reader on a text that is shallow enough. What is skimmed of a text written by
 -- the writer has the rank of its tree, and no reader asks more of a group than its rank: so the cut reader follows the whole one
--- (`cut-follows`), and the whole one follows the cut one where every block is read (`blocks-follow`, by the length). Assumes nothing.
-use Prim.Native.Nat.{ℕ, zero, suc, _+_, _-_, _*_, _^_, _<_, _≤_}
+-- (`cut-follows`), and the whole one follows the cut one where every block is read (`blocks-follow`, by the length).
+use Prim.Native.Nat.{ℕ, zero, suc, _+_, _-_, _*_, _<_, _≤_}
 use mathlib.Core.Path.{_≡_, refl, sym, ap, _∙_, subst}
-use mathlib.Core.Bool.{Bool, true, false, cond, _&&_, _||_, not}
+use mathlib.Core.Bool.{Bool, true, false, cond, _&&_, not}
 use mathlib.Core.List.{List, [], _∷_, _++_, append-nil}
 use mathlib.Core.Option.{Option, none, some}
 use native.Mathlib.Omega.{arith}
-use borrow.Author.Tests.{ltb-true, ltb-false, lt-ltb, le-ltb}
+use borrow.Author.Tests.{not-true, ltb-true, ltb-false, lt-ltb, le-ltb}
 use lib.Dec.{eqb, ltb, leb}
 use lib.ListN.{length}
-use lib.IntN.{ℤ, pos, negsuc}
-use Rattle.paper.specs.Tree.{Tree, Forest, integer, symbol, sum, product, power, nil, cons, ofList, weight, records}
+use lib.IntN.{pos, negsuc}
+use Rattle.paper.specs.Tree.{Tree, integer, symbol, sum, product, power, ofList, weight, records}
 use Rattle.paper.specs.WellFormed.{WF}
-use Rattle.paper.proofs.Tests.{never, and-left, and-right, not-so, true-not-false, both-ways}
+use Rattle.paper.proofs.Tests.{never, and-left, and-right, true-not-false, both-ways}
 use Rattle.paper.proofs.Value.{weight-pos}
 use Rattle.paper_text.specs.Text.{opens, closes, Place, in-sum, in-product, as-base, needs, text}
-use Rattle.paper_text.specs.Text.{Reading, then, begins, tail, Item, bare, grouped, closed, readSum, readWithin, whole, readText}
+use Rattle.paper_text.specs.Text.{Reading, then, begins, tail, grouped, closed, readWithin, whole, readText}
 use Rattle.paper.specs.Erased.{erase}
-use Rattle.paper_text.specs.Levels.{rank, signRank, standIn, greater, mark, leaves, skimFrom, skim, readCut, ended, closing, entered, blocks, isForm, shallower, shallow, formed}
+use Rattle.paper_text.specs.Levels.{rank, signRank, standIn, greater, mark, leaves, skimFrom, skim, readCut}
+use Rattle.paper_text.specs.Levels.{ended, closing, entered, blocks, isForm, shallower, shallow, formed}
 use Rattle.paper_text.proofs.RoundTrip.{within-read, closes-stops}
 use Rattle.paper_text.proofs.ReadTold.{Told, TreeIs, within-told, begins-is, TextIs, read-text}
 use Rattle.paper_text.proofs.Follows.{Follows, then-follows, cond-follows, Like, AllLike, Alike, plain, sum-follows}
@@ -26,19 +27,11 @@ use Rattle.paper_text.proofs.Passed.{Walk, text-passed}
 
 plain-open : (c : ℕ) → plain c ≡ true → eqb c opens ≡ false
 unfolding plain
-plain-open c h = go (eqb c opens) (and-left (not (eqb c opens)) (not (eqb c closes)) h)
-  where
-    go : (b : Bool) → not b ≡ true → b ≡ false
-    go true e = never e
-    go false e = refl
+plain-open c h = not-true (eqb c opens) (and-left (not (eqb c opens)) (not (eqb c closes)) h)
 
 plain-close : (c : ℕ) → plain c ≡ true → eqb c closes ≡ false
 unfolding plain
-plain-close c h = go (eqb c closes) (and-right (not (eqb c opens)) (not (eqb c closes)) h)
-  where
-    go : (b : Bool) → not b ≡ true → b ≡ false
-    go true e = never e
-    go false e = refl
+plain-close c h = not-true (eqb c closes) (and-right (not (eqb c opens)) (not (eqb c closes)) h)
 
 -- ---- trees of one rank are alike at every place
 abbrev SameRank : Tree → Tree → Type 0
@@ -184,7 +177,8 @@ cut-follows (suc m) (suc n) s =
     (λ t u r e k. closed-follows SameRank Anywhere Anywhere t u r e k (λ x y. tt))) s tt
 
 -- ---- the blocks of what the writer wrote are read
-reading-alike : (s : List ℕ) (t : Tree) (o : Reading Tree) → Follows SameRank Anywhere (some (t, s)) o → (closing o ≡ begins closes s) × (ended o ≡ ended (some (t, s)))
+reading-alike : (s : List ℕ) (t : Tree) (o : Reading Tree) → Follows SameRank Anywhere (some (t, s)) o
+    → (closing o ≡ begins closes s) × (ended o ≡ ended (some (t, s)))
 unfolding closing ended
 reading-alike s t none h = absurd h
 reading-alike s t (some x) h = (ap (begins closes) (sym (h .1)), ap (λ (y : List ℕ). cond (ltb 0 (length y)) false true) (sym (h .1)))
@@ -346,11 +340,6 @@ within-follows (suc k) (suc n) (suc m) s h g l =
     (within-follows k n m q (omega (arith, h)) (omega (arith, g)) (omega (arith, p)))
     (λ t u r e c. closed-follows _≡_ (Short k) (Short (suc k)) t u r e c (λ x y. omega (arith, y)))) s l
 
-pub within-enough : (n : ℕ) (s : List ℕ) → length s < n → readWithin n s ≡ readWithin (suc (length s)) s
-within-enough n s h =
-    followed-equal (Short (length s)) (Short (length s)) (readWithin n s) (readWithin (suc (length s)) s)
-    (within-follows (length s) n (suc (length s)) s h (omega arith) (omega arith)) (within-follows (length s) (suc (length s)) n s (omega arith) h (omega arith))
-
 -- ---- a shallow text is read whole by the cut reader
 abbrev Shallow : ℕ → ℕ → List ℕ → Type 0
 Shallow left n s = (shallow left s ≡ true) × (length s ≤ n)
@@ -387,8 +376,10 @@ shallow-group (suc left) n q p ih =
 both-follow : (n left : ℕ) (s : List ℕ) → Shallow left n s → BothFollow left n s
 unfolding readCut readWithin
 both-follow zero left s p = (
-  sum-follows _≡_ equal-alike (Shallow left 0) (shallow-past left 0) (λ q. readCut left q) (λ q. readWithin 0 q) (λ q z. let l = z .1 in absurd (omega (arith, l))) s p,
-  sum-follows _≡_ equal-alike (Shallow left 0) (shallow-past left 0) (λ q. readWithin 0 q) (λ q. readCut left q) (λ q z. let l = z .1 in absurd (omega (arith, l))) s p,
+  sum-follows _≡_ equal-alike (Shallow left 0) (shallow-past left 0) (λ q. readCut left q) (λ q. readWithin 0 q)
+      (λ q z. let l = z .1 in absurd (omega (arith, l))) s p,
+  sum-follows _≡_ equal-alike (Shallow left 0) (shallow-past left 0) (λ q. readWithin 0 q) (λ q. readCut left q)
+      (λ q z. let l = z .1 in absurd (omega (arith, l))) s p,
 )
 both-follow (suc n) left s p = (
   sum-follows _≡_ equal-alike (Shallow left (suc n)) (shallow-past left (suc n)) (λ q. readCut left q) (λ q. readWithin (suc n) q)

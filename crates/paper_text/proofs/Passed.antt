@@ -1,18 +1,18 @@
 -- Walking over the text of a tree: what a walk does at each character that is no parenthesis, and at each group, tells what it does at the
--- whole text: it notes the rank of the tree. By induction on the tree, a group being handed the law of its own tree. Assumes nothing.
-use Prim.Native.Nat.{ℕ, zero, suc, _+_, _-_, _*_, _/_, _%_, _^_, _<_, _≤_}
-use mathlib.Core.Path.{_≡_, refl, sym, ap, _∙_, subst}
-use mathlib.Core.Bool.{Bool, true, false, cond, _&&_, _||_, not}
+-- whole text: it notes the rank of the tree. By induction on the tree, a group being handed the law of its own tree.
+use Prim.Native.Nat.{ℕ, zero, suc, _+_, _-_, _/_, _%_, _<_, _≤_}
+use mathlib.Core.Path.{_≡_, refl, sym, ap, _∙_}
+use mathlib.Core.Bool.{Bool, true, false, cond}
 use mathlib.Core.List.{List, [], _∷_, _++_, append-assoc}
 use native.Mathlib.Omega.{arith}
 use borrow.Author.Tests.{ne-eqb, ltb-true}
-use lib.Dec.{eqb, ltb}
-use lib.IntN.{ℤ, pos, negsuc}
+use lib.Dec.{ltb}
+use lib.IntN.{pos, negsuc}
 use Rattle.paper.specs.Tree.{Tree, Forest, integer, symbol, sum, product, power, nil, cons, count, weight, weights}
 use Rattle.paper.specs.WellFormed.{WF, WFs}
 use Rattle.paper.proofs.Value.{weight-pos}
-use Rattle.paper_text.specs.Text.{opens, closes, times, plus, minus, power-sign, ess, nought, digits, digitsOf, signedDigits, Place, in-sum, in-product, as-base}
-use Rattle.paper_text.specs.Text.{needs, enclosed, text, joined, others}
+use Rattle.paper_text.specs.Text.{opens, closes, times, plus, minus, power-sign, ess, nought, digits, digitsOf, signedDigits, Place, in-sum, in-product}
+use Rattle.paper_text.specs.Text.{as-base, needs, enclosed, text, joined, others}
 use Rattle.paper_text.specs.Levels.{rank, signRank}
 use Rattle.paper_text.proofs.DigitLaws.{digits-after}
 use Rattle.paper_text.proofs.Follows.{plain}
@@ -138,7 +138,8 @@ module _ {X S : Type 0} (F : S → List ℕ → X) (note : S → ℕ → S) (Ok 
     text-passed (product μ f) a rest w o = joined-passed in-product times f a rest refl shown-in-product (w .0) (w .1) o
     text-passed (power μ b ξ e) a rest w o =
         ap (F a) (append-assoc (enclosed (needs as-base b) (text b)) (power-sign ∷ digits e) rest)
-        ∙ member-passed as-base b a ((power-sign ∷ digits e) ++ rest) (w .0) (k .lighter a (weight b) (2 + weight b - 2) (omega arith) o) (λ c more q. text-passed b c more (w .0) q)
+        ∙ member-passed as-base b a ((power-sign ∷ digits e) ++ rest) (w .0)
+        (k .lighter a (weight b) (2 + weight b - 2) (omega arith) o) (λ c more q. text-passed b c more (w .0) q)
         ∙ k .step (note a (shown as-base b)) power-sign (digits e ++ rest) refl
         ∙ digits-passed (note (note a (shown as-base b)) 1) e rest
         ∙ ap (λ (c : S). F c rest) (k .greater-later a (shown as-base b) 1 (shown-as-base b))

@@ -1,24 +1,23 @@
 -- What is read was written so: whatever a reader answers is well-formed, and the text is its text and what was left. Each reader is
--- followed along its own branches; only the depth and the lists need an induction. Assumes nothing.
+-- followed along its own branches; only the depth and the lists need an induction.
 use Prim.Native.Nat.{ℕ, zero, suc, _+_, _-_, _*_, _/_, _%_, _^_, _<_, _≤_}
 use mathlib.Core.Path.{_≡_, refl, sym, ap, _∙_, subst}
 use mathlib.Core.Bool.{Bool, true, false, cond, _&&_, not}
 use mathlib.Core.List.{List, [], _∷_, _++_, append-assoc, append-nil}
 use mathlib.Core.Option.{Option, none, some}
 use native.Mathlib.Omega.{arith}
-use native.Mathlib.Nat.{pow-suc}
 use borrow.Author.Tests.{ltb-true, ltb-false, lt-ltb, le-ltb, leb-true, eqb-true, eqb-false}
 use lib.Dec.{eqb, ltb, leb, lit<}
-use lib.ListN.{length, length-append}
-use lib.IntN.{ℤ, pos, negsuc}
+use lib.ListN.{length}
+use lib.IntN.{pos}
 use Rattle.paper.proofs.Tests.{and-left, and-right}
-use Rattle.paper.specs.Tree.{Tree, Forest, integer, symbol, sum, product, power, nil, cons, count, toList, ofList, records, recordses}
+use Rattle.paper.specs.Tree.{Tree, integer, symbol, sum, product, count, ofList}
 use Rattle.paper.specs.WellFormed.{WF, WFs, Mark}
-use Rattle.paper_text.specs.Text.{opens, closes, times, plus, minus, power-sign, ess, nought, digits, digitsOf, signedDigits, Place, in-sum, in-product, as-base}
-use Rattle.paper_text.specs.Text.{needs, enclosed, text, joined, others, Reading, then, begins, tail, digitAhead, isDigit, readDigits, below, readNumber, negative, readLeaf}
-use Rattle.paper_text.specs.Text.{Item, bare, grouped, fit, fits, alone, also, allFit, leaving, closed, exponentAfter, raisedBy, readOthers}
-use Rattle.paper_text.specs.Text.{readBase, readPower, productFrom, readProduct, sumFrom, readSum, readWithin, whole, readText}
-use Rattle.paper_text.proofs.DigitLaws.{digit-is, read-digit, read-end, digits-after, quotient-below}
+use Rattle.paper_text.specs.Text.{opens, closes, times, plus, minus, power-sign, ess, nought, digits, digitsOf, signedDigits, Place, in-sum, in-product}
+use Rattle.paper_text.specs.Text.{as-base, needs, enclosed, text, joined, others, Reading, then, begins, tail, digitAhead, isDigit, readDigits, below}
+use Rattle.paper_text.specs.Text.{readNumber, negative, readLeaf, Item, bare, grouped, fit, fits, alone, also, allFit, leaving, closed, exponentAfter}
+use Rattle.paper_text.specs.Text.{raisedBy, readOthers, readBase, readPower, productFrom, readProduct, sumFrom, readSum, readWithin, whole, readText}
+use Rattle.paper_text.proofs.DigitLaws.{read-digit, read-end, digits-after, quotient-below}
 
 -- ---- what a reading tells
 module _ {A : Type 0} (P : A → List ℕ → Type 0) where
@@ -55,7 +54,8 @@ digits-fuel (suc n) (suc m) v after p h g =
   where
     go : (b : Bool) → ltb v 10 ≡ b
         → (0 < v / 10 → digitsOf n (v / 10) ((nought + v % 10) ∷ after) ≡ digitsOf m (v / 10) ((nought + v % 10) ∷ after))
-        → cond b ((nought + v) ∷ after) (digitsOf n (v / 10) ((nought + v % 10) ∷ after)) ≡ cond b ((nought + v) ∷ after) (digitsOf m (v / 10) ((nought + v % 10) ∷ after))
+        → cond b ((nought + v) ∷ after) (digitsOf n (v / 10) ((nought + v % 10) ∷ after))
+        ≡ cond b ((nought + v) ∷ after) (digitsOf m (v / 10) ((nought + v % 10) ∷ after))
     go true e ih = refl
     go false e ih = ih (let q : 10 ≤ v = ltb-false v 10 e in omega arith)
 
@@ -93,7 +93,8 @@ read-spelt (c ∷ s) u p h =
         → (readDigits (10 * u + (c - nought)) s .0 < 10 ^ 20
         → digits (10 * u + (c - nought)) ++ s ≡ digits (readDigits (10 * u + (c - nought)) s .0) ++ readDigits (10 * u + (c - nought)) s .1)
         → cond b (readDigits (10 * u + (c - nought)) s) (u, c ∷ s) .0 < 10 ^ 20
-        → digits u ++ (c ∷ s) ≡ digits (cond b (readDigits (10 * u + (c - nought)) s) (u, c ∷ s) .0) ++ cond b (readDigits (10 * u + (c - nought)) s) (u, c ∷ s) .1
+        → digits u ++ (c ∷ s)
+        ≡ digits (cond b (readDigits (10 * u + (c - nought)) s) (u, c ∷ s) .0) ++ cond b (readDigits (10 * u + (c - nought)) s) (u, c ∷ s) .1
     go true e l ih h =
         let d = digit-of c e in
         let m = digits-more u (c - nought) p (d .0) (omega (arith, l, h)) in
@@ -111,7 +112,8 @@ one-digit : (x : ℕ) → x < 10 → digits x ≡ (nought + x) ∷ []
 unfolding digits digitsOf
 one-digit x h = rw (lt-ltb x 10 h)
 
-below-told : (bound : ℕ) (s : List ℕ) (r : ℕ × List ℕ) → bound ≤ 10 ^ 20 → (r .0 < 10 ^ 20 → s ≡ digits (r .0) ++ r .1) → Told (NumberIs bound s) (below bound r)
+below-told : (bound : ℕ) (s : List ℕ) (r : ℕ × List ℕ) → bound ≤ 10 ^ 20 → (r .0 < 10 ^ 20 → s ≡ digits (r .0) ++ r .1)
+    → Told (NumberIs bound s) (below bound r)
 unfolding below
 below-told bound s r h g =
     cond-told (NumberIs bound s) (ltb (r .0) bound) (some r) none
@@ -123,7 +125,8 @@ starts-nought bound s h d =
     let e : readDigits 0 (nought ∷ s) ≡ (0, s) = read-digit 0 0 s (omega arith) ∙ read-end 0 s d in
     rw e (below-told bound (nought ∷ s) (0, s) h (λ l. refl))
 
-starts-other : (bound c : ℕ) (s : List ℕ) → bound ≤ 10 ^ 20 → isDigit c ≡ true → (c ≡ nought → ⊥) → Told (NumberIs bound (c ∷ s)) (below bound (readDigits 0 (c ∷ s)))
+starts-other : (bound c : ℕ) (s : List ℕ) → bound ≤ 10 ^ 20 → isDigit c ≡ true → (c ≡ nought → ⊥)
+    → Told (NumberIs bound (c ∷ s)) (below bound (readDigits 0 (c ∷ s)))
 starts-other bound c s h d n =
     let x = digit-of c d in
     let e : readDigits 0 (c ∷ s) ≡ readDigits (c - nought) s
@@ -184,7 +187,8 @@ leaf-told s =
     (cond (begins minus s) (then (readNumber (2 ^ 63 + 1) (tail s)) negative) (then (readNumber (2 ^ 63) s) (λ v r. some (integer 0 (pos v), r))))
     (λ b. then-told (NumberIs 256 (tail s)) (TreeIs s) (readNumber 256 (tail s)) (λ v r. some (symbol 0 v, r)) (number-told 256 (tail s) (omega arith))
     (λ v r h. ((h .0, no-mark), begins-is ess s b ∙ ap (λ (y : List ℕ). ess ∷ y) (h .1))))
-    (λ n. cond-told (TreeIs s) (begins minus s) (then (readNumber (2 ^ 63 + 1) (tail s)) negative) (then (readNumber (2 ^ 63) s) (λ v r. some (integer 0 (pos v), r)))
+    (λ n. cond-told (TreeIs s) (begins minus s) (then (readNumber (2 ^ 63 + 1) (tail s)) negative)
+    (then (readNumber (2 ^ 63) s) (λ v r. some (integer 0 (pos v), r)))
     (λ b. then-told (NumberIs (2 ^ 63 + 1) (tail s)) (TreeIs s) (readNumber (2 ^ 63 + 1) (tail s)) negative (number-told (2 ^ 63 + 1) (tail s) (omega arith))
     (λ v r h. negative-told s v r (h .0) (begins-is minus s b ∙ ap (λ (y : List ℕ). minus ∷ y) (h .1))))
     (λ b. then-told (NumberIs (2 ^ 63) s) (TreeIs s) (readNumber (2 ^ 63) s) (λ v r. some (integer 0 (pos v), r)) (number-told (2 ^ 63) s (omega arith))
@@ -288,13 +292,15 @@ module _ (inner : List ℕ → Reading Tree) (told : (q : List ℕ) → Told (Tr
   exponent-told s q b (suc e) r w h g =
       ((w, omega arith, h, no-mark, no-mark), g ∙ sym (append-assoc (enclosed (needs as-base b) (text b)) (power-sign ∷ digits (suc e)) r))
 
-  raised-told : (s r : List ℕ) (i : Item) → (o : Option Tree) → FitIs as-base i o → s ≡ spelled i ++ r → begins power-sign r ≡ true → Told (ItemIs s) (raisedBy (tail r) o)
+  raised-told : (s r : List ℕ) (i : Item) → (o : Option Tree) → FitIs as-base i o → s ≡ spelled i ++ r → begins power-sign r ≡ true
+      → Told (ItemIs s) (raisedBy (tail r) o)
   unfolding raisedBy
   raised-told s r i none f e b = tt
   raised-told s r i (some u) f e b =
       then-told (NumberIs (2 ^ 63) (tail r)) (ItemIs s) (readNumber (2 ^ 63) (tail r)) (exponentAfter u (tail r)) (number-told (2 ^ 63) (tail r) (omega arith))
       (λ v q h. exponent-told s (tail r) u v q (f .0) (h .0)
-      (e ∙ ap (λ (y : List ℕ). y ++ r) (sym (f .1)) ∙ ap (λ (y : List ℕ). enclosed (needs as-base u) (text u) ++ y) (begins-is power-sign r b ∙ ap (λ (y : List ℕ). power-sign ∷ y) (h .1))))
+      (e ∙ ap (λ (y : List ℕ). y ++ r) (sym (f .1))
+      ∙ ap (λ (y : List ℕ). enclosed (needs as-base u) (text u) ++ y) (begins-is power-sign r b ∙ ap (λ (y : List ℕ). power-sign ∷ y) (h .1))))
 
   power-told : (s : List ℕ) → Told (ItemIs s) (readPower inner s)
   unfolding readPower
@@ -319,7 +325,8 @@ module _ (inner : List ℕ → Reading Tree) (told : (q : List ℕ) → Told (Tr
   product-told : (s : List ℕ) → Told (ItemIs s) (readProduct inner s)
   unfolding readProduct
   product-told s =
-      then-told (ItemIs s) (ItemIs s) (readPower inner s) (λ i r. then (readOthers (readPower inner) times (length r) r) (λ l q. productFrom inner i q l)) (power-told s)
+      then-told (ItemIs s) (ItemIs s) (readPower inner s)
+      (λ i r. then (readOthers (readPower inner) times (length r) r) (λ l q. productFrom inner i q l)) (power-told s)
       (λ i r h. then-told (ItemsAre times r) (ItemIs s) (readOthers (readPower inner) times (length r) r) (λ l q. productFrom inner i q l)
       (others-told (readPower inner) times (length r) r power-told)
       (λ l q m. product-from s q i l (h .0) (m .0) (h .1 ∙ ap (λ (y : List ℕ). spelled i ++ y) (m .1))))
@@ -341,7 +348,8 @@ module _ (inner : List ℕ → Reading Tree) (told : (q : List ℕ) → Told (Tr
   sum-told : (s : List ℕ) → Told (TreeIs s) (readSum inner s)
   unfolding readSum
   sum-told s =
-      then-told (ItemIs s) (TreeIs s) (readProduct inner s) (λ i r. then (readOthers (readProduct inner) plus (length r) r) (λ l q. sumFrom inner i q l)) (product-told s)
+      then-told (ItemIs s) (TreeIs s) (readProduct inner s)
+      (λ i r. then (readOthers (readProduct inner) plus (length r) r) (λ l q. sumFrom inner i q l)) (product-told s)
       (λ i r h. then-told (ItemsAre plus r) (TreeIs s) (readOthers (readProduct inner) plus (length r) r) (λ l q. sumFrom inner i q l)
       (others-told (readProduct inner) plus (length r) r product-told)
       (λ l q m. sum-from s q i l (h .0) (m .0) (h .1 ∙ ap (λ (y : List ℕ). spelled i ++ y) (m .1))))

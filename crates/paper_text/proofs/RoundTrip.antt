@@ -1,22 +1,24 @@
 -- Reading what was written gives the same tree: one level of a text is read member by member, a group by the reader of the sum inside it;
--- so by induction on the depth, with the number of records as its bound. Assumes nothing.
-use Prim.Native.Nat.{ℕ, zero, suc, _+_, _-_, _*_, _/_, _%_, _^_, _<_, _≤_}
-use mathlib.Core.Path.{_≡_, refl, sym, ap, _∙_, subst}
-use mathlib.Core.Bool.{Bool, true, false, cond, not}
+-- so by induction on the depth, with the number of records as its bound.
+use Prim.Native.Nat.{ℕ, zero, suc, _+_, _-_, _/_, _%_, _^_, _<_, _≤_}
+use mathlib.Core.Path.{_≡_, refl, subst}
+use mathlib.Core.Bool.{Bool, true, false, cond}
 use mathlib.Core.List.{List, [], _∷_, _++_, append-assoc, append-nil}
-use mathlib.Core.Option.{Option, none, some}
+use mathlib.Core.Option.{some}
 use native.Mathlib.Omega.{arith}
 use borrow.Author.Tests.{eq-eqb}
-use lib.Dec.{eqb, ltb}
+use lib.Dec.{ltb}
 use lib.ListN.{length, length-append}
-use lib.IntN.{ℤ, pos, negsuc}
-use Rattle.paper.specs.Tree.{Tree, Forest, integer, symbol, sum, product, power, nil, cons, count, toList, ofList, records, recordses}
+use lib.IntN.{pos, negsuc}
+use Rattle.paper.specs.Tree.{Tree, Forest, integer, symbol, sum, product, power, nil, cons, count, toList, records, recordses}
 use Rattle.paper.specs.WellFormed.{WF, WFs}
 use Rattle.paper_text.specs.Text.{opens, closes, times, plus, minus, power-sign, ess, nought, digits, signedDigits, Place, in-sum, in-product, as-base}
-use Rattle.paper_text.specs.Text.{needs, enclosed, text, joined, others, Reading, then, begins, tail, digitAhead, isDigit, readNumber, negative, readLeaf}
+use Rattle.paper_text.specs.Text.{needs, enclosed, text, joined, others, Reading, then, begins, tail, digitAhead, isDigit, negative, readLeaf}
 use Rattle.paper_text.specs.Text.{Item, bare, grouped, fit, fits, alone, also, allFit, leaving, closed, exponentAfter, raisedBy, readOthers}
 use Rattle.paper_text.specs.Text.{readBase, readPower, productFrom, readProduct, sumFrom, readSum, readWithin, whole, readText, digitsOf}
 use Rattle.paper.specs.Erased.{erase, erases}
+use Rattle.paper.proofs.Tests.{true-not-false}
+use Rattle.paper.proofs.WFLaws.{of-to-list}
 use Rattle.paper.proofs.EncodeLaws.{records-pos}
 use Rattle.paper_text.proofs.DigitLaws.{number-read, digits-ahead, no-sign}
 
@@ -63,18 +65,7 @@ unfolding allFit itemsOf also toList erases
 items-fit p nil = refl
 items-fit p (cons t f) = rw (item-fits p t, items-fit p f)
 
-pub list-forest : (f : Forest) → ofList (toList f) ≡ f
-unfolding ofList toList
-list-forest nil = refl
-list-forest (cons t f) = ap (cons t) (list-forest f)
-
-true-false : true ≡ false → ⊥
-true-false e = let z : _≡_ {A = ℕ} 0 1 = cc in omega arith
-
 -- ---- leaves
-small : (v k : ℕ) → v < k → k ≤ 2 ^ 63 + 1 → v < 10 ^ 20
-small v k h g = omega (arith, h, g)
-
 not-negative : (n : ℕ) (rest : List ℕ) → n < 2 ^ 63 → digitAhead rest ≡ false → readLeaf (digits n ++ rest) ≡ some (integer 0 (pos n), rest)
 unfolding readLeaf then isDigit
 not-negative n rest h d =
@@ -161,7 +152,8 @@ module _ (inner : List ℕ → Reading Tree) (N : ℕ)
       → readBase inner (enclosed (needs as-base t) (text t) ++ rest) ≡ some (itemOf (needs as-base t) (erase t), rest)
   unfolding needs enclosed text itemOf signedDigits begins isDigit erase
   base-read (integer μ (pos n)) rest w h d =
-      leaf-base (digits n ++ rest) rest (integer 0 (pos n)) (no-sign opens (digits n ++ rest) refl (digits-ahead n rest (let v = w .0 in omega (arith, v)))) (not-negative n rest (w .0) d)
+      leaf-base (digits n ++ rest) rest (integer 0 (pos n))
+      (no-sign opens (digits n ++ rest) refl (digits-ahead n rest (let v = w .0 in omega (arith, v)))) (not-negative n rest (w .0) d)
   base-read (integer μ (negsuc n)) rest w h d = group-read (integer μ (negsuc n)) rest w h
   base-read (symbol μ v) rest w h d = leaf-base (ess ∷ (digits v ++ rest)) rest (symbol 0 v) refl (is-symbol v rest (w .0) d)
   base-read (sum μ f) rest w h d = group-read (sum μ f) rest w h
@@ -196,14 +188,15 @@ module _ (inner : List ℕ → Reading Tree) (N : ℕ)
   unfolding needs text signedDigits begins isDigit records erase
   bare-read (integer μ (pos n)) rest q w h d p =
       no-power (digits n ++ rest) rest (bare (integer 0 (pos n))) p
-      (leaf-base (digits n ++ rest) rest (integer 0 (pos n)) (no-sign opens (digits n ++ rest) refl (digits-ahead n rest (let v = w .0 in omega (arith, v)))) (not-negative n rest (w .0) d))
+      (leaf-base (digits n ++ rest) rest (integer 0 (pos n))
+      (no-sign opens (digits n ++ rest) refl (digits-ahead n rest (let v = w .0 in omega (arith, v)))) (not-negative n rest (w .0) d))
   bare-read (integer μ (negsuc n)) rest q w h d p =
       no-power (minus ∷ (digits (suc n) ++ rest)) rest (bare (integer 0 (negsuc n))) p
       (leaf-base (minus ∷ (digits (suc n) ++ rest)) rest (integer 0 (negsuc n)) refl (is-negative n rest (w .0) d))
   bare-read (symbol μ v) rest q w h d p =
       no-power (ess ∷ (digits v ++ rest)) rest (bare (symbol 0 v)) p (leaf-base (ess ∷ (digits v ++ rest)) rest (symbol 0 v) refl (is-symbol v rest (w .0) d))
-  bare-read (sum μ f) rest q w h d p = absurd (true-false q)
-  bare-read (product μ f) rest q w h d p = absurd (true-false q)
+  bare-read (sum μ f) rest q w h d p = absurd (true-not-false refl q)
+  bare-read (product μ f) rest q w h d p = absurd (true-not-false refl q)
   bare-read (power μ b ξ e) rest q w h d p = power-goes b e rest (w .0) (w .1) (w .2) (omega (arith, h)) d
 
   -- a factor, in parentheses or not
@@ -235,7 +228,7 @@ module _ (inner : List ℕ → Reading Tree) (N : ℕ)
         others-read (readPower inner) in-product times FactorStop times-stops (cons u g) (length more) rest (rs .1)
             (others-long (readPower inner) in-product times FactorStop times-stops (cons u g) rest) fs (s .no-times),
         items-fit in-product (cons t (cons u g)),
-        list-forest (erases (cons t (cons u g))),
+        of-to-list (erases (cons t (cons u g))),
       )
 
   -- no other factor
@@ -251,12 +244,13 @@ module _ (inner : List ℕ → Reading Tree) (N : ℕ)
       no-times-after (text (integer μ z) ++ rest) rest (bare (integer 0 z)) (s .no-times) (bare-read (integer μ z) rest refl w h (s .no-digit) (s .no-raise))
   bare-term (symbol μ v) rest q w h s =
       no-times-after (text (symbol μ v) ++ rest) rest (bare (symbol 0 v)) (s .no-times) (bare-read (symbol μ v) rest refl w h (s .no-digit) (s .no-raise))
-  bare-term (sum μ f) rest q w h s = absurd (true-false q)
+  bare-term (sum μ f) rest q w h s = absurd (true-not-false refl q)
   bare-term (product μ nil) rest q w h s = absurd (omega (arith, w .0))
   bare-term (product μ (cons t nil)) rest q w h s = absurd (omega (arith, w .0))
   bare-term (product μ (cons t (cons u g))) rest q w h s = product-read t u g rest (w .1) (omega (arith, h)) s
   bare-term (power μ b ξ e) rest q w h s =
-      no-times-after (text (power μ b ξ e) ++ rest) rest (bare (power 0 (erase b) 0 e)) (s .no-times) (bare-read (power μ b ξ e) rest refl w h (s .no-digit) (s .no-raise))
+      no-times-after (text (power μ b ξ e) ++ rest) rest (bare (power 0 (erase b) 0 e)) (s .no-times)
+      (bare-read (power μ b ξ e) rest refl w h (s .no-digit) (s .no-raise))
 
   -- a term, in parentheses or not
   pub term-read : (t : Tree) (rest : List ℕ) → WF t → records t < N → TermStop rest
@@ -287,14 +281,15 @@ module _ (inner : List ℕ → Reading Tree) (N : ℕ)
         others-read (readProduct inner) in-sum plus TermStop plus-stops (cons u g) (length more) rest (rs .1)
             (others-long (readProduct inner) in-sum plus TermStop plus-stops (cons u g) rest) s b,
         items-fit in-sum (cons t (cons u g)),
-        list-forest (erases (cons t (cons u g))),
+        of-to-list (erases (cons t (cons u g))),
       )
 
   no-plus-after : (s rest : List ℕ) (t : Tree) → begins plus rest ≡ false → readProduct inner s ≡ some (bare t, rest) → readSum inner s ≡ some (t, rest)
   unfolding readSum then sumFrom alone leaving
   no-plus-after s rest t b e = rw (e, none-follows (readProduct inner) plus (length rest) rest b)
 
-  pub sum-read : (t : Tree) (rest : List ℕ) → WF t → records t ≤ N → TermStop rest → begins plus rest ≡ false → readSum inner (text t ++ rest) ≡ some (erase t, rest)
+  pub sum-read : (t : Tree) (rest : List ℕ) → WF t → records t ≤ N → TermStop rest → begins plus rest ≡ false
+      → readSum inner (text t ++ rest) ≡ some (erase t, rest)
   unfolding text records count needs erase
   sum-read (integer μ z) rest w h s b = no-plus-after (text (integer μ z) ++ rest) rest (integer 0 z) b (bare-term (integer μ z) rest refl w h s)
   sum-read (symbol μ v) rest w h s b = no-plus-after (text (symbol μ v) ++ rest) rest (symbol 0 v) b (bare-term (symbol μ v) rest refl w h s)
@@ -302,7 +297,8 @@ module _ (inner : List ℕ → Reading Tree) (N : ℕ)
   sum-read (sum μ (cons t nil)) rest w h s b = absurd (omega (arith, w .0))
   sum-read (sum μ (cons t (cons u g))) rest w h s b = sum-goes t u g rest (w .1) (omega (arith, h)) s b
   sum-read (product μ f) rest w h s b = no-plus-after (text (product μ f) ++ rest) rest (product 0 (erases f)) b (bare-term (product μ f) rest refl w h s)
-  sum-read (power μ c ξ e) rest w h s b = no-plus-after (text (power μ c ξ e) ++ rest) rest (power 0 (erase c) 0 e) b (bare-term (power μ c ξ e) rest refl w h s)
+  sum-read (power μ c ξ e) rest w h s b =
+      no-plus-after (text (power μ c ξ e) ++ rest) rest (power 0 (erase c) 0 e) b (bare-term (power μ c ξ e) rest refl w h s)
 
 -- ---- the whole
 pub closes-stops : (s : List ℕ) → TermStop (closes ∷ s)
@@ -331,7 +327,8 @@ pub digits-one : (v : ℕ) → 1 ≤ length (digits v)
 unfolding digits digitsOf
 digits-one v = go (ltb v 10) (digits-some 19 (v / 10) ((nought + v % 10) ∷ []))
   where
-    go : (b : Bool) → 1 ≤ length (digitsOf 19 (v / 10) ((nought + v % 10) ∷ [])) → 1 ≤ length (cond b ((nought + v) ∷ []) (digitsOf 19 (v / 10) ((nought + v % 10) ∷ [])))
+    go : (b : Bool) → 1 ≤ length (digitsOf 19 (v / 10) ((nought + v % 10) ∷ []))
+        → 1 ≤ length (cond b ((nought + v) ∷ []) (digitsOf 19 (v / 10) ((nought + v % 10) ∷ [])))
     go true ih = omega arith
     go false ih = ih
 

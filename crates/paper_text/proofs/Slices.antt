@@ -1,24 +1,23 @@
 -- The answer slices of the two calls on text, and what a refusal leaves. What a call from C returns and leaves is chosen by one test of the slice's
 -- length, so each side of that test is one equation (`text-slices`); what a call answers and leaves is chosen by its verdict, so where the verdict
--- refuses, the area stays (`refused-read`, `refused-write`). Assumes nothing.
-use Prim.Native.Nat.{ℕ, _*_, _≤_, _<_}
+-- refuses, the area stays (`refused-read`, `refused-write`).
+use Prim.Native.Nat.{ℕ, _*_}
 use mathlib.Core.Path.{_≡_, refl}
 use mathlib.Core.List.{List}
 use native.Mathlib.Omega.{arith}
 use borrow.Author.Tests.{le-ltb, lt-ltb, ne-eqb}
 use lib.ListN.{length}
-use Rattle.paper.specs.Verdict.{Verdict, isAccepted}
-use Rattle.paper.specs.Answers.{Measured, measured}
+use Rattle.paper.specs.Verdict.{isAccepted}
+use Rattle.paper.specs.Answers.{measured}
 use Rattle.paper.specs.Calls.{measuredNumbers, tooShort}
 use Rattle.paper.specs.Slices.{measureBytes}
 use Rattle.paper.proofs.Slices.{tells-in, measured-count}
 use Rattle.paper_text.specs.Text.{readText}
-use Rattle.paper_text.specs.Answers.{Taken, taken, areaAfter, takenNumbers, readVerdict, readAnswer, readGiven}
-use Rattle.paper_text.specs.Answers.{readTextReturns, readTextAnswers, readTextLeaves}
-use Rattle.paper_text.specs.Answers.{writeVerdict, writeAnswer, writeGiven, writeTextReturns, writeTextAnswers, writeTextLeaves}
+use Rattle.paper_text.specs.Answers.{Taken, taken, areaAfter, takenNumbers, readVerdict, readAnswer, readGiven, readTextReturns, readTextAnswers}
+use Rattle.paper_text.specs.Answers.{readTextLeaves, writeVerdict, writeAnswer, writeGiven, writeTextReturns, writeTextAnswers, writeTextLeaves}
 use Rattle.paper_text.specs.Slices.{readBytes, Slices}
 
-taken-count : (r : Taken) → length (takenNumbers r) ≡ 3
+pub taken-count : (r : Taken) → length (takenNumbers r) ≡ 3
 unfolding takenNumbers
 taken-count r = refl
 

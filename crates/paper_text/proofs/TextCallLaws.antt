@@ -1,9 +1,9 @@
 -- The reader's and the writer's answers in the paper's words. 14 is given exactly when no well-formed tree has the text; reading what was
--- written gives the same records, and writing what was read gives the same text. Each from the two round trips. Assumes nothing.
+-- written gives the same records, and writing what was read gives the same text. Each from the two round trips.
 use Prim.Native.Nat.{ℕ, _+_, _*_, _≤_, _<_}
 use mathlib.Core.Path.{_≡_, refl, sym, ap, _∙_, subst}
 use mathlib.Core.Bool.{Bool, true, false, cond}
-use mathlib.Core.List.{List, [], _∷_, _++_}
+use mathlib.Core.List.{List, _++_}
 use mathlib.Core.Option.{Option, none, some}
 use mathlib.Core.Logic.{_↔_}
 use native.Mathlib.Omega.{arith}
@@ -21,7 +21,8 @@ use Rattle.paper.specs.Verdict.{Verdict, accepted, refused, isAccepted, verdict
 use Rattle.paper.specs.Answers.{Measured, measured}
 use Rattle.paper_text.specs.Text.{text, readText}
 use Rattle.paper_text.specs.Answers.{Filled, Taken, taken, areaAfter, roomFor, textIn, writeVerdict, writeAnswer, writeGiven}
-use Rattle.paper_text.specs.Answers.{recordsOf, countOf, readJudged, readVerdict, readAnswer, readGiven, ReadRefused, not-a-limit, not-of-the-form, too-heavy, too-short, WriteRefused, table-refused, text-too-long}
+use Rattle.paper_text.specs.Answers.{recordsOf, countOf, readJudged, readVerdict, readAnswer, readGiven, ReadRefused}
+use Rattle.paper_text.specs.Answers.{not-a-limit, not-of-the-form, too-heavy, too-short, WriteRefused, table-refused, text-too-long}
 use Rattle.paper_text.specs.Levels.{formed}
 use Rattle.paper.proofs.Tests.{never}
 use Rattle.paper.proofs.EncodeLaws.{encode-length}
@@ -30,7 +31,7 @@ use Rattle.paper.proofs.CallLaws.{verdict-accepted}
 use Rattle.paper.proofs.LimitLaws.{limit-small}
 use Rattle.paper.proofs.ReadLaws.{tree-of-written}
 use Rattle.paper.proofs.TableLaws.{written-accepted}
-use Rattle.paper.proofs.AcceptedLaws.{Holds, accepted-holds}
+use Rattle.paper.proofs.AcceptedLaws.{accepted-holds}
 use Rattle.paper.specs.Erased.{erase}
 use Rattle.paper.proofs.ErasedTrees.{erase-weight}
 use Rattle.paper_text.proofs.Erasing.{erase-records}

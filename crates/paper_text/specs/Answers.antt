@@ -1,5 +1,6 @@
 -- The writer and the reader of formulas as text: the whole answer of each, and the lent area afterwards, as functions of the bytes handed in;
--- and their calls from C. "1 to 5 for its table, then 6" for the writer; 14, then 3, then 6 for the reader; "all leave the area unchanged". lim is the limit, which comes first.
+-- and their calls from C. "1 to 5 for its table, then 6" for the writer; 14, then 3, then 6 for the reader; "all leave the area unchanged". lim is the
+-- limit, which comes first.
 use Prim.Native.Nat.{ℕ, _*_, _≤_, _<_}
 use mathlib.Core.Path.{_≡_}
 use mathlib.Core.Bool.{Bool, true, false, cond}

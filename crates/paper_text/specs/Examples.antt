@@ -1,5 +1,5 @@
--- Small texts, as one table: trees with their texts, texts that no tree has, and calls at the edge; each row is one that a wrong reading of the request would get
--- wrong. proofs/Computed proves the whole table by one statement.
+-- Small texts, as one table: trees with their texts, texts that no tree has, and calls at the edge; each row is one that a wrong reading of the request
+-- would get wrong. proofs/Computed proves the whole table by one statement.
 use Prim.Native.Nat.{ℕ}
 use mathlib.Core.List.{List, [], _∷_}
 use lib.IntN.{pos, negsuc}
@@ -83,15 +83,19 @@ spelt =
     -- 2*-3
     ∷ row (product 0 (cons (integer 0 (pos 2)) (cons (integer 0 (negsuc 2)) nil))) (d2 ∷ times ∷ minus ∷ d3 ∷ [])
     -- s0+(s1+s2)
-    ∷ row (sum 0 (cons (symbol 0 0) (cons (sum 0 (cons (symbol 0 1) (cons (symbol 0 2) nil))) nil))) (s ∷ d0 ∷ plus ∷ opens ∷ s ∷ d1 ∷ plus ∷ s ∷ d2 ∷ closes ∷ [])
+    ∷ row (sum 0 (cons (symbol 0 0) (cons (sum 0 (cons (symbol 0 1) (cons (symbol 0 2) nil))) nil)))
+    (s ∷ d0 ∷ plus ∷ opens ∷ s ∷ d1 ∷ plus ∷ s ∷ d2 ∷ closes ∷ [])
     -- (s0+s1)+s2
-    ∷ row (sum 0 (cons (sum 0 (cons (symbol 0 0) (cons (symbol 0 1) nil))) (cons (symbol 0 2) nil))) (opens ∷ s ∷ d0 ∷ plus ∷ s ∷ d1 ∷ closes ∷ plus ∷ s ∷ d2 ∷ [])
+    ∷ row (sum 0 (cons (sum 0 (cons (symbol 0 0) (cons (symbol 0 1) nil))) (cons (symbol 0 2) nil)))
+    (opens ∷ s ∷ d0 ∷ plus ∷ s ∷ d1 ∷ closes ∷ plus ∷ s ∷ d2 ∷ [])
     -- s0*(s1*s2)
-    ∷ row (product 0 (cons (symbol 0 0) (cons (product 0 (cons (symbol 0 1) (cons (symbol 0 2) nil))) nil))) (s ∷ d0 ∷ times ∷ opens ∷ s ∷ d1 ∷ times ∷ s ∷ d2 ∷ closes ∷ [])
+    ∷ row (product 0 (cons (symbol 0 0) (cons (product 0 (cons (symbol 0 1) (cons (symbol 0 2) nil))) nil)))
+    (s ∷ d0 ∷ times ∷ opens ∷ s ∷ d1 ∷ times ∷ s ∷ d2 ∷ closes ∷ [])
     -- s0*s1+s2
     ∷ row (sum 0 (cons (product 0 (cons (symbol 0 0) (cons (symbol 0 1) nil))) (cons (symbol 0 2) nil))) (s ∷ d0 ∷ times ∷ s ∷ d1 ∷ plus ∷ s ∷ d2 ∷ [])
     -- (s0+1)*2
-    ∷ row (product 0 (cons (sum 0 (cons (symbol 0 0) (cons (integer 0 (pos 1)) nil))) (cons (integer 0 (pos 2)) nil))) (opens ∷ s ∷ d0 ∷ plus ∷ d1 ∷ closes ∷ times ∷ d2 ∷ [])
+    ∷ row (product 0 (cons (sum 0 (cons (symbol 0 0) (cons (integer 0 (pos 1)) nil))) (cons (integer 0 (pos 2)) nil)))
+    (opens ∷ s ∷ d0 ∷ plus ∷ d1 ∷ closes ∷ times ∷ d2 ∷ [])
     -- s0^2*s1
     ∷ row (product 0 (cons (power 0 (symbol 0 0) 0 2) (cons (symbol 0 1) nil))) (s ∷ d0 ∷ power-sign ∷ d2 ∷ times ∷ s ∷ d1 ∷ [])
     -- 1+s0^2
@@ -107,7 +111,8 @@ spelt =
     -- (s0+s1)^1
     ∷ row (power 0 (sum 0 (cons (symbol 0 0) (cons (symbol 0 1) nil))) 0 1) (opens ∷ s ∷ d0 ∷ plus ∷ s ∷ d1 ∷ closes ∷ power-sign ∷ d1 ∷ [])
     -- s0^9223372036854775807
-    ∷ row (power 0 (symbol 0 0) 0 9223372036854775807) (s ∷ d0 ∷ power-sign ∷ d9 ∷ d2 ∷ d2 ∷ d3 ∷ d3 ∷ d7 ∷ d2 ∷ d0 ∷ d3 ∷ d6 ∷ d8 ∷ d5 ∷ d4 ∷ d7 ∷ d7 ∷ d5 ∷ d8 ∷ d0 ∷ d7 ∷ [])
+    ∷ row (power 0 (symbol 0 0) 0 9223372036854775807)
+    (s ∷ d0 ∷ power-sign ∷ d9 ∷ d2 ∷ d2 ∷ d3 ∷ d3 ∷ d7 ∷ d2 ∷ d0 ∷ d3 ∷ d6 ∷ d8 ∷ d5 ∷ d4 ∷ d7 ∷ d7 ∷ d5 ∷ d8 ∷ d0 ∷ d7 ∷ [])
     ∷ []
 
 -- "14 text not of this form (an integer out of range and an exponent under 1 included)"

@@ -1,15 +1,15 @@
--- The judge by blocks, character by character, and what a reading of the outermost block tells. Assumes nothing.
-use Prim.Native.Nat.{ℕ, zero, suc, _+_, _-_, _*_, _≤_, _<_}
-use mathlib.Core.Path.{_≡_, refl, sym, ap, _∙_, subst}
+-- The judge by blocks, character by character, and what a reading of the outermost block tells.
+use Prim.Native.Nat.{ℕ, zero, suc, _+_, _-_, _≤_, _<_}
+use mathlib.Core.Path.{_≡_, refl, sym, ap, _∙_}
 use mathlib.Core.Bool.{Bool, true, false, cond, _&&_}
-use mathlib.Core.List.{List, [], _∷_}
-use mathlib.Core.Option.{none, some}
+use mathlib.Core.List.{List}
+use mathlib.Core.Option.{none}
 use native.Mathlib.Omega.{arith}
 use borrow.Author.Tests.{eq-eqb, ne-eqb, lt-ltb, le-ltb}
-use lib.Dec.{eqb, ltb}
+use lib.Dec.{ltb}
 use lib.ListN.{length, getD, drop, length-drop}
 use Rattle.paper.specs.Tree.{Tree}
-use Rattle.paper_text.specs.Text.{opens, closes, Reading, then, begins, bare, grouped, readSum, readText}
+use Rattle.paper_text.specs.Text.{closes, begins, bare, grouped, readSum, readText}
 use Rattle.paper_text.specs.Levels.{readCut, closing, ended, entered, blocks, isForm, formed}
 use Rattle.paper_text.proofs.PlaceLaws.{from-here, at-end}
 use Rattle.paper_text.proofs.LevelLaws.{levels-exactly}
@@ -23,7 +23,8 @@ module _ (s : List ℕ) (at k : ℕ) where
   unfolding readCut closing
   no-closing h = sym (ap closing (bared-none (readSum (readCut k) (drop at s)) h))
 
-  pub closing-there : {L : Tree → Type 0} (r e w : ℕ) → Stands s at (bared (readSum (readCut k) (drop at s))) bare L r e w → begins closes (drop e s) ≡ closing (readCut (suc k) (drop at s))
+  pub closing-there : {L : Tree → Type 0} (r e w : ℕ) → Stands s at (bared (readSum (readCut k) (drop at s))) bare L r e w
+      → begins closes (drop e s) ≡ closing (readCut (suc k) (drop at s))
   unfolding readCut closing
   closing-there r e w h = sym (ap closing (bared-bare (readSum (readCut k) (drop at s)) (h .tree) (drop e s) (h .read)))
 
@@ -40,7 +41,8 @@ module _ (s : List ℕ) (i left k : ℕ) (h : i < length s) where
   unfolding entered
   one-deeper e p l = (at-open e ∙ go left p, omega (arith, l))
     where
-      go : (left : ℕ) → 0 < left → entered k left (λ l. blocks k l (drop (i + 1) s)) (closing (readCut (suc k) (drop (i + 1) s))) ≡ blocks k (left - 1) (drop (i + 1) s)
+      go : (left : ℕ) → 0 < left
+          → entered k left (λ l. blocks k l (drop (i + 1) s)) (closing (readCut (suc k) (drop (i + 1) s))) ≡ blocks k (left - 1) (drop (i + 1) s)
       go zero p = absurd (omega (arith, p))
       go (suc left) p = let e : left ≡ suc left - 1 = omega arith in ap (λ (x : ℕ). blocks k x (drop (i + 1) s)) e
 
@@ -101,15 +103,18 @@ module _ (s : List ℕ) (k : ℕ) where
   unfolding isForm readCut ended
   no-form h = sym (sym (levels-exactly k s) ∙ rw (bared-none (readSum (readCut k) s) h))
 
-  pub left-over : {L : Tree → Type 0} (r e w : ℕ) → Stands s 0 (bared (readSum (readCut k) (drop 0 s))) bare L r e w → e < length s → false ≡ formed (readText s)
+  pub left-over : {L : Tree → Type 0} (r e w : ℕ) → Stands s 0 (bared (readSum (readCut k) (drop 0 s))) bare L r e w → e < length s
+      → false ≡ formed (readText s)
   unfolding isForm readCut ended
   left-over r e w h l =
       let d = length-drop e s in
-      sym (sym (levels-exactly k s) ∙ rw (bared-bare (readSum (readCut k) s) (h .tree) (drop e s) (h .read), lt-ltb 0 (length (drop e s)) (omega (arith, d, l))))
+      sym (sym (levels-exactly k s)
+      ∙ rw (bared-bare (readSum (readCut k) s) (h .tree) (drop e s) (h .read), lt-ltb 0 (length (drop e s)) (omega (arith, d, l))))
 
   pub by-blocks : {L : Tree → Type 0} (r e w : ℕ) (b : Bool) → Stands s 0 (bared (readSum (readCut k) (drop 0 s))) bare L r e w
       → length s ≤ e → b ≡ blocks k k s → b ≡ formed (readText s)
   unfolding isForm readCut ended
   by-blocks r e w b h l q =
       let d = length-drop e s in
-      q ∙ sym (sym (levels-exactly k s) ∙ rw (bared-bare (readSum (readCut k) s) (h .tree) (drop e s) (h .read), le-ltb 0 (length (drop e s)) (omega (arith, d, l))))
+      q ∙ sym (sym (levels-exactly k s)
+      ∙ rw (bared-bare (readSum (readCut k) s) (h .tree) (drop e s) (h .read), le-ltb 0 (length (drop e s)) (omega (arith, d, l))))

@@ -1,16 +1,16 @@
--- Items in parentheses, and items raised to a power. What a tree is read as tells what the group and the power are read as. Assumes nothing.
+-- Items in parentheses, and items raised to a power. What a tree is read as tells what the group and the power are read as.
 use Prim.Native.Nat.{ℕ, zero, suc, _+_, _-_, _*_, _^_, _≤_, _<_}
 use mathlib.Core.Path.{_≡_, refl, sym, ap, _∙_, subst}
 use mathlib.Core.Bool.{Bool, true, false, cond, not}
-use mathlib.Core.List.{List, [], _∷_}
-use mathlib.Core.Option.{Option, none, some}
+use mathlib.Core.List.{List}
+use mathlib.Core.Option.{none, some}
 use native.Mathlib.Omega.{arith}
 use borrow.Author.Tests.{ltb-true, ltb-false, lt-leb, le-leb}
 use lib.Dec.{ltb, leb}
 use lib.ListN.{length, drop}
-use lib.IntN.{ℤ, pos, negsuc}
-use Rattle.paper.specs.Tree.{Tree, integer, symbol, sum, product, power, weight}
-use Rattle.paper_text.specs.Text.{closes, power-sign, Place, in-sum, in-product, as-base, needs, Reading, then, begins, tail, readNumber, closed, exponentAfter, raisedBy, bare, grouped, fit, fits}
+use Rattle.paper.specs.Tree.{Tree, power, weight}
+use Rattle.paper_text.specs.Text.{closes, power-sign, Place, in-sum, in-product, as-base, needs, Reading, then}
+use Rattle.paper_text.specs.Text.{begins, readNumber, closed, exponentAfter, raisedBy, bare, grouped, fit, fits}
 use Rattle.paper_text.specs.Text as paper
 use Rattle.paper_text.specs.Levels.{rank}
 use Rattle.paper_text.proofs.PlaceLaws.{sign-inside, tail-there}
@@ -138,59 +138,44 @@ abbrev pub MemberIs : Place → List ℕ → ℕ → Reading paper.Item → (ℕ
 MemberIs p s at o L n Unfit = Told (Misfit p s n) o
 MemberIs p s at o L n (Fit e w q) = (e ≡ n) × FitIs p s at o (L q) e w
 
-bare-member : (p : Place) (s : List ℕ) (at : ℕ) (o : Reading paper.Item) (L : ℕ → Tree → Type 0) (k e w q : ℕ) → Stands s at o bare (L q) k e w
-    → MemberIs p s at o L e (cond (ltb k (bound p)) (Fit e w q) Unfit)
-unfolding fits fit
-bare-member p s at o L k e w q h = go (ltb k (bound p)) refl
-  where
-    need : (b : Bool) → leb (bound p) k ≡ b → needs p (h .tree) ≡ b
-    need b y = needs-from p (h .tree) ∙ ap (leb (bound p)) (sym (h .ranked)) ∙ y
+fit-is : {p : Place} {s : List ℕ} {at : ℕ} {o : Reading paper.Item} {wrap : Tree → paper.Item} {L : Tree → Type 0} {k e w : ℕ}
+    (h : Stands s at o wrap L k e w) → fits p (wrap (h .tree)) ≡ some (h .tree) → FitIs p s at o L e w
+fit-is {wrap = wrap} h f =
+    record {
+      item = wrap (h .tree);
+      tree = h .tree;
+      read = h .read;
+      fits-there = f;
+      weighs = h .weighs;
+      ahead = h .ahead;
+      within = h .within;
+      light = h .light;
+      laid = h .laid;
+    }
 
-    go : (b : Bool) → ltb k (bound p) ≡ b → MemberIs p s at o L e (cond b (Fit e w q) Unfit)
-    go true y = (
-      refl,
-      record {
-        item = bare (h .tree);
-        tree = h .tree;
-        read = h .read;
-        fits-there = rw (need false (lt-leb (bound p) k (ltb-true k (bound p) y)));
-        weighs = h .weighs;
-        ahead = h .ahead;
-        within = h .within;
-        light = h .light;
-        laid = h .laid;
-      },
-    )
-    go false y =
-        subst (Told (Misfit p s e)) (sym (h .read))
-        (record { unfit = rw (need true (le-leb (bound p) k (ltb-false k (bound p) y))); place = refl })
+module _ (p : Place) (s : List ℕ) (at : ℕ) (o : Reading paper.Item) (L : ℕ → Tree → Type 0) (k e w q : ℕ) where
+  need : {wrap : Tree → paper.Item} (h : Stands s at o wrap (L q) k e w) (b : Bool) → leb (bound p) k ≡ b → needs p (h .tree) ≡ b
+  need h b y = needs-from p (h .tree) ∙ ap (leb (bound p)) (sym (h .ranked)) ∙ y
 
-grouped-member : (p : Place) (s : List ℕ) (at : ℕ) (o : Reading paper.Item) (L : ℕ → Tree → Type 0) (k e w q : ℕ) → Stands s at o grouped (L q) k e w
-    → MemberIs p s at o L e (cond (ltb k (bound p)) Unfit (Fit e w q))
-unfolding fits fit
-grouped-member p s at o L k e w q h = go (ltb k (bound p)) refl
-  where
-    need : (b : Bool) → leb (bound p) k ≡ b → needs p (h .tree) ≡ b
-    need b y = needs-from p (h .tree) ∙ ap (leb (bound p)) (sym (h .ranked)) ∙ y
+  bare-member : Stands s at o bare (L q) k e w → MemberIs p s at o L e (cond (ltb k (bound p)) (Fit e w q) Unfit)
+  unfolding fits fit
+  bare-member h = go (ltb k (bound p)) refl
+    where
+      go : (b : Bool) → ltb k (bound p) ≡ b → MemberIs p s at o L e (cond b (Fit e w q) Unfit)
+      go true y = (refl, fit-is h (rw (need h false (lt-leb (bound p) k (ltb-true k (bound p) y)))))
+      go false y =
+          subst (Told (Misfit p s e)) (sym (h .read))
+          (record { unfit = rw (need h true (le-leb (bound p) k (ltb-false k (bound p) y))); place = refl })
 
-    go : (b : Bool) → ltb k (bound p) ≡ b → MemberIs p s at o L e (cond b Unfit (Fit e w q))
-    go false y = (
-      refl,
-      record {
-        item = grouped (h .tree);
-        tree = h .tree;
-        read = h .read;
-        fits-there = rw (need true (le-leb (bound p) k (ltb-false k (bound p) y)));
-        weighs = h .weighs;
-        ahead = h .ahead;
-        within = h .within;
-        light = h .light;
-        laid = h .laid;
-      },
-    )
-    go true y =
-        subst (Told (Misfit p s e)) (sym (h .read))
-        (record { unfit = rw (need false (lt-leb (bound p) k (ltb-true k (bound p) y))); place = refl })
+  grouped-member : Stands s at o grouped (L q) k e w → MemberIs p s at o L e (cond (ltb k (bound p)) Unfit (Fit e w q))
+  unfolding fits fit
+  grouped-member h = go (ltb k (bound p)) refl
+    where
+      go : (b : Bool) → ltb k (bound p) ≡ b → MemberIs p s at o L e (cond b Unfit (Fit e w q))
+      go false y = (refl, fit-is h (rw (need h true (le-leb (bound p) k (ltb-false k (bound p) y)))))
+      go true y =
+          subst (Told (Misfit p s e)) (sym (h .read))
+          (record { unfit = rw (need h false (lt-leb (bound p) k (ltb-true k (bound p) y))); place = refl })
 
 pub member : (p : Place) (s : List ℕ) (at : ℕ) (o : Reading paper.Item) (L : ℕ → Tree → Type 0) (i : Item) (m : Member) → ItemIs s at o L i
     → m ≡ fitted (bound p) i → MemberIs p s at o L (nextOf i) m
@@ -219,17 +204,20 @@ module _ (s : List ℕ) (at : ℕ) (o : Reading paper.Item) where
   unfolding then raising raisedBy
   raising-read L e w f b = rw (f .read, b, f .fits-there, tail-there s e (sign-inside s e power-sign b))
 
-  pub no-exponent : (L : Tree → Type 0) (e w : ℕ) → FitIs as-base s at o L e w → begins power-sign (drop e s) ≡ true → NumberRead (2 ^ 63) s (e + 1) No → then o raising ≡ none
+  pub no-exponent : (L : Tree → Type 0) (e w : ℕ) → FitIs as-base s at o L e w → begins power-sign (drop e s) ≡ true
+      → NumberRead (2 ^ 63) s (e + 1) No → then o raising ≡ none
   unfolding then
-  no-exponent L e w f b r = raising-read L e w f b ∙ rw (← r .says)
+  no-exponent L e w f b r = raising-read L e w f b ∙ rw (← r .reads)
 
-  pub exponent-nought : (L : Tree → Type 0) (e w v g : ℕ) → FitIs as-base s at o L e w → begins power-sign (drop e s) ≡ true → NumberRead (2 ^ 63) s (e + 1) (Is v g) → v < 1
+  pub exponent-nought : (L : Tree → Type 0) (e w v g : ℕ) → FitIs as-base s at o L e w → begins power-sign (drop e s) ≡ true
+      → NumberRead (2 ^ 63) s (e + 1) (Is v g) → v < 1
       → then o raising ≡ none
   unfolding then exponentAfter
-  exponent-nought L e w zero g f b r h = raising-read L e w f b ∙ rw (← r .says)
+  exponent-nought L e w zero g f b r h = raising-read L e w f b ∙ rw (← r .reads)
   exponent-nought L e w (suc v) g f b r h = absurd (omega (arith, h))
 
-  pub is-raised : (L L' : Tree → Type 0) (e w v g : ℕ) → FitIs as-base s at o L e w → begins power-sign (drop e s) ≡ true → NumberRead (2 ^ 63) s (e + 1) (Is v g)
+  pub is-raised : (L L' : Tree → Type 0) (e w v g : ℕ) → FitIs as-base s at o L e w → begins power-sign (drop e s) ≡ true
+      → NumberRead (2 ^ 63) s (e + 1) (Is v g)
       → 1 ≤ v → ((t : Tree) → L t → L' (power 0 t 0 v)) → Stands s at (then o raising) bare L' 1 g (w + 2)
   unfolding then exponentAfter rank weight
   is-raised L L' e w zero g f b r h step = absurd (omega (arith, h))
@@ -240,7 +228,7 @@ module _ (s : List ℕ) (at : ℕ) (o : Reading paper.Item) where
       let q = f .weighs in
       record {
         tree = power 0 (f .tree) 0 (suc v);
-        read = raising-read L e w f b ∙ rw (← r .says);
+        read = raising-read L e w f b ∙ rw (← r .reads);
         ranked = refl;
         weighs = omega (arith, q);
         ahead = omega (arith, a, c);
@@ -277,21 +265,18 @@ placed s d p (Grouped k e w q) m h y = subst (Placed s d e) (sym y) (go (ltb k p
 
 -- ---- the record after an item: a tree has no more records than weight, and weighs less than twice its characters
 module _ (s : List ℕ) (at : ℕ) (o : Reading paper.Item) (old new : List ℕ) (d : ℕ) (low : d ≤ 2 * at) where
+  pub stands-sized : {wrap : Tree → paper.Item} {k e w q : ℕ} → Stands s at o wrap (Laid old d new q) k e w
+      → (w + 1 ≤ 2 * length s) × (d ≤ q) × (q + 1 ≤ 2 * e) × (e ≤ length s)
+  stands-sized h =
+      let l = h .light in
+      let n = h .within in
+      let a = h .ahead in
+      let g = h .weighs in
+      let x = h .laid .next in
+      let r = records-weight (h .tree) in
+      (omega (arith, l, n), omega (arith, x), omega (arith, x, r, g, l, low, a), n)
+
   pub sized : (i : Item) → ItemIs s at o (Laid old d new) i → Sized s d i
   sized Not h = tt
-  sized (Bare k e w q) h =
-      let l = h .light in
-      let n = h .within in
-      let a = h .ahead in
-      let g = h .weighs in
-      let x = h .laid .next in
-      let r = records-weight (h .tree) in
-      (omega (arith, l, n), omega (arith, x), omega (arith, x, r, g, l, low, a), n)
-  sized (Grouped k e w q) h =
-      let l = h .light in
-      let n = h .within in
-      let a = h .ahead in
-      let g = h .weighs in
-      let x = h .laid .next in
-      let r = records-weight (h .tree) in
-      (omega (arith, l, n), omega (arith, x), omega (arith, x, r, g, l, low, a), n)
+  sized (Bare k e w q) h = stands-sized h
+  sized (Grouped k e w q) h = stands-sized h

@@ -1,22 +1,19 @@
 -- Members one after the other, as the loops of `sum` and `product` read them: the trees read so far, with those that the rest gives after
--- them, are what the whole gives. A member that does not fit its place spoils the whole, whatever follows. Assumes nothing.
-use Prim.Native.Nat.{ℕ, zero, suc, _+_, _-_, _*_, _≤_, _<_}
+-- them, are what the whole gives. A member that does not fit its place spoils the whole, whatever follows.
+use Prim.Native.Nat.{ℕ, zero, suc, _+_, _-_, _*_, _≤_}
 use mathlib.Core.Path.{_≡_, refl, sym, ap, _∙_, subst}
-use mathlib.Core.Bool.{Bool, true, false, cond, not}
+use mathlib.Core.Bool.{true, false}
 use mathlib.Core.List.{List, [], _∷_, _++_, append-assoc, append-nil}
-use mathlib.Core.Option.{Option, none, some}
+use mathlib.Core.Option.{Option, none, some, Option·some-injective}
 use native.Mathlib.Omega.{arith}
 use lib.ListN.{length, drop, length-drop}
-use Rattle.paper.specs.Tree.{Tree, Forest, nil, cons, sum, product, ofList, weight, weights}
-use Rattle.paper_text.specs.Text.{Place, in-sum, in-product, plus, times, Reading, then, begins, tail, Item, bare, grouped, alone, fits, also, allFit, leaving, readOthers}
-use Rattle.paper_text.specs.Text.{readPower, productFrom, readProduct, sumFrom, readSum}
-use Rattle.paper_text.specs.Levels.{rank}
+use Rattle.paper.specs.Tree.{Tree, Forest, ofList, weight, weights}
+use Rattle.paper_text.specs.Text.{Place, Reading, then, begins, tail}
+use Rattle.paper_text.specs.Text.{Item, bare, fits, also, allFit, leaving, readOthers}
 use Rattle.paper.proofs.Tests.{never}
 use Rattle.paper_text.proofs.PlaceLaws.{sign-inside, tail-there}
 use Rattle.paper_text.proofs.ReadTold.{Told}
-use Rattle.parse.specs.declared.Item.the-variants.{Not, Bare, Grouped}
 use Rattle.parse.specs.Parsed.{Laid, Stands}
-use Rattle.parse.specs.declared.Item as code
 use Rattle.parse.proofs.ItemLaws.{FitIs, Misfit}
 use Rattle.parse.proofs.LaidLaws.{no-rows, one-row}
 use Rattle.parse.specs.Joined.{Rows, Nodes, whole, finish, firstIn, Joining, Going}
@@ -47,12 +44,15 @@ abbrev Nonempty : List Item → Type 0
 Nonempty [] = ⊥
 Nonempty (i ∷ l) = Unit {0}
 
-module _ {r : List ℕ → Reading Item} {p : Place} {sign k : ℕ} {node : Forest → Tree} {from : Item → List ℕ → List Item → Reading Item} (n : Nodes r p sign k node from) where
-  finish-more : (acc : List Tree) (i : Item) (t : Tree) (l : List Item) (z : List ℕ) → fits p i ≡ some t → finish n acc (i ∷ l) z ≡ finish n (acc ++ (t ∷ [])) l z
+module _ {r : List ℕ → Reading Item} {p : Place} {sign k : ℕ} {node : Forest → Tree} {from : Item → List ℕ → List Item → Reading Item}
+    (n : Nodes r p sign k node from) where
+  finish-more : (acc : List Tree) (i : Item) (t : Tree) (l : List Item) (z : List ℕ) → fits p i ≡ some t
+      → finish n acc (i ∷ l) z ≡ finish n (acc ++ (t ∷ [])) l z
   unfolding finish allFit also leaving
   finish-more acc i t l z e = rw e (go (allFit p l))
     where
-      go : (o : Option (List Tree)) → leaving z (λ ts. bare (node (ofList (acc ++ ts)))) (also (some t) o) ≡ leaving z (λ ts. bare (node (ofList ((acc ++ (t ∷ [])) ++ ts)))) o
+      go : (o : Option (List Tree))
+          → leaving z (λ ts. bare (node (ofList (acc ++ ts)))) (also (some t) o) ≡ leaving z (λ ts. bare (node (ofList ((acc ++ (t ∷ [])) ++ ts)))) o
       go none = refl
       go (some ts) = ap (λ (x : List Tree). some (bare (node (ofList x)), z)) (sym (append-assoc acc (t ∷ []) ts))
 
@@ -102,7 +102,8 @@ module _ {r : List ℕ → Reading Item} {p : Place} {sign k : ℕ} {node : Fore
           (others-some (length (drop m s)) (drop m s) b (some-left s m b)) (λ l z y. from-misfit i l z (h .unfit) y)
           ∙ then-none (readOthers r sign (length (drop m s)) (drop m s)))
 
-  pub begin-joining : (s : List ℕ) (L : Tree → Type 0) (A : List Tree → Type 0) (at e w : ℕ) → FitIs p s at (r (drop at s)) L e w → begins sign (drop e s) ≡ true → A []
+  pub begin-joining : (s : List ℕ) (L : Tree → Type 0) (A : List Tree → Type 0) (at e w : ℕ) → FitIs p s at (r (drop at s)) L e w
+      → begins sign (drop e s) ≡ true → A []
       → Joining n s A at e (w + 1)
   unfolding whole then ofList weight firstIn
   begin-joining s L A at e w f b none-yet =
@@ -159,10 +160,12 @@ module _ {r : List ℕ → Reading Item} {p : Place} {sign k : ℕ} {node : Fore
       j .rest ∙ ap (λ (f : ℕ). then (readOthers r sign f (drop e s)) (λ l z. finish n (j .first ∷ j .more) l z)) (fuel-left s e (j .fuel) (j .enough) b)
       ∙ step-others s e (j .fuel - 1) (j .first ∷ j .more) b ∙ go (r (drop (e + 1) s)) h
     where
-      go : (o : Reading Item) → Told (Misfit p s m) o → then o (λ i q. then (readOthers r sign (j .fuel - 1) q) (λ l z. finish n (j .first ∷ j .more) (i ∷ l) z)) ≡ none
+      go : (o : Reading Item) → Told (Misfit p s m) o
+          → then o (λ i q. then (readOthers r sign (j .fuel - 1) q) (λ l z. finish n (j .first ∷ j .more) (i ∷ l) z)) ≡ none
       go none h = refl
       go (some (i, q)) h =
-          then-agree (λ l. Unit {0}) (readOthers r sign (j .fuel - 1) q) (λ l z. finish n (j .first ∷ j .more) (i ∷ l) z) (λ l z. none) (anyway (readOthers r sign (j .fuel - 1) q))
+          then-agree (λ l. Unit {0}) (readOthers r sign (j .fuel - 1) q) (λ l z. finish n (j .first ∷ j .more) (i ∷ l) z) (λ l z. none)
+          (anyway (readOthers r sign (j .fuel - 1) q))
           (λ l z y. finish-misfit (j .first ∷ j .more) i l z (h .unfit))
           ∙ then-none (readOthers r sign (j .fuel - 1) q)
 
@@ -203,10 +206,7 @@ module _ {r : List ℕ → Reading Item} {p : Place} {sign k : ℕ} {node : Fore
   -- the first member is the same, whichever way it is come by
   pub same-first : (s : List ℕ) (L : Tree → Type 0) (at e w : ℕ) (f : FitIs p s at (r (drop at s)) L e w) (t : Tree) → firstIn n (r (drop at s)) ≡ some t → L t
   unfolding firstIn
-  same-first s L at e w f t q = subst L (some-same (f .tree) t (sym (rw (f .read) (f .fits-there)) ∙ q)) (f .laid)
-    where
-      some-same : (a b : Tree) → some a ≡ some b → a ≡ b
-      some-same a b e = cc
+  same-first s L at e w f t q = subst L (Option·some-injective (f .tree) t (sym (rw (f .read) (f .fits-there)) ∙ q)) (f .laid)
 
   pub all-read : (s : List ℕ) (L' : Tree → Type 0) (A : List Tree → Type 0) (at e w : ℕ) (j : Joining n s A at e w)
       → begins sign (drop e s) ≡ false → L' (node (ofList (j .first ∷ j .more)))
@@ -217,7 +217,8 @@ module _ {r : List ℕ → Reading Item} {p : Place} {sign k : ℕ} {node : Fore
       let x = n .weighs (ofList (j .first ∷ j .more)) in
       record {
         tree = node (ofList (j .first ∷ j .more));
-        read = j .rest ∙ ended (j .first ∷ j .more) (j .fuel) ∙ ap (λ (l : List Tree). some (bare (node (ofList l)), drop e s)) (append-nil (j .first ∷ j .more));
+        read =
+            j .rest ∙ ended (j .first ∷ j .more) (j .fuel) ∙ ap (λ (l : List Tree). some (bare (node (ofList l)), drop e s)) (append-nil (j .first ∷ j .more));
         ranked = n .ranked (ofList (j .first ∷ j .more));
         weighs = omega (arith, h, x);
         ahead = j .ahead;

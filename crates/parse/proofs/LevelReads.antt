@@ -1,21 +1,22 @@
 -- The readers of one level, in the shape of the code: sums and products are nodes of one kind, a power is a base that may be raised, and a
--- group is read one level deeper or passed over. Assumes nothing.
-use Prim.Native.Nat.{ℕ, zero, suc, _+_, _-_, _*_, _≤_, _<_}
+-- group is read one level deeper or passed over.
+use Prim.Native.Nat.{ℕ, zero, suc, _+_, _-_, _≤_, _<_}
 use mathlib.Core.Path.{_≡_, refl, sym, ap, _∙_, subst}
-use mathlib.Core.Bool.{Bool, true, false, cond, not}
-use mathlib.Core.List.{List, [], _∷_, _++_}
+use mathlib.Core.Bool.{true, false}
+use mathlib.Core.List.{List, _∷_}
 use mathlib.Core.Option.{Option, none, some}
 use native.Mathlib.Omega.{arith}
 use lib.ListN.{length, drop}
-use Rattle.paper.specs.Tree.{Tree, Forest, sum, product, ofList, weight, weights}
-use Rattle.paper_text.specs.Text.{Place, in-sum, in-product, opens, plus, times, Reading, then, begins, tail, Item, bare, grouped, alone, allFit, leaving, closed, readLeaf, readOthers}
+use Rattle.paper.specs.Tree.{Tree, sum, product, ofList, weight}
+use Rattle.paper_text.specs.Text.{in-sum, in-product, opens, plus, times, Reading, then, begins}
+use Rattle.paper_text.specs.Text.{Item, bare, alone, allFit, leaving, closed, readLeaf, readOthers}
 use Rattle.paper_text.specs.Text.{readBase, readPower, productFrom, readProduct, sumFrom, readSum}
 use Rattle.paper_text.specs.Levels.{rank, skim, readCut}
 use Rattle.paper_text.proofs.PlaceLaws.{sign-inside, tail-there}
 use Rattle.paper_text.proofs.RoundTrip.{none-follows}
 use Rattle.parse.specs.declared.Item as code
 use Rattle.parse.specs.declared.Item.the-variants.{Not, Bare, Grouped}
-use Rattle.parse.specs.Parsed.{Laid, Stands, ItemIs, bared, raising, nextOf}
+use Rattle.parse.specs.Parsed.{Laid, ItemIs, bared, raising, nextOf}
 use Rattle.parse.proofs.ItemLaws.{restand}
 use Rattle.parse.specs.Joined.{Nodes, Kind, bound, loneIn, whole}
 use Rattle.parse.proofs.LaidLaws.{sum-laid, product-laid}
@@ -33,7 +34,8 @@ module _ (inner : List ℕ → Reading Tree) where
       pushed z none = refl
       pushed z (some ts) = refl
 
-      sum-made : (i j : Item) (l : List Item) (z : List ℕ) → bared (sumFrom inner i z (j ∷ l)) ≡ leaving z (λ ts. bare (sum 0 (ofList ts))) (allFit in-sum (i ∷ j ∷ l))
+      sum-made : (i j : Item) (l : List Item) (z : List ℕ)
+          → bared (sumFrom inner i z (j ∷ l)) ≡ leaving z (λ ts. bare (sum 0 (ofList ts))) (allFit in-sum (i ∷ j ∷ l))
       sum-made i j l z = pushed z (allFit in-sum (i ∷ j ∷ l))
 
   pub products : Nodes (readPower inner) in-product times 2 (product 0) (λ i z l. productFrom inner i z l)
@@ -62,7 +64,8 @@ module _ (inner : List ℕ → Reading Tree) where
   product-whole s = refl
 
   -- no sign follows the first member
-  pub sum-alone : (s : List ℕ) (at : ℕ) (L : ℕ → Tree → Type 0) (i : code.Item) → ItemIs s at (readProduct inner (drop at s)) L i → begins plus (drop (nextOf i) s) ≡ false
+  pub sum-alone : (s : List ℕ) (at : ℕ) (L : ℕ → Tree → Type 0) (i : code.Item) → ItemIs s at (readProduct inner (drop at s)) L i
+      → begins plus (drop (nextOf i) s) ≡ false
       → ItemIs s at (bared (readSum inner (drop at s))) L (loneIn 2 i)
   unfolding readSum bared then sumFrom alone leaving
   sum-alone s at L Not h b = rw h
@@ -70,7 +73,8 @@ module _ (inner : List ℕ → Reading Tree) where
       restand h (rw (h .read, none-follows (readProduct inner) plus (length (drop e s)) (drop e s) b))
   sum-alone s at L (Grouped k e w q) h b = rw (h .read, none-follows (readProduct inner) plus (length (drop e s)) (drop e s) b)
 
-  pub product-alone : (s : List ℕ) (at : ℕ) (L : ℕ → Tree → Type 0) (i : code.Item) → ItemIs s at (readPower inner (drop at s)) L i → begins times (drop (nextOf i) s) ≡ false
+  pub product-alone : (s : List ℕ) (at : ℕ) (L : ℕ → Tree → Type 0) (i : code.Item) → ItemIs s at (readPower inner (drop at s)) L i
+      → begins times (drop (nextOf i) s) ≡ false
       → ItemIs s at (readProduct inner (drop at s)) L (loneIn 3 i)
   unfolding readProduct then productFrom
   product-alone s at L Not h b = rw h
@@ -92,7 +96,9 @@ module _ (inner : List ℕ → Reading Tree) where
   product-kind = record {
     bounded = refl;
     lays = λ s z t l h r. product-laid s z t l h r;
-    alone = λ s at old d new i h b. subst (λ o. ItemIs s at o (Laid old d new) (loneIn 3 i)) (product-whole (drop at s)) (product-alone s at (Laid old d new) i h b);
+    alone =
+        λ s at old d new i h b. subst (λ o. ItemIs s at o (Laid old d new) (loneIn 3 i)) (product-whole (drop at s))
+        (product-alone s at (Laid old d new) i h b);
   }
 
   -- ---- a power by its first character

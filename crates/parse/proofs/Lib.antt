@@ -1,3 +1,6 @@
+pub mod NodeLaws
+pub mod TreesWritten
+pub mod AreaUnique
 pub mod LeafLaws
 pub mod SkimLaws
 pub mod LaidLaws

@@ -1,21 +1,19 @@
--- One character of a group that is passed over. Assumes nothing.
-use Prim.Native.Nat.{ℕ, zero, suc, _+_, _-_, _*_, _^_, _≤_, _<_}
+-- One character of a group that is passed over.
+use Prim.Native.Nat.{ℕ, zero, suc, _+_, _-_, _^_, _≤_, _<_}
 use mathlib.Core.Path.{_≡_, refl, sym, ap, _∙_}
-use mathlib.Core.Bool.{Bool, true, false, cond, _||_}
-use mathlib.Core.List.{List, [], _∷_}
-use mathlib.Core.Option.{none, some}
+use mathlib.Core.List.{List, _∷_}
+use mathlib.Core.Option.{none}
 use native.Mathlib.Omega.{arith}
 use borrow.Author.Tests.{eq-eqb, ne-eqb}
-use lib.Dec.{eqb, ltb}
 use lib.ListN.{length, getD, drop}
-use Rattle.paper.specs.Tree.{Tree, weight, records}
+use Rattle.paper.specs.Tree.{weight, records}
 use Rattle.paper.specs.Table.{encode, recordOf}
-use Rattle.paper_text.specs.Text.{opens, closes, plus, times, minus, power-sign, Reading, then, begins, tail, closed, grouped}
+use Rattle.paper_text.specs.Text.{then, begins, tail, closed, grouped}
 use Rattle.paper_text.specs.Levels.{rank, signRank, standIn, greater, mark, leaves, skimFrom, skim}
 use Rattle.paper_text.proofs.PlaceLaws.{from-here, at-end}
 use Rattle.parse.specs.declared.Pace.the-variants.{Out, Goes}
-use Rattle.area.specs.Written.{Written}
-use Rattle.area.proofs.TreesWritten.{nought-stands, minus-one-stands, product-stands, sum-stands}
+use Rattle.parse.specs.Written.{Written}
+use Rattle.parse.proofs.TreesWritten.{nought-stands, minus-one-stands, product-stands, sum-stands}
 use Rattle.parse.specs.Parsed.{Laid, Stands, StepIs}
 
 pub opened : (c d k : ℕ) → c ≡ 40 → k ≤ 3 → StepIs c d k (Goes (d + 1) k)

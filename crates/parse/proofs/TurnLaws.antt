@@ -1,29 +1,30 @@
--- A turn of the loops of `sum` and `product`, once for both: what the member that was read makes of it, and the numbers in the cells. Assumes nothing.
+-- A turn of the loops of `sum` and `product`, once for both: what the member that was read makes of it, and the numbers in the cells.
 use Prim.Native.Nat.{ℕ, zero, suc, _+_, _-_, _*_, _^_, _≤_, _<_}
 use mathlib.Core.Path.{_≡_, refl, sym, ap, _∙_, subst}
-use mathlib.Core.Bool.{Bool, true, false, cond, not}
+use mathlib.Core.Bool.{Bool, true, false, not}
 use mathlib.Core.List.{List, [], _∷_}
-use mathlib.Core.Option.{Option, none, some}
+use mathlib.Core.Option.{none, Option·some-injective}
 use native.Mathlib.Omega.{arith}
 use lib.ListN.{length, drop, getD, set}
 use lib.Dec.{ltb, leb}
 use borrow.Author.Tests.{ltb-true, ltb-false, lt-leb, le-leb, lt-ltb, le-ltb}
 use Rattle.paper.proofs.Tests.{never}
-use lib.IntN.{ℤ, pos, negsuc}
-use Rattle.paper.specs.Tree.{Tree, Forest, integer, symbol, sum, product, power, ofList, records}
+use lib.IntN.{pos, negsuc}
+use Rattle.paper.specs.Tree.{Tree, Forest, integer, symbol, sum, product, power}
 use Rattle.paper.specs.Table.{recordOf}
-use Rattle.paper_text.specs.Text.{Place, Reading, then, begins, bare}
+use Rattle.paper_text.specs.Text.{Place, Reading, then, begins}
 use Rattle.paper_text.specs.Text as paper
 use Rattle.paper_text.specs.Levels.{rank}
 use Rattle.paper_text.proofs.PlaceLaws.{sign-inside}
 use Rattle.paper_text.proofs.ReadTold.{Told}
-use Rattle.area.specs.Written.{Written, Shifted}
+use Rattle.parse.specs.Written.{Written, Shifted}
 use Rattle.parse.specs.declared.Item.{Item}
 use Rattle.parse.specs.declared.Item.the-variants.{Not, Bare, Grouped}
 use Rattle.parse.specs.declared.Member.the-variants.{Unfit, Fit}
 use Rattle.parse.specs.Parsed.{Laid, Stands, ItemIs, fitted, nextOf}
-use Rattle.parse.specs.Joined.{Nodes, Kind, Rows, Joining, Going, Start, On, Turn, whole, firstIn, bound, Gives, Taken, FitsIs, Read, Held, AfterAsks, weightOf, recordAfter, loneIn, placeIn, recordIn, weightIn, firstOf}
-use Rattle.parse.proofs.ItemLaws.{FitIs, Misfit, MemberIs, member, sized}
+use Rattle.parse.specs.Joined.{Nodes, Kind, Going, Start, On, Turn, whole, Gives, InRank, FitsIs}
+use Rattle.parse.specs.Joined.{Read, AfterAsks, weightOf, recordAfter, loneIn, placeIn, recordIn, weightIn, firstOf, Followed, levelIn}
+use Rattle.parse.proofs.ItemLaws.{FitIs, Misfit, member, stands-sized}
 use Rattle.parse.proofs.JoinLaws.{first-misfit, begin-going, member-misfit, one-going, same-first, all-read}
 
 -- ---- answers that are Bools
@@ -70,7 +71,8 @@ Stepped st =
     let t = set st 1 (getD st 1 0 + 1) in
     let u = set t 2 (getD t 2 0 + 1) in
     let v = set u 0 (getD u 0 0 + 1) in
-    (length v ≡ 6) × (getD v 3 0 ≡ getD st 3 0) × (getD v 4 0 ≡ getD st 4 0) × (getD v 0 0 ≡ getD st 0 0 + 1) × (getD v 1 0 ≡ getD st 1 0 + 1) × (getD v 2 0 ≡ getD st 2 0 + 1)
+    (length v ≡ 6) × (getD v 3 0 ≡ getD st 3 0) × (getD v 4 0 ≡ getD st 4 0) × (getD v 0 0 ≡ getD st 0 0 + 1) × (getD v 1 0 ≡ getD st 1 0 + 1)
+    × (getD v 2 0 ≡ getD st 2 0 + 1)
     × (getD t 2 0 ≡ getD st 2 0) × (getD u 0 0 ≡ getD st 0 0)
 
 pub stepped : (st : List ℕ) → length st ≡ 6 → Stepped st
@@ -80,7 +82,8 @@ stepped st h = subst Stepped (sym (six st h .is)) (refl, refl, refl, refl, refl,
 abbrev pub Placed : List ℕ → Type 0
 Placed st =
     let t = set st 0 (getD st 0 0 + 1) in
-    (length t ≡ 6) × (getD t 3 0 ≡ getD st 3 0) × (getD t 4 0 ≡ getD st 4 0) × (getD t 0 0 ≡ getD st 0 0 + 1) × (getD t 1 0 ≡ getD st 1 0) × (getD t 2 0 ≡ getD st 2 0)
+    (length t ≡ 6) × (getD t 3 0 ≡ getD st 3 0) × (getD t 4 0 ≡ getD st 4 0) × (getD t 0 0 ≡ getD st 0 0 + 1) × (getD t 1 0 ≡ getD st 1 0)
+    × (getD t 2 0 ≡ getD st 2 0)
 
 pub placed-on : (st : List ℕ) → length st ≡ 6 → Placed st
 placed-on st h = subst Placed (sym (six st h .is)) (refl, refl, refl, refl, refl, refl)
@@ -90,7 +93,8 @@ abbrev pub Entered : List ℕ → Type 0
 Entered st =
     let t = set st 3 (getD st 3 0 - 1) in
     let u = set t 0 (getD t 0 0 + 1) in
-    (length u ≡ 6) × (getD u 0 0 ≡ getD st 0 0 + 1) × (getD u 1 0 ≡ getD st 1 0) × (getD u 2 0 ≡ getD st 2 0) × (getD u 3 0 ≡ getD st 3 0 - 1) × (getD t 0 0 ≡ getD st 0 0)
+    (length u ≡ 6) × (getD u 0 0 ≡ getD st 0 0 + 1) × (getD u 1 0 ≡ getD st 1 0) × (getD u 2 0 ≡ getD st 2 0) × (getD u 3 0 ≡ getD st 3 0 - 1)
+    × (getD t 0 0 ≡ getD st 0 0)
 
 pub entered : (st : List ℕ) → length st ≡ 6 → Entered st
 entered st h = subst Entered (sym (six st h .is)) (refl, refl, refl, refl, refl, refl)
@@ -99,7 +103,8 @@ entered st h = subst Entered (sym (six st h .is)) (refl, refl, refl, refl, refl,
 abbrev pub Set : ℕ → ℕ → List ℕ → Type 0
 Set d k st =
     let t = set (set st 4 d) 5 k in
-    (length t ≡ 6) × (getD t 0 0 ≡ getD st 0 0) × (getD t 1 0 ≡ getD st 1 0) × (getD t 2 0 ≡ getD st 2 0) × (getD t 3 0 ≡ getD st 3 0) × (getD t 4 0 ≡ d) × (getD t 5 0 ≡ k)
+    (length t ≡ 6) × (getD t 0 0 ≡ getD st 0 0) × (getD t 1 0 ≡ getD st 1 0) × (getD t 2 0 ≡ getD st 2 0) × (getD t 3 0 ≡ getD st 3 0)
+    × (getD t 4 0 ≡ d) × (getD t 5 0 ≡ k)
 
 pub set-up : (st : List ℕ) (d k : ℕ) → length st ≡ 6 → Set d k st
 set-up st d k h = subst (Set d k) (sym (six st h .is)) (refl, refl, refl, refl, refl, refl, refl)
@@ -107,7 +112,8 @@ set-up st d k h = subst (Set d k) (sym (six st h .is)) (refl, refl, refl, refl, 
 abbrev pub Kinded : ℕ → List ℕ → Type 0
 Kinded k st =
     let t = set st 5 k in
-    (length t ≡ 6) × (getD t 0 0 ≡ getD st 0 0) × (getD t 1 0 ≡ getD st 1 0) × (getD t 2 0 ≡ getD st 2 0) × (getD t 3 0 ≡ getD st 3 0) × (getD t 4 0 ≡ getD st 4 0) × (getD t 5 0 ≡ k)
+    (length t ≡ 6) × (getD t 0 0 ≡ getD st 0 0) × (getD t 1 0 ≡ getD st 1 0) × (getD t 2 0 ≡ getD st 2 0) × (getD t 3 0 ≡ getD st 3 0)
+    × (getD t 4 0 ≡ getD st 4 0) × (getD t 5 0 ≡ k)
 
 pub kinded : (st : List ℕ) (k : ℕ) → length st ≡ 6 → Kinded k st
 kinded st k h = subst (Kinded k) (sym (six st h .is)) (refl, refl, refl, refl, refl, refl, refl)
@@ -115,7 +121,8 @@ kinded st k h = subst (Kinded k) (sym (six st h .is)) (refl, refl, refl, refl, r
 abbrev pub Levelled : List ℕ → Type 0
 Levelled st =
     let t = set st 3 (getD st 3 0 + 1) in
-    (length t ≡ 6) × (getD t 0 0 ≡ getD st 0 0) × (getD t 1 0 ≡ getD st 1 0) × (getD t 2 0 ≡ getD st 2 0) × (getD t 3 0 ≡ getD st 3 0 + 1) × (getD t 4 0 ≡ getD st 4 0)
+    (length t ≡ 6) × (getD t 0 0 ≡ getD st 0 0) × (getD t 1 0 ≡ getD st 1 0) × (getD t 2 0 ≡ getD st 2 0) × (getD t 3 0 ≡ getD st 3 0 + 1)
+    × (getD t 4 0 ≡ getD st 4 0)
 
 pub levelled : (st : List ℕ) → length st ≡ 6 → Levelled st
 levelled st h = subst Levelled (sym (six st h .is)) (refl, refl, refl, refl, refl, refl)
@@ -130,12 +137,14 @@ rank-low (sum μ f) = omega arith
 rank-low (product μ f) = omega arith
 rank-low (power μ b ξ e) = omega arith
 
-pub in-cells : (i : Item) (m w : ℕ) (st : List ℕ) → Gives i m w st → 1 ≤ m → (placeIn st ≡ nextOf i) × (weightIn st ≡ w + weightOf i) × (recordIn st ≡ recordAfter i)
+pub in-cells : (i : Item) (m w : ℕ) (st : List ℕ) → Gives i m w st → 1 ≤ m → (placeIn st ≡ nextOf i) × (weightIn st ≡ w + weightOf i)
+    × (recordIn st ≡ recordAfter i)
 in-cells Not m w st g h = let x = g in absurd (omega (arith, x, h))
 in-cells (Bare k e v q) m w st g h = (g .2, g .3, g .4)
 in-cells (Grouped k e v q) m w st g h = (g .2, g .3, g .4)
 
-pub none-read : (s : List ℕ) (a : ℕ) (o : Reading paper.Item) (L : ℕ → Tree → Type 0) (i : Item) (m w : ℕ) (st : List ℕ) → Gives i m w st → m < 1 → ItemIs s a o L i → o ≡ none
+pub none-read : (s : List ℕ) (a : ℕ) (o : Reading paper.Item) (L : ℕ → Tree → Type 0) (i : Item) (m w : ℕ) (st : List ℕ) → Gives i m w st → m < 1
+    → ItemIs s a o L i → o ≡ none
 none-read s a o L Not m w st g h y = y
 none-read s a o L (Bare k e v q) m w st g h y = let x = g .0 in absurd (omega (arith, x, h))
 none-read s a o L (Grouped k e v q) m w st g h y = let x = g .0 in absurd (omega (arith, x, h))
@@ -198,7 +207,8 @@ pub given-as : (i j : Item) (m w : ℕ) (st : List ℕ) → i ≡ j → Gives j 
 given-as i j m w st e g = subst (λ (x : Item). Gives x m w st) (sym e) g
 
 -- the same reading, said otherwise
-pub read-as : (s : List ℕ) (a a' : ℕ) (o o' : Reading paper.Item) (old : List ℕ) (d d' : ℕ) (new : List ℕ) (w w' : ℕ) (st : List ℕ) (m : ℕ) → Read s a o old d new w st m
+pub read-as : (s : List ℕ) (a a' : ℕ) (o o' : Reading paper.Item) (old : List ℕ) (d d' : ℕ) (new : List ℕ) (w w' : ℕ) (st : List ℕ) (m : ℕ)
+    → Read s a o old d new w st m
     → a ≡ a' → o ≡ o' → d ≡ d' → w ≡ w' → Read s a' o' old d' new w' st m
 read-as s a a' o o' old d d' new w w' st m h ea eo ed ew =
     subst (λ (x : ℕ). Read s x o' old d' new w' st m) ea
@@ -207,17 +217,20 @@ read-as s a a' o o' old d d' new w w' st m h ea eo ed ew =
     (subst (λ (x : ℕ). Read s a o old d new x st m) ew h)))
 
 -- the item moves on: the cells that hold it hold no other
-pub moved : (i : Item) (m w : ℕ) (st st' : List ℕ) → Gives i m w st → placeIn st' ≡ placeIn st → recordIn st' ≡ recordIn st → weightIn st' ≡ weightIn st → Gives i m w st'
+pub moved : (i : Item) (m w : ℕ) (st st' : List ℕ) → Gives i m w st → placeIn st' ≡ placeIn st → recordIn st' ≡ recordIn st
+    → weightIn st' ≡ weightIn st → Gives i m w st'
 moved Not m w st st' g a b c = g
 moved (Bare k e v q) m w st st' g a b c = (g .0, g .1, a ∙ g .2, c ∙ g .3, b ∙ g .4)
 moved (Grouped k e v q) m w st st' g a b c = (g .0, g .1, a ∙ g .2, c ∙ g .3, b ∙ g .4)
 
-pub moved-read : (s : List ℕ) (a : ℕ) (o : Reading paper.Item) (old : List ℕ) (d : ℕ) (new : List ℕ) (w : ℕ) (st st' : List ℕ) (m : ℕ) → Read s a o old d new w st m
+pub moved-read : (s : List ℕ) (a : ℕ) (o : Reading paper.Item) (old : List ℕ) (d : ℕ) (new : List ℕ) (w : ℕ) (st st' : List ℕ) (m : ℕ)
+    → Read s a o old d new w st m
     → placeIn st' ≡ placeIn st → recordIn st' ≡ recordIn st → weightIn st' ≡ weightIn st → Read s a o old d new w st' m
 moved-read s a o old d new w st st' m h x y z = record { item = h .item; given = moved (h .item) m w st st' (h .given) x y z; is = h .is }
 
 -- the number goes to the cells too
-pub kind-read : (s : List ℕ) (a : ℕ) (o : Reading paper.Item) (old : List ℕ) (d : ℕ) (new : List ℕ) (w : ℕ) (st : List ℕ) (m : ℕ) → length st ≡ 6 → Read s a o old d new w st m
+pub kind-read : (s : List ℕ) (a : ℕ) (o : Reading paper.Item) (old : List ℕ) (d : ℕ) (new : List ℕ) (w : ℕ) (st : List ℕ) (m : ℕ) → length st ≡ 6
+    → Read s a o old d new w st m
     → Read s a o old d new w (set st 5 m) (getD (set st 5 m) 5 0)
 kind-read s a o old d new w st m l h =
     let k = kinded st m l in
@@ -225,54 +238,48 @@ kind-read s a o old d new w st m l h =
 
 module _ (s : List ℕ) (a : ℕ) (o : Reading paper.Item) (area out : List ℕ) (q : ℕ) (low : q ≤ 2 * a) where
   -- the numbers of an item that is read, v having been read before it
+  stands-numbers : {wrap : Tree → paper.Item} {k e w q1 : ℕ} (v : ℕ) (st : List ℕ) → Stands s a o wrap (Laid area q out q1) k e w
+      → (placeIn st ≡ e) × (weightIn st ≡ v + w) × (recordIn st ≡ q1) → v ≤ 2 * a
+      → (q ≤ recordIn st) × (recordIn st + 1 ≤ 2 * placeIn st) × (weightIn st + 1 ≤ 2 * placeIn st) × (placeIn st ≤ length s) × (a < placeIn st)
+  stands-numbers v st h g l =
+      let z = stands-sized s a o area out q low h in
+      let z1 = z .1 in
+      let z2 = z .2 in
+      let z3 = z .3 in
+      let x = h .light in
+      let y = h .ahead in
+      let g0 = g .0 in
+      let g1 = g .1 in
+      let g2 = g .2 in
+      (omega (arith, z1, g2), omega (arith, z2, g2, g0), omega (arith, x, y, g0, g1, l), omega (arith, z3, g0), omega (arith, y, g0))
+
   pub numbers : (i : Item) (m v : ℕ) (st : List ℕ) → ItemIs s a o (Laid area q out) i → Gives i m v st → 1 ≤ m → v ≤ 2 * a
       → (q ≤ recordIn st) × (recordIn st + 1 ≤ 2 * placeIn st) × (weightIn st + 1 ≤ 2 * placeIn st) × (placeIn st ≤ length s) × (a < placeIn st)
   numbers Not m v st h g p l = let x = g in absurd (omega (arith, x, p))
-  numbers (Bare k e w q1) m v st h g p l =
-      let z = sized s a o area out q low (Bare k e w q1) h in
-      let z1 = z .1 in
-      let z2 = z .2 in
-      let z3 = z .3 in
-      let x = h .light in
-      let y = h .ahead in
-      let g2 = g .2 in
-      let g3 = g .3 in
-      let g4 = g .4 in
-      (omega (arith, z1, g4), omega (arith, z2, g4, g2), omega (arith, x, y, g2, g3, l), omega (arith, z3, g2), omega (arith, y, g2))
-  numbers (Grouped k e w q1) m v st h g p l =
-      let z = sized s a o area out q low (Grouped k e w q1) h in
-      let z1 = z .1 in
-      let z2 = z .2 in
-      let z3 = z .3 in
-      let x = h .light in
-      let y = h .ahead in
-      let g2 = g .2 in
-      let g3 = g .3 in
-      let g4 = g .4 in
-      (omega (arith, z1, g4), omega (arith, z2, g4, g2), omega (arith, x, y, g2, g3, l), omega (arith, z3, g2), omega (arith, y, g2))
+  numbers (Bare k e w q1) m v st h g p l = stands-numbers v st h (g .2, g .3, g .4) l
+  numbers (Grouped k e w q1) m v st h g p l = stands-numbers v st h (g .2, g .3, g .4) l
 
   -- the cells can take it
-  pub takes : (i : Item) (v : ℕ) → ItemIs s a o (Laid area q out) i → v ≤ 2 * a → length s < 2 ^ 63 → Taken i v
+  stands-takes : {wrap : Tree → paper.Item} {k e w q1 : ℕ} (v : ℕ) → Stands s a o wrap (Laid area q out q1) k e w → v ≤ 2 * a → length s < 2 ^ 63
+      → (k ≤ 3) × (v + w < 2 ^ 64)
+  stands-takes v h l n =
+      let x = h .light in
+      let y = h .ahead in
+      let z = h .within in
+      let u = h .ranked in
+      let c = rank-low (h .tree) in
+      (omega (arith, u, c), omega (arith, x, y, z, l, n))
+
+  pub takes : (i : Item) (v : ℕ) → ItemIs s a o (Laid area q out) i → v ≤ 2 * a → length s < 2 ^ 63 → InRank i v
   takes Not v h l n = tt
-  takes (Bare k e w q1) v h l n =
-      let x = h .light in
-      let y = h .ahead in
-      let z = h .within in
-      let u = h .ranked in
-      let c = rank-low (h .tree) in
-      (omega (arith, u, c), omega (arith, x, y, z, l, n))
-  takes (Grouped k e w q1) v h l n =
-      let x = h .light in
-      let y = h .ahead in
-      let z = h .within in
-      let u = h .ranked in
-      let c = rank-low (h .tree) in
-      (omega (arith, u, c), omega (arith, x, y, z, l, n))
+  takes (Bare k e w q1) v h l n = stands-takes v h l n
+  takes (Grouped k e w q1) v h l n = stands-takes v h l n
 
 -- ---- the turn
 module _ {x : ℕ} {r : List ℕ → Reading paper.Item} {p : Place} {node : Forest → Tree} {from : paper.Item → List ℕ → List paper.Item → Reading paper.Item}
     (n : Nodes r p (45 - x) (5 - x) node from) (κ : Kind x n) (s old : List ℕ) (at d w : ℕ) where
-  as-fit : (a : ℕ) (o : Reading paper.Item) (L : ℕ → Tree → Type 0) (i : Item) → FitsIs (5 - x) i true → ItemIs s a o L i → FitIs p s a o (L (recordAfter i)) (nextOf i) (weightOf i)
+  as-fit : (a : ℕ) (o : Reading paper.Item) (L : ℕ → Tree → Type 0) (i : Item) → FitsIs (5 - x) i true → ItemIs s a o L i
+      → FitIs p s a o (L (recordAfter i)) (nextOf i) (weightOf i)
   as-fit a o L i f h = member p s a o L i (Fit (nextOf i) (weightOf i) (recordAfter i)) h (sym (ap (λ (b : ℕ). fitted b i) (κ .bounded) ∙ f)) .1
 
   as-misfit : (a : ℕ) (o : Reading paper.Item) (L : ℕ → Tree → Type 0) (i : Item) → FitsIs (5 - x) i false → ItemIs s a o L i → Told (Misfit p s (nextOf i)) o
@@ -382,25 +389,22 @@ module _ {x : ℕ} {r : List ℕ → Reading paper.Item} {p : Place} {node : For
         weighs = omega (arith, we, g1);
       }
 
-  same-begun : (a b : Tree) (o : Option Tree) → o ≡ some a → o ≡ some b → a ≡ b
-  same-begun a b o e f = go a b (sym e ∙ f)
-    where
-      go : (a b : Tree) → some a ≡ some b → a ≡ b
-      go a b e = cc
-
   -- one more
   joins : (c : ℕ) (area cells out st : List ℕ) (m : ℕ) (z : On n s old at d w c area cells)
       → (h : Read s (z .end + 1) (r (drop (z .end + 1) s)) area (recordIn cells) out (w + z .weighed) st m)
       → FitsIs (5 - x) (h .item) true → length out ≡ length area
       → Going n s (z .area) (z .first-end + 1) out at (nextOf (h .item)) (z .weighed + weightOf (h .item)) (recordAfter (h .item)) (c + 1)
   joins c area cells out st m z h f same =
-      one-going n s (z .area) (z .first-end + 1) area out at (z .end) (z .weighed) (recordIn cells) c (nextOf (h .item)) (weightOf (h .item)) (recordAfter (h .item)) (z .going)
+      one-going n s (z .area) (z .first-end + 1) area out at (z .end) (z .weighed) (recordIn cells) c (nextOf (h .item)) (weightOf (h .item))
+      (recordAfter (h .item)) (z .going)
       (z .sign-there) (as-fit (z .end + 1) _ _ (h .item) f (h .is)) same
 
-  first-stays : (c c' : ℕ) (area cells new : List ℕ) (e v q : ℕ) (z : On n s old at d w c area cells) (g : Going n s (z .area) (z .first-end + 1) new at e v q c')
+  first-stays : (c c' : ℕ) (area cells new : List ℕ) (e v q : ℕ) (z : On n s old at d w c area cells)
+      (g : Going n s (z .area) (z .first-end + 1) new at e v q c')
       → Laid old d (z .first-read) (z .first-end) (g .joined .first)
   first-stays c c' area cells new e v q z g =
-      subst (Laid old d (z .first-read) (z .first-end)) (same-begun (z .going .joined .first) (g .joined .first) _ (z .going .joined .begun) (g .joined .begun)) (z .laid)
+      subst (Laid old d (z .first-read) (z .first-end))
+      (Option·some-injective (z .going .joined .first) (g .joined .first) (sym (z .going .joined .begun) ∙ g .joined .begun)) (z .laid)
 
   pub one-of-more : (c : ℕ) (area cells out st st' : List ℕ) (m : ℕ) → On n s old at d w c area cells
       → Read s (placeIn cells) (r (drop (placeIn cells) s)) area (recordIn cells) out (weightIn cells) st m → 1 ≤ m
@@ -449,7 +453,9 @@ module _ {x : ℕ} {r : List ℕ → Reading paper.Item} {p : Place} {node : For
       record {
         item = Bare (5 - x) (nextOf i) (z .weighed + weightOf i) (recordAfter i);
         given = (omega (arith, e, lo, hi), omega (arith, lo, hi), g .0, omega (arith, g1), g .2);
-        is = all-read n s (Laid old d out' (recordAfter i)) _ at (nextOf i) (z .weighed + weightOf i) j (ap (λ (y : ℕ). begins (45 - x) (drop y s)) (sym (g .0)) ∙ b)
+        is =
+            all-read n s (Laid old d out' (recordAfter i)) _ at (nextOf i) (z .weighed + weightOf i) j
+            (ap (λ (y : ℕ). begins (45 - x) (drop y s)) (sym (g .0)) ∙ b)
             (κ .lays (z .shifted) put (j .first) (j .more) (first-stays c (c + 1) area cells out _ _ _ z going) (j .rows));
       }
 
@@ -486,8 +492,10 @@ module _ {x : ℕ} {r : List ℕ → Reading paper.Item} {p : Place} {node : For
       omega (arith, x, y, h)
 
   -- what `follow` is asked for after a member: the numbers fit
-  pub turn-asks : (c : ℕ) (area cells out st st' : List ℕ) (m : ℕ) (o : Reading paper.Item) → Turn n s old at d w c area cells → d ≤ 2 * at → w ≤ 2 * at → length s < 2 ^ 63
-      → Read s (placeIn cells) o area (recordIn cells) out (weightIn cells) st m → length st' ≡ 6 → placeIn st' ≡ placeIn st → recordIn st' ≡ recordIn st → weightIn st' ≡ weightIn st
+  pub turn-asks : (c : ℕ) (area cells out st st' : List ℕ) (m : ℕ) (o : Reading paper.Item) → Turn n s old at d w c area cells → d ≤ 2 * at
+      → w ≤ 2 * at → length s < 2 ^ 63
+      → Read s (placeIn cells) o area (recordIn cells) out (weightIn cells) st m → length st' ≡ 6 → placeIn st' ≡ placeIn st → recordIn st' ≡ recordIn st
+      → weightIn st' ≡ weightIn st
       → firstOf st' ≡ d → AfterAsks s st' c m
   turn-asks c area cells out st st' m o z lo li short h e0 e1 e2 e3 e4 = (
     e0,
@@ -504,7 +512,8 @@ module _ {x : ℕ} {r : List ℕ → Reading paper.Item} {p : Place} {node : For
   )
 
   -- the place moves on
-  pub turn-ahead : (c : ℕ) (area cells out st st' out' st'' : List ℕ) (m : ℕ) (o : Reading paper.Item) → Turn n s old at d w c area cells → d ≤ 2 * at → w ≤ 2 * at
+  pub turn-ahead : (c : ℕ) (area cells out st st' out' st'' : List ℕ) (m : ℕ) (o : Reading paper.Item) → Turn n s old at d w c area cells
+      → d ≤ 2 * at → w ≤ 2 * at
       → Read s (placeIn cells) o area (recordIn cells) out (weightIn cells) st m → 1 ≤ m → placeIn st' ≡ placeIn st → placeIn st'' ≡ placeIn st' + 1
       → Turn n s old at d w (suc c) out' st'' → length s - placeIn st'' < length s - placeIn cells
   turn-ahead c area cells out st st' out' st'' m o z lo li h p e1 e2 z' =
@@ -512,3 +521,42 @@ module _ {x : ℕ} {r : List ℕ → Reading paper.Item} {p : Place} {node : For
       let x = numbers s (placeIn cells) o area out (recordIn cells) (t .0) (h .item) m (weightIn cells) st (h .is) (h .given) p (t .1) .4 in
       let y = turn-within (suc c) out' st'' z' in
       omega (arith, x, y, e1, e2)
+
+-- ---- a turn of a level's loop: the cells st₀ when the level began, st before the member, st' behind it, st'' as `follow` leaves them
+pub record Outcome (x : ℕ) {r : List ℕ → Reading paper.Item} {p : Place} {node : Forest → Tree}
+    {from : paper.Item → List ℕ → List paper.Item → Reading paper.Item} (n : Nodes r p (45 - x) (5 - x) node from) (s old st₀ : List ℕ) (c : ℕ)
+    (st st' out' st'' : List ℕ) (a : ℕ) : Type 0 where
+  pub level : levelIn st'' ≡ levelIn st'
+  pub first : firstOf st'' ≡ recordIn st₀
+  pub less : 9 ≤ a → length s - placeIn st'' < length s - placeIn st
+  pub again : 9 ≤ a → Turn n s old (placeIn st₀) (recordIn st₀) (weightIn st₀) (c + 1) out' st''
+  pub done : a < 9 → Read s (placeIn st₀) (whole n (drop (placeIn st₀) s)) old (recordIn st₀) out' (weightIn st₀) st'' a
+
+module _ {x : ℕ} {r : List ℕ → Reading paper.Item} {p : Place} {node : Forest → Tree} {from : paper.Item → List ℕ → List paper.Item → Reading paper.Item}
+    (n : Nodes r p (45 - x) (5 - x) node from) (κ : Kind x n) (s old st₀ : List ℕ) (low : recordIn st₀ ≤ 2 * placeIn st₀)
+    (light : weightIn st₀ ≤ 2 * placeIn st₀) (c : ℕ) (area st : List ℕ) (z : Turn n s old (placeIn st₀) (recordIn st₀) (weightIn st₀) c area st)
+    (out st' : List ℕ) (m : ℕ) (h : Read s (placeIn st) (r (drop (placeIn st) s)) area (recordIn st) out (weightIn st) st' m) (long : length st' ≡ 6) where
+  pub turn-handed : length s < 2 ^ 63 → AfterAsks s (set (set st' 4 (recordIn st₀)) 5 x) c m
+  turn-handed short =
+      let u = set-up st' (recordIn st₀) x long in
+      turn-asks n κ s old (placeIn st₀) (recordIn st₀) (weightIn st₀) c area st out st' (set (set st' 4 (recordIn st₀)) 5 x) m _ z low light short h
+      (u .0) (u .1) (u .2) (u .3) (u .5)
+
+  pub turn-outcome : (out' st'' : List ℕ) (a : ℕ) → length out ≡ length area → Followed x s c m out (set (set st' 4 (recordIn st₀)) 5 x) out' st'' a
+      → Outcome x n s old st₀ c st st' out' st'' a
+  turn-outcome out' st'' a same f =
+      let t = set (set st' 4 (recordIn st₀)) 5 x in
+      let u = set-up st' (recordIn st₀) x long in
+      let h' = moved-read s (placeIn st) (r (drop (placeIn st) s)) area (recordIn st) out (weightIn st) st' t m h (u .1) (u .2) (u .3) in
+      let o = f .2 r p node from n κ old (placeIn st₀) (recordIn st₀) (weightIn st₀) area st z h' (u .5) same in
+      let count : suc c ≡ c + 1 = omega arith in
+      record {
+        level = f .0 ∙ u .4;
+        first = f .1 ∙ u .5;
+        less =
+            λ q.
+            let g = o .0 q in
+            turn-ahead n κ s old (placeIn st₀) (recordIn st₀) (weightIn st₀) c area st out st' t out' st'' m _ z low light h (g .0) (u .1) (g .1) (g .2);
+        again = λ q. subst (λ (y : ℕ). Turn n s old (placeIn st₀) (recordIn st₀) (weightIn st₀) y out' st'') count (o .0 q .2);
+        done = o .1;
+      }

@@ -1,5 +1,5 @@
 -- Two answers that meet a contract of this crate, as the check reads it from the source, are the same: each equals one definition of the text. Of
--- `write` the area is one where the text has a tree that is not over the limit and whose records fit. Assumes nothing.
+-- `write` the area is one where the text has a tree that is not over the limit and whose records fit.
 use Prim.Native.Nat.{_≤_}
 use mathlib.Core.Path.{_≡_, sym, _∙_}
 use mathlib.Core.Option.{some}

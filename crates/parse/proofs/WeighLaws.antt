@@ -1,17 +1,17 @@
--- What a text weighs: a shallow one is read whole, a deeper one has a tree over the limit or none. Assumes nothing.
+-- What a text weighs: a shallow one is read whole, a deeper one has a tree over the limit or none.
 use Prim.Native.Nat.{ℕ, zero, suc, _+_, _-_, _*_, _/_, _≤_, _<_}
 use mathlib.Core.Path.{_≡_, refl, sym, ap, _∙_, subst}
-use mathlib.Core.Bool.{Bool, true, false, cond}
-use mathlib.Core.List.{List, [], _∷_}
-use mathlib.Core.Option.{Option, none, some}
+use mathlib.Core.Bool.{Bool, true, false}
+use mathlib.Core.List.{List}
+use mathlib.Core.Option.{Option, none, some, Option·some-injective}
 use native.Mathlib.Omega.{arith}
 use borrow.Author.Tests.{eq-eqb, ne-eqb, lt-ltb, le-ltb, ltb-true, ltb-false}
-use lib.Dec.{eqb, ltb}
+use lib.Dec.{ltb}
 use lib.ListN.{length, getD, drop, length-drop}
 use Rattle.paper.specs.Tree.{Tree, weight}
 use Rattle.paper.specs.Table.{encode}
-use Rattle.area.specs.Written.{Written}
-use Rattle.paper_text.specs.Text.{Reading, bare, grouped, readSum, readText, whole, text}
+use Rattle.parse.specs.Written.{Written}
+use Rattle.paper_text.specs.Text.{bare, grouped, readSum, readText, whole}
 use Rattle.paper_text.specs.Levels.{readCut, shallower, shallow, formed}
 use Rattle.paper.proofs.Tests.{never}
 use Rattle.paper_text.proofs.PlaceLaws.{from-here, at-end}
@@ -85,7 +85,8 @@ module _ (s : List ℕ) (limit k : ℕ) (shallows : shallow k s ≡ true) where
       → its.Not ≡ weighed limit (readText s)
   reads-more r e w h l = sym (ap (weighed limit) (more-read r e w h l))
 
-  reads-tree : {L : Tree → Type 0} (r e w : ℕ) (h : Stands s 0 (bared (readSum (readCut k) (drop 0 s))) bare L r e w) → length s ≤ e → readText s ≡ some (h .tree)
+  reads-tree : {L : Tree → Type 0} (r e w : ℕ) (h : Stands s 0 (bared (readSum (readCut k) (drop 0 s))) bare L r e w) → length s ≤ e
+      → readText s ≡ some (h .tree)
   unfolding readCut whole
   reads-tree r e w h l =
       let d = length-drop e s in
@@ -100,7 +101,8 @@ module _ (s : List ℕ) (limit k : ℕ) (shallows : shallow k s ≡ true) where
       → length s ≤ e → w ≤ limit → its.Is q ≡ weighed limit (readText s)
   reads-light {old} {new} {q} r e w h l g =
       let y = h .weighs in
-      sym (ap (weighed limit) (reads-tree r e w h l) ∙ rw (le-ltb limit (weight (h .tree)) (omega (arith, y, g))) (ap its.Is (let x = h .laid .next in omega (arith, x))))
+      sym (ap (weighed limit) (reads-tree r e w h l)
+      ∙ rw (le-ltb limit (weight (h .tree)) (omega (arith, y, g))) (ap its.Is (let x = h .laid .next in omega (arith, x))))
 
   pub reads-group : {L : Tree → Type 0} (r e w : ℕ) → Stands s 0 (bared (readSum (readCut k) (drop 0 s))) grouped L r e w → its.Not ≡ weighed limit (readText s)
   reads-group r e w h = absurd (bared-grouped (readSum (readCut k) s) (h .tree) (drop e s) (h .read))
@@ -113,13 +115,11 @@ module _ (s : List ℕ) (limit k : ℕ) (shallows : shallow k s ≡ true) where
   lays old new (Grouped r f w q) h t e = absurd (bared-grouped (readSum (readCut k) s) (h .tree) (drop f s) (h .read))
   lays old new (Bare r f w q) h t e = go (ltb f (length s)) refl
     where
-      same : (a b : Tree) → some a ≡ some b → a ≡ b
-      same a b e = cc
-
       go : (b : Bool) → ltb f (length s) ≡ b → Written (encode t) old 0 new
       go true l = never (ap formed (sym (more-read r f w h (ltb-true f (length s) l)) ∙ e))
       go false l =
-          subst (λ (u : Tree). Written (encode u) old 0 new) (same (h .tree) t (sym (reads-tree r f w h (ltb-false f (length s) l)) ∙ e)) (h .laid .put-there)
+          let same = Option·some-injective (h .tree) t (sym (reads-tree r f w h (ltb-false f (length s) l)) ∙ e) in
+          subst (λ (u : Tree). Written (encode u) old 0 new) same (h .laid .put-there)
 
 -- a tree that is not over the limit has a shallow text
 shallow-enough : (s : List ℕ) (limit : ℕ) (t : Tree) → readText s ≡ some t → weight t ≤ limit → shallow (limit / 2) s ≡ true

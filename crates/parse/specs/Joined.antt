@@ -11,7 +11,7 @@ use Rattle.paper.specs.Table.{recordOf, encodes}
 use Rattle.paper_text.specs.Text.{Place, in-sum, in-product, as-base, opens, Reading, then, begins, bare, fits, allFit, leaving, closed, readOthers, readPower}
 use Rattle.paper_text.specs.Text as paper
 use Rattle.paper_text.specs.Levels.{rank, readCut}
-use Rattle.area.specs.Written.{Written, Shifted}
+use Rattle.parse.specs.Written.{Written, Shifted}
 use Rattle.parse.specs.Parsed.{Laid, ItemIs, bared, raising, fitted, nextOf}
 use Rattle.parse.specs.declared.Item.{Item}
 use Rattle.parse.specs.declared.Item.the-variants.{Not, Bare, Grouped}
@@ -30,7 +30,8 @@ bound in-product = 2
 bound as-base = 1
 
 -- ---- nodes of one kind: members at place p, read by r, with a sign between two; `from` makes the node of items
-pub record Nodes (r : List ℕ → Reading paper.Item) (p : Place) (sign : ℕ) (k : ℕ) (node : Forest → Tree) (from : paper.Item → List ℕ → List paper.Item → Reading paper.Item) : Type 0 where
+pub record Nodes (r : List ℕ → Reading paper.Item) (p : Place) (sign : ℕ) (k : ℕ) (node : Forest → Tree)
+    (from : paper.Item → List ℕ → List paper.Item → Reading paper.Item) : Type 0 where
   pub made : (i j : paper.Item) (l : List paper.Item) (z : List ℕ) → from i z (j ∷ l) ≡ leaving z (λ ts. bare (node (ofList ts))) (allFit p (i ∷ j ∷ l))
   pub ranked : (f : Forest) → k ≡ rank (node f)
   pub weighs : (f : Forest) → weight (node f) ≡ 1 + weights f
@@ -61,10 +62,10 @@ Gives (Bare k e v q) m w st = (m ≡ 1 + k) × (k ≤ 3) × (placeIn st ≡ e) �
 Gives (Grouped k e v q) m w st = (m ≡ 5 + k) × (k ≤ 3) × (placeIn st ≡ e) × (weightIn st ≡ w + v) × (recordIn st ≡ q)
 
 -- an item that the cells can take
-abbrev pub Taken : Item → ℕ → Type 0
-Taken Not w = Unit {0}
-Taken (Bare k e v q) w = (k ≤ 3) × (w + v < 2 ^ 64)
-Taken (Grouped k e v q) w = (k ≤ 3) × (w + v < 2 ^ 64)
+abbrev pub InRank : Item → ℕ → Type 0
+InRank Not w = Unit {0}
+InRank (Bare k e v q) w = (k ≤ 3) × (w + v < 2 ^ 64)
+InRank (Grouped k e v q) w = (k ≤ 3) × (w + v < 2 ^ 64)
 
 abbrev pub weightOf : Item → ℕ
 weightOf Not = 0
@@ -158,7 +159,8 @@ module _ {r : List ℕ → Reading paper.Item} {p : Place} {sign k : ℕ} {node 
 pub record Kind (x : ℕ) {r : List ℕ → Reading paper.Item} {p : Place} {node : Forest → Tree} {from : paper.Item → List ℕ → List paper.Item → Reading paper.Item}
     (n : Nodes r p (45 - x) (5 - x) node from) : Type 0 where
   pub bounded : bound p ≡ 5 - x
-  pub lays : {old o1 o2 o3 o4 : List ℕ} {d q0 q c : ℕ} → Shifted o1 d q0 o2 → Written (recordOf x c 0 0) o3 d o4 → (t : Tree) (l : List Tree) → Laid old d o1 q0 t
+  pub lays : {old o1 o2 o3 o4 : List ℕ} {d q0 q c : ℕ} → Shifted o1 d q0 o2 → Written (recordOf x c 0 0) o3 d o4
+      → (t : Tree) (l : List Tree) → Laid old d o1 q0 t
       → Rows o2 (q0 + 1) o3 q c l → Laid old d o4 q (node (ofList (t ∷ l)))
   pub alone : (s : List ℕ) (at : ℕ) (old : List ℕ) (d : ℕ) (new : List ℕ) (i : Item) → ItemIs s at (r (drop at s)) (Laid old d new) i
       → begins (45 - x) (drop (nextOf i) s) ≡ false → ItemIs s at (whole n (drop at s)) (Laid old d new) (loneIn x i)
@@ -174,7 +176,8 @@ AfterAsks s st c m = (length st ≡ 6) × (c < 2 ^ 63) × (1 ≤ m → Held s st
 -- a member m of a node of kind x, read after c others: at 9 another follows, else this is what is read
 abbrev pub AfterIs : ℕ → List ℕ → ℕ → ℕ → List ℕ → List ℕ → List ℕ → List ℕ → ℕ → Type 0
 AfterIs x s c m out st out' st' a =
-    (r : List ℕ → Reading paper.Item) (p : Place) (node : Forest → Tree) (from : paper.Item → List ℕ → List paper.Item → Reading paper.Item) (n : Nodes r p (45 - x) (5 - x) node from)
+    (r : List ℕ → Reading paper.Item) (p : Place) (node : Forest → Tree) (from : paper.Item → List ℕ → List paper.Item → Reading paper.Item)
+    (n : Nodes r p (45 - x) (5 - x) node from)
     → Kind x n → (old : List ℕ) (at d w : ℕ) (area cells : List ℕ) → Turn n s old at d w c area cells
     → Read s (placeIn cells) (r (drop (placeIn cells) s)) area (recordIn cells) out (weightIn cells) st m → firstOf st ≡ d → length out ≡ length area
     → (9 ≤ a → (1 ≤ m) × (placeIn st' ≡ placeIn st + 1) × Turn n s old at d w (suc c) out' st') × (a < 9 → Read s at (whole n (drop at s)) old d out' w st' a)

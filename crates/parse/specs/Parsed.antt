@@ -12,7 +12,7 @@ use Rattle.paper.specs.Table.{encode}
 use Rattle.paper_text.specs.Text.{closes, Reading, then, begins, tail, power-sign, as-base, fits, raisedBy, bare, grouped}
 use Rattle.paper_text.specs.Text as paper
 use Rattle.paper_text.specs.Levels.{rank, standIn, skimFrom, blocks, shallow}
-use Rattle.area.specs.Written.{Written}
+use Rattle.parse.specs.Written.{Written}
 use Rattle.parse.specs.declared.Item.{Item}
 use Rattle.parse.specs.declared.Member.{Member}
 use Rattle.parse.specs.declared.Member.the-variants.{Unfit, Fit}

@@ -1,6 +1,6 @@
 -- The parts of members, as the code holds them: what is read off a member's records shows the paper's part of it, and a part that
 -- takes up a later one shows what the paper's part becomes, or leaves the range with it. A base that is an integer is compared by its
--- bits, any other by its records. By cases on the tests. Assumes nothing.
+-- bits, any other by its records. By cases on the tests.
 use Prim.Native.Nat.{ℕ, _+_, _-_, _^_, _<_, _≤_}
 use mathlib.Core.Path.{_≡_, refl, sym, ap, _∙_}
 use mathlib.Core.Bool.{Bool, true, false, cond, _&&_}
@@ -11,16 +11,17 @@ use borrow.Author.Tests.{eq-eqb, ne-eqb, ltb-true}
 use lib.Dec.{eqb, ltb, lit<, lit≤}
 use lib.IntN.{ℤ, pos, _+ℤ_, _*ℤ_}
 use Rattle.paper.specs.Bytes.{word, signed}
-use Rattle.paper.specs.Tree.{Tree, Forest, integer, symbol, sum, product, power, markOf, records, toList}
+use Rattle.paper.specs.Tree.{Tree, integer, symbol, sum, product, power, markOf, records}
 use Rattle.paper.specs.WellFormed.{WF}
 use Rattle.paper.specs.Record.{kind, markIn, bits}
 use Rattle.paper.specs.Equal.{equal, eqZ, onInteger}
-use Rattle.paper.specs.Rules.{fits, asInteger, Term, term, productTerm, termOf, added, addIf, mergeTerms, timesUnless, fromTerm}
+use Rattle.paper.specs.Rules.{fits, asInteger, Term, termOf, added, addIf, mergeTerms, timesUnless, fromTerm}
 use Rattle.paper.specs.Rules.{Factor, factor, factorOf, raiseIf, bothIntegers, multiplyIf, mergeFactors, powerUnless, fromFactor}
 use Rattle.paper.proofs.Congruence.{word-lt}
 use Rattle.paper.proofs.EncodeLaws.{signed-word, word-signed}
 use Rattle.paper.proofs.Tests.{eqZ-true, eqZ-self, not-so}
 use Rattle.paper.proofs.LikeTermsWF.{termOf-wf, fits-true}
+use Rattle.paper.proofs.MarkSentences.{factor-begins}
 use Rattle.paper.proofs.MergeFactors.{timesBases, addExponents}
 use Rattle.note.proofs.ToldLaws.{Seen, an-integer, a-symbol, a-sum, a-product, a-power}
 use Rattle.note.specs.Note.{note}
@@ -87,23 +88,6 @@ factorOf-good (sum μ f) = refl
 factorOf-good (product μ f) = refl
 factorOf-good (power μ b ξ e) = refl
 
--- the mark of a member is its part's
-pub term-mark : (t : Tree) → termOf t .mark ≡ markOf t
-unfolding termOf term productTerm markOf
-term-mark (integer μ z) = refl
-term-mark (symbol μ s) = refl
-term-mark (sum μ f) = refl
-term-mark (product μ f) = refl
-term-mark (power μ b ξ e) = refl
-
-pub factor-mark : (t : Tree) → factorOf t .mark ≡ markOf t
-unfolding factorOf factor markOf
-factor-mark (integer μ z) = refl
-factor-mark (symbol μ s) = refl
-factor-mark (sum μ f) = refl
-factor-mark (product μ f) = refl
-factor-mark (power μ b ξ e) = refl
-
 -- an integer that stands at a record, by its mark and its bits
 pub integer-there : (s : List ℕ) (i : ℕ) (t : Tree) → Told note s i t → kind s i ≤ 0
     → (t ≡ integer (markIn s i) (signed (bits s i))) × (bits s i < 2 ^ 64)
@@ -132,7 +116,7 @@ pub number-part : (s : List ℕ) (e i j v b n : ℕ) (t : Tree) → Told note s 
 number-part s e i j v b n t g h k q c d x m =
     let z = integer-there s j (factorOf t .base) h k in
     record {
-      mark = factor-mark t ∙ sym (mark-number g) ∙ sym d;
+      mark = factor-begins t ∙ sym (mark-number g) ∙ sym d;
       base = z .0 ∙ ap (λ y. integer (markIn s j) (signed y)) (sym q) ∙ ap (λ y. integer y (signed v)) (sym c);
       bits = omega (arith, z .1);
       exponent = sym x;
@@ -175,7 +159,7 @@ base-size (power μ b ξ e) = omega arith
 module _ (s : List ℕ) (e i k : ℕ) (t : Tree) (h : Sized s i k t) (other : asInteger (factorOf t .base) ≡ none)
     (x : e ≡ factorOf t .exponent) (m : e < 2 ^ 63) {n : ℕ} (d : n ≡ markIn s i) where
   same-mark : factorOf t .mark ≡ n
-  same-mark = factor-mark t ∙ sym (mark-number (h .there)) ∙ sym d
+  same-mark = factor-begins t ∙ sym (mark-number (h .there)) ∙ sym d
 
   pub power-part : kind s i ≡ 4 → ShowsPower s e (i + 1) (k - 2) n (factorOf t)
   power-part q =
@@ -423,7 +407,8 @@ module _ {e v b m f w a l : ℕ} {c x : Factor} (h : ShowsNumber e v b m c) (k :
       unfolding raiseIf addExponents
       merges = by-bits ∙ rw (ap (λ b. eqZ (signed v) (signed b)) (sym q) ∙ eqZ-self (signed v)) refl
 
-      pub number-raised : {n : ℕ} → numOf (signed e +ℤ signed f) ≡ Is n → (d : Factor) × (mergeFactors c x ≡ some d) × ShowsNumber n v b m d × (d .inRange ≡ true)
+      pub number-raised : {n : ℕ} → numOf (signed e +ℤ signed f) ≡ Is n
+          → (d : Factor) × (mergeFactors c x ≡ some d) × ShowsNumber n v b m d × (d .inRange ≡ true)
       unfolding addExponents
       number-raised r =
           let z = exponents-in one-of other-of r in (

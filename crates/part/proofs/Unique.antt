@@ -1,8 +1,8 @@
 -- Two answers of `part_of`, and of `merge`, that meet their contracts as the check reads them from the source, say the same: they show the
--- same part. (A part that stands in several places can be held as any of them.) Assumes nothing.
+-- same part. (A part that stands in several places can be held as any of them.)
 use Prim.Native.Nat.{ℕ}
 use mathlib.Core.Path.{_≡_, sym, _∙_, subst}
-use mathlib.Core.Bool.{Bool, true, false}
+use mathlib.Core.Bool.{Bool, false}
 use mathlib.Core.List.{List}
 use mathlib.Core.Option.{some, Option·some-injective}
 use native.Mathlib.Omega.{arith}

@@ -15,14 +15,27 @@ ghost use Rattle.part.specs.Part.{Sized, Shows, ShowsTerm, ShowsWide, Sh
 ghost use Rattle.part.specs.Part.{From, MergedIs, IntoFrom, Mergeable};
 use number::Num;
 
+// The records of a power beside its base's: its own and its exponent's.
+const AROUND: usize = 2;
+
 // A term's coefficient, and the record of the member whose rest and mark are its own; the same of a member whose own coefficient is out
 // of range; a factor's exponent, the record and the size of its base, and its mark; a factor's exponent, the bits and the mark of its
 // integer base, and its mark.
 pub enum Part {
     Term(u64, usize),
     Wide(usize),
-    Power(u64, usize, usize, usize),
-    Number(u64, u64, usize, usize),
+    Power {
+        exponent: u64,
+        base: usize,
+        size: usize,
+        mark: usize,
+    },
+    Number {
+        exponent: u64,
+        base: u64,
+        base_mark: usize,
+        mark: usize,
+    },
 }
 
 // Whether a part takes up a later one: it does not; it does, and what it becomes; it does, and leaves the range.
@@ -41,7 +54,7 @@ fn term_of(s: &[u8], at: usize) -> Part
     if equal::is_whole(s, at) {
         return Part::Term(1, at);
     }
-    if record::kind(s, at) < 1 {
+    if record::kind(s, at) < record::SYMBOL {
         return Part::Term(record::bits(s, at), at);
     }
     let n = split::coefficient(s, at);
@@ -63,13 +76,28 @@ pub fn part_of(s: &[u8], at: usize, size: usize, terms: bool) -> Part
     let e = split::exponent(s, at);
     let b = split::base(s, at);
     let m = record::mark(s, at);
-    if record::kind(s, b) < 1 {
-        return Part::Number(e, record::bits(s, b), record::mark(s, b), m);
+    if record::kind(s, b) < record::SYMBOL {
+        return Part::Number {
+            exponent: e,
+            base: record::bits(s, b),
+            base_mark: record::mark(s, b),
+            mark: m,
+        };
     }
-    if record::kind(s, at) == 4 {
-        return Part::Power(e, at + 1, size - 2, m);
+    if record::kind(s, at) == record::POWER {
+        return Part::Power {
+            exponent: e,
+            base: at + 1,
+            size: size - AROUND,
+            mark: m,
+        };
     }
-    Part::Power(e, at, size, m)
+    Part::Power {
+        exponent: e,
+        base: at,
+        size: size,
+        mark: m,
+    }
 }
 
 // The term with the coefficient n and the rest of the member at record i, where it meets the member at record `at`, with a look first
@@ -144,7 +172,12 @@ fn merge_power(
         equal::Match::Ends(_) => {
             let sum = number::add(e, split::exponent(s, at));
             match sum {
-                Num::Is(f) => Merged::Into(Part::Power(f, i, k, m)),
+                Num::Is(f) => Merged::Into(Part::Power {
+                    exponent: f,
+                    base: i,
+                    size: k,
+                    mark: m,
+                }),
                 Num::Out => Merged::Over,
             }
         }
@@ -160,7 +193,7 @@ fn merge_number(s: &[u8], e: u64, v: u64, b: usize, m: usize, at: usize) -> Merg
     ensures place { λ r. ⌜ ((p : ℕ) → IntoFrom p r) ⌝ }
 {
     let j = split::base(s, at);
-    if 0 < record::kind(s, j) {
+    if record::INTEGER < record::kind(s, j) {
         return Merged::Apart;
     }
     let w = record::bits(s, j);
@@ -168,7 +201,12 @@ fn merge_number(s: &[u8], e: u64, v: u64, b: usize, m: usize, at: usize) -> Merg
     if e == f {
         let product = number::mul(v, w);
         return match product {
-            Num::Is(x) => Merged::Into(Part::Number(e, x, m, m)),
+            Num::Is(x) => Merged::Into(Part::Number {
+                exponent: e,
+                base: x,
+                base_mark: m,
+                mark: m,
+            }),
             Num::Out => Merged::Over,
         };
     }
@@ -177,7 +215,12 @@ fn merge_number(s: &[u8], e: u64, v: u64, b: usize, m: usize, at: usize) -> Merg
     }
     let sum = number::add(e, f);
     match sum {
-        Num::Is(x) => Merged::Into(Part::Number(x, v, b, m)),
+        Num::Is(x) => Merged::Into(Part::Number {
+            exponent: x,
+            base: v,
+            base_mark: b,
+            mark: m,
+        }),
         Num::Out => Merged::Over,
     }
 }
@@ -192,7 +235,17 @@ pub fn merge(s: &[u8], c: Part, at: usize, ticks: &mut [u8]) -> Merged
     match c {
         Part::Term(n, i) => merge_term(s, n, i, at, ticks),
         Part::Wide(i) => merge_wide(s, i, at, ticks),
-        Part::Power(e, i, k, m) => merge_power(s, e, i, k, m, at, ticks),
-        Part::Number(e, v, b, m) => merge_number(s, e, v, b, m, at),
+        Part::Power {
+            exponent: e,
+            base: i,
+            size: k,
+            mark: m,
+        } => merge_power(s, e, i, k, m, at, ticks),
+        Part::Number {
+            exponent: e,
+            base: v,
+            base_mark: b,
+            mark: m,
+        } => merge_number(s, e, v, b, m, at),
     }
 }

@@ -1,5 +1,5 @@
 -- The two ways that a piece is kept, as the code has them: all of it, or the front of it that there is room for, copied behind what came
--- before. Each is the paper's law of such a piece. Assumes nothing.
+-- before. Each is the paper's law of such a piece.
 use Prim.Native.Nat.{ℕ, _+_, _-_, _≤_, _<_}
 use mathlib.Core.Path.{_≡_, refl, sym, ap, _∙_}
 use mathlib.Core.Bool.{true, false}

@@ -1,34 +1,24 @@
 -- Two answers, records and areas that meet a contract of the receiver are the same. Of `after_piece` and `at_finish` the contract is the one that
 -- the check reads from the source; `take` and `finish` say the same of the record behind the borrow, and the laws below are of what they say:
--- the paper's terms tell number, record, area and answer. Assumes nothing.
+-- the paper's terms tell number, record, area and answer.
 use Prim.Native.Nat.{ℕ}
-use mathlib.Core.Path.{_≡_, refl, sym, ap, _∙_}
+use mathlib.Core.Path.{_≡_, sym, ap, _∙_}
 use mathlib.Core.List.{List}
-use Rattle.paper.specs.Verdict.{Verdict}
 use Rattle.paper.specs.Once.{Once, OnceLeft}
 use Rattle.paper_receiver.specs.Receiver as paper
-use Rattle.record.specs.declared.Flaw.{Flaw}
-use Rattle.record.proofs.Unique.{codeOf, code-of}
 use Rattle.table.specs.declared.Fault.{Fault}
 use Rattle.table.specs.Judged.{verdictOf}
+use Rattle.table.proofs.Unique.{fault-once}
 use Rattle.receiver.specs.declared.Receiver.{Receiver}
-use Rattle.receiver.specs.declared.Taking.{Taking}
-use Rattle.receiver.specs.declared.Finishing.{Finishing}
 use Rattle.receiver.specs.Receiving.{says, held, gives}
 use Rattle.receiver.proofs.after_piece.Reads as after-piece-reads
 use Rattle.receiver.proofs.after_piece.Kinds as after-piece-kinds
 use Rattle.receiver.proofs.at_finish.Reads as at-finish-reads
 use Rattle.receiver.proofs.at_finish.Kinds as at-finish-kinds
 
--- the record, and the answer, that have these terms
+-- the record that has these terms
 abbrev recordOf : paper.Receiver → Receiver
 recordOf r = record { count = r .count; past = r .past }
-
-abbrev faultOf : Verdict → Fault
-faultOf v = record { number = v .number; place = v .place; flaw = codeOf (v .flaw) }
-
-fault-of : (e : Fault) → faultOf (verdictOf e) ≡ e
-fault-of e = ap (λ (f : Flaw). record { number = e .number; place = e .place; flaw = f }) (code-of (e .flaw))
 
 -- what `take` says: number, record and area
 pub took-once : (k k′ : ℕ) (r r′ : Receiver) (area area′ : List ℕ) → gives k r area ≡ gives k′ r′ area′ → (k ≡ k′) × ((r ≡ r′) × (area ≡ area′))
@@ -39,7 +29,7 @@ took-once k k′ r r′ area area′ e = (
 
 -- what `finish` says: answer and record
 pub finished-once : (e e′ : Fault) (r r′ : Receiver) → (verdictOf e ≡ verdictOf e′) × (says r ≡ says r′) → (e ≡ e′) × (r ≡ r′)
-finished-once e e′ r r′ q = (sym (fault-of e) ∙ ap faultOf (q .0) ∙ fault-of e′, ap recordOf (q .1))
+finished-once e e′ r r′ q = (fault-once e e′ (q .0), ap recordOf (q .1))
 
 pub after-piece-once : OnceLeft 2 after-piece-kinds.ps after-piece-kinds.r after-piece-reads.Pre after-piece-reads.Post (List ℕ) (λ κs x. x .1 .1 .0 .now)
 after-piece-once κs a v v′ x x′ q p p′ =

@@ -1,9 +1,7 @@
 // The receiver of tables that come over the serial link in pieces: by value, and in thin functions over it that change the link task's
 // record on the spot.
-use record::Flaw;
 use table::Fault;
 ghost use mathlib.Core.Path.{_≡_};
-ghost use Rattle.paper.specs.Verdict as paper;
 ghost use Rattle.paper_receiver.specs.Receiver.{isPast, received, finishVerdict, finishState};
 ghost use Rattle.table.specs.Judged.{verdictOf};
 ghost use Rattle.receiver.specs.Receiving.{says, held, gives};
@@ -36,17 +34,6 @@ fn is_past(most: usize, r: Receiver) -> bool
     most < r.count
 }
 
-// A refusal by number alone.
-fn refused(number: u32) -> Fault
-    ensures { λ f. ⌜ verdictOf f ≡ paper.refused number 0 ⌝ }
-{
-    Fault {
-        number: number,
-        place: 0,
-        flaw: Flaw::Sound,
-    }
-}
-
 // A piece is taken: as much of it as there is room for is kept behind what came before, and nothing past the limit.
 pub fn after_piece(limit: usize, r: Receiver, area: &mut [u8], piece: &[u8]) -> Taking
     ensures { λ t. ⌜ gives (t .number) (t .state) (now (area .exit)) ≡ received limit (held r (now (area .entry))) (now (piece .entry)) ⌝ }
@@ -54,14 +41,14 @@ pub fn after_piece(limit: usize, r: Receiver, area: &mut [u8], piece: &[u8]) -> 
     if !table::is_limit(limit) {
         return Taking {
             state: r,
-            number: 19,
+            number: table::LIMIT,
         };
     }
-    let most = 16 * limit;
+    let most = record::SIZE * limit;
     if area.len() < most {
         return Taking {
             state: r,
-            number: 6,
+            number: table::ROOM,
         };
     }
     if is_past(most, r) {
@@ -95,26 +82,27 @@ pub fn after_piece(limit: usize, r: Receiver, area: &mut [u8], piece: &[u8]) -> 
 
 // The finish: the checker's answer on what was kept, 1 past the limit; the receiver is empty afterwards.
 pub fn at_finish(limit: usize, r: Receiver, area: &[u8]) -> Finishing
-    ensures { λ f. ⌜ (verdictOf (f .end) ≡ finishVerdict limit (held r (now (area .entry)))) × (says (f .state) ≡ finishState limit (held r (now (area .entry)))) ⌝ }
+    ensures { λ f. ⌜ (verdictOf (f .end) ≡ finishVerdict limit (held r (now (area .entry))))
+        × (says (f .state) ≡ finishState limit (held r (now (area .entry)))) ⌝ }
 {
     if !table::is_limit(limit) {
         return Finishing {
             state: r,
-            end: refused(19),
+            end: table::refusal(table::LIMIT, 0),
         };
     }
-    let most = 16 * limit;
+    let most = record::SIZE * limit;
     if area.len() < most {
         return Finishing {
             state: r,
-            end: refused(6),
+            end: table::refusal(table::ROOM, 0),
         };
     }
     let empty = Receiver { count: 0, past: 0 };
     if is_past(most, r) {
         return Finishing {
             state: empty,
-            end: refused(1),
+            end: table::refusal(table::LENGTH, 0),
         };
     }
     let count = r.count;

@@ -1,4 +1,4 @@
--- What is wrong with a record whose kind is known: the bytes are judged before the count, and a count is good from 2 on. Assumes nothing.
+-- What is wrong with a record whose kind is known: the bytes are judged before the count, and a count is good from 2 on.
 use Prim.Native.Nat.{ℕ, _≤_}
 use mathlib.Core.Path.{_≡_, refl, sym, _∙_}
 use mathlib.Core.Bool.{Bool, true, false, cond, not}

@@ -1,4 +1,4 @@
--- The kinds that have a count, 2 and 3, as the code tells them from the others: not below 2, and not 4. Assumes nothing.
+-- The kinds that have a count, 2 and 3, as the code tells them from the others: not below 2, and not 4.
 use Prim.Native.Nat.{ℕ, _<_, _≤_}
 use mathlib.Core.Path.{_≡_}
 use mathlib.Core.Bool.{true, false}

@@ -1,4 +1,4 @@
--- One byte of `stray`, as the loop over the 16 bytes takes it: the search goes on, or it ends there. Assumes nothing.
+-- One byte of `stray`, as the loop over the 16 bytes takes it: the search goes on, or it ends there.
 use Prim.Native.Nat.{ℕ, suc, _+_, _-_, _*_, _<_, _≤_}
 use mathlib.Core.Path.{_≡_, refl, _∙_}
 use mathlib.Core.Bool.{cond, _||_, not}

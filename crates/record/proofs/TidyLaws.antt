@@ -1,13 +1,13 @@
 -- A record that is tidy has no stray byte. Its first half being the kind, the count and the mark, bytes 1, 6 and 7 are zero, and 2 and 3
 -- too where there is no count; its second half being below the room that its kind has, the bytes past that room are zero. So the search
--- passes stretches of zeros and stretches that may be other than zero, up to the end. Assumes nothing.
+-- passes stretches of zeros and stretches that may be other than zero, up to the end.
 use Prim.Native.Nat.{ℕ, zero, suc, _+_, _-_, _*_, _<_, _≤_}
-use mathlib.Core.Path.{_≡_, refl, sym, ap, _∙_}
+use mathlib.Core.Path.{_≡_, refl, _∙_}
 use mathlib.Core.Bool.{Bool, true, false, cond, _&&_, _||_, not}
 use mathlib.Core.List.{List, [], _∷_}
 use native.Mathlib.Nat.{add-assoc}
 use native.Mathlib.Omega.{arith}
-use borrow.Author.Tests.{eqb-true, ltb-true, ne-eqb, eqb-false}
+use borrow.Author.Tests.{eqb-true, ltb-true, eqb-false}
 use lib.Dec.{eqb, ltb}
 use lib.ListN.{getD}
 use Rattle.paper.specs.Bytes.{le, le2, le8}

@@ -1,6 +1,6 @@
 -- Each contract, as the check reads it off the source, leaves one answer open and no other: each answer equals one definition of what was
--- given. What is wrong with a record is told from every other flaw by the paper's value; of `write_record` and `set_mark` it is the bytes at
--- exit that are one. Assumes nothing.
+-- given. What is wrong with a record is told from every other flaw by the paper's value; of `write_record`, `copy_record` and `set_mark` it is
+-- the bytes at exit that are one.
 use Prim.Native.Nat.{ℕ}
 use mathlib.Core.Path.{_≡_, refl, sym, ap, _∙_}
 use mathlib.Core.List.{List}
@@ -33,6 +33,8 @@ use Rattle.record.proofs.flaw_numbers.Reads as flaw-numbers
 use Rattle.record.proofs.flaw_numbers.Kinds as flaw-numbers-kinds
 use Rattle.record.proofs.write_record.Reads as write-record
 use Rattle.record.proofs.write_record.Kinds as write-record-kinds
+use Rattle.record.proofs.copy_record.Reads as copy-record
+use Rattle.record.proofs.copy_record.Kinds as copy-record-kinds
 use Rattle.record.proofs.set_mark.Reads as set-mark
 use Rattle.record.proofs.set_mark.Kinds as set-mark-kinds
 
@@ -97,6 +99,9 @@ judge-record-once κs a v v' x x' q p p' = flaw-once v v' (p ∙ sym p')
 
 pub write-record-once : OnceLeft 1 write-record-kinds.ps write-record-kinds.r write-record.Pre write-record.Post (List ℕ) (λ κs x. x .0 .now)
 write-record-once κs a v v' x x' q p p' = (refl, p ∙ sym p')
+
+pub copy-record-once : OnceLeft 2 copy-record-kinds.ps copy-record-kinds.r copy-record.Pre copy-record.Post (List ℕ) (λ κs x. x .0 .now)
+copy-record-once κs a v v' x x' q p p' = (refl, p ∙ sym p')
 
 pub set-mark-once : OnceLeft 1 set-mark-kinds.ps set-mark-kinds.r set-mark.Pre set-mark.Post (List ℕ) (λ κs x. x .0 .now)
 set-mark-once κs a v v' x x' q p p' = (refl, p ∙ sym p')

@@ -7,9 +7,51 @@ ghost use Rattle.paper.specs.Record.{kind, countIn, markIn, bits, symbolIn, str
 ghost use Rattle.paper.specs.Verdict.{isPositive};
 ghost use Rattle.paper.specs.Bytes.{bytes};
 ghost use Rattle.paper.specs.Table.{recordOf};
-ghost use Rattle.stretch.specs.Put.{put};
+ghost use Rattle.stretch.specs.Put.{part, put};
 ghost use Rattle.record.specs.Flaw.{flawOf, bothNumbers, byteFlaw, countFlaw, firstOf};
 ghost use Rattle.record.specs.Tidy.{front, isTidy};
+
+// The kinds of records.
+pub const INTEGER: u8 = 0;
+
+pub const SYMBOL: u8 = 1;
+
+pub const SUM: u8 = 2;
+
+pub const PRODUCT: u8 = 3;
+
+pub const POWER: u8 = 4;
+
+// The bytes of a record.
+pub const SIZE: usize = 16;
+
+// Where in a record its number of members, its mark and its bits stand.
+pub const COUNT_AT: usize = 2;
+
+pub const MARK_AT: usize = 4;
+
+pub const BITS_AT: usize = 8;
+
+// The bytes of a mark, and how many values a byte has.
+const MARK_BYTES: usize = 2;
+
+const BYTE: usize = 256;
+
+// In the number that bytes 0-7 make, a count and a mark are multiplied by these.
+const COUNTS: u64 = 0x1_0000;
+
+const MARKS: u64 = 0x1_0000_0000;
+
+// Symbols are below it.
+const SYMBOLS: u64 = 256;
+
+// The bits of the negative numbers begin here.
+const NEGATIVE: u64 = 0x8000_0000_0000_0000;
+
+// A power has a base and an exponent; a sum or a product has at least two members.
+const PARTS: usize = 2;
+
+const LEAST: usize = 2;
 
 // Which bytes of a record may be other than zero (1), by kind and byte.
 const MAY: [[u8; 16]; 5] = [
@@ -28,8 +70,16 @@ pub enum Flaw {
     Count,
 }
 
-// What is wrong with a record, as the numbers of an answer: 0 nothing, 1 the kind, 2 a byte, 3 the count; and which byte, 0 where it is
-// none.
+// What is wrong with a record, as the first number of an answer.
+const NOTHING: u64 = 0;
+
+const BAD_KIND: u64 = 1;
+
+const BAD_BYTE: u64 = 2;
+
+const BAD_COUNT: u64 = 3;
+
+// What is wrong with a record, as the numbers of an answer: which of the above; and which byte, 0 where it is none.
 pub struct FlawNumbers {
     pub what: u64,
     pub byte: u64,
@@ -40,7 +90,7 @@ pub fn kind(s: &[u8], i: usize) -> u8
     requires { ⌜ i * 16 + 16 ≤ length (now s) ⌝ }
     ensures { λ r. ⌜ r ≡ kind (now (s .entry)) i ⌝ }
 {
-    s[i * 16]
+    s[i * SIZE]
 }
 
 // The number of members that record i gives, for a sum or a product.
@@ -48,7 +98,7 @@ pub fn count(s: &[u8], i: usize) -> usize
     requires { ⌜ i * 16 + 16 ≤ length (now s) ⌝ }
     ensures { λ r. ⌜ (r ≡ countIn (now (s .entry)) i) × (r < 65536) ⌝ }
 {
-    number::read2(s, i * 16 + 2)
+    number::read2(s, i * SIZE + COUNT_AT)
 }
 
 // The mark of record i: the line of the sheet that it came from, 0 for none.
@@ -56,7 +106,7 @@ pub fn mark(s: &[u8], i: usize) -> usize
     requires { ⌜ i * 16 + 16 ≤ length (now s) ⌝ }
     ensures { λ r. ⌜ (r ≡ markIn (now (s .entry)) i) × (r < 65536) ⌝ }
 {
-    number::read2(s, i * 16 + 4)
+    number::read2(s, i * SIZE + MARK_AT)
 }
 
 // The 64 bits of record i, for an integer.
@@ -64,7 +114,7 @@ pub fn bits(s: &[u8], i: usize) -> u64
     requires { ⌜ i * 16 + 16 ≤ length (now s) ⌝ }
     ensures { λ r. ⌜ r ≡ bits (now (s .entry)) i ⌝ }
 {
-    number::read8(s, i * 16 + 8)
+    number::read8(s, i * SIZE + BITS_AT)
 }
 
 // The symbol of record i.
@@ -72,7 +122,7 @@ pub fn symbol(s: &[u8], i: usize) -> u8
     requires { ⌜ i * 16 + 16 ≤ length (now s) ⌝ }
     ensures { λ r. ⌜ r ≡ symbolIn (now (s .entry)) i ⌝ }
 {
-    s[i * 16 + 8]
+    s[i * SIZE + BITS_AT]
 }
 
 // The number of members of record i, whatever its kind.
@@ -81,11 +131,11 @@ pub fn arity(s: &[u8], i: usize) -> usize
     ensures { λ r. ⌜ (r ≡ arity (now (s .entry)) i) × (r < 65536) ⌝ }
 {
     let k = kind(s, i);
-    if k < 2 {
+    if k < SUM {
         return 0;
     }
-    if k == 4 {
-        return 2;
+    if k == POWER {
+        return PARTS;
     }
     count(s, i)
 }
@@ -95,60 +145,60 @@ pub fn is_positive(s: &[u8], i: usize) -> bool
     requires { ⌜ i * 16 + 16 ≤ length (now s) ⌝ }
     ensures { λ r. ⌜ r ≡ isPositive (now (s .entry)) i ⌝ }
 {
-    if 0 < kind(s, i) {
+    if INTEGER < kind(s, i) {
         return false;
     }
     let v = bits(s, i);
     if v < 1 {
         return false;
     }
-    v < 0x8000_0000_0000_0000
+    v < NEGATIVE
 }
 
 // The number in bytes 0-7 of record i, of kind k, if those of them are zero that must be.
-fn front(s: &[u8], i: usize, k: usize) -> u64
+fn front(s: &[u8], i: usize, k: u8) -> u64
     requires { ⌜ (i * 16 + 16 ≤ length (now s)) × (k < 5) ⌝ }
     ensures { λ r. ⌜ r ≡ front (now (s .entry)) i k ⌝ }
 {
-    let m = mark(s, i) as u64 * 0x1_0000_0000;
-    if k < 2 {
+    let m = mark(s, i) as u64 * MARKS;
+    if k < SUM {
         return k as u64 + m;
     }
-    if k == 4 {
+    if k == POWER {
         return k as u64 + m;
     }
-    k as u64 + count(s, i) as u64 * 0x1_0000 + m
+    k as u64 + count(s, i) as u64 * COUNTS + m
 }
 
 // Record i, of kind k, is seen by its two halves to have no byte that must be zero and is not.
-fn is_tidy(s: &[u8], i: usize, k: usize) -> bool
+fn is_tidy(s: &[u8], i: usize, k: u8) -> bool
     requires { ⌜ (i * 16 + 16 ≤ length (now s)) × (k < 5) ⌝ }
     ensures { λ r. ⌜ r ≡ isTidy (now (s .entry)) i k ⌝ }
 {
-    if number::read8(s, i * 16) != front(s, i, k) {
+    if number::read8(s, i * SIZE) != front(s, i, k) {
         return false;
     }
-    if k < 1 {
+    if k < SYMBOL {
         return true;
     }
-    if k < 2 {
-        return bits(s, i) < 256;
+    if k < SUM {
+        return bits(s, i) < SYMBOLS;
     }
     bits(s, i) < 1
 }
 
 // The lowest byte of record i, of kind k, that is other than zero and must be zero; 16 where there is none.
-fn stray(s: &[u8], i: usize, k: usize) -> usize
+fn stray(s: &[u8], i: usize, k: u8) -> usize
     requires { ⌜ (i * 16 + 16 ≤ length (now s)) × (k < 5) ⌝ }
     ensures { λ r. ⌜ r ≡ stray (now (s .entry)) i k 0 16 ⌝ }
 {
     if is_tidy(s, i, k) {
-        return 16;
+        return SIZE;
     }
     let mut j = 0;
-    while j < 16 {
-        if s[i * 16 + j] != 0 {
-            if MAY[k][j] == 0 {
+    while j < SIZE {
+        if s[i * SIZE + j] != 0 {
+            if MAY[k as usize][j] == 0 {
                 return j;
             }
         }
@@ -158,29 +208,29 @@ fn stray(s: &[u8], i: usize, k: usize) -> usize
 }
 
 // What is wrong with the bytes of record i, of kind k.
-fn judge_bytes(s: &[u8], i: usize, k: usize) -> Flaw
+fn judge_bytes(s: &[u8], i: usize, k: u8) -> Flaw
     requires { ⌜ (i * 16 + 16 ≤ length (now s)) × (k < 5) ⌝ }
     ensures { λ r. ⌜ flawOf r ≡ byteFlaw (now (s .entry)) i k ⌝ }
 {
     let j = stray(s, i, k);
-    if j < 16 {
+    if j < SIZE {
         return Flaw::Byte(j);
     }
     Flaw::Sound
 }
 
 // What is wrong with the count of record i, of kind k.
-fn judge_count(s: &[u8], i: usize, k: usize) -> Flaw
+fn judge_count(s: &[u8], i: usize, k: u8) -> Flaw
     requires { ⌜ (i * 16 + 16 ≤ length (now s)) × (k < 5) ⌝ }
     ensures { λ r. ⌜ flawOf r ≡ countFlaw (now (s .entry)) i k ⌝ }
 {
-    if k < 2 {
+    if k < SUM {
         return Flaw::Sound;
     }
-    if k == 4 {
+    if k == POWER {
         return Flaw::Sound;
     }
-    if count(s, i) < 2 {
+    if count(s, i) < LEAST {
         return Flaw::Count;
     }
     Flaw::Sound
@@ -213,8 +263,8 @@ pub fn judge_record(s: &[u8], i: usize) -> Flaw
     requires { ⌜ i * 16 + 16 ≤ length (now s) ⌝ }
     ensures { λ r. ⌜ flawOf r ≡ flaw (now (s .entry)) i ⌝ }
 {
-    let k = kind(s, i) as usize;
-    if 4 < k {
+    let k = kind(s, i);
+    if POWER < k {
         return Flaw::Kind;
     }
     let bytes = judge_bytes(s, i, k);
@@ -227,17 +277,17 @@ pub fn is_sound(s: &[u8], i: usize) -> bool
     requires { ⌜ i * 16 + 16 ≤ length (now s) ⌝ }
     ensures { λ r. ⌜ r ≡ not (isFlawed (flaw (now (s .entry)) i)) ⌝ }
 {
-    let k = kind(s, i) as usize;
-    if 4 < k {
+    let k = kind(s, i);
+    if POWER < k {
         return false;
     }
-    if stray(s, i, k) < 16 {
+    if stray(s, i, k) < SIZE {
         return false;
     }
-    if k < 2 {
+    if k < SUM {
         return true;
     }
-    if k == 4 {
+    if k == POWER {
         return true;
     }
     1 < count(s, i)
@@ -248,10 +298,10 @@ pub fn write_record(d: &mut [u8], i: usize, kind: u8, count: usize, mark: usize,
     requires { ⌜ i * 16 + 16 ≤ length (now d) ⌝ }
     ensures { λ _. ⌜ now (d .exit) ≡ put (now (d .entry)) (i * 16) (recordOf kind count mark bits) ⌝ }
 {
-    let lo = (count % 256) as u8;
-    let hi = (count / 256 % 256) as u8;
-    let mark_lo = (mark % 256) as u8;
-    let mark_hi = (mark / 256 % 256) as u8;
+    let lo = (count % BYTE) as u8;
+    let hi = (count / BYTE % BYTE) as u8;
+    let mark_lo = (mark % BYTE) as u8;
+    let mark_hi = (mark / BYTE % BYTE) as u8;
     let b = number::bytes8(bits);
     let r = [
         kind,
@@ -271,7 +321,18 @@ pub fn write_record(d: &mut [u8], i: usize, kind: u8, count: usize, mark: usize,
         b[6],
         b[7],
     ];
-    stretch::copy_bytes(d, i * 16, &r, 0, 16);
+    stretch::copy_bytes(d, i * SIZE, &r, 0, SIZE);
+}
+
+// Copies record j of src to record i of dst, by its two halves.
+pub fn copy_record(dst: &mut [u8], i: usize, src: &[u8], j: usize)
+    requires { ⌜ (i * 16 + 16 ≤ length (now dst)) × (j * 16 + 16 ≤ length (now src)) ⌝ }
+    ensures { λ _. ⌜ now (dst .exit) ≡ put (now (dst .entry)) (i * 16) (part (now (src .entry)) (j * 16) 16) ⌝ }
+{
+    let a = number::read8(src, j * SIZE);
+    let b = number::read8(src, j * SIZE + BITS_AT);
+    number::write8(dst, i * SIZE, a);
+    number::write8(dst, i * SIZE + BITS_AT, b);
 }
 
 // Another mark for record i; all other bytes of d stay.
@@ -279,8 +340,8 @@ pub fn set_mark(d: &mut [u8], i: usize, mark: usize)
     requires { ⌜ i * 16 + 16 ≤ length (now d) ⌝ }
     ensures { λ _. ⌜ now (d .exit) ≡ put (now (d .entry)) (i * 16 + 4) (bytes 2 mark) ⌝ }
 {
-    let b = [(mark % 256) as u8, (mark / 256 % 256) as u8];
-    stretch::copy_bytes(d, i * 16 + 4, &b, 0, 2);
+    let b = [(mark % BYTE) as u8, (mark / BYTE % BYTE) as u8];
+    stretch::copy_bytes(d, i * SIZE + MARK_AT, &b, 0, MARK_BYTES);
 }
 
 // What is wrong with the record, as numbers.
@@ -288,12 +349,21 @@ pub fn flaw_numbers(f: Flaw) -> FlawNumbers
     ensures { λ r. ⌜ bothNumbers r ≡ flawNumbers (flawOf f) ⌝ }
 {
     match f {
-        Flaw::Sound => FlawNumbers { what: 0, byte: 0 },
-        Flaw::Kind => FlawNumbers { what: 1, byte: 0 },
+        Flaw::Sound => FlawNumbers {
+            what: NOTHING,
+            byte: 0,
+        },
+        Flaw::Kind => FlawNumbers {
+            what: BAD_KIND,
+            byte: 0,
+        },
         Flaw::Byte(j) => FlawNumbers {
-            what: 2,
+            what: BAD_BYTE,
             byte: j as u64,
         },
-        Flaw::Count => FlawNumbers { what: 3, byte: 0 },
+        Flaw::Count => FlawNumbers {
+            what: BAD_COUNT,
+            byte: 0,
+        },
     }
 }

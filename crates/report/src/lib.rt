@@ -1,7 +1,34 @@
 // The listing of a table: whether it was accepted, its steps and openings, both weights, and the steps by name. What writes answers whether it
 // was written; after the first write that fails there is no other, and standard error says so.
+use libc::STDIN_FILENO;
 use libc::STDOUT_FILENO;
 use record::Flaw;
+
+// The limit that the small programs keep, and the bytes of the largest table, of the shortest area over it, and of `work`, by it.
+pub const LIMIT: usize = 3072;
+
+pub const TABLE: usize = 49152;
+
+pub const OVER_TABLE: usize = 49168;
+
+pub const WORK: usize = 65536;
+
+// The steps of the rules, as the simplifier notes them.
+const ADD_ZERO: u8 = 1;
+
+const LIKE_TERMS: u8 = 2;
+
+const MULTIPLY_ZERO: u8 = 3;
+
+const MULTIPLY_ONE: u8 = 4;
+
+const LIKE_FACTORS: u8 = 6;
+
+const POWER_ONE: u8 = 7;
+
+const POWER_CONSTANT: u8 = 8;
+
+const POWER_POWER: u8 = 9;
 
 // Tells that output was lost, and why.
 pub fn lost() {
@@ -20,31 +47,17 @@ fn say(word: &[u8], number: usize) -> bool {
 
 // Writes the name of a step, a line.
 fn name(step: u8) -> bool {
-    if step == 1 {
-        return put(b"add-zero\n");
+    match step {
+        ADD_ZERO => put(b"add-zero\n"),
+        LIKE_TERMS => put(b"like-terms\n"),
+        MULTIPLY_ZERO => put(b"multiply-zero\n"),
+        MULTIPLY_ONE => put(b"multiply-one\n"),
+        LIKE_FACTORS => put(b"like-factors\n"),
+        POWER_ONE => put(b"power-one\n"),
+        POWER_CONSTANT => put(b"power-constant\n"),
+        POWER_POWER => put(b"power-power\n"),
+        _ => true,
     }
-    if step == 2 {
-        return put(b"like-terms\n");
-    }
-    if step == 3 {
-        return put(b"multiply-zero\n");
-    }
-    if step == 4 {
-        return put(b"multiply-one\n");
-    }
-    if step == 6 {
-        return put(b"like-factors\n");
-    }
-    if step == 7 {
-        return put(b"power-one\n");
-    }
-    if step == 8 {
-        return put(b"power-constant\n");
-    }
-    if step == 9 {
-        return put(b"power-power\n");
-    }
-    true
 }
 
 // Writes the names of the first n steps, where there are so many.
@@ -99,12 +112,12 @@ pub fn list(a: simplify::Answer, steps: &[u8]) -> bool {
 // Reads a table from standard input, simplifies it at the limit 3,072 by the rules of the edition, in memory of its own, and writes its
 // listing. Of an input that is longer than any table only as much is read as shows that it is.
 pub fn run(edition: usize) {
-    let mut table = [0u8; 49168];
-    let mut out = [0u8; 49152];
-    let mut steps = [0u8; 3072];
-    let mut work = [0u8; 65536];
-    let n = io::read_full(0, &mut table);
-    let a = simplify::simplify(3072, edition, &table[..n], &mut out, &mut steps, &mut work);
+    let mut table = [0u8; OVER_TABLE];
+    let mut out = [0u8; TABLE];
+    let mut steps = [0u8; LIMIT];
+    let mut work = [0u8; WORK];
+    let n = io::read_full(STDIN_FILENO, &mut table);
+    let a = simplify::simplify(LIMIT, edition, &table[..n], &mut out, &mut steps, &mut work);
     if !list(a, &steps) {
         lost();
     }

@@ -1,6 +1,6 @@
 -- One member alone is dropped: the members are those before it, itself and those behind it, and what is kept is all but itself. It has one
 -- record, so with those before it moved by one record, and the node's record written before them, the node of what is kept stands. By
--- induction on the members, and read off what puts leave. Assumes nothing.
+-- induction on the members, and read off what puts leave.
 use Prim.Native.Nat.{ℕ, zero, suc, _+_, _-_, _*_, _≤_}
 use mathlib.Core.Path.{_≡_, refl, sym, ap, _∙_, subst}
 use mathlib.Core.Bool.{Bool, true, false, cond}
@@ -9,14 +9,14 @@ use native.Mathlib.Omega.{arith}
 use lib.ListN.{length, drop, length-append, length-drop}
 use lib.Seq.{drop-drop, drop-at}
 use lib.IntN.{pos}
-use Rattle.paper.specs.Tree.{Tree, Forest, nil, cons, integer, symbol, sum, product, power, count, records, recordses, weight, weights, toList, ofList}
+use Rattle.paper.specs.Tree.{Tree, Forest, nil, cons, integer, symbol, sum, product, power, count, records, recordses, weight, toList, ofList}
 use Rattle.paper.specs.WellFormed.{Mark, WFl}
 use Rattle.paper.specs.Table.{recordOf}
 use Rattle.paper.specs.Rules as paper
 use Rattle.paper.specs.Rules.{isThe, dropAll, unless}
 use Rattle.paper.proofs.EncodeLaws.{record-length}
-use Rattle.paper.proofs.WFLaws.{of-to-list, to-of-list, wf-list}
-use Rattle.paper.proofs.Value.{total, weights-list}
+use Rattle.paper.proofs.WFLaws.{of-to-list, wf-list}
+use Rattle.paper.proofs.Value.{total, list-weights, weights-list}
 use Rattle.paper.proofs.DropRules.{dropAll-wf}
 use Rattle.note.specs.Note.{note}
 use Rattle.note.specs.Noted.{encodeBy, encodesBy}
@@ -25,8 +25,8 @@ use Rattle.note.proofs.CloseLaws.{unclosed}
 use Rattle.stretch.specs.Put.{put, part}
 use Rattle.stretch.proofs.Laws.{drop-put-at, length-put}
 use Rattle.part.specs.Like.{nodeKind, nodeOf}
-use Rattle.write.specs.Written.{Light}
-use Rattle.write.proofs.Encoded.{encodes-append, stands-bytes}
+use Rattle.rebuilt.specs.Written.{Light}
+use Rattle.rebuilt.proofs.Encoded.{encodes-append, stands-bytes}
 use Rattle.rules.specs.Tried.{Held, lastDropped, Around, PutBack}
 use Rattle.rules.proofs.Nodes.{of-more}
 use Rattle.rules.proofs.Dropping.{kept, dropped-weight, node-light}
@@ -111,9 +111,6 @@ one-dropped {p = p} {z = z} {f = f} h e q =
     let r = one-of z (p + 1) p f e in
     record { before = r .before; it = r .it; behind = r .behind; one = r .one; only = r .only; whole = r .whole; place = q ∙ r .place }
 
-row-weights : (l : List Tree) → weights (ofList l) ≡ total weight l
-row-weights l = omega (arith, weights-list (ofList l), ap (total weight) (to-of-list l))
-
 -- not one alone is kept, so two or more are
 two-or-more : (n m : ℕ) → (n ≡ 1 → ⊥) → n + 1 ≡ m → 2 ≤ m → 2 ≤ n
 two-or-more zero m e q l = absurd (omega arith)
@@ -136,7 +133,7 @@ around {z = z} {f = f} {rest = rest} h e m r =
       one = r .one;
       wf = subst WFl (r .only) (dropAll-wf drops (toList f) (wf-list f (h .wf)));
       more = omega arith;
-      light = omega (arith, h .light, row-weights l, ap (total weight) (r .only), weights-list f);
+      light = omega (arith, h .light, list-weights l, ap (total weight) (r .only), weights-list f);
       counted = omega (arith, h .counted);
       stand =
           h .stand ∙ ap (λ (l : List ℕ). l ++ rest) (r .whole) ∙ append-assoc a (i ++ b) rest
@@ -156,7 +153,7 @@ module _ {w : List ℕ} {p x : ℕ} {a b : List Tree} {rest : List ℕ} (h : Aro
   last = encodesBy note (ofList b)
 
   pub around-light : (s : Bool) (μ : ℕ) → Mark μ → Light (nodeOf s μ (a ++ b))
-  around-light s μ m = node-light s μ (a ++ b) m (h .wf) (omega (arith, h .light, row-weights (a ++ b)))
+  around-light s μ m = node-light s μ (a ++ b) m (h .wf) (omega (arith, h .light, list-weights (a ++ b)))
 
   pub around-long : length w ≡ (x + 1 + recordses (ofList b)) * 16 + length rest
   around-long =

@@ -2,7 +2,7 @@
 -- the next; the first that applies, or leaves the range, gives the answer. The i-th that is asked is the rule of the i-th step of the
 -- paper's order, in both editions. To begin, only the rules for the tree's kind are left, for those before them do not apply to it; and
 -- when these are done no rule applies, for those after them do not either: the paper gives each rule for sums alone, for products alone or
--- for powers alone. Assumes nothing.
+-- for powers alone.
 use Prim.Native.Nat.{ℕ, zero, suc, _+_, _*_, _<_, _≤_}
 use mathlib.Core.Path.{_≡_, refl, sym, ap, _∙_}
 use mathlib.Core.Bool.{Bool, true, false, cond}
@@ -93,7 +93,8 @@ no-rule-of k t a b c d e f g h =
 only-its-own : (ed : ℕ) {w : List ℕ} {p : ℕ} {t : Tree} → Seen note w p t
     → let k = kind w p in
     (ask (rulesOf ed) t ≡ ask (drop (firstFor k) (rulesOf ed)) t) × (ask (drop (endFor k ed) (rulesOf ed)) t ≡ no-rule)
-unfolding ask rulesOf editionOne editionTwo addZero combineLikeTerms multiplyZero multiplyOne combineLikeFactors powerOne powerConstant powerPower onSumMembers onProductMembers onPowerParts
+unfolding ask rulesOf editionOne editionTwo addZero combineLikeTerms multiplyZero multiplyOne combineLikeFactors
+    powerOne powerConstant powerPower onSumMembers onProductMembers onPowerParts
 only-its-own ed {w} {p} {t} s = go (eqb ed 2) s
   where
     go : (x : Bool) {t : Tree} → Seen note w p t

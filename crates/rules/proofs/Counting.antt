@@ -1,6 +1,6 @@
 -- The members that steps 1 and 4 keep, counted one after the other: how many were met and how many are among those left, and which of them is
 -- the last, kept or dropped. Where one alone is kept, it stands where the last one does, and the node of it is itself, moved so that it
--- ends where the node ended. By induction on the members. Assumes nothing.
+-- ends where the node ended. By induction on the members.
 use Prim.Native.Nat.{ℕ, _+_, _-_, _*_, _<_, _≤_}
 use mathlib.Core.Path.{_≡_, refl, sym, ap, _∙_, subst}
 use mathlib.Core.Bool.{Bool, true, false, cond}
@@ -21,7 +21,8 @@ use Rattle.split.specs.Standing.{Told, ToldTrees, SomeTold}
 use Rattle.stretch.specs.Put.{put, part}
 use Rattle.stretch.proofs.Laws.{drop-put-at}
 use Rattle.part.specs.Like.{nodeOf}
-use Rattle.write.proofs.Encoded.{stands-part}
+use Rattle.rebuilt.proofs.Encoded.{stands-part}
+use Rattle.walk.proofs.Steps.{none-left}
 use Rattle.rules.specs.Tried.{Held, MembersIn, lastKept, lastDropped, PutBack}
 use Rattle.rules.proofs.Nodes.{after-first, members-in}
 use Rattle.rules.proofs.Dropping.{kept}
@@ -81,7 +82,14 @@ module _ {s : List ℕ} {p z : ℕ} {f : Forest} {at left many last gone : ℕ} 
       unfolding unless
       counts e =
           let m = met false e in
-          record { others = next-one .others; stand = after-first next-one next q; number = omega (arith, m .0); latest = m .1; latest-gone = m .2; place = m .3 }
+          record {
+            others = next-one .others;
+            stand = after-first next-one next q;
+            number = omega (arith, m .0);
+            latest = m .1;
+            latest-gone = m .2;
+            place = m .3;
+          }
 
       pub skips : isThe (pos z) (next-one .tree) ≡ true → Counting s p z f next (left - 1) many last at
       unfolding unless
@@ -110,10 +118,6 @@ pub record Lone (s : List ℕ) (z at end : ℕ) (f : Forest) : Type 0 where
   pub only : kept z (toList f) ≡ tree ∷ []
   pub there : Told note s at tree
   pub before : at + records tree ≤ end
-
-empty : (l : List Tree) → length l ≡ 0 → l ≡ []
-empty [] e = refl
-empty (t ∷ l) e = absurd (omega arith)
 
 none-later : (z i last : ℕ) (f : Forest) → length (kept z (toList f)) ≡ 0 → lastKept z i last f ≡ last
 unfolding toList dropAll unless lastKept
@@ -149,7 +153,7 @@ lone-of s z i n last (cons t f) h e = go (isThe (pos z) t) refl e (lone-of s z (
         ap (λ c. lastKept z (i + records t) (cond c last i) f) k ∙ none-later z (i + records t) i f others in
         record {
           tree = t;
-          only = ap (λ c. unless c t (kept z (toList f))) k ∙ ap (λ (l : List Tree). t ∷ l) (empty (kept z (toList f)) others);
+          only = ap (λ c. unless c t (kept z (toList f))) k ∙ ap (λ (l : List Tree). t ∷ l) (none-left (kept z (toList f)) others);
           there = subst (λ a. Told note s a t) (sym same) (first-tree h);
           before = omega arith;
         }

@@ -1,6 +1,5 @@
 -- Steps 1 and 4 on the way through the members: some are done, and what is kept of them stands in `out`; the others are left. What is
 -- kept of all is what is kept of the first followed by what is kept of the others, so at the end it all stands in `out`.
--- Assumes nothing.
 use Prim.Native.Nat.{ℕ, zero, _+_, _-_, _*_, _<_, _≤_}
 use mathlib.Core.Path.{_≡_, refl, sym, ap, _∙_, subst}
 use mathlib.Core.Bool.{Bool, true, false}
@@ -24,8 +23,8 @@ use Rattle.note.specs.Noted.{encodeBy, encodesBy}
 use Rattle.split.specs.Standing.{ToldTrees, SomeTold}
 use Rattle.stretch.specs.Put.{put, part}
 use Rattle.part.specs.Like.{nodeOf}
-use Rattle.write.specs.Written.{Light}
-use Rattle.write.proofs.Encoded.{recordses-snoc, stands-part, built-more}
+use Rattle.rebuilt.specs.Written.{Light}
+use Rattle.rebuilt.proofs.Encoded.{recordses-snoc, stands-part, built-more}
 use Rattle.rules.specs.Tried.{Held, MembersIn, Built}
 use Rattle.note.proofs.ToldLaws.{FirstOf, first-of, none-of, some-told}
 use Rattle.rules.proofs.Nodes.{after-first, members-in}

@@ -1,5 +1,5 @@
 -- The node of the members that came out of a walk, made in `out`: where it stands, and where the new member stands in it; what a look at both leaves of
--- `work`; and what is said of the node where it is put back, and where it stays. Each is read off what was made. Assumes nothing.
+-- `work`; and what is said of the node where it is put back, and where it stays. Each is read off what was made.
 use Prim.Native.Nat.{ℕ, _+_, _-_, _*_, _<_, _≤_}
 use mathlib.Core.Path.{_≡_, refl, sym, ap, _∙_, subst}
 use mathlib.Core.Bool.{Bool, true, false, _&&_, not}
@@ -18,8 +18,8 @@ use Rattle.paper.proofs.EncodeLaws.{records-weight}
 use Rattle.paper.proofs.WFLaws.{count-list}
 use Rattle.note.specs.Note.{note}
 use Rattle.note.specs.Noted.{encodeBy, countOf}
-use Rattle.note.specs.Keys.{Scratched}
-use Rattle.note.specs.Still.{stillBy}
+use Rattle.still.specs.Keys.{Scratched}
+use Rattle.still.specs.Still.{stillBy}
 use Rattle.note.proofs.NotedLaws.{encodeBy-length}
 use Rattle.note.proofs.ToldLaws.{note-tells, told-noted, first-tree, other-trees, sum-trees, product-trees, kind-number, count-number}
 use Rattle.split.specs.Standing.{Told, ToldTrees}

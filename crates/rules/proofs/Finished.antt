@@ -1,13 +1,13 @@
 -- Trees that admit no rule and no opening. A leaf is one, and so is a node of leaves at which the test by keys says yes. Where like members of a node
 -- were combined, those that came out and were there before admit none, if all that were there do, and none of them is opened, if none was;
--- so where the only new one is calm and not of the node's kind, and the test says yes at the node, it admits none. Assumes nothing.
+-- so where the only new one is calm and not of the node's kind, and the test says yes at the node, it admits none.
 use Prim.Native.Nat.{ℕ, _+_, _<_, _≤_}
 use mathlib.Core.Path.{_≡_, refl, sym, ap, _∙_, subst}
 use mathlib.Core.Bool.{Bool, true, false, _&&_, not}
 use mathlib.Core.List.{List, [], _∷_, _++_}
 use mathlib.Core.Option.{Option, none, some}
 use native.Mathlib.Omega.{arith}
-use borrow.Author.Tests.{eq-eqb, leb-true}
+use borrow.Author.Tests.{not-true, eq-eqb, leb-true}
 use lib.Dec.{eqb, leb}
 use lib.IntN.{pos}
 use lib.ListN.{length}
@@ -21,8 +21,8 @@ use Rattle.paper.specs.Admits.{openingsAt, AdmitsNone, admits-none, AllAdmitNon
 use Rattle.paper.proofs.Tests.{and-left, and-right, true-not-false}
 use Rattle.paper.proofs.EncodeLaws.{records-pos, count-records}
 use Rattle.paper.proofs.WFLaws.{count-list, to-of-list}
-use Rattle.note.specs.Still.{still, stillBy}
-use Rattle.note.proofs.StillLaws.{not-true, still-no-rule, still-by}
+use Rattle.still.specs.Still.{still, stillBy}
+use Rattle.still.proofs.StillLaws.{still-no-rule, still-by}
 use Rattle.part.specs.Like.{nodeKind, nodeOf}
 use Rattle.walk.specs.Walked.{OneOf, here, there, AllOf, OneNew}
 use Rattle.rules.specs.Alike.{insideOf}
@@ -191,12 +191,15 @@ module _ (ed : ℕ) where
       let a : ask (rulesOf ed) u ≡ no-rule = still-none u (and-right (calm ed x) (stillBy ed u) both) in
       let k : kindNumber u ≡ nodeKind b = ap kindNumber is ∙ node-kind b μ (ofList m) in
       let differs : kindNumber x ≡ nodeKind b → ⊥ =
-      λ e. true-not-false (eq-eqb (kindNumber x) (kindNumber u) (e ∙ sym k)) (not-true (eqb (kindNumber x) (kindNumber u)) (and-left other (calm ed x && stillBy ed u) q)) in
+      λ e.
+      true-not-false (eq-eqb (kindNumber x) (kindNumber u) (e ∙ sym k))
+      (not-true (eqb (kindNumber x) (kindNumber u)) (and-left other (calm ed x && stillBy ed u) q)) in
       let s = opens-shut b l o in
       let shut = shut-both b (h .before) (x ∷ h .after) (shut-all b l (h .before) (h .kept .0) s)
       (other-shut b x differs, shut-all b l (h .after) (h .kept .1) s) in
       let nones = both-none (h .before) (x ∷ h .after) (all-none l (h .before) (h .kept .0) n)
       (and-more (calm-none x w (and-left (calm ed x) (stillBy ed u) both)) (all-none l (h .after) (h .kept .1) n)) in
       subst (AdmitsNone (rulesOf ed)) (sym is)
-      (node-finished b μ m (subst (AllAdmitNone (rulesOf ed)) (sym (h .are)) nones) (subst (λ m. opened (insideOf b) m .1 ≡ 0) (sym (h .are)) (shut-opens b _ shut))
+      (node-finished b μ m (subst (AllAdmitNone (rulesOf ed)) (sym (h .are)) nones)
+      (subst (λ m. opened (insideOf b) m .1 ≡ 0) (sym (h .are)) (shut-opens b _ shut))
       (ap (ask (rulesOf ed)) (sym is) ∙ a))

@@ -1,6 +1,6 @@
 -- A gathered node whose like members are combined. What came out of the walk stands in `out`, and the node of it is lighter than the one it is in
 -- place of, so that there is scratch before what is pending; and what is said of the node that is made of it is what is said of the step, which
--- is the first that applies where no rule before it does; and where the walk removes nothing, no rule applies. Assumes nothing.
+-- is the first that applies where no rule before it does; and where the walk removes nothing, no rule applies.
 use Prim.Native.Nat.{ℕ, zero, suc, _+_, _*_, _<_, _≤_}
 use mathlib.Core.Path.{_≡_, refl, sym, ap, _∙_, subst}
 use mathlib.Core.Bool.{Bool, false}
@@ -17,7 +17,6 @@ use Rattle.paper.specs.Admits.{openingsAt, AllAdmitNone}
 use Rattle.note.specs.Note.{note}
 use Rattle.note.specs.Noted.{encodeBy}
 use Rattle.part.specs.Like.{nodeKind, nodeOf}
-use Rattle.walk.specs.Listed.{ListedIs}
 use Rattle.walk.specs.Walked.{combined, cameOut, CameOut, OneNew}
 use Rattle.rules.specs.Alike.{combineLike, stepOf, anyEarlier, insideOf}
 use Rattle.rules.specs.Asked.{Ready, CombinedIs}
@@ -47,6 +46,10 @@ module _ {o w : List ℕ} {d p : ℕ} {t : Tree} {rest : List ℕ} (h : Ready o 
   own-records : records t ≡ 1 + recordses (s .members)
   own-records = ap records (s .is) ∙ node-records (s .mark) (s .members) b
 
+  -- the record after it is the one after its members
+  pub own-end : {end : ℕ} → end ≡ p + records t → end ≡ p + 1 + recordses (s .members)
+  own-end e = omega (arith, e, own-records)
+
   own-openings : openingsAt t ≡ opened (insideOf b) (toList (s .members)) .1
   own-openings = ap openingsAt (s .is) ∙ node-openings (s .mark) (s .members) b
 
@@ -61,26 +64,26 @@ module _ {o w : List ℕ} {d p : ℕ} {t : Tree} {rest : List ℕ} (h : Ready o 
   abbrev came : List Tree
   came = cameOut b (toList (s .members))
 
-  module _ {w₁ : List ℕ} {end : ℕ} (k : ListedIs b w w₁ p (s .members) end) {o₁ : List ℕ} {n e : ℕ} (c : CameOut b (toList (s .members)) o o₁ d n e)
+  module _ {end : ℕ} (k : end ≡ p + records t) {o₁ : List ℕ} {n e : ℕ} (c : CameOut b (toList (s .members)) o o₁ d n e)
       (μ : ℕ) (marked : μ ≡ markIn w p) where
     applies : combineLike b t ≡ paper.applies (nodeOf b μ came)
     applies = combine-at s ∙ c .applies (markIn w p) ∙ ap (λ ν. paper.applies (nodeOf b ν came)) (sym marked)
 
     -- what came out is ready to be made a node of
-    pub emerges : (w₂ : List ℕ) (f : ℕ) → length o₁ ≡ length o → length w₁ ≡ length w → length w₂ ≡ length w₁ → drop (p * 16) w₂ ≡ drop (p * 16) w₁
+    pub emerges : (w₂ : List ℕ) (f : ℕ) → length o₁ ≡ length o → length w₂ ≡ length w → drop (p * 16) w₂ ≡ drop (p * 16) w
         → (0 < f → OneNew (toList (s .members)) came d f) → Emerged b μ (toList (s .members)) came rest o₁ w₂ d e f end n
-    emerges w₂ f lo l₁ l₂ same named =
+    emerges w₂ f lo lw same named =
         let u = nodeOf b μ came in
         let long = ready-length h in
-        let size = own-records in
-        let within = end-within (s .held) k in
+        let ends = own-end k in
+        let within = end-within (s .held) ends in
         record {
-          built = came-built (s .held) k c lo;
+          built = came-built (s .held) ends c lo;
           many = c .many;
           light = combine-light h b u applies;
           named = named;
-          pending = after-walk (s .held) k w₂ same;
-          low = omega (arith, combine-lighter h b u applies, h .work-room, k .end);
+          pending = after-walk (s .held) ends w₂ same;
+          low = omega (arith, combine-lighter h b u applies, h .work-room, k);
           within = omega arith;
         }
 
@@ -96,12 +99,11 @@ module _ {o w : List ℕ} {d p : ℕ} {t : Tree} {rest : List ℕ} (h : Ready o 
       combines o' w' Nothing x = absurd x
       combines o' w' (Pending j q) x = (nodeOf b μ came, asked j (x .0), x .1 .stands, x .1 .done ∙ done)
       combines o' w' (Quiet j e) x =
-          let u = nodeOf b μ came in
-          let place : p + records t ≡ end = omega (arith, own-records, k .end) in (
+          let u = nodeOf b μ came in (
             u,
             asked j (x .0),
             x .1,
             x .2 ∙ ap (λ (y : List ℕ). y ++ encodeBy note u) done,
-            ap (λ i. drop (i * 16) w') place ∙ x .3,
+            ap (λ i. drop (i * 16) w') (sym k) ∙ x .3,
             λ nones shut. x .4 (subst (AllAdmitNone (rulesOf ed)) own-members nones) (sym own-openings ∙ shut),
           )

@@ -1,6 +1,6 @@
 -- The members of one node, as they are read one after the other and as they are written: the first of them stands first, the others
 -- after its records; a member is a certain small integer where its first record says so; and the tree of some members is a node's
--- record before theirs, unless there are fewer than two. By cases. Assumes nothing.
+-- record before theirs, unless there are fewer than two. By cases.
 use Prim.Native.Nat.{ℕ, suc, _+_, _-_, _*_, _%_, _<_, _≤_}
 use mathlib.Core.Path.{_≡_, refl, sym, ap, _∙_, subst}
 use mathlib.Core.Bool.{Bool, true, false}

@@ -1,6 +1,6 @@
 -- The rules on a power at the tree that is pending. The kind of its record tells whether it is one; then its base stands behind that
 -- record, and its exponent after the base. What is written in its place ends where the power ended: the base, moved by one record; the
--- base that is 0 or 1, as one record; or the inner base between a power's record and the product of the exponents. Assumes nothing.
+-- base that is 0 or 1, as one record; or the inner base between a power's record and the product of the exponents.
 use Prim.Native.Nat.{ℕ, zero, suc, _+_, _-_, _*_, _^_, _<_, _≤_}
 use mathlib.Core.Path.{_≡_, refl, sym, ap, _∙_, subst}
 use mathlib.Core.Bool.{Bool, true, false, _||_}
@@ -21,7 +21,7 @@ use Rattle.paper.specs.Rules.{fits, isThe, appliesIf, onPowerParts, powerOne, p
 use Rattle.paper.proofs.EncodeLaws.{record-length}
 use Rattle.note.proofs.NotedLaws.{encodeBy-length}
 use Rattle.note.proofs.ToldLaws.{Seen, an-integer, a-symbol, a-sum, a-product, a-power, seen-power}
-use Rattle.note.proofs.ToldLaws.{seen, power-parts, power-tree, mark-number, exponent-mark}
+use Rattle.note.proofs.ToldLaws.{seen, power-tree, mark-number, exponent-mark}
 use Rattle.note.proofs.CloseLaws.{unclosed}
 use Rattle.note.specs.Note.{note}
 use Rattle.note.specs.Noted.{encodeBy}
@@ -31,7 +31,7 @@ use Rattle.stretch.proofs.Laws.{drop-put-at, length-put}
 use Rattle.number.specs.Num.{numOf}
 use Rattle.number.specs.declared.Num.the-variants.{Is, Out}
 use Rattle.number.proofs.NumLaws.{numOf-is, numOf-is-out}
-use Rattle.write.proofs.Encoded.{marked-records, power-unclosed, stands-part, two-puts}
+use Rattle.rebuilt.proofs.Encoded.{marked-records, power-unclosed, stands-part, two-puts}
 use Rattle.rules.specs.Asked.{Ready}
 use Rattle.rules.proofs.Nodes.{other-kind, integer-kind}
 use Rattle.rules.proofs.RuleLaws.{ready-tree, ready-length, ready-after}

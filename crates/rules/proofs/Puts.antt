@@ -1,6 +1,6 @@
 -- A node's result, built in `out` behind a free record and put back into the pending records. What was built stands behind the free
 -- record; with the node's record written there, or none, the whole tree stands; and its copy stands before all that followed the
--- node. Each is read off what a put leaves. Assumes nothing.
+-- node. Each is read off what a put leaves.
 use Prim.Native.Nat.{ℕ, _+_, _-_, _*_, _<_, _≤_}
 use mathlib.Core.Path.{_≡_, refl, sym, ap, _∙_}
 use mathlib.Core.Bool.{Bool}
@@ -19,7 +19,7 @@ use Rattle.note.proofs.CloseLaws.{unclosed, unclosed-length, closable, closed-p
 use Rattle.stretch.specs.Put.{put, part}
 use Rattle.stretch.proofs.Laws.{take-put, drop-put-at, length-put}
 use Rattle.part.specs.Like.{nodeKind, neutral, nodeOf}
-use Rattle.write.specs.Written.{Light}
+use Rattle.rebuilt.specs.Written.{Light}
 use Rattle.rules.specs.Tried.{Built, Collapsed, PutBack}
 use Rattle.rules.proofs.Nodes.{of-none, of-one, of-more, more-node}
 

@@ -1,6 +1,6 @@
 -- The rules at the tree that is pending, sums and products by one flag, true for a sum. The kind of its record tells what it is: of
 -- another kind, a rule does not apply; of the rule's kind, the tree is a node whose members stand behind its record, and the rule is what
--- it does to those. And where a rule does not apply, all is ready for the next. Assumes nothing.
+-- it does to those. And where a rule does not apply, all is ready for the next.
 use Prim.Native.Nat.{ℕ, _+_, _-_, _*_, _<_, _≤_}
 use mathlib.Core.Path.{_≡_, refl, sym, ap, _∙_, subst}
 use mathlib.Core.Bool.{Bool, true, false}
@@ -31,7 +31,7 @@ use Rattle.split.specs.Standing.{Told}
 use Rattle.stretch.specs.Put.{put}
 use Rattle.stretch.proofs.Laws.{drop-put-at}
 use Rattle.part.specs.Like.{nodeKind, neutral, nodeOf}
-use Rattle.write.specs.Written.{Light}
+use Rattle.rebuilt.specs.Written.{Light}
 use Rattle.walk.specs.Walked.{combined}
 use Rattle.rules.specs.Alike.{dropNeutral, combineLike}
 use Rattle.rules.specs.Asked.{Ready}

@@ -1,7 +1,7 @@
 -- Two answers of `ask` that meet its contract, as the check reads it from the source, are the same, and so is what they leave pending and
 -- done: the paper's answer at the tree is one, and where its result ends is where the tree ended. Of what is scratch, `out` past what is
 -- done and `work` before what is pending, nothing is said. Two answers of `combine_gathered` may differ: `No` says nothing, and `Quiet` is a look; but
--- the step and the tree that they name are those of `ask`, and so is `Nothing`. Assumes nothing.
+-- the step and the tree that they name are those of `ask`, and so is `Nothing`.
 use Prim.Native.Nat.{ℕ, _+_, _-_, _*_}
 use mathlib.Core.Path.{_≡_, refl, sym, ap, _∙_}
 use mathlib.Core.List.{List, _++_}

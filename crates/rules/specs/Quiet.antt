@@ -13,9 +13,9 @@ use Rattle.paper.specs.Driver.{members, opened}
 use Rattle.paper.specs.Admits.{AdmitsNone, AllAdmitNone}
 use Rattle.note.specs.Note.{note}
 use Rattle.note.specs.Noted.{encodeBy, TreeBy}
-use Rattle.note.specs.Still.{stillBy}
+use Rattle.still.specs.Still.{stillBy}
 use Rattle.part.specs.Like.{nodeOf}
-use Rattle.write.specs.Written.{Light}
+use Rattle.rebuilt.specs.Written.{Light}
 use Rattle.walk.specs.Walked.{OneNew}
 use Rattle.rules.specs.Alike.{stepOf, insideOf}
 use Rattle.rules.specs.Tried.{Built, PutBack}

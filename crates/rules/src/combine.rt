@@ -17,22 +17,18 @@ pub fn combine(out: &mut [u8], work: &mut [u8], d: usize, p: usize, terms: bool)
     if record::kind(work, p) != members::node_kind(terms) {
         return Tried::Idle;
     }
-    let n = record::count(work, p);
     let mark = record::mark(work, p);
-    let end = walk::list_members(work, p, terms);
-    let walked = walk::walk(out, work, d, p, n, terms);
+    let walked = walk::walk_members(out, work, d, p, terms);
     match walked {
         walk::Walked::Idle => Tried::Idle,
         walk::Walked::Over => Tried::Over,
-        walk::Walked::Done(count, e, _) => Tried::Applied(members::put_back(
-            out,
-            work,
-            d,
-            e,
-            end,
-            count,
-            terms,
-            mark,
-        )),
+        walk::Walked::Done {
+            count: count,
+            end: e,
+            new: _,
+        } => {
+            let end = split::skip_tree(work, p);
+            Tried::Applied(members::put_back(out, work, d, e, end, count, terms, mark))
+        }
     }
 }

@@ -11,7 +11,7 @@ ghost use Rattle.paper.specs.Rules.{rulesOf};
 ghost use Rattle.paper.specs.Driver.{members};
 ghost use Rattle.note.specs.Note.{note};
 ghost use Rattle.note.specs.Noted.{TreeBy};
-ghost use Rattle.note.specs.Keys.{Scratched};
+ghost use Rattle.still.specs.Keys.{Scratched};
 ghost use Rattle.part.specs.Like.{nodeKind};
 ghost use Rattle.rules.specs.Alike.{stepOf, anyEarlier};
 ghost use Rattle.rules.specs.Asked.{Ready, CombinedIs};
@@ -20,11 +20,22 @@ ghost use Rattle.rules.specs.Tried.{MembersIn};
 use crate::Combined;
 use crate::members;
 
+// The members that came out of a walk: how many they are, the record after them, and that of the only new one, or 0.
+struct Came {
+    count: usize,
+    end: usize,
+    new: usize,
+}
+
 // The step that combines the terms of a sum, or the factors of a product.
 fn step_of(terms: bool) -> u8
     ensures { λ r. ⌜ r ≡ stepOf terms ⌝ }
 {
-    if terms { 2 } else { 6 }
+    if terms {
+        crate::COMBINE_LIKE_TERMS
+    } else {
+        crate::COMBINE_LIKE_FACTORS
+    }
 }
 
 // A member of the sum, or of the product, at record p is an integer that a rule before that step looks for: 0, and in a product 1.
@@ -52,7 +63,7 @@ fn is_calm(out: &[u8], i: usize, work: &mut [u8], edition: usize) -> bool
     if i + record::arity(out, i) + 1 < next {
         return false;
     }
-    note::still(out, i, work, 0, edition)
+    still::still(out, i, work, 0, edition)
 }
 
 // The node at record d of out, whose members are finished but for the one at record f, is finished as far as a look tells: that one is calm
@@ -67,32 +78,35 @@ fn is_quiet(out: &[u8], work: &mut [u8], d: usize, f: usize, edition: usize) -> 
         return false;
     }
     if is_calm(out, f, work, edition) {
-        return note::still(out, d, work, 0, edition);
+        return still::still(out, d, work, 0, edition);
     }
     false
 }
 
-// Makes the node of the members that came out behind record d of out, up to record e, the one at record f being new where f is a record, and
-// leaves it there where it is quiet; else it is pending, and ends where the gathered node ended.
+// Makes the node of the members that came out behind record d of out, and leaves it there where it is quiet; else it is pending, and ends
+// where the gathered node ended.
 fn make_node(
     out: &mut [u8],
     work: &mut [u8],
     d: usize,
-    e: usize,
-    f: usize,
+    came: Came,
     end: usize,
-    count: usize,
     terms: bool,
     mark: usize,
     edition: usize,
 ) -> Combined
-    requires { ⌜ ((l : List Tree) × (m : List Tree) × (rest : List ℕ) × Emerged terms mark l m rest (now out) (now work) d e f end count) ⌝ }
-    ensures { λ r. ⌜ ((l m : List Tree) (rest : List ℕ) → Emerged terms mark l m rest (now (out .entry)) (now (work .entry)) d e f end count
+    requires { ⌜ ((l : List Tree) × (m : List Tree) × (rest : List ℕ)
+        × Emerged terms mark l m rest (now out) (now work) d (came .end) (came .new) end (came .count)) ⌝ }
+    ensures { λ r. ⌜ ((l m : List Tree) (rest : List ℕ)
+        → Emerged terms mark l m rest (now (out .entry)) (now (work .entry)) d (came .end) (came .new) end (came .count)
         → EmergedIs terms mark edition l m rest (now (out .entry)) (now (out .exit)) (now (work .exit)) d end r) ⌝ }
 {
+    let count = came.count;
+    let e = came.end;
+    let f = came.new;
     let from = members::collapse(out, d, count, terms, mark);
     let step = step_of(terms);
-    if count < 2 {
+    if count < members::SEVERAL {
         return Combined::Pending(step, members::copy_back(out, work, from, e, end));
     }
     if f < 1 {
@@ -117,24 +131,23 @@ pub fn combine_members(
     ensures { λ r. ⌜ ((t : Tree) (rest : List ℕ) → Ready (now (out .entry)) (now (work .entry)) d p t rest → anyEarlier terms (members t) ≡ false
         → CombinedIs (rulesOf edition) t rest (now (out .entry)) (now (out .exit)) (now (work .exit)) d p r) ⌝ }
 {
-    let n = record::count(work, p);
     let mark = record::mark(work, p);
-    let end = walk::list_members(work, p, terms);
-    let walked = walk::walk(out, work, d, p, n, terms);
+    let walked = walk::walk_members(out, work, d, p, terms);
     match walked {
         walk::Walked::Idle => Combined::Nothing,
         walk::Walked::Over => Combined::No,
-        walk::Walked::Done(count, e, f) => make_node(
-            out,
-            work,
-            d,
-            e,
-            f,
-            end,
-            count,
-            terms,
-            mark,
-            edition,
-        ),
+        walk::Walked::Done {
+            count: count,
+            end: e,
+            new: f,
+        } => {
+            let came = Came {
+                count: count,
+                end: e,
+                new: f,
+            };
+            let end = split::skip_tree(work, p);
+            make_node(out, work, d, came, end, terms, mark, edition)
+        }
     }
 }

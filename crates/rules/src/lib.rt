@@ -39,8 +39,44 @@ pub enum Combined {
     Quiet(u8, usize),
 }
 
+// The steps, by their numbers in the paper.
+const ADD_ZERO: u8 = 1;
+
+const COMBINE_LIKE_TERMS: u8 = 2;
+
+const MULTIPLY_ZERO: u8 = 3;
+
+const MULTIPLY_ONE: u8 = 4;
+
+const COMBINE_LIKE_FACTORS: u8 = 6;
+
+const POWER_ONE: u8 = 7;
+
+const POWER_CONSTANT: u8 = 8;
+
+const POWER_POWER: u8 = 9;
+
+// Where in STEPS those for a product, and those for a power begin, and where these end.
+const FOR_PRODUCT: usize = 2;
+
+const FOR_POWER: usize = 5;
+
+const ALL: usize = 8;
+
+// The edition that has rules on powers.
+const WITH_POWERS: usize = 2;
+
 // The steps, in the paper's order: those for a sum, after them those for a product, and those for a power, which edition two adds.
-const STEPS: [u8; 8] = [1, 2, 3, 4, 6, 7, 8, 9];
+const STEPS: [u8; ALL] = [
+    ADD_ZERO,
+    COMBINE_LIKE_TERMS,
+    MULTIPLY_ZERO,
+    MULTIPLY_ONE,
+    COMBINE_LIKE_FACTORS,
+    POWER_ONE,
+    POWER_CONSTANT,
+    POWER_POWER,
+];
 
 // Tries the rule of one step on the node at record p of work. A number that no rule has never applies.
 fn try_step(out: &mut [u8], work: &mut [u8], d: usize, p: usize, step: u8) -> Tried
@@ -49,14 +85,14 @@ fn try_step(out: &mut [u8], work: &mut [u8], d: usize, p: usize, step: u8) -> Tr
         → Answers (ruleOf step t) rest (now (out .entry)) (now (out .exit)) (now (work .entry)) (now (work .exit)) d p r) ⌝ }
 {
     match step {
-        1 => add::add_zero(out, work, d, p),
-        2 => add::combine_like_terms(out, work, d, p),
-        3 => multiply::multiply_zero(out, work, d, p),
-        4 => multiply::multiply_one(out, work, d, p),
-        6 => multiply::combine_like_factors(out, work, d, p),
-        7 => power::power_one(out, work, d, p),
-        8 => power::power_constant(out, work, d, p),
-        9 => power::power_power(out, work, d, p),
+        ADD_ZERO => add::add_zero(out, work, d, p),
+        COMBINE_LIKE_TERMS => add::combine_like_terms(out, work, d, p),
+        MULTIPLY_ZERO => multiply::multiply_zero(out, work, d, p),
+        MULTIPLY_ONE => multiply::multiply_one(out, work, d, p),
+        COMBINE_LIKE_FACTORS => multiply::combine_like_factors(out, work, d, p),
+        POWER_ONE => power::power_one(out, work, d, p),
+        POWER_CONSTANT => power::power_constant(out, work, d, p),
+        POWER_POWER => power::power_power(out, work, d, p),
         _ => Tried::Idle,
     }
 }
@@ -65,11 +101,11 @@ fn try_step(out: &mut [u8], work: &mut [u8], d: usize, p: usize, step: u8) -> Tr
 fn first_for(kind: u8) -> usize
     ensures { λ r. ⌜ r ≡ firstFor kind ⌝ }
 {
-    if kind == 3 {
-        return 2;
+    if kind == record::PRODUCT {
+        return FOR_PRODUCT;
     }
-    if kind == 4 {
-        return 5;
+    if kind == record::POWER {
+        return FOR_POWER;
     }
     0
 }
@@ -78,17 +114,17 @@ fn first_for(kind: u8) -> usize
 fn end_for(kind: u8, edition: usize) -> usize
     ensures { λ r. ⌜ r ≡ endFor kind edition ⌝ }
 {
-    if kind == 2 {
-        return 2;
+    if kind == record::SUM {
+        return FOR_PRODUCT;
     }
-    if kind == 3 {
-        return 5;
+    if kind == record::PRODUCT {
+        return FOR_POWER;
     }
-    if kind == 4 {
-        if edition == 2 {
-            return 8;
+    if kind == record::POWER {
+        if edition == WITH_POWERS {
+            return ALL;
         }
-        return 5;
+        return FOR_POWER;
     }
     0
 }
@@ -131,13 +167,13 @@ pub fn combine_gathered(
         → CombinedIs (rulesOf edition) t rest (now (out .entry)) (now (out .exit)) (now (work .exit)) d p r) ⌝ }
 {
     let k = record::kind(work, p);
-    if k < 2 {
+    if k < record::SUM {
         return Combined::No;
     }
-    if 3 < k {
+    if record::PRODUCT < k {
         return Combined::No;
     }
-    let terms = k < 3;
+    let terms = k < record::PRODUCT;
     if gathered::any_earlier(work, p, terms) {
         return Combined::No;
     }

@@ -12,11 +12,17 @@ ghost use Rattle.note.specs.Noted.{encodeBy};
 ghost use Rattle.stretch.specs.Put.{part, put};
 ghost use Rattle.split.specs.Standing.{Told, SomeTold};
 ghost use Rattle.part.specs.Like.{nodeKind, neutral, nodeOf};
-ghost use Rattle.write.specs.Written.{Light};
+ghost use Rattle.rebuilt.specs.Written.{Light};
 ghost use Rattle.rules.specs.Alike.{dropNeutral};
 ghost use Rattle.rules.specs.Asked.{Ready};
 ghost use Rattle.rules.specs.Tried.{Answers, Held, MembersIn, lastKept, lastDropped, Around, Built, Collapsed, PutBack};
 use crate::Tried;
+
+// So many members at least has a node.
+pub const SEVERAL: usize = 2;
+
+// Where the first member is moved to, counted from its node's record.
+const MOVED: usize = 2;
 
 // The members of a node that are kept: how many, and the record of the last of them; the record of the last that is dropped; and the record
 // after all members.
@@ -31,7 +37,7 @@ struct Kept {
 pub fn node_kind(sum: bool) -> u8
     ensures { λ r. ⌜ r ≡ nodeKind sum ⌝ }
 {
-    if sum { 2 } else { 3 }
+    if sum { record::SUM } else { record::PRODUCT }
 }
 
 // The integer that a sum, or a product, can do without.
@@ -46,7 +52,7 @@ fn is_the(s: &[u8], i: usize, z: u64) -> bool
     requires { ⌜ SomeTold (now s) i × (z < 2) ⌝ }
     ensures { λ r. ⌜ ((t : Tree) → Told note (now (s .entry)) i t → r ≡ isThe (pos z) t) ⌝ }
 {
-    if 0 < record::kind(s, i) {
+    if record::INTEGER < record::kind(s, i) {
         return false;
     }
     record::bits(s, i) == z
@@ -77,10 +83,10 @@ pub fn collapse(out: &mut [u8], d: usize, count: usize, sum: bool, mark: usize) 
         → Collapsed sum mark l (now (out .entry)) (now (out .exit)) d e r) ⌝ }
 {
     if count < 1 {
-        record::write_record(out, d, 0, 0, mark, neutral(sum));
+        record::write_record(out, d, record::INTEGER, 0, mark, neutral(sum));
         return d;
     }
-    if count < 2 {
+    if count < SEVERAL {
         return d + 1;
     }
     record::write_record(out, d, node_kind(sum), count, mark, 0);
@@ -96,7 +102,13 @@ pub fn copy_back(out: &[u8], work: &mut [u8], from: usize, e: usize, end: usize)
 {
     let n = e - from;
     let q = end - n;
-    stretch::copy_bytes(work, q * 16, out, from * 16, n * 16);
+    stretch::copy_bytes(
+        work,
+        q * record::SIZE,
+        out,
+        from * record::SIZE,
+        n * record::SIZE,
+    );
     q
 }
 
@@ -163,7 +175,12 @@ fn move_to_end(work: &mut [u8], i: usize, end: usize) -> usize
         return i;
     }
     let q = end - (next - i);
-    stretch::shift_right(work, q * 16, i * 16, (next - i) * 16);
+    stretch::shift_right(
+        work,
+        q * record::SIZE,
+        i * record::SIZE,
+        (next - i) * record::SIZE,
+    );
     q
 }
 
@@ -181,7 +198,13 @@ fn copy_kept(out: &mut [u8], work: &mut [u8], d: usize, p: usize, sum: bool, z: 
     while 0 < left {
         let next = split::skip_tree(work, at);
         if !is_the(work, at, z) {
-            stretch::copy_bytes(out, e * 16, work, at * 16, (next - at) * 16);
+            stretch::copy_bytes(
+                out,
+                e * record::SIZE,
+                work,
+                at * record::SIZE,
+                (next - at) * record::SIZE,
+            );
             e += next - at;
             kept += 1;
         }
@@ -200,7 +223,12 @@ fn drop_one(work: &mut [u8], p: usize, x: usize, sum: bool) -> usize
 {
     let n = record::count(work, p);
     let mark = record::mark(work, p);
-    stretch::shift_right(work, (p + 2) * 16, (p + 1) * 16, (x - (p + 1)) * 16);
+    stretch::shift_right(
+        work,
+        (p + MOVED) * record::SIZE,
+        (p + 1) * record::SIZE,
+        (x - (p + 1)) * record::SIZE,
+    );
     record::write_record(work, p + 1, node_kind(sum), n - 1, mark, 0);
     note::close(work, p + 1);
     p + 1

@@ -15,13 +15,13 @@ pub fn multiply_zero(out: &mut [u8], work: &mut [u8], d: usize, p: usize) -> Tri
     ensures { λ r. ⌜ ((t : Tree) (rest : List ℕ) → Ready (now (out .entry)) (now (work .entry)) d p t rest
         → Answers (multiplyZero t) rest (now (out .entry)) (now (out .exit)) (now (work .entry)) (now (work .exit)) d p r) ⌝ }
 {
-    if record::kind(work, p) != 3 {
+    if record::kind(work, p) != record::PRODUCT {
         return Tried::Idle;
     }
     if members::any_member(work, p, 0) {
         let mark = record::mark(work, p);
         let q = split::skip_tree(work, p) - 1;
-        record::write_record(work, q, 0, 0, mark, 0);
+        record::write_record(work, q, record::INTEGER, 0, mark, 0);
         return Tried::Applied(q);
     }
     Tried::Idle

@@ -1,8 +1,7 @@
 -- What the code's searches say of an area: order but for the keys is judged slot by slot; the first slot with the key shows the setting; the first that is
 -- free or has the key takes the record; and the bytes after a store and a remove. Each is an induction on the slots that are left.
--- Assumes nothing.
 use Prim.Native.Nat.{ℕ, zero, suc, _+_, _-_, _*_, _/_, _%_, _<_, _≤_}
-use mathlib.Core.Path.{_≡_, refl, sym, ap, _∙_, subst}
+use mathlib.Core.Path.{_≡_, sym, ap, _∙_, subst}
 use mathlib.Core.Bool.{Bool, true, false, cond, _||_, not}
 use mathlib.Core.List.{List, [], _∷_, _++_, append-assoc, append-nil}
 use mathlib.Core.Option.{some}

@@ -1,5 +1,5 @@
 -- What the entry points answer and leave, in each of their ways through: the verdict over the whole area, then the search for the key or for
--- room, then the bytes read or written (AreaLaws). Assumes nothing.
+-- room, then the bytes read or written (AreaLaws).
 use Prim.Native.Nat.{ℕ, _+_, _-_, _*_, _/_, _%_, _<_, _≤_}
 use mathlib.Core.Path.{_≡_, refl, sym, ap, _∙_}
 use mathlib.Core.Bool.{true, false, not}
@@ -15,7 +15,6 @@ use Rattle.paper.specs.Bytes.{le2, le8}
 use Rattle.paper_settings.specs.Settings.{holds, slotOf, freeSlot, Setting, settingOf, slotsOf, shown, known, used, anyNewer, inOrder}
 use Rattle.paper_settings.specs.Settings.{isDisordered, areaVerdict, Op, to-store, to-remove, Reply, only, fetchReply, replies, isFull, onSlots, called}
 use Rattle.paper_settings.specs.Settings.{fetched, OldReply, fetchedOld}
-use Rattle.paper_settings.specs.Settings as paper
 use Rattle.paper.proofs.Tests.{true-not-false}
 use Rattle.paper_settings.proofs.SlotLaws.{slot-length}
 use Rattle.paper_settings.proofs.SettingsLaws.{kept, called-kept, area-joined}

@@ -1,6 +1,6 @@
 -- What the passes over the keys say of an area: one that is in place is in order exactly where no key is there twice; a key that is there
 -- twice is of one part, so that the passes tell; and in a pass a key is there twice where it was seen before or comes again, so that a bit
--- set for it tells of what comes. Each is an induction on the slots or the keys that are left. Assumes nothing.
+-- set for it tells of what comes. Each is an induction on the slots or the keys that are left.
 use Prim.Native.Nat.{ℕ, _+_, _/_, _%_, _<_, _≤_}
 use mathlib.Core.Path.{_≡_, refl, sym, ap, _∙_}
 use mathlib.Core.Bool.{Bool, true, false, cond, _&&_, _||_, not}

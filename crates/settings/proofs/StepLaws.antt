@@ -1,5 +1,5 @@
 -- One turn of each loop over a slot's bytes and over an area's slots: what is left to look at is the byte, or the slot, at hand and what
--- is left after it; so a search ends there or goes on. Assumes nothing.
+-- is left after it; so a search ends there or goes on.
 use Prim.Native.Nat.{ℕ, zero, suc, _+_, _-_, _*_, _/_, _<_, _≤_}
 use mathlib.Core.Path.{_≡_, refl, sym, ap, ap₂, _∙_}
 use mathlib.Core.Bool.{Bool, true, false, _&&_, _||_, not}

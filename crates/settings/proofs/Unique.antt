@@ -1,5 +1,5 @@
 -- Two answers that meet the contract of an entry point, as the check reads it from the source, are the same, and so is the area that a store
--- or a remove leaves: each contract is one equation with a definition of what was given. Assumes nothing.
+-- or a remove leaves: each contract is one equation with a definition of what was given.
 use Prim.Native.Nat.{ℕ}
 use mathlib.Core.Path.{_≡_, sym, ap, _∙_}
 use mathlib.Core.List.{List}

@@ -17,15 +17,46 @@ const NEW: u8 = 2;
 
 const OLD: u8 = 1;
 
-// Which bytes of a record may be other than zero (1), by version and byte; past byte 15 none may.
+// The bytes of a slot.
+const SLOT: usize = 32;
+
+// Where in a slot its key, the unit and the setting stand.
+const KEY_AT: usize = 2;
+
+const UNIT_AT: usize = 4;
+
+const SETTING_AT: usize = 8;
+
+// How many values a byte has.
+const BYTE: u16 = 0x100;
+
+// The numbers of refusals, by what is wrong: a newer version, the order of the area, a key that is absent, an area that is full.
+const NEWER: u32 = 10;
+
+const DISORDER: u32 = 11;
+
+const ABSENT: u32 = 12;
+
+const FULL: u32 = 13;
+
+// Which bytes of a record may be other than zero (1), by version and byte.
 const MAY: [[u8; 16]; 3] = [
     [0, 0, 0, 0, 0, 0, 0, 0, 0, 0, 0, 0, 0, 0, 0, 0],
     [1, 0, 1, 1, 0, 0, 0, 0, 1, 1, 1, 1, 1, 1, 1, 1],
     [1, 0, 1, 1, 1, 1, 0, 0, 1, 1, 1, 1, 1, 1, 1, 1],
 ];
 
-// A part of the keys is so many that come one after the other; a pass over the records has a bit for each of them.
+// The last version and the last byte there: past that byte none may.
+const NEWEST: usize = 2;
+
+const LAST: usize = 15;
+
+// A part of the keys is so many that come one after the other; a pass over the records has a bit for each of them, in words.
 const PART: usize = 8192;
+
+const WORD: usize = 64;
+
+const WORDS: usize = 128;
 
 // What a fetch answers: 0 or a refusal's number, the 64 bits of the setting, and its unit; zeros after a refusal.
 pub struct Shown {
@@ -46,8 +77,8 @@ fn is_free(area: &[u8], i: usize) -> bool
     ensures { λ r. ⌜ r ≡ isFree (slotAt (now (area .entry)) i) ⌝ }
 {
     let mut j = 0;
-    while j < 32 {
-        if area[32 * i + j] != 0 {
+    while j < SLOT {
+        if area[SLOT * i + j] != 0 {
             return false;
         }
         j += 1;
@@ -60,7 +91,7 @@ fn version_of(area: &[u8], i: usize) -> u8
     requires { ⌜ 32 * i + 32 ≤ length (now area) ⌝ }
     ensures { λ r. ⌜ r ≡ version (slotAt (now (area .entry)) i) ⌝ }
 {
-    area[32 * i]
+    area[SLOT * i]
 }
 
 // Slot i has a byte that is other than zero and must be zero.
@@ -69,14 +100,14 @@ fn is_malformed(area: &[u8], i: usize) -> bool
     ensures { λ r. ⌜ r ≡ isMalformed (slotAt (now (area .entry)) i) ⌝ }
 {
     let v = version_of(area, i) as usize;
-    if 2 < v {
+    if NEWEST < v {
         return true;
     }
     let may = MAY[v];
     let mut byte = 0;
-    while byte < 32 {
-        if area[32 * i + byte] != 0 {
-            if 15 < byte {
+    while byte < SLOT {
+        if area[SLOT * i + byte] != 0 {
+            if LAST < byte {
                 return true;
             }
             if may[byte] == 0 {
@@ -93,7 +124,7 @@ fn key_of(area: &[u8], i: usize) -> usize
     requires { ⌜ 32 * i + 32 ≤ length (now area) ⌝ }
     ensures { λ r. ⌜ r ≡ keyIn (slotAt (now (area .entry)) i) ⌝ }
 {
-    number::read2(area, 32 * i + 2)
+    number::read2(area, SLOT * i + KEY_AT)
 }
 
 // Slot i has a record of this key.
@@ -122,7 +153,7 @@ fn takes(area: &[u8], i: usize, key: usize) -> bool
 fn any_newer(area: &[u8], newest: u8) -> bool
     ensures { λ r. ⌜ r ≡ anyNewer newest (slotsOf (now (area .entry))) ⌝ }
 {
-    let n = area.len() / 32;
+    let n = area.len() / SLOT;
     let mut i = 0;
     while i < n {
         if newest < version_of(area, i) {
@@ -137,7 +168,7 @@ fn any_newer(area: &[u8], newest: u8) -> bool
 fn all_free(area: &[u8], from: usize) -> bool
     ensures { λ r. ⌜ r ≡ allFree (rest (now (area .entry)) from) ⌝ }
 {
-    let n = area.len() / 32;
+    let n = area.len() / SLOT;
     let mut i = from;
     while i < n {
         if is_free(area, i) {
@@ -153,7 +184,7 @@ fn all_free(area: &[u8], from: usize) -> bool
 fn find(area: &[u8], key: usize) -> usize
     ensures { λ r. ⌜ (r ≡ firstIn (holds key) 0 (rest (now (area .entry)) 0)) × (r ≤ length (now (area .entry)) / 32) ⌝ }
 {
-    let n = area.len() / 32;
+    let n = area.len() / SLOT;
     let mut i = 0;
     while i < n {
         if holds(area, i, key) {
@@ -168,7 +199,7 @@ fn find(area: &[u8], key: usize) -> usize
 fn room_for(area: &[u8], key: usize) -> usize
     ensures { λ r. ⌜ (r ≡ firstIn (takes key) 0 (rest (now (area .entry)) 0)) × (r ≤ length (now (area .entry)) / 32) ⌝ }
 {
-    let n = area.len() / 32;
+    let n = area.len() / SLOT;
     let mut i = 0;
     while i < n {
         if takes(area, i, key) {
@@ -183,7 +214,7 @@ fn room_for(area: &[u8], key: usize) -> usize
 fn in_place(area: &[u8]) -> bool
     ensures { λ r. ⌜ r ≡ inPlace (slotsOf (now (area .entry))) ⌝ }
 {
-    let n = area.len() / 32;
+    let n = area.len() / SLOT;
     let mut i = 0;
     while i < n {
         if is_free(area, i) {
@@ -201,7 +232,7 @@ fn in_place(area: &[u8]) -> bool
 fn parts(area: &[u8]) -> usize
     ensures { λ r. ⌜ r ≡ partsOf 0 (keysIn (slotsOf (now (area .entry)))) ⌝ }
 {
-    let n = area.len() / 32;
+    let n = area.len() / SLOT;
     let mut most = 0;
     let mut i = 0;
     while i < n {
@@ -218,27 +249,27 @@ fn parts(area: &[u8]) -> usize
 }
 
 // Key k of the part at hand was seen: its bit is 1. The bits are told as those of crate `table`, 64 to a word.
-fn is_seen(seen: &[u64; 128], k: usize) -> bool
+fn is_seen(seen: &[u64; WORDS], k: usize) -> bool
     requires { ⌜ k < 8192 ⌝ }
     ensures { λ r. ⌜ r ≡ eqb (dueAt (now (seen .entry)) k) 1 ⌝ }
 {
-    (seen[k / 64] >> (k % 64)) % 2 == 1
+    (seen[k / WORD] >> (k % WORD)) % 2 == 1
 }
 
 // Turns the bit of key k of the part at hand: 0 to 1.
-fn see(seen: &mut [u64; 128], k: usize)
+fn see(seen: &mut [u64; WORDS], k: usize)
     requires { ⌜ k < 8192 ⌝ }
     ensures { λ _. ⌜ now (seen .exit) ≡ turned (now (seen .entry)) k ⌝ }
 {
-    seen[k / 64] = seen[k / 64] ^ (1u64 << (k % 64));
+    seen[k / WORD] = seen[k / WORD] ^ (1u64 << (k % WORD));
 }
 
 // Of the records before the first free slot two have one key, and it is of this part: one pass, with a bit for each key of the part.
 fn twice_in(area: &[u8], part: usize) -> bool
     ensures { λ r. ⌜ r ≡ twice (inPart part) (keysIn (slotsOf (now (area .entry)))) ⌝ }
 {
-    let n = area.len() / 32;
-    let mut seen = [0u64; 128];
+    let n = area.len() / SLOT;
+    let mut seen = [0u64; WORDS];
     let mut i = 0;
     while i < n {
         if is_free(area, i) {
@@ -286,15 +317,15 @@ fn judge(area: &[u8], newest: u8) -> u32
     ensures { λ r. ⌜ r ≡ areaVerdict newest (now (area .entry)) ⌝ }
 {
     if any_newer(area, newest) {
-        return 10;
+        return NEWER;
     }
-    if 0 < area.len() % 32 {
-        return 11;
+    if 0 < area.len() % SLOT {
+        return DISORDER;
     }
     if in_order(area) {
         return 0;
     }
-    11
+    DISORDER
 }
 
 // Shows the setting of a key; the area is only read.
@@ -310,9 +341,9 @@ pub fn fetch(area: &[u8], key: u16) -> Shown
         };
     }
     let i = find(area, key as usize);
-    if i < area.len() / 32 {
-        let unit = number::read2(area, 32 * i + 4);
-        let setting = number::read8(area, 32 * i + 8);
+    if i < area.len() / SLOT {
+        let unit = number::read2(area, SLOT * i + UNIT_AT);
+        let setting = number::read8(area, SLOT * i + SETTING_AT);
         return Shown {
             number: 0,
             setting: setting,
@@ -320,7 +351,7 @@ pub fn fetch(area: &[u8], key: u16) -> Shown
         };
     }
     Shown {
-        number: 12,
+        number: ABSENT,
         setting: 0,
         unit: 0,
     }
@@ -338,15 +369,15 @@ pub fn fetch_1(area: &[u8], key: u16) -> Shown1
         };
     }
     let i = find(area, key as usize);
-    if i < area.len() / 32 {
-        let setting = number::read8(area, 32 * i + 8);
+    if i < area.len() / SLOT {
+        let setting = number::read8(area, SLOT * i + SETTING_AT);
         return Shown1 {
             number: 0,
             setting: setting,
         };
     }
     Shown1 {
-        number: 12,
+        number: ABSENT,
         setting: 0,
     }
 }
@@ -356,10 +387,10 @@ fn write_slot(area: &mut [u8], i: usize, key: u16, setting: u64, unit: u16)
     requires { ⌜ 32 * i + 32 ≤ length (now area) ⌝ }
     ensures { λ _. ⌜ now (area .exit) ≡ put (now (area .entry)) (32 * i) (slotOf key setting unit) ⌝ }
 {
-    let k0 = (key % 256) as u8;
-    let k1 = (key / 256 % 256) as u8;
-    let u0 = (unit % 256) as u8;
-    let u1 = (unit / 256 % 256) as u8;
+    let k0 = (key % BYTE) as u8;
+    let k1 = (key / BYTE % BYTE) as u8;
+    let u0 = (unit % BYTE) as u8;
+    let u1 = (unit / BYTE % BYTE) as u8;
     let b = number::bytes8(setting);
     let r = [
         NEW,
@@ -395,7 +426,7 @@ fn write_slot(area: &mut [u8], i: usize, key: u16, setting: u64, unit: u16)
         0,
         0,
     ];
-    stretch::copy_bytes(area, 32 * i, &r, 0, 32);
+    stretch::copy_bytes(area, SLOT * i, &r, 0, SLOT);
 }
 
 // Moves the slots after slot i up by one, and frees the last.
@@ -404,8 +435,8 @@ fn close_up(area: &mut [u8], i: usize)
     ensures { λ _. ⌜ now (area .exit) ≡ closedUp (now (area .entry)) i ⌝ }
 {
     let n = area.len();
-    stretch::shift_left(area, 32 * i, 32 * i + 32, n - (32 * i + 32));
-    stretch::clear(area, n - 32, 32);
+    stretch::shift_left(area, SLOT * i, SLOT * i + SLOT, n - (SLOT * i + SLOT));
+    stretch::clear(area, n - SLOT, SLOT);
 }
 
 // Stores a setting with its unit: a known key's record is replaced, a new one goes into the first free slot. After a refusal the area is as it
@@ -418,11 +449,11 @@ pub fn store(area: &mut [u8], key: u16, setting: u64, unit: u16) -> u32
         return number;
     }
     let i = room_for(area, key as usize);
-    if i < area.len() / 32 {
+    if i < area.len() / SLOT {
         write_slot(area, i, key, setting, unit);
         return 0;
     }
-    13
+    FULL
 }
 
 // Removes a key's record: the later ones move up, byte for byte. After a refusal the area is as it was.
@@ -434,9 +465,9 @@ pub fn remove(area: &mut [u8], key: u16) -> u32
         return number;
     }
     let i = find(area, key as usize);
-    if i < area.len() / 32 {
+    if i < area.len() / SLOT {
         close_up(area, i);
         return 0;
     }
-    12
+    ABSENT
 }

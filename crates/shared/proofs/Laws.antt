@@ -1,10 +1,10 @@
 -- What the two calls give, from the plan of the opening: a refusal is the plan's; without one the tree is opened, and what is written is the
--- table of the opened tree, which the simplifier then takes. Assumes nothing.
-use Prim.Native.Nat.{ℕ, zero, suc, _+_, _-_, _*_, _≤_, _<_}
+-- table of the opened tree, which the simplifier then takes.
+use Prim.Native.Nat.{ℕ, _-_, _*_, _≤_, _<_}
 use mathlib.Core.Path.{_≡_, refl, sym, ap, _∙_, subst}
 use mathlib.Core.Bool.{Bool, true, false, cond, _||_}
-use mathlib.Core.List.{List, [], _++_}
-use native.Mathlib.Nat.{zero-add, sub-zero}
+use mathlib.Core.List.{List, _++_}
+use native.Mathlib.Nat.{zero-add}
 use native.Mathlib.Omega.{arith}
 use borrow.Author.Tests.{lt-ltb, le-ltb, ltb-false}
 use lib.ListN.{length, take, drop}
@@ -16,21 +16,21 @@ use Rattle.paper.specs.Verdict.{Verdict, told, refused}
 use Rattle.paper.specs.Limits.{isLimit}
 use Rattle.paper.specs.Rules.{isEdition}
 use Rattle.paper.specs.Record.{sound}
-use Rattle.paper.specs.Answers.{Answer, Given, cramped, refusedBy, refusal, simplified}
+use Rattle.paper.specs.Answers.{Answer, cramped, refusedBy, refusal, simplified}
 use Rattle.paper.proofs.EncodeLaws.{encode-length}
 use Rattle.paper.proofs.Tests.{or-neither}
 use Rattle.stretch.specs.Put.{put}
 use Rattle.paper_shared.specs.Answers.{Handed, Opening, turned-away, opens, judgedSite, opening, openingBy, noRoom, holding}
 use Rattle.paper_shared.specs.Answers.{OpenAnswer, unopened, openOf, openGiven, unshared, sharedOf, sharedGiven}
 use Rattle.record.specs.Flaw.{flawOf}
-use Rattle.simplify.specs.Answer.{says, lent}
+use Rattle.simplify.specs.Answer.{says, lent, callNumber, short}
 use Rattle.simplify.specs.declared.Answer as simplifier
 use Rattle.shared.specs.Answer as ours
 use Rattle.shared.specs.Answer.{givesOpened, givesShared, turnedAway, tight}
 use Rattle.shared.specs.declared.Opened.{Opened}
-use Rattle.opening.specs.Index.{Written}
-use Rattle.opening.specs.Planned.{Refusing, Ready, Planned}
-use Rattle.opening.specs.declared.Plan.{Plan}
+use Rattle.replace.specs.Index.{Holding}
+use Rattle.replace.specs.Planned.{Ready, Planned}
+use Rattle.replace.specs.declared.Plan.{Plan}
 
 -- a plan without a refusal opens a tree
 pub record Opens (lim : ℕ) (h : Handed) (p : Plan) : Type 0 where
@@ -70,12 +70,12 @@ limit-known lim h p k l = go (isLimit lim) refl k
     go false e k = absurd (let a = k .number in omega arith)
 
 -- ---- the opened table in its area
-pub held : (v : Tree) (e : ℕ) (area area' : List ℕ) → Written v 0 e area area' → area' ≡ holding v area
+pub held : (v : Tree) (e : ℕ) (area area' : List ℕ) → Holding v 0 e area area' → area' ≡ holding v area
 unfolding holding put
 held v e area area' w =
     w .there ∙ ap (λ (k : ℕ). encode v ++ drop k area) (zero-add (length (encode v)))
 
-pub table-of : (v : Tree) (e : ℕ) (area area' : List ℕ) → Written v 0 e area area' → take (16 * e - 0) area' ≡ encode v
+pub table-of : (v : Tree) (e : ℕ) (area area' : List ℕ) → Holding v 0 e area area' → take (16 * e - 0) area' ≡ encode v
 unfolding holding
 table-of v e area area' w =
     let q = w .end in
@@ -93,9 +93,10 @@ module _ (lim : ℕ) (h : Handed) (known : isLimit lim ≡ true) {p : Plan} (o :
   unfolding openGiven openOf noRoom unopened
   open-tight r e l =
       let q = o .ready .weighs in
-      rw (as-judged lim h known, o .is, lt-ltb (length area) (16 * weight (o .tree)) (omega arith)) (ap (λ (x : OpenAnswer). record { answer = x; area = area }) e)
+      rw (as-judged lim h known, o .is, lt-ltb (length area) (16 * weight (o .tree)) (omega arith))
+      (ap (λ (x : OpenAnswer). record { answer = x; area = area }) e)
 
-  pub open-done : (area' : List ℕ) (e : ℕ) → 16 * p .weight ≤ length area → Written (o .tree) 0 e area area'
+  pub open-done : (area' : List ℕ) (e : ℕ) → 16 * p .weight ≤ length area → Holding (o .tree) 0 e area area'
       → record { answer = record { number = 0; place = 0; flaw = sound; records-written = e; opened-weight = p .weight }; area = area' } ≡ openGiven lim h area
   unfolding openGiven openOf noRoom
   open-done area' e l w =
@@ -117,47 +118,47 @@ module _ (lim ed : ℕ) (h : Handed) (area out steps work : List ℕ) where
   unfolding sharedGiven sharedOf unshared
   refused-as v r e q = rw q (ap (λ (x : Answer). record { given = record { answer = x; lent = lent out steps work }; area = area }) e)
 
-  -- 19, and 9
-  pub shared-limit : (r : simplifier.Answer) → says r ≡ refusal 19 0 → isLimit lim ≡ false
+  -- 19 and 9
+  pub shared-off : (k : ℕ) → k ≡ callNumber lim ed → 0 < k → (r : simplifier.Answer) → says r ≡ refusal k 0
       → givesShared r area out steps work ≡ sharedGiven lim ed h area (lent out steps work)
-  unfolding openingBy
-  shared-limit r e n = refused-as (refused 19 0) r e (rw n)
+  unfolding openingBy callNumber
+  shared-off k e l r q = refused-as (refused k 0) r q (go (isLimit lim) (isEdition ed) e)
+    where
+      go : (a b : Bool) → k ≡ cond a (cond b 0 9) 19
+          → cond a (cond b (judgedSite lim h) (turned-away (refused 9 0))) (turned-away (refused 19 0)) ≡ turned-away (refused k 0)
+      go false b f = rw f refl
+      go true false f = rw f refl
+      go true true f = absurd (omega arith)
 
-  module _ (limit : isLimit lim ≡ true) where
-    pub shared-unknown : (r : simplifier.Answer) → says r ≡ refusal 9 0 → isEdition ed ≡ false
-        → givesShared r area out steps work ≡ sharedGiven lim ed h area (lent out steps work)
+  module _ (limit : isLimit lim ≡ true) (known : isEdition ed ≡ true) where
+    -- with both known the opening is as the site is judged
+    by-site : openingBy lim ed h ≡ judgedSite lim h
     unfolding openingBy
-    shared-unknown r e q = refused-as (refused 9 0) r e (rw (limit, q))
+    by-site = rw (limit, known)
 
-    module _ (known : isEdition ed ≡ true) where
-      -- with both known the opening is as the site is judged
-      by-site : openingBy lim ed h ≡ judgedSite lim h
-      unfolding openingBy
-      by-site = rw (limit, known)
+    pub shared-refused : (v : Verdict) (r : simplifier.Answer) → says r ≡ refusedBy v → opening lim h ≡ turned-away v
+        → givesShared r area out steps work ≡ sharedGiven lim ed h area (lent out steps work)
+    shared-refused v r e q = refused-as v r e (by-site ∙ sym (as-judged lim h limit) ∙ q)
 
-      pub shared-refused : (v : Verdict) (r : simplifier.Answer) → says r ≡ refusedBy v → opening lim h ≡ turned-away v
+    module _ {p : Plan} (o : Opens lim h p) where
+      -- 6, by the lengths
+      tight-is : (b : Bool) → b ≡ tight lim (p .weight) (length area) (length out) (length steps) (length work)
+          → (noRoom area (weight (o .tree)) || cramped lim (weight (o .tree)) (lent out steps work)) ≡ b
+      unfolding tight short noRoom cramped
+      tight-is b e = let q = o .ready .weighs in rw (← q) (sym e)
+
+      pub shared-tight : (r : simplifier.Answer) → says r ≡ refusal 6 0 → true ≡ tight lim (p .weight) (length area) (length out) (length steps) (length work)
           → givesShared r area out steps work ≡ sharedGiven lim ed h area (lent out steps work)
-      shared-refused v r e q = refused-as v r e (by-site ∙ sym (as-judged lim h limit) ∙ q)
+      unfolding sharedGiven sharedOf unshared
+      shared-tight r e t =
+          rw (by-site, o .is, tight-is true t)
+          (ap (λ (x : Answer). record { given = record { answer = x; lent = lent out steps work }; area = area }) e)
 
-      module _ {p : Plan} (o : Opens lim h p) where
-        -- 6, by the lengths
-        short : (b : Bool) → b ≡ tight lim (p .weight) (length area) (length out) (length steps) (length work)
-            → (noRoom area (weight (o .tree)) || cramped lim (weight (o .tree)) (lent out steps work)) ≡ b
-        unfolding tight noRoom cramped
-        short b e = let q = o .ready .weighs in rw (← q) (sym e)
-
-        pub shared-tight : (r : simplifier.Answer) → says r ≡ refusal 6 0 → true ≡ tight lim (p .weight) (length area) (length out) (length steps) (length work)
-            → givesShared r area out steps work ≡ sharedGiven lim ed h area (lent out steps work)
-        unfolding sharedGiven sharedOf unshared
-        shared-tight r e t =
-            rw (by-site, o .is, short true t)
-            (ap (λ (x : Answer). record { given = record { answer = x; lent = lent out steps work }; area = area }) e)
-
-        pub shared-done : (area' : List ℕ) (e : ℕ) → false ≡ tight lim (p .weight) (length area) (length out) (length steps) (length work)
-            → Written (o .tree) 0 e area area'
-            → record { given = simplified lim ed (encode (o .tree)) (lent out steps work); area = area' } ≡ sharedGiven lim ed h area (lent out steps work)
-        unfolding sharedGiven sharedOf
-        shared-done area' e t w = rw (by-site, o .is, short false t, held (o .tree) e area area' w)
+      pub shared-done : (area' : List ℕ) (e : ℕ) → false ≡ tight lim (p .weight) (length area) (length out) (length steps) (length work)
+          → Holding (o .tree) 0 e area area'
+          → record { given = simplified lim ed (encode (o .tree)) (lent out steps work); area = area' } ≡ sharedGiven lim ed h area (lent out steps work)
+      unfolding sharedGiven sharedOf
+      shared-done area' e t w = rw (by-site, o .is, tight-is false t, held (o .tree) e area area' w)
 
 -- the lengths that are not too short
 pub roomy : (lim w area out steps work : ℕ) → false ≡ tight lim w area out steps work → 16 * w ≤ area

@@ -3,7 +3,6 @@ use Prim.Native.Nat.{ℕ, _*_}
 use mathlib.Core.Bool.{Bool, _||_}
 use mathlib.Core.List.{List}
 use lib.Dec.{ltb}
-use Rattle.paper.specs.Limits.{workBytes}
 use Rattle.paper.specs.Verdict.{Verdict}
 use Rattle.paper_shared.specs.Answers as paper
 use Rattle.record.specs.Flaw.{flawOf}
@@ -29,4 +28,4 @@ givesShared a area out steps work = record { given = simplifier.gives a out step
 
 -- 6, by the limit and the lengths of the four areas
 unfoldable pub tight : ℕ → ℕ → ℕ → ℕ → ℕ → ℕ → Bool
-tight lim w area out steps work = ltb area (16 * w) || (ltb out (16 * w) || ltb steps w || ltb work (workBytes lim))
+tight lim w area out steps work = ltb area (16 * w) || simplifier.short lim w out steps work

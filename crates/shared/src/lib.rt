@@ -7,7 +7,7 @@ ghost use Prim.Native.Nat.{_≤_};
 ghost use Rattle.paper.specs.Verdict.{told};
 ghost use Rattle.record.specs.Flaw.{flawOf};
 ghost use Rattle.paper_shared.specs.Answers.{openGiven, sharedGiven};
-ghost use Rattle.opening.specs.Planned.{handed};
+ghost use Rattle.replace.specs.Planned.{handed};
 ghost use Rattle.simplify.specs.Answer.{lent};
 ghost use Rattle.shared.specs.Answer.{says, givesOpened, givesShared, turnedAway, tight};
 
@@ -45,18 +45,18 @@ pub fn open(
     ensures { λ r. ⌜ givesOpened r (now (opened .exit))
         ≡ openGiven limit (handed (now (table .entry)) (now (symbols .entry)) (now (lengths .entry)) (now (definitions .entry))) (now (opened .entry)) ⌝ }
 {
-    let p = opening::prepare(limit, table, symbols, lengths, definitions);
+    let p = replace::prepare(limit, table, symbols, lengths, definitions);
     let flaw = p.flaw;
     if 0 < p.number {
         return turned_away(p.number, p.place, flaw);
     }
     let w = p.weight;
-    if opened.len() < 16 * w {
-        return turned_away(6, 0, Flaw::Sound);
+    if opened.len() < record::SIZE * w {
+        return turned_away(table::ROOM, 0, Flaw::Sound);
     }
     let which = p.which;
     let from = p.from;
-    let e = opening::open_records(definitions, &which, &from, table, symbols.len(), opened, 0);
+    let e = replace::open_records(definitions, &which, &from, table, symbols.len(), opened, 0);
     Opened {
         number: 0,
         place: 0,
@@ -71,16 +71,10 @@ fn is_tight(limit: usize, w: usize, opened: usize, out: usize, steps: usize, wor
     requires { ⌜ w ≤ 16384 ⌝ }
     ensures { λ r. ⌜ r ≡ tight limit w opened out steps work ⌝ }
 {
-    if opened < 16 * w {
+    if opened < record::SIZE * w {
         return true;
     }
-    if out < 16 * w {
-        return true;
-    }
-    if steps < w {
-        return true;
-    }
-    work < simplify::work_bytes(limit)
+    simplify::is_cramped(limit, w, out, steps, work)
 }
 
 // Opens a formula, and simplifies the opened table by the rules of an edition. 6 is known before the opened table is written: all refusals but
@@ -101,13 +95,11 @@ pub fn simplify(
         ≡ sharedGiven limit edition (handed (now (table .entry)) (now (symbols .entry)) (now (lengths .entry)) (now (definitions .entry))) (now (opened .entry))
         (lent (now (out .entry)) (now (steps .entry)) (now (work .entry))) ⌝ }
 {
-    if !table::is_limit(limit) {
-        return simplify::refusal(19, 0, Flaw::Sound);
+    let number = simplify::judge_call(limit, edition);
+    if 0 < number {
+        return simplify::refusal(number, 0, Flaw::Sound);
     }
-    if !simplify::is_edition(edition) {
-        return simplify::refusal(9, 0, Flaw::Sound);
-    }
-    let p = opening::prepare(limit, table, symbols, lengths, definitions);
+    let p = replace::prepare(limit, table, symbols, lengths, definitions);
     let flaw = p.flaw;
     if 0 < p.number {
         return simplify::refusal(p.number, p.place, flaw);
@@ -120,11 +112,11 @@ pub fn simplify(
         steps.len(),
         work.len(),
     ) {
-        return simplify::refusal(6, 0, Flaw::Sound);
+        return simplify::refusal(table::ROOM, 0, Flaw::Sound);
     }
     let which = p.which;
     let from = p.from;
-    let e = opening::open_records(definitions, &which, &from, table, symbols.len(), opened, 0);
-    let end = 16 * e;
+    let e = replace::open_records(definitions, &which, &from, table, symbols.len(), opened, 0);
+    let end = record::SIZE * e;
     simplify::simplify(limit, edition, &opened[0..end], out, steps, work)
 }

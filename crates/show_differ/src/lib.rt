@@ -8,8 +8,53 @@ use libc::STDOUT_FILENO;
 // 2^63: the bits of the negative numbers start here.
 const TOP: u64 = 0x8000_0000_0000_0000;
 
-// The limit that the small programs keep.
+// The limit that the small programs keep, and the bytes of the largest table and of the shortest area over it, by it.
 const LIMIT: usize = 3072;
+
+const TABLE: usize = 49152;
+
+const OVER_TABLE: usize = 49168;
+
+// The bytes of a pair in a list, and where its second place stands.
+const PAIR: usize = 16;
+
+const SECOND_AT: usize = 8;
+
+// The refusals of a table.
+const LENGTH: u32 = 1;
+
+const RECORD: u32 = 2;
+
+const WEIGHT: u32 = 3;
+
+const TREE: u32 = 4;
+
+const EXPONENT: u32 = 5;
+
+// What is wrong with a record, in an answer.
+const KIND: u64 = 1;
+
+const BYTE: u64 = 2;
+
+const COUNT: u64 = 3;
+
+// The first of the two tables, in an answer.
+const FIRST: u8 = 1;
+
+// The length of the word `equal`, which asks for the second mode.
+const EQUAL: usize = 5;
+
+// How many words the command line has, the program's own among them: two files, or the word `equal` and two files.
+const TWO_FILES: usize = 3;
+
+const EQUAL_AND_TWO: usize = 4;
+
+// The words after the program's own.
+const FIRST_WORD: usize = 1;
+
+const SECOND_WORD: usize = 2;
+
+const THIRD_WORD: usize = 3;
 
 // What reading answers where a file cannot be read.
 const UNREAD: isize = -1;
@@ -34,7 +79,7 @@ fn say_integer(bits: u64) -> bool {
 
 // Writes the line of the sheet that record i comes from, where it says one.
 fn say_line(s: &[u8], i: usize) -> bool {
-    if s.len() / 16 <= i {
+    if s.len() / record::SIZE <= i {
         return true;
     }
     let line = record::mark(s, i);
@@ -46,23 +91,17 @@ fn say_line(s: &[u8], i: usize) -> bool {
 
 // Writes kind, count and number of record i of an accepted table.
 fn say_node(s: &[u8], i: usize) -> bool {
-    if s.len() / 16 <= i {
+    if s.len() / record::SIZE <= i {
         return true;
     }
     let k = record::kind(s, i);
-    if k == 0 {
-        return say_integer(record::bits(s, i));
+    match k {
+        record::INTEGER => say_integer(record::bits(s, i)),
+        record::SYMBOL => say(b"symbol ", record::symbol(s, i) as u64),
+        record::SUM => say(b"sum of ", record::count(s, i) as u64),
+        record::PRODUCT => say(b"product of ", record::count(s, i) as u64),
+        _ => put(b"power"),
     }
-    if k == 1 {
-        return say(b"symbol ", record::symbol(s, i) as u64);
-    }
-    if k == 2 {
-        return say(b"sum of ", record::count(s, i) as u64);
-    }
-    if k == 3 {
-        return say(b"product of ", record::count(s, i) as u64);
-    }
-    put(b"power")
 }
 
 // Writes what stands at record i of an accepted table.
@@ -72,11 +111,11 @@ fn say_record(s: &[u8], i: usize) -> bool {
 
 // Writes pair p of the list, a line.
 fn say_pair(a: &[u8], b: &[u8], list: &[u8], p: usize) -> bool {
-    if list.len() / 16 <= p {
+    if list.len() / PAIR <= p {
         return true;
     }
-    let i = number::read8(list, p * 16);
-    let j = number::read8(list, p * 16 + 8);
+    let i = number::read8(list, p * PAIR);
+    let j = number::read8(list, p * PAIR + SECOND_AT);
     say(b"record ", i)
         && say(b", record ", j)
         && put(b": ")
@@ -100,83 +139,62 @@ fn say_pairs(a: &[u8], b: &[u8], list: &[u8], pairs: usize) -> bool {
 
 // Writes what is wrong with a record, as the listing does; nothing where nothing is.
 fn say_flaw(what: u64, byte: u64) -> bool {
-    if what == 1 {
-        return put(b" kind");
+    match what {
+        KIND => put(b" kind"),
+        BYTE => say(b" byte ", byte),
+        COUNT => put(b" count"),
+        _ => true,
     }
-    if what == 2 {
-        return say(b" byte ", byte);
-    }
-    if what == 3 {
-        return put(b" count");
-    }
-    true
+}
+
+// Tells a word on standard error.
+fn tell(word: &[u8]) {
+    io::write_all(STDERR_FILENO, word);
 }
 
 // Tells what is wrong with a record, in words.
 fn explain_record(what: u64) {
-    if what == 1 {
-        io::write_all(STDERR_FILENO, b"its kind is none of the five");
-    }
-    if what == 2 {
-        io::write_all(STDERR_FILENO, b"a byte of it that must be zero is not");
-    }
-    if what == 3 {
-        io::write_all(
-            STDERR_FILENO,
-            b"it is a sum or a product of fewer than two members",
-        );
+    match what {
+        KIND => tell(b"its kind is none of the five"),
+        BYTE => tell(b"a byte of it that must be zero is not"),
+        COUNT => tell(b"it is a sum or a product of fewer than two members"),
+        _ => (),
     }
 }
 
 // Tells what is wrong with a table, in words.
 fn explain(number: u32, what: u64) {
-    if number == 1 {
-        io::write_all(
-            STDERR_FILENO,
-            b"its length is zero, no multiple of 16, or over 49,152 bytes",
-        );
-    }
-    if number == 2 {
-        explain_record(what);
-    }
-    if number == 3 {
-        io::write_all(STDERR_FILENO, b"it weighs over 3,072");
-    }
-    if number == 4 {
-        io::write_all(
-            STDERR_FILENO,
-            b"its records end before the tree, or the tree ends here before the records",
-        );
-    }
-    if number == 5 {
-        io::write_all(
-            STDERR_FILENO,
-            b"it is an exponent, and no integer of at least 1",
-        );
+    match number {
+        LENGTH => tell(b"its length is zero, no multiple of 16, or over 49,152 bytes"),
+        RECORD => explain_record(what),
+        WEIGHT => tell(b"it weighs over 3,072"),
+        TREE => tell(b"its records end before the tree, or the tree ends here before the records"),
+        EXPONENT => tell(b"it is an exponent, and no integer of at least 1"),
+        _ => (),
     }
 }
 
 // Tells on standard error what is wrong with a table, and with which record of it: 1 and 3 are of the whole.
 fn explain_refusal(d: differ::Differed, what: u64) {
-    if d.which < 2 {
-        io::write_all(STDERR_FILENO, b"differs: first table");
+    if d.which == FIRST {
+        tell(b"differs: first table");
     } else {
-        io::write_all(STDERR_FILENO, b"differs: second table");
+        tell(b"differs: second table");
     }
-    if d.number != 1 {
-        if d.number != 3 {
-            io::write_all(STDERR_FILENO, b", record ");
+    if d.number != LENGTH {
+        if d.number != WEIGHT {
+            tell(b", record ");
             io::print_decimal(STDERR_FILENO, d.place as u64);
         }
     }
-    io::write_all(STDERR_FILENO, b": ");
+    tell(b": ");
     explain(d.number, what);
-    io::write_all(STDERR_FILENO, b"\n");
+    tell(b"\n");
 }
 
 // Writes which table is refused. The list being as long as any table, one of the two is.
 fn say_which(which: u8) -> bool {
-    if which < 2 {
+    if which == FIRST {
         return put(b"first");
     }
     put(b"second")
@@ -207,7 +225,7 @@ fn say_equal(a: &[u8], b: &[u8]) -> bool {
 
 // Writes what differs between two tables; the list is as long as any table.
 fn compare(a: &[u8], b: &[u8], with_equal: bool) -> bool {
-    let mut list = [0u8; 49152];
+    let mut list = [0u8; TABLE];
     let d = differ::differ(LIMIT, a, b, &mut list);
     if 0 < d.number {
         return say_refusal(d);
@@ -223,7 +241,7 @@ fn compare(a: &[u8], b: &[u8], with_equal: bool) -> bool {
 
 // Tells that a file cannot be read, and why.
 fn unread(name: &[u8]) -> isize {
-    io::write_all(STDERR_FILENO, b"differs: cannot read ");
+    tell(b"differs: cannot read ");
     os::fail(name);
     UNREAD
 }
@@ -250,8 +268,8 @@ fn read_named(k: usize, room: &mut [u8]) -> isize {
 // Compares the tables in the files that arguments k and l name. Of a file that is longer than any table only as much is read as shows that it
 // is.
 fn compare_files(k: usize, l: usize, with_equal: bool) {
-    let mut first = [0u8; 49168];
-    let mut second = [0u8; 49168];
+    let mut first = [0u8; OVER_TABLE];
+    let mut second = [0u8; OVER_TABLE];
     let got = read_named(k, &mut first);
     if got < 0 {
         return;
@@ -270,7 +288,7 @@ fn compare_files(k: usize, l: usize, with_equal: bool) {
 // Argument 1 is the word `equal`.
 fn asks_equal() -> bool {
     let mut word = io::buffer();
-    if os::arg(1, &mut word) != 5 {
+    if os::arg(FIRST_WORD, &mut word) != EQUAL {
         return false;
     }
     if word[0] != b'e' {
@@ -288,21 +306,23 @@ fn asks_equal() -> bool {
     word[4] == b'l'
 }
 
-// The two modes, by the number of arguments.
+// The two modes, by the number of words on the command line.
 pub fn run() {
     let n = os::arg_count();
-    if n == 3 {
-        compare_files(1, 2, false);
+    if n == TWO_FILES {
+        compare_files(FIRST_WORD, SECOND_WORD, false);
         return;
     }
-    if n == 4 {
+    if n == EQUAL_AND_TWO {
         if asks_equal() {
-            compare_files(2, 3, true);
+            compare_files(SECOND_WORD, THIRD_WORD, true);
             return;
         }
     }
-    io::write_all(
-        STDERR_FILENO,
-        b"usage: differs [equal] FIRST SECOND (two files with a table each; records count from 0, marks count as numbers do; `equal` also says whether the trees are equal, in any order of members and whatever their marks)\n",
+    tell(
+        b"usage: differs [equal] FIRST SECOND (two files with a table each; records count from 0, marks count as numbers do; ",
+    );
+    tell(
+        b"`equal` also says whether the trees are equal, in any order of members and whatever their marks)\n",
     );
 }

@@ -1,17 +1,15 @@
 -- The demands and the takeover hold of `simmergate_simplify`, the call that the controllers make, at every limit and in every edition: of
 -- what its answer slice and its areas tell after a call with room for the answer, as the contract that the check reads from the source lets
--- it be. Its numbers fit in their 8 bytes, so the slice tells the simplifier's answer. Assumes nothing.
+-- it be. Its numbers fit in their 8 bytes, so the slice tells the simplifier's answer.
 use Prim.Native.Nat.{ℕ, _≤_}
 use mathlib.Core.Path.{_≡_, refl, sym, ap, ap₂, _∙_}
 use mathlib.Core.List.{List, []}
 use lib.ListN.{length, drop, replicate}
 use lib.Dec.{lit≤}
 use denote.Ref.{RefT}
-use borrow.Fn.Kinds.{Dens, endedOf}
 use contract.Lifetimes.{Lfts}
-use denote.Triple.Clauses.{AtExit}
 use Rattle.paper.specs.Bytes.{Bytes}
-use Rattle.paper.specs.Answers.{Lent, Given, simplified}
+use Rattle.paper.specs.Answers.{Lent, Answer, Given, simplified}
 use Rattle.paper.specs.Calls.{simplifyReturns, simplifyAnswers, simplifyLeaves}
 use Rattle.paper.specs.Slices.{simplifyBytes}
 use Rattle.paper.specs.Told.{answerIn}
@@ -24,16 +22,12 @@ use Rattle.paper.proofs.Squared.{demands-squared, budget-3072, budget-16384}
 use Rattle.paper.proofs.AlikeLaws.{alike-meets, alike-takes-over, alike-takes-over-in-place}
 use Rattle.simplify.specs.Answer.{lent}
 use Rattle.simplify.proofs.Demanded.{of-calls, in-place}
+use Rattle.simmergate.proofs.FromC.{FromC}
 use Rattle.simmergate.proofs.simmergate_simplify.Reads as reads
 use Rattle.simmergate.proofs.simmergate_simplify.Kinds as kinds
 
--- a call from C: what is handed in, the return, and what the references lead to afterwards, as the contract lets it be
-pub record CCall : Type 0 where
-  pub ends : Lfts 5
-  pub handed : Dens ends kinds.ps
-  pub returned : ℕ
-  pub left : AtExit (endedOf 5 kinds.ps kinds.r) ends
-  pub promised : reads.Post ends handed returned left
+abbrev pub CCall : Type 0
+CCall = FromC 5 kinds.ps kinds.r reads.Post
 
 -- the limit, the edition, the table, the areas and the answer slice that are handed in
 abbrev pub limit : CCall → ℕ
@@ -66,22 +60,20 @@ tells lim ed s b l before after room e =
     ap answerIn (e ∙ slices .simplify lim ed s l before .1 room .1)
     ∙ told-answer (simplified lim ed s l .answer) (drop simplifyBytes before) (numbers-fit lim ed s b l)
 
-given-by : (g h : Given) → g .answer ≡ h .answer → g .lent ≡ h .lent → g ≡ h
-given-by g h x y = ap (λ a. record { answer = a; lent = g .lent }) x ∙ ap (λ a. record { answer = h .answer; lent = a }) y
-
 pub call-gives : (c : CCall) → Bytes (table c) → simplifyBytes ≤ length (slice c) → given c ≡ simplified (limit c) (edition c) (table c) (areas c)
 call-gives c b room =
-    given-by (given c) (simplified (limit c) (edition c) (table c) (areas c))
-    (tells (limit c) (edition c) (table c) b (areas c) (slice c) _ room (c .promised .1 .0))
-    (c .promised .1 .1 ∙ slices .areas (limit c) (edition c) (table c) (areas c) (slice c) .1 room)
+    ap₂ (λ (a : Answer) (l : Lent). record { answer = a; lent = l })
+    (tells (limit c) (edition c) (table c) b (areas c) (slice c) _ room (c .promised .answers))
+    (c .promised .leaves ∙ slices .areas (limit c) (edition c) (table c) (areas c) (slice c) .1 room)
 
 pub call-returns : (c : CCall) → Bytes (table c) → simplifyBytes ≤ length (slice c) → c .returned ≡ given c .answer .number
 call-returns c b room =
-    c .promised .0 ∙ slices .simplify (limit c) (edition c) (table c) (areas c) (slice c) .1 room .0
+    c .promised .returns ∙ slices .simplify (limit c) (edition c) (table c) (areas c) (slice c) .1 room .0
     ∙ sym (ap (λ g. g .answer .number) (call-gives c b room))
 
 -- the same where the limit is known to be lim, and the edition ed
-pub gives-in : (lim ed : ℕ) (c : CCall) → limit c ≡ lim → edition c ≡ ed → Bytes (table c) → simplifyBytes ≤ length (slice c) → given c ≡ simplified lim ed (table c) (areas c)
+pub gives-in : (lim ed : ℕ) (c : CCall) → limit c ≡ lim → edition c ≡ ed → Bytes (table c) → simplifyBytes ≤ length (slice c)
+    → given c ≡ simplified lim ed (table c) (areas c)
 gives-in lim ed c n e b room = call-gives c b room ∙ ap₂ (λ i k. simplified i k (table c) (areas c)) n e
 
 -- references, at any place, to what is handed in and to what is left
@@ -116,7 +108,7 @@ module _ (lim ed : ℕ) where
         handed = (lim, (ed, (at s, (at (l .out), (at (l .steps), (at (l .work), (at blank, tt)))))));
         returned = simplifyReturns lim ed s l blank;
         left = (lim, (ed, (at s, (at (after .out), (at (after .steps), (at (after .work), (at (simplifyAnswers lim ed s l blank), tt)))))));
-        promised = (refl, (refl, refl));
+        promised = record { returns = refl; answers = refl; leaves = refl };
       }
 
   -- so a simplifier that describes the call is the paper's on every table of bytes
@@ -147,14 +139,15 @@ pub c-budget-16384 : (ed : ℕ) (f : Simplifier) → Describes 16384 ed f → Bu
 c-budget-16384 ed f h = budget-16384 ed f (c-meets 16384 ed f h)
 
 -- the takeover of any two calls with one limit and one edition, the second of which is handed the result of the first: lent any areas with room for it
-pub c-takeover : (c d : CCall) → limit d ≡ limit c → edition d ≡ edition c → Bytes (table c) → Bytes (table d) → simplifyBytes ≤ length (slice c) → simplifyBytes ≤ length (slice d)
+pub c-takeover : (c d : CCall) → limit d ≡ limit c → edition d ≡ edition c → Bytes (table c) → Bytes (table d)
+    → simplifyBytes ≤ length (slice c) → simplifyBytes ≤ length (slice d)
     → given c .answer .number ≡ 0 → table d ≡ result (given c) → Room (limit c) (given c .answer .weight-out) (areas d) → Repeats (given c) (given d)
 c-takeover c d n e b b′ r r′ =
     of-calls (limit c) (edition c) (table c) (areas c) (given c) (call-gives c b r) (table d) (areas d) (given d) (gives-in (limit c) (edition c) d n e b′ r′) b
 
 -- or lent the areas as the first one left them
-pub c-takeover-in-place : (c d : CCall) → limit d ≡ limit c → edition d ≡ edition c → Bytes (table c) → Bytes (table d) → simplifyBytes ≤ length (slice c)
-    → simplifyBytes ≤ length (slice d)
+pub c-takeover-in-place : (c d : CCall) → limit d ≡ limit c → edition d ≡ edition c → Bytes (table c) → Bytes (table d)
+    → simplifyBytes ≤ length (slice c) → simplifyBytes ≤ length (slice d)
     → given c .answer .number ≡ 0 → table d ≡ result (given c) → areas d ≡ given c .lent → Repeats (given c) (given d)
 c-takeover-in-place c d n e b b′ r r′ =
     in-place (limit c) (edition c) (table c) (areas c) (given c) (call-gives c b r) (table d) (areas d) (given d) (gives-in (limit c) (edition c) d n e b′ r′) b

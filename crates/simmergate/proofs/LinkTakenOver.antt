@@ -1,15 +1,12 @@
 -- The takeover of a result that comes over the link, from C: of any list of calls that take a piece, each handed the record and the area as the last one
 -- left them, of the finish and of the simplifier on what has come, as the contracts that the check reads from the source let them be. The list
 -- leaves what the definitions of the calls leave (paper_takeover), so their takeover is that of the calls; also where the pair swaps in the
--- middle of the list, and where the second machine has another limit. Assumes nothing.
+-- middle of the list, and where the second machine has another limit.
 use Prim.Native.Nat.{ℕ, _≤_, _<_}
 use mathlib.Core.Path.{_≡_, refl, sym, ap, ap₂, _∙_, subst}
 use mathlib.Core.Bool.{true}
 use mathlib.Core.List.{List, [], _∷_, _++_, map}
 use lib.ListN.{length, drop, replicate, length-map}
-use borrow.Fn.Kinds.{Dens, endedOf}
-use contract.Lifetimes.{Lfts}
-use denote.Triple.Clauses.{AtExit}
 use Rattle.paper.specs.Limits.{isLimit}
 use Rattle.paper.specs.Bytes.{Bytes}
 use Rattle.paper.specs.Verdict.{accepted}
@@ -26,6 +23,7 @@ use Rattle.paper_takeover.specs.LimitOver.{Holds}
 use Rattle.paper_takeover.specs.LinkOver.{Task, afterCall, afterCalls, returns, tableIn, Ready, Arrived, CopiedTask, overBy}
 use Rattle.paper_takeover.proofs.LimitTaken.{own-limit}
 use Rattle.paper_takeover.proofs.LinkOver.{calls-take-over, calls-too-heavy, swap-takes-over}
+use Rattle.simmergate.proofs.FromC.{FromC}
 use Rattle.simmergate.proofs.Demanded.{CCall, limit, edition, table, areas, slice, given, call-gives}
 use Rattle.simmergate.proofs.receiver_calls.simmergate_receive.Reads as receive-reads
 use Rattle.simmergate.proofs.receiver_calls.simmergate_receive.Kinds as receive-kinds
@@ -33,19 +31,11 @@ use Rattle.simmergate.proofs.receiver_calls.simmergate_receive_finish.R
 use Rattle.simmergate.proofs.receiver_calls.simmergate_receive_finish.Kinds as finish-kinds
 
 -- ---- the two calls of the link, as their contracts let them be
-pub record ReceiveCCall : Type 0 where
-  pub ends : Lfts 3
-  pub handed : Dens ends receive-kinds.ps
-  pub returned : ℕ
-  pub left : AtExit (endedOf 3 receive-kinds.ps receive-kinds.r) ends
-  pub promised : receive-reads.Post ends handed returned left
+abbrev pub ReceiveCCall : Type 0
+ReceiveCCall = FromC 3 receive-kinds.ps receive-kinds.r receive-reads.Post
 
-pub record FinishCCall : Type 0 where
-  pub ends : Lfts 3
-  pub handed : Dens ends finish-kinds.ps
-  pub returned : ℕ
-  pub left : AtExit (endedOf 3 finish-kinds.ps finish-kinds.r) ends
-  pub promised : finish-reads.Post ends handed returned left
+abbrev pub FinishCCall : Type 0
+FinishCCall = FromC 3 finish-kinds.ps finish-kinds.r finish-reads.Post
 
 -- the limit, the record and the area that a call finds, the piece, and the record and the area that it leaves
 abbrev pub receive-limit : ReceiveCCall → ℕ
@@ -87,7 +77,7 @@ returned-by cs = map (λ (c : ReceiveCCall). c .returned) cs
 -- it leaves, and returns, what the definitions do on its pieces
 call-leaves : (c : ReceiveCCall) → leaves c ≡ afterCall (receive-limit c) (found c) (piece c)
 unfolding afterCall
-call-leaves c = ap₂ (λ (s l : List ℕ). record { record-bytes = s; area = l }) (c .promised .1 .0) (c .promised .1 .1)
+call-leaves c = ap₂ (λ (s l : List ℕ). record { record-bytes = s; area = l }) (c .promised .keeps) (c .promised .leaves)
 
 pub chain-leaves : {lim : ℕ} {x y : Task} {cs : List ReceiveCCall} → Chain lim x cs y → y ≡ afterCalls lim x (pieces cs)
 unfolding afterCalls
@@ -99,7 +89,7 @@ pub chain-returns : {lim : ℕ} {x y : Task} {cs : List ReceiveCCall} → Chain 
 unfolding returns
 chain-returns no-call = refl
 chain-returns {lim = lim} (one-call {cs = cs} c n q ch) =
-    ap₂ (λ (k : ℕ) (l : List ℕ). k ∷ l) (c .promised .0 ∙ ap₂ (λ (i : ℕ) (z : Task). receiveReturns i (z .record-bytes) (z .area) (piece c)) n q)
+    ap₂ (λ (k : ℕ) (l : List ℕ). k ∷ l) (c .promised .returns ∙ ap₂ (λ (i : ℕ) (z : Task). receiveReturns i (z .record-bytes) (z .area) (piece c)) n q)
     (chain-returns ch ∙ ap (λ (z : Task). returns lim z (pieces cs)) (call-leaves c ∙ ap₂ (λ (i : ℕ) (z : Task). afterCall i z (piece c)) n q))
 
 taken-each : {lim : ℕ} {x y : Task} {cs : List ReceiveCCall} → Chain lim x cs y → returns lim x (pieces cs) ≡ replicate (length (pieces cs)) 0
@@ -175,11 +165,11 @@ module _ (c d : CCall) (f : FinishCCall) (y : Task) (k : Linked c d f y) where
       call-gives d b (k .second-slice) ∙ ap₂ (λ (i : ℕ) (x : List ℕ). simplified (limit d) i x (areas d)) (k .same-edition) (k .handed-on) in
       record {
         finish-accepts =
-            f .promised .0
+            f .promised .returns
             ∙ ap₂ (λ (i : ℕ) (x : Task). finishReturns i (x .record-bytes) (x .area) (finish-slice f)) (k .finish-at) (k .finish-finds)
             ∙ a .finish-accepts;
         finish-tells =
-            f .promised .1 .1
+            f .promised .answers
             ∙ ap₂ (λ (i : ℕ) (x : Task). finishAnswers i (x .record-bytes) (x .area) (finish-slice f)) (k .finish-at) (k .finish-finds)
             ∙ a .finish-tells;
         same-table = there ∙ ap result (sym gives);
@@ -199,8 +189,8 @@ unfolding g
 c-link-takeover-at c d cs f x y k h ready ch q =
     let same = gives c d f y k in
     let r =
-    calls-take-over (limit c) (limit d) (edition c) (table c) (k .table-bytes) (areas c) (g-accepted c d f y k) (subst (Holds (limit d)) same h) x ready (pieces cs)
-    (q ∙ ap result same) (finish-slice f) (k .finish-room) (areas d) (g-room c d f y k) in
+    calls-take-over (limit c) (limit d) (edition c) (table c) (k .table-bytes) (areas c) (g-accepted c d f y k)
+    (subst (Holds (limit d)) same h) x ready (pieces cs) (q ∙ ap result same) (finish-slice f) (k .finish-room) (areas d) (g-room c d f y k) in
     let end = chain-leaves ch in
     record {
       each-taken = taken-each ch (r .each-taken);
@@ -229,9 +219,9 @@ unfolding g
 c-swap-takeover c d cs ds f x y y′ z k h ready ch copy dh q =
     let same = gives c d f z k in
     let r =
-    swap-takes-over (limit c) (limit d) (edition c) (table c) (k .table-bytes) (areas c) (g-accepted c d f z k) (subst (Holds (limit d)) same h) x ready (pieces cs)
-    (pieces ds) (q ∙ ap result same) y′ (subst (λ (v : Task). CopiedTask (limit d) v y′) (chain-leaves ch) copy) (finish-slice f) (k .finish-room) (areas d)
-    (g-room c d f z k) in
+    swap-takes-over (limit c) (limit d) (edition c) (table c) (k .table-bytes) (areas c) (g-accepted c d f z k)
+    (subst (Holds (limit d)) same h) x ready (pieces cs) (pieces ds) (q ∙ ap result same) y′
+    (subst (λ (v : Task). CopiedTask (limit d) v y′) (chain-leaves ch) copy) (finish-slice f) (k .finish-room) (areas d) (g-room c d f z k) in
     record {
       first-taken = taken-each ch (r .first-taken);
       second-taken = taken-each dh (r .second-taken);
@@ -247,8 +237,8 @@ pub record CLinkRefused (c : CCall) (lim : ℕ) (cs : List ReceiveCCall) (f : Fi
   pub finish-tells : finish-told f ≡ eights (verdictNumbers (overBy lim (result (given c)))) ++ drop 32 (finish-slice f)
 
 pub c-link-too-heavy : (c : CCall) (lim : ℕ) (cs : List ReceiveCCall) (f : FinishCCall) (x y : Task) → Bytes (table c) → simplifyBytes ≤ length (slice c)
-    → given c .answer .number ≡ 0 → isLimit lim ≡ true → lim < given c .answer .weight-out → Ready lim x → Chain lim x cs y → whole (pieces cs) ≡ result (given c)
-    → finish-limit f ≡ lim → finish-found f ≡ y → 32 ≤ length (finish-slice f) → CLinkRefused c lim cs f
+    → given c .answer .number ≡ 0 → isLimit lim ≡ true → lim < given c .answer .weight-out → Ready lim x → Chain lim x cs y
+    → whole (pieces cs) ≡ result (given c) → finish-limit f ≡ lim → finish-found f ≡ y → 32 ≤ length (finish-slice f) → CLinkRefused c lim cs f
 c-link-too-heavy c lim cs f x y b room e known heavy ready ch q n finds long =
     let same = call-gives c b room in
     let g = simplified (limit c) (edition c) (table c) (areas c) in
@@ -259,12 +249,12 @@ c-link-too-heavy c lim cs f x y b room e known heavy ready ch q n finds long =
     record {
       each-taken = taken-each ch (r .each-taken);
       finish-refuses =
-          f .promised .0
+          f .promised .returns
           ∙ ap₂ (λ (i : ℕ) (v : Task). finishReturns i (v .record-bytes) (v .area) (finish-slice f)) n at
           ∙ r .finish-refuses
           ∙ ap (λ (v : Given). overBy lim (result v) .number) (sym same);
       finish-tells =
-          f .promised .1 .1
+          f .promised .answers
           ∙ ap₂ (λ (i : ℕ) (v : Task). finishAnswers i (v .record-bytes) (v .area) (finish-slice f)) n at
           ∙ r .finish-tells
           ∙ ap (λ (v : Given). eights (verdictNumbers (overBy lim (result v))) ++ drop 32 (finish-slice f)) (sym same);

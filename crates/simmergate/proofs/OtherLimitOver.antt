@@ -1,13 +1,10 @@
 -- A site and a shared formula at the two limits, from C: of any calls, as the contracts that the check reads from the source let them be. A contract is
--- an equation with the definitions' call, so what these say of the two limits (paper_takeover) the calls do. Assumes nothing.
+-- an equation with the definitions' call, so what these say of the two limits (paper_takeover) the calls do.
 use Prim.Native.Nat.{ℕ, _%_, _<_, _≤_}
-use mathlib.Core.Path.{_≡_, refl, sym, ap, ap₂, _∙_, subst}
+use mathlib.Core.Path.{_≡_, sym, ap, ap₂, _∙_, subst}
 use mathlib.Core.Bool.{Bool, true, false, cond}
 use mathlib.Core.List.{List}
 use lib.ListN.{length, getD}
-use borrow.Fn.Kinds.{Dens, endedOf}
-use contract.Lifetimes.{Lfts}
-use denote.Triple.Clauses.{AtExit}
 use Rattle.paper.specs.Bytes.{Bytes}
 use Rattle.paper.specs.Verdict.{refused, recordsIn, tableWeight}
 use Rattle.paper.specs.Refusals.{Flawed}
@@ -25,7 +22,8 @@ use Rattle.paper_shared.proofs.Slices.{shared-slices}
 use Rattle.paper_takeover.specs.OtherLimit.{SameAreas, ItemsUpToOld, SameSite, SharedUpToOld, SameShared, BothRefuse}
 use Rattle.paper_takeover.proofs.OtherLimit.{same-sites, item-too-long, item-too-heavy, same-openings, shares-alike}
 use Rattle.paper_takeover.proofs.SiteRestored.{fit}
-use Rattle.opening.specs.Planned.{handed}
+use Rattle.replace.specs.Planned.{handed}
+use Rattle.simmergate.proofs.FromC.{FromC}
 use Rattle.simmergate.proofs.Site.{SiteCCall, limit, edition, tables, lengths, areas, answers}
 use Rattle.simmergate.proofs.SiteTakenOver.{site-given, told, all-told, site-returns}
 use Rattle.simmergate.proofs.SharedTakenOver as sharing
@@ -34,8 +32,9 @@ use Rattle.simmergate.proofs.shared_calls.simmergate_open.Reads as open
 use Rattle.simmergate.proofs.shared_calls.simmergate_open.Kinds as open-kinds
 
 -- ---- a whole site: two calls that are handed the same, the one at the old limit and the other at the higher
-pub c-same-sites : (c d : SiteCCall) → limit c ≡ old → limit d ≡ higher → edition d ≡ edition c → tables d ≡ tables c → lengths d ≡ lengths c → answers d ≡ answers c
-    → SameAreas (areas c) (areas d) → Bytes (tables c) → ItemsUpToOld (lengthsIn (lengths c)) (tables c) → SameSite (site-given c) (site-given d)
+pub c-same-sites : (c d : SiteCCall) → limit c ≡ old → limit d ≡ higher → edition d ≡ edition c → tables d ≡ tables c → lengths d ≡ lengths c
+    → answers d ≡ answers c → SameAreas (areas c) (areas d) → Bytes (tables c) → ItemsUpToOld (lengthsIn (lengths c)) (tables c)
+    → SameSite (site-given c) (site-given d)
 c-same-sites c d n m k t ls places areas-alike b u =
     let first : site-given c ≡ siteCalled old (edition c) (tables c) (lengths c) (areas c) (answers c) =
     c .promised ∙ ap (λ (i : ℕ). siteCalled i (edition c) (tables c) (lengths c) (areas c) (answers c)) n in
@@ -119,23 +118,24 @@ module _ (c d : SharedCCall) (n : sharing.limit c ≡ old) (m : sharing.limit d 
   c-shares-alike =
       let e = both .given .answer in
       let lent-alike =
-      left-alike (slice c) (sharing.areas c) (sharing.areas d) alike (shares c .given .answer) (shares d .given .answer) e (shares c .given .lent) (shares d .given .lent)
-      (both .given .out) (both .given .steps) in
-      let leaves-c : given c .lent ≡ cond (tooShort (answerNumbers (shares c .given .answer)) (slice c)) (sharing.areas c) (shares c .given .lent) = c .promised .1 .1 .1 in
+      left-alike (slice c) (sharing.areas c) (sharing.areas d) alike (shares c .given .answer) (shares d .given .answer) e
+      (shares c .given .lent) (shares d .given .lent) (both .given .out) (both .given .steps) in
+      let leaves-c : given c .lent ≡ cond (tooShort (answerNumbers (shares c .given .answer)) (slice c)) (sharing.areas c) (shares c .given .lent) =
+      c .promised .leaves in
       let leaves-d : given d .lent ≡ cond (tooShort (answerNumbers (shares d .given .answer)) (slice c)) (sharing.areas d) (shares d .given .lent) =
-      d .promised .1 .1 .1
+      d .promised .leaves
       ∙ ap (λ (q : List ℕ). cond (tooShort (answerNumbers (shares d .given .answer)) q) (sharing.areas d) (shares d .given .lent)) p in
       record {
         returned =
-            c .promised .0
+            c .promised .returns
             ∙ ap₂ (λ (x : Answer) (q : List ℕ). returned (answerNumbers x) (x .number) q) e (sym p)
-            ∙ sym (d .promised .0);
-        slice = c .promised .1 .0 ∙ ap₂ (λ (x : Answer) (q : List ℕ). answered (answerNumbers x) q) e (sym p) ∙ sym (d .promised .1 .0);
+            ∙ sym (d .promised .returns);
+        slice = c .promised .answers ∙ ap₂ (λ (x : Answer) (q : List ℕ). answered (answerNumbers x) q) e (sym p) ∙ sym (d .promised .answers);
         area =
-            c .promised .1 .1 .0
+            c .promised .opens
             ∙ ap₂ (λ (x : Answer) (r : List ℕ). cond (tooShort (answerNumbers x) (slice c)) (opened-area c) r) e (both .area)
             ∙ ap₂ (λ (q r : List ℕ). cond (tooShort (answerNumbers (shares d .given .answer)) q) r (shares d .area)) (sym p) (sym w)
-            ∙ sym (d .promised .1 .1 .0);
+            ∙ sym (d .promised .opens);
         out = ap (λ (x : Lent). x .out) leaves-c ∙ lent-alike .0 ∙ sym (ap (λ (x : Lent). x .out) leaves-d);
         steps = ap (λ (x : Lent). x .steps) leaves-c ∙ lent-alike .1 ∙ sym (ap (λ (x : Lent). x .steps) leaves-d);
       }
@@ -150,31 +150,27 @@ c-shared-refused c n known room k r =
     ∙ r .by-sharing (sharing.edition c) known (opened-area c) (sharing.areas c) in
     let leaves = shared-slices .shared-areas (sharing.limit c) (sharing.edition c) (formula c) (opened-area c) (sharing.areas c) (slice c) .1 room .1 in (
       shared-returns c room ∙ ap (λ (x : SharedGiven). x .given .answer .number) so,
-      c .promised .1 .1 .1 ∙ leaves ∙ ap (λ (x : SharedGiven). x .given .lent) so,
+      c .promised .leaves ∙ leaves ∙ ap (λ (x : SharedGiven). x .given .lent) so,
       shared-holds c room ∙ ap (λ (x : SharedGiven). x .area) so,
     )
 
 -- ---- a shared formula, opened
-pub record OpenCCall : Type 0 where
-  pub ends : Lfts 6
-  pub handed-in : Dens ends open-kinds.ps
-  pub returned : ℕ
-  pub left : AtExit (endedOf 6 open-kinds.ps open-kinds.r) ends
-  pub promised : open-reads.Post ends handed-in returned left
+abbrev pub OpenCCall : Type 0
+OpenCCall = FromC 6 open-kinds.ps open-kinds.r open-reads.Post
 
 abbrev pub open-limit : OpenCCall → ℕ
-open-limit c = c .handed-in .0
+open-limit c = c .handed .0
 
 abbrev pub open-formula : OpenCCall → Handed
 open-formula c =
-    let x = c .handed-in .1 in
+    let x = c .handed .1 in
     handed (x .0 .now) (x .1 .0 .now) (x .1 .1 .0 .now) (x .1 .1 .1 .0 .now)
 
 abbrev pub open-area : OpenCCall → List ℕ
-open-area c = c .handed-in .1 .1 .1 .1 .1 .0 .now
+open-area c = c .handed .1 .1 .1 .1 .1 .0 .now
 
 abbrev pub open-slice : OpenCCall → List ℕ
-open-slice c = c .handed-in .1 .1 .1 .1 .1 .1 .0 .now
+open-slice c = c .handed .1 .1 .1 .1 .1 .1 .0 .now
 
 abbrev pub open-area-after : OpenCCall → List ℕ
 open-area-after c = c .left .1 .1 .1 .1 .1 .0 .now
@@ -182,9 +178,13 @@ open-area-after c = c .left .1 .1 .1 .1 .1 .0 .now
 abbrev pub open-slice-after : OpenCCall → List ℕ
 open-slice-after c = c .left .1 .1 .1 .1 .1 .1 .0 .now
 
+-- the definitions' call, with what is handed in
+abbrev opens : OpenCCall → OpenGiven
+opens c = openGiven (open-limit c) (open-formula c) (open-area c)
+
 -- at the two limits: what the calls are handed gives the same at both
-opens-same : (c d : OpenCCall) → open-limit c ≡ old → open-limit d ≡ higher → open-formula d ≡ open-formula c → open-area d ≡ open-area c → SharedUpToOld (open-formula c)
-    → openGiven (open-limit c) (open-formula c) (open-area c) ≡ openGiven (open-limit d) (open-formula d) (open-area d)
+opens-same : (c d : OpenCCall) → open-limit c ≡ old → open-limit d ≡ higher → open-formula d ≡ open-formula c → open-area d ≡ open-area c
+    → SharedUpToOld (open-formula c) → opens c ≡ opens d
 opens-same c d n m f w u =
     ap (λ (i : ℕ). openGiven i (open-formula c) (open-area c)) n
     ∙ same-openings (open-formula c) u (open-area c)
@@ -196,20 +196,26 @@ pub c-opens-alike : (c d : OpenCCall) → open-limit c ≡ old → open-limit d 
 unfolding openReturns openAnswers openLeaves
 c-opens-alike c d n m f w p u =
     let e = opens-same c d n m f w u in (
-      c .promised .0 ∙ ap₂ (λ (x : OpenGiven) (q : List ℕ). returned (openNumbers (x .answer)) (x .answer .number) q) e (sym p) ∙ sym (d .promised .0),
-      c .promised .1 .0 ∙ ap₂ (λ (x : OpenGiven) (q : List ℕ). answered (openNumbers (x .answer)) q) e (sym p) ∙ sym (d .promised .1 .0),
-      c .promised .1 .1
+      c .promised .returns
+          ∙ ap₂ (λ (x : OpenGiven) (q : List ℕ). returned (openNumbers (x .answer)) (x .answer .number) q) e (sym p)
+          ∙ sym (d .promised .returns),
+      c .promised .answers ∙ ap₂ (λ (x : OpenGiven) (q : List ℕ). answered (openNumbers (x .answer)) q) e (sym p) ∙ sym (d .promised .answers),
+      c .promised .leaves
           ∙ ap₂ (λ (x : OpenGiven) (q : List ℕ). cond (tooShort (openNumbers (x .answer)) q) (open-area c) (x .area)) e (sym p)
-          ∙ ap (λ (r : List ℕ). cond (tooShort (openNumbers (openGiven (open-limit d) (open-formula d) (open-area d) .answer)) (open-slice d)) r (openGiven (open-limit d) (open-formula d) (open-area d) .area)) (sym w)
-          ∙ sym (d .promised .1 .1),
+          ∙ ap (λ (r : List ℕ). cond (tooShort (openNumbers (opens d .answer)) (open-slice d)) r (opens d .area)) (sym w)
+          ∙ sym (d .promised .leaves),
     )
 
 pub c-open-refused : (c : OpenCCall) → open-limit c ≡ old → openBytes ≤ length (open-slice c) → (k : ℕ) → BothRefuse (open-formula c) k
     → (c .returned ≡ k) × (open-area-after c ≡ open-area c)
 unfolding unopened
 c-open-refused c n room k r =
-    let so : openGiven (open-limit c) (open-formula c) (open-area c) ≡ unopened (refused k 0) (open-area c) =
+    let so : opens c ≡ unopened (refused k 0) (open-area c) =
     ap (λ (i : ℕ). openGiven i (open-formula c) (open-area c)) n ∙ r .by-opening (open-area c) in (
-      c .promised .0 ∙ shared-slices .opening (open-limit c) (open-formula c) (open-area c) (open-slice c) .1 room .0 ∙ ap (λ (x : OpenGiven). x .answer .number) so,
-      c .promised .1 .1 ∙ shared-slices .opening-area (open-limit c) (open-formula c) (open-area c) (open-slice c) .1 room ∙ ap (λ (x : OpenGiven). x .area) so,
+      c .promised .returns
+          ∙ shared-slices .opening (open-limit c) (open-formula c) (open-area c) (open-slice c) .1 room .0
+          ∙ ap (λ (x : OpenGiven). x .answer .number) so,
+      c .promised .leaves
+          ∙ shared-slices .opening-area (open-limit c) (open-formula c) (open-area c) (open-slice c) .1 room
+          ∙ ap (λ (x : OpenGiven). x .area) so,
     )

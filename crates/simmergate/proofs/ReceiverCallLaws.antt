@@ -1,8 +1,8 @@
 -- Laws of the receiver's calls: a record or an answer slice that is too short, and with room the two numbers of the record and the four of the
--- answer, each written at the front of its slice. Assumes nothing.
-use Prim.Native.Nat.{ℕ, _*_, _<_, _≤_}
-use mathlib.Core.Path.{_≡_, refl, sym, ap, _∙_}
-use mathlib.Core.Bool.{Bool, true, false, cond, _||_}
+-- answer, each written at the front of its slice.
+use Prim.Native.Nat.{ℕ, _<_, _≤_}
+use mathlib.Core.Path.{_≡_, refl, sym, _∙_}
+use mathlib.Core.Bool.{true}
 use mathlib.Core.List.{List, _++_}
 use native.Mathlib.Omega.{arith}
 use borrow.Author.Tests.{lt-ltb, le-ltb}
@@ -10,36 +10,30 @@ use lib.Dec.{ltb}
 use lib.ListN.{length, drop}
 use Rattle.paper.specs.Verdict.{Verdict}
 use Rattle.paper.specs.Calls.{verdictNumbers, eights, tooShort}
+use Rattle.paper.proofs.Slices.{tells-in, verdict-count}
 use Rattle.paper.proofs.Tests.{or-left, or-right}
 use Rattle.paper_receiver.specs.Receiver.{Receiver, Receipt, received, finishVerdict, finishState}
 use Rattle.paper_receiver.specs.Calls.{receiverNumbers, heldIn, receiveReturns, receiveRecord, receiveArea}
 use Rattle.paper_receiver.specs.Calls.{noRoom, finishReturns, finishRecord, finishAnswers}
-use Rattle.simmergate.proofs.NumbersLaws.{verdict-count, no-room, room}
-
-receiver-count : (r : Receiver) → length (receiverNumbers r) ≡ 2
-unfolding receiverNumbers
-receiver-count r = refl
 
 -- ---- a piece
 module _ (lim : ℕ) (s area p : List ℕ) where
-  pub receive-no-room : length s < 16 → (6 ≡ receiveReturns lim s area p) × ((s ≡ receiveRecord lim s area p) × (area ≡ receiveArea lim s area p))
-  unfolding receiveReturns receiveRecord receiveArea tooShort
+  abbrev Takes : ℕ → List ℕ → List ℕ → Type 0
+  Takes number s′ area′ = (number ≡ receiveReturns lim s area p) × ((s′ ≡ receiveRecord lim s area p) × (area′ ≡ receiveArea lim s area p))
+
+  pub receive-no-room : length s < 16 → Takes 6 s area
+  unfolding receiveReturns receiveRecord receiveArea receiverNumbers tooShort
   receive-no-room h =
       let t = received lim (heldIn s area) p in
-      let ns = receiverNumbers (t .held .state) in
-      let count = receiver-count (t .held .state) in
-      let q = no-room ns s (t .number) 2 count h in
-      (q .0, (q .1, rw (lt-ltb (length s) (8 * length ns) (omega arith))))
+      let q = tells-in 16 (t .number) (receiverNumbers (t .held .state)) refl s .0 h in
+      (sym (q .0), (sym (q .1), rw (lt-ltb (length s) 16 h)))
 
   pub receive-room : (t : Receipt) → t ≡ received lim (heldIn s area) p → 16 ≤ length s
-      → (after : List ℕ) → after ≡ eights (receiverNumbers (t .held .state)) ++ drop 16 s
-      → (t .number ≡ receiveReturns lim s area p) × ((after ≡ receiveRecord lim s area p) × (t .held .area ≡ receiveArea lim s area p))
-  unfolding receiveReturns receiveRecord receiveArea tooShort
-  receive-room t e h after w =
-      let ns = receiverNumbers (t .held .state) in
-      let count = receiver-count (t .held .state) in
-      let q = room ns s (t .number) 2 count h after w in
-      rw (← e) (q .0, (q .1, rw (le-ltb (length s) (8 * length ns) (omega arith))))
+      → (s′ : List ℕ) → s′ ≡ eights (receiverNumbers (t .held .state)) ++ drop 16 s → Takes (t .number) s′ (t .held .area)
+  unfolding receiveReturns receiveRecord receiveArea receiverNumbers tooShort
+  receive-room t e h s′ w =
+      let q = tells-in 16 (t .number) (receiverNumbers (t .held .state)) refl s .1 h in
+      rw (← e) (sym (q .0), (w ∙ sym (q .1), rw (le-ltb (length s) 16 h)))
 
 -- ---- the finish
 module _ (lim : ℕ) (s area slice : List ℕ) where
@@ -61,8 +55,8 @@ module _ (lim : ℕ) (s area slice : List ℕ) where
   pub finish-room : (v : Verdict) (r : Receiver) → v ≡ finishVerdict lim (heldIn s area) → r ≡ finishState lim (heldIn s area)
       → 16 ≤ length s → 32 ≤ length slice → (s′ slice′ : List ℕ)
       → s′ ≡ eights (receiverNumbers r) ++ drop 16 s → slice′ ≡ eights (verdictNumbers v) ++ drop 32 slice → Says (v .number) s′ slice′
-  unfolding finishReturns finishRecord finishAnswers noRoom
+  unfolding finishReturns finishRecord finishAnswers receiverNumbers noRoom
   finish-room v r e f h l s′ slice′ w u =
-      let q = room (receiverNumbers r) s 0 2 (receiver-count r) h s′ w in
-      let z = room (verdictNumbers v) slice (v .number) 4 (verdict-count v) l slice′ u in
-      rw (← e, ← f, le-ltb (length s) 16 h, le-ltb (length slice) 32 l) (refl, (q .1, z .1))
+      let q = tells-in 16 0 (receiverNumbers r) refl s .1 h .1 in
+      let z = tells-in 32 (v .number) (verdictNumbers v) (omega (arith, verdict-count v)) slice .1 l .1 in
+      rw (← e, ← f, le-ltb (length s) 16 h, le-ltb (length slice) 32 l) (refl, (w ∙ sym q, u ∙ sym z))

@@ -1,4 +1,4 @@
--- Two returns that meet the contract of simmergate_release, as the check reads it from the source, are the same. Assumes nothing.
+-- Two returns that meet the contract of simmergate_release, as the check reads it from the source, are the same.
 use Prim.Native.Nat.{ℕ}
 use mathlib.Core.Path.{_≡_, sym, _∙_}
 use borrow.Fn.Kinds.{Dens, endedOf}

@@ -1,5 +1,5 @@
 -- Two returns, and two answer slices or areas, that meet the contract of a settings call, as the check reads it from the source, are the same:
--- each contract gives the return and every lent byte. Assumes nothing.
+-- each contract gives the return and every lent byte.
 use Prim.Native.Nat.{ℕ}
 use mathlib.Core.Path.{_≡_, sym, _∙_}
 use borrow.Fn.Kinds.{Dens, endedOf}
@@ -21,12 +21,12 @@ settings-store-once κs a r r′ x x′ p p′ = number-and-area (p ∙ sym p′
 
 pub settings-fetch-once : (κs : Lfts 2) (a : Dens κs fetch-kinds.ps) (r r′ : ℕ) (x x′ : AtExit (endedOf 2 fetch-kinds.ps fetch-kinds.r) κs)
     → fetch-reads.Post κs a r x → fetch-reads.Post κs a r′ x′ → (r ≡ r′) × (x .1 .1 .0 .now ≡ x′ .1 .1 .0 .now)
-settings-fetch-once κs a r r′ x x′ p p′ = (p .0 ∙ sym (p′ .0), p .1 ∙ sym (p′ .1))
+settings-fetch-once κs a r r′ x x′ p p′ = (p .returns ∙ sym (p′ .returns), p .answers ∙ sym (p′ .answers))
 
 pub settings-fetch-1-once : (κs : Lfts 2) (a : Dens κs fetch-1-kinds.ps) (r r′ : ℕ)
     (x x′ : AtExit (endedOf 2 fetch-1-kinds.ps fetch-1-kinds.r) κs)
     → fetch-1-reads.Post κs a r x → fetch-1-reads.Post κs a r′ x′ → (r ≡ r′) × (x .1 .1 .0 .now ≡ x′ .1 .1 .0 .now)
-settings-fetch-1-once κs a r r′ x x′ p p′ = (p .0 ∙ sym (p′ .0), p .1 ∙ sym (p′ .1))
+settings-fetch-1-once κs a r r′ x x′ p p′ = (p .returns ∙ sym (p′ .returns), p .answers ∙ sym (p′ .answers))
 
 pub settings-remove-once : (κs : Lfts 1) (a : Dens κs remove-kinds.ps) (r r′ : ℕ) (x x′ : AtExit (endedOf 1 remove-kinds.ps remove-kinds.r) κs)
     → remove-reads.Post κs a r x → remove-reads.Post κs a r′ x′ → (r ≡ r′) × (x .0 .now ≡ x′ .0 .now)

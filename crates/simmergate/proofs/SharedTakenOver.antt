@@ -1,14 +1,10 @@
 -- The takeover of a formula that shares sub-formulas from C: of any two calls, as the contract that the check reads from the source lets them be,
 -- the second of which is handed the result of the first with the same definitions. A call that is not refused is the simplifier's, so its
 -- numbers fit in 8 bytes and its slice tells its answer; so the takeover of the definitions (paper_takeover) is that of the calls.
--- Assumes nothing.
 use Prim.Native.Nat.{ℕ, _*_, _≤_}
 use mathlib.Core.Path.{_≡_, sym, ap, ap₂, _∙_, subst}
 use mathlib.Core.List.{List, _++_}
 use lib.ListN.{length, drop}
-use borrow.Fn.Kinds.{Dens, endedOf}
-use contract.Lifetimes.{Lfts}
-use denote.Triple.Clauses.{AtExit}
 use Rattle.paper.specs.Bytes.{Bytes}
 use Rattle.paper.specs.Table.{encode}
 use Rattle.paper.specs.Answers.{Lent, Answer, Given}
@@ -25,40 +21,37 @@ use Rattle.paper_shared.proofs.Demands.{went}
 use Rattle.paper_takeover.specs.TakenOver.{withTable, SharedRepeats}
 use Rattle.paper_takeover.proofs.SharedTaken.{shared-call-takes-over}
 use Rattle.simplify.specs.Answer.{lent}
-use Rattle.opening.specs.Planned.{handed}
+use Rattle.replace.specs.Planned.{handed}
+use Rattle.simmergate.proofs.FromC.{FromC}
 use Rattle.simmergate.proofs.shared_calls.simmergate_simplify_shared.Reads as reads
 use Rattle.simmergate.proofs.shared_calls.simmergate_simplify_shared.Kinds as kinds
 
--- a call from C: what is handed in, the return, and what the references lead to afterwards, as the contract lets it be
-pub record SharedCCall : Type 0 where
-  pub ends : Lfts 9
-  pub handed-in : Dens ends kinds.ps
-  pub returned : ℕ
-  pub left : AtExit (endedOf 9 kinds.ps kinds.r) ends
-  pub promised : reads.Post ends handed-in returned left
+-- a call, and what is handed in
+abbrev pub SharedCCall : Type 0
+SharedCCall = FromC 9 kinds.ps kinds.r reads.Post
 
 abbrev pub limit : SharedCCall → ℕ
-limit c = c .handed-in .0
+limit c = c .handed .0
 
 abbrev pub edition : SharedCCall → ℕ
-edition c = c .handed-in .1 .0
+edition c = c .handed .1 .0
 
 -- the formula and its definitions, the area for the opened table, the simplifier's areas and the answer slice
 abbrev pub formula : SharedCCall → Handed
 formula c =
-    let x = c .handed-in .1 .1 in
+    let x = c .handed .1 .1 in
     handed (x .0 .now) (x .1 .0 .now) (x .1 .1 .0 .now) (x .1 .1 .1 .0 .now)
 
 abbrev pub opened-area : SharedCCall → List ℕ
-opened-area c = c .handed-in .1 .1 .1 .1 .1 .1 .0 .now
+opened-area c = c .handed .1 .1 .1 .1 .1 .1 .0 .now
 
 abbrev pub areas : SharedCCall → Lent
 areas c =
-    let x = c .handed-in .1 .1 .1 .1 .1 .1 .1 in
+    let x = c .handed .1 .1 .1 .1 .1 .1 .1 in
     lent (x .0 .now) (x .1 .0 .now) (x .1 .1 .0 .now)
 
 abbrev pub slice : SharedCCall → List ℕ
-slice c = c .handed-in .1 .1 .1 .1 .1 .1 .1 .1 .1 .1 .0 .now
+slice c = c .handed .1 .1 .1 .1 .1 .1 .1 .1 .1 .1 .0 .now
 
 -- what the call gives: the answer that the slice tells, and the areas
 abbrev pub given : SharedCCall → Given
@@ -87,18 +80,18 @@ shared-gives c room z =
     let by = shared-slices .shared (limit c) (edition c) (formula c) (opened-area c) (areas c) (slice c) .1 room in
     let areas-by = shared-slices .shared-areas (limit c) (edition c) (formula c) (opened-area c) (areas c) (slice c) .1 room in
     let tells : given c .answer ≡ g .answer =
-    ap answerIn (c .promised .1 .0 ∙ by .1)
+    ap answerIn (c .promised .answers ∙ by .1)
     ∙ told-answer (g .answer) (drop simplifyBytes (slice c)) (shared-fit (limit c) (edition c) (formula c) (opened-area c) (areas c) z) in
-    let leaves : given c .lent ≡ g .lent = c .promised .1 .1 .1 ∙ areas-by .1 in
+    let leaves : given c .lent ≡ g .lent = c .promised .leaves ∙ areas-by .1 in
     ap₂ (λ (a : Answer) (l : Lent). record { answer = a; lent = l }) tells leaves
 
 -- the call returns the number of its answer, and leaves in the area for the opened table what the definitions' call leaves
 pub shared-returns : (c : SharedCCall) → simplifyBytes ≤ length (slice c) → c .returned ≡ shares c .given .answer .number
 shared-returns c room =
-    c .promised .0 ∙ shared-slices .shared (limit c) (edition c) (formula c) (opened-area c) (areas c) (slice c) .1 room .0
+    c .promised .returns ∙ shared-slices .shared (limit c) (edition c) (formula c) (opened-area c) (areas c) (slice c) .1 room .0
 
 pub shared-holds : (c : SharedCCall) → simplifyBytes ≤ length (slice c) → opened-after c ≡ shares c .area
-shared-holds c room = c .promised .1 .1 .0 ∙ shared-slices .shared-areas (limit c) (edition c) (formula c) (opened-area c) (areas c) (slice c) .1 room .0
+shared-holds c room = c .promised .opens ∙ shared-slices .shared-areas (limit c) (edition c) (formula c) (opened-area c) (areas c) (slice c) .1 room .0
 
 -- the second call repeats the first; the area for the opened table holds the result as it was handed in, and behind it what it held
 pub record CSharedRepeats (c d : SharedCCall) : Type 0 where

@@ -1,5 +1,5 @@
 -- Two returns, and what the lent slices hold at exit, that meet the contract of a call on shared sub-formulas, as the check reads it from the
--- source, are the same: each contract gives the return and every lent byte. Assumes nothing.
+-- source, are the same: each contract gives the return and every lent byte.
 use mathlib.Core.Path.{_≡_, sym, _∙_}
 use mathlib.Core.List.{List}
 use Prim.Native.Nat.{ℕ}
@@ -24,7 +24,7 @@ opened κs x = record { slice = x .1 .1 .1 .1 .1 .1 .0 .now; area = x .1 .1 .1 .
 
 pub open-once : OnceLeft 6 open-kinds.ps open-kinds.r open-reads.Pre open-reads.Post Opened opened
 open-once κs a v v' x x' q p p' =
-    (p .0 ∙ sym (p' .0), both (p .1 .0 ∙ sym (p' .1 .0)) (p .1 .1 ∙ sym (p' .1 .1)))
+    (p .returns ∙ sym (p' .returns), both (p .answers ∙ sym (p' .answers)) (p .leaves ∙ sym (p' .leaves)))
   where
     both : {s s' l l' : List ℕ} → s ≡ s' → l ≡ l' → _≡_ {A = Opened} (record { slice = s; area = l }) (record { slice = s'; area = l' })
     both e h = cc
@@ -44,7 +44,7 @@ shared κs x =
 
 pub simplify-shared-once : OnceLeft 9 shared-kinds.ps shared-kinds.r shared-reads.Pre shared-reads.Post Shared shared
 simplify-shared-once κs a v v' x x' q p p' =
-    (p .0 ∙ sym (p' .0), all (p .1 .0 ∙ sym (p' .1 .0)) (p .1 .1 .0 ∙ sym (p' .1 .1 .0)) (p .1 .1 .1 ∙ sym (p' .1 .1 .1)))
+    (p .returns ∙ sym (p' .returns), all (p .answers ∙ sym (p' .answers)) (p .opens ∙ sym (p' .opens)) (p .leaves ∙ sym (p' .leaves)))
   where
     all : {s s' a a' : List ℕ} {l l' : Lent} → s ≡ s' → a ≡ a' → l ≡ l'
         → _≡_ {A = Shared} (record { slice = s; area = a; areas = l }) (record { slice = s'; area = a'; areas = l' })

@@ -1,11 +1,11 @@
 -- The call on a whole site from C. Two returns that meet its contract, as the check reads it from the source, are the same, and so is every lent
 -- byte afterwards; and after a call that returns 0 each item's place tells the answer of its separate call, which meets demand 3: its contract
--- is that of `batch::batch`. Assumes nothing.
+-- is that of `batch::batch`.
 use Prim.Native.Nat.{ℕ, _<_}
 use mathlib.Core.Path.{_≡_, sym, ap, _∙_}
 use mathlib.Core.List.{List}
 use lib.ListN.{length}
-use borrow.Fn.Kinds.{Dens, endedOf}
+use borrow.Fn.Kinds.{endedOf}
 use contract.Lifetimes.{Lfts}
 use denote.Triple.Clauses.{AtExit}
 use Rattle.paper.specs.Bytes.{Bytes}
@@ -17,6 +17,7 @@ use Rattle.simplify.specs.Answer.{lent}
 use Rattle.batch.specs.Turn.{called}
 use Rattle.batch.proofs.Unique.{Left, left-of}
 use Rattle.batch.proofs.ToldLaws.{item-told}
+use Rattle.simmergate.proofs.FromC.{FromC}
 use Rattle.simmergate.proofs.site_calls.simmergate_batch.Reads as reads
 use Rattle.simmergate.proofs.site_calls.simmergate_batch.Kinds as kinds
 
@@ -28,13 +29,9 @@ given-by r κs x =
 pub site-once : OnceLeft 6 kinds.ps kinds.r reads.Pre reads.Post Left (λ κs x. left-of (given-by 0 κs x))
 site-once κs a v v' x x' q p p' = let e = p ∙ sym p' in (ap (λ (c : SiteCall). c .number) e, ap left-of e)
 
--- a call from C: what is handed in, the return, and what the references lead to afterwards, as the contract lets it be
-pub record SiteCCall : Type 0 where
-  pub ends : Lfts 6
-  pub handed : Dens ends kinds.ps
-  pub returned : ℕ
-  pub left : AtExit (endedOf 6 kinds.ps kinds.r) ends
-  pub promised : reads.Post ends handed returned left
+-- a call, and what is handed in
+abbrev pub SiteCCall : Type 0
+SiteCCall = FromC 6 kinds.ps kinds.r reads.Post
 
 abbrev pub limit : SiteCCall → ℕ
 limit c = c .handed .0

@@ -1,6 +1,6 @@
 -- A site restored whole, from C: of any two calls, as the contract that the check reads from the source lets them be, the second of which is handed
 -- the results of the accepted items and the tables of the refused ones, in their places. The places tell the answers of the site, so it is the
--- definitions' theorem (paper_takeover) of the calls. Assumes nothing.
+-- definitions' theorem (paper_takeover) of the calls.
 use Prim.Native.Nat.{ℕ, _*_, _%_, _≤_}
 use mathlib.Core.Path.{_≡_, sym, ap, ap₂, _∙_, subst}
 use mathlib.Core.List.{List}
@@ -12,7 +12,7 @@ use Rattle.paper_batch.specs.Batch.{placeBytes, Site, inTurn, lengthsIn, siteNu
 use Rattle.paper_takeover.specs.SiteRestored.{restoredWhole, wholeLengths, wholeWeight, againInPlace, NoSix, RepeatsWhole}
 use Rattle.paper_takeover.proofs.SiteRestored.{site-restored-whole, whole-bytes, whole-passes, fit}
 use Rattle.simmergate.proofs.Site.{SiteCCall, limit, edition, tables, lengths, areas, answers}
-use Rattle.simmergate.proofs.SiteTakenOver.{site-given, told, all-told, out-is, site-returns}
+use Rattle.simmergate.proofs.SiteTakenOver.{site-given, told, site, all-told, out-is, site-returns}
 
 -- what a machine restores of a call, and the lengths of it
 abbrev pub left-whole : SiteCCall → List ℕ
@@ -30,24 +30,19 @@ pub record TakenWhole (c d : SiteCCall) : Type 0 where
   pub same-lengths : lengths-whole d ≡ lengths-whole c
 
 module _ (c d : SiteCCall) (n : limit d ≡ limit c) (k : edition d ≡ edition c) (e : c .returned ≡ 0) (b : Bytes (tables c)) (q : tables d ≡ left-whole c)
-    (whole : length (lengths d) % 8 ≡ 0) (r : lengthsIn (lengths d) ≡ lengths-whole c) (places : placeBytes * length (lengths-whole c) ≤ length (answers d)) where
-  site : Site
-  site = inTurn (simplified (limit c) (edition c)) (lengthsIn (lengths c)) (tables c) (areas c)
+    (whole : length (lengths d) % 8 ≡ 0) (r : lengthsIn (lengths d) ≡ lengths-whole c)
+    (places : placeBytes * length (lengths-whole c) ≤ length (answers d)) where
+  abbrev ms : List ℕ
+  ms = wholeLengths (lengthsIn (lengths c)) (site c .answers)
 
-  ms : List ℕ
-  ms = wholeLengths (lengthsIn (lengths c)) (site .answers)
-
-  handed-on : tables d ≡ restoredWhole (lengthsIn (lengths c)) (tables c) (site .answers) (site .lent .out)
-  unfolding site
+  handed-on : tables d ≡ restoredWhole (lengthsIn (lengths c)) (tables c) (site c .answers) (site c .lent .out)
   handed-on = q ∙ ap₂ (restoredWhole (lengthsIn (lengths c)) (tables c)) (all-told c e b) (out-is c e)
 
   same-ms : lengths-whole c ≡ ms
-  unfolding site ms
   same-ms = ap (wholeLengths (lengthsIn (lengths c))) (all-told c e b)
 
   -- a restored site passes 8, items with 6 or not
   pub c-restored-passes : d .returned ≡ 0
-  unfolding site ms
   c-restored-passes =
       let passes =
       whole-passes (limit c) (edition c) (tables c) (lengths c) (answers c) b (sym (site-returns c) ∙ e) (areas c) (lengths d) (answers d) whole (r ∙ same-ms)
@@ -56,13 +51,12 @@ module _ (c d : SiteCCall) (n : limit d ≡ limit c) (k : edition d ≡ edition 
       ∙ ap (λ (t : List ℕ). siteNumber (limit c) (edition c) t (lengths d) (answers d)) handed-on ∙ passes
 
   module _ (none-6 : NoSix (told c)) (room : Room (limit c) (wholeWeight (lengthsIn (lengths c)) (tables c) (told c)) (areas d)) where
-    again : Site
+    abbrev again : Site
     again = inTurn (simplified (limit c) (edition c)) (lengthsIn (lengths d)) (tables d) (areas d)
 
-    repeated : RepeatsWhole (site .answers) (lengthsIn (lengths d)) (tables d) again
-    unfolding site ms again
+    repeated : RepeatsWhole (site c .answers) (lengthsIn (lengths d)) (tables d) again
     repeated =
-        let x = site .answers in
+        let x = site c .answers in
         let f = simplified (limit c) (edition c) in
         let adds-up = fit (limit c) (edition c) (tables c) (lengths c) (answers c) (sym (site-returns c) ∙ e) .adds-up in
         let first =
@@ -72,10 +66,9 @@ module _ (c d : SiteCCall) (n : limit d ≡ limit c) (k : edition d ≡ edition 
         (subst (λ (t : List ℕ). RepeatsWhole x ms t (inTurn f ms t (areas d))) (sym handed-on) first)
 
     pub c-site-restored : TakenWhole c d
-    unfolding site ms again
     c-site-restored =
         let b′ : Bytes (tables d) = subst Bytes (sym handed-on) (whole-bytes (limit c) (edition c) (lengthsIn (lengths c)) (tables c) b (areas c)) in
-        let second : inTurn (simplified (limit d) (edition d)) (lengthsIn (lengths d)) (tables d) (areas d) ≡ again =
+        let second : site d ≡ again =
         ap₂ (λ (i j : ℕ). inTurn (simplified i j) (lengthsIn (lengths d)) (tables d) (areas d)) n k in
         let answers-are : told d ≡ again .answers = all-told d c-restored-passes b′ ∙ ap (λ (x : Site). x .answers) second in
         let out-are = out-is d c-restored-passes ∙ ap (λ (x : Site). x .lent .out) second in

@@ -1,6 +1,6 @@
 -- The takeover of a whole site from C: of any two calls, as the contract that the check reads from the source lets them be, the second of which
 -- is handed the tables and lengths that a machine restores of the first. The places tell the answers of the site, one after the other, so
--- the takeover of the definitions (paper_takeover) is that of the calls. Assumes nothing.
+-- the takeover of the definitions (paper_takeover) is that of the calls.
 use Prim.Native.Nat.{ℕ, zero, suc, _+_, _*_, _%_, _<_, _≤_}
 use mathlib.Core.Path.{_≡_, refl, sym, ap, ap₂, _∙_, subst}
 use mathlib.Core.List.{List, []}
@@ -19,12 +19,15 @@ use Rattle.paper_takeover.proofs.SiteRestored.{results-bytes, results-pass}
 use Rattle.batch.proofs.ToldLaws.{count, out-left, item-told}
 use Rattle.simmergate.proofs.Site.{SiteCCall, limit, edition, tables, lengths, areas, answers, given-by}
 
--- ---- a whole site: what a call gives, the answers that its places tell, and what a machine restores of it
+-- ---- a whole site: what a call gives, the answers that its places tell, the definitions' run of it, and what a machine restores of it
 abbrev pub site-given : SiteCCall → SiteCall
 site-given c = given-by (c .returned) (c .ends) (c .left)
 
 abbrev pub told : SiteCCall → List Answer
 told c = answersIn (length (lengthsIn (lengths c))) (site-given c .answers)
+
+abbrev pub site : SiteCCall → Site
+site c = inTurn (simplified (limit c) (edition c)) (lengthsIn (lengths c)) (tables c) (areas c)
 
 abbrev pub left-behind : SiteCCall → List ℕ
 left-behind c = restored (lengthsIn (lengths c)) (tables c) (told c) (site-given c .lent .out)
@@ -43,10 +46,9 @@ in-its-place (suc n) s (suc i) d h =
     ∙ ap answerIn (drop-drop (80 * i) 80 s ∙ ap (λ (k : ℕ). drop k s) (let k : 80 + 80 * i ≡ 80 * suc i = omega arith in k))
 
 -- they are the answers of the site
-pub all-told : (c : SiteCCall) → c .returned ≡ 0 → Bytes (tables c)
-    → told c ≡ inTurn (simplified (limit c) (edition c)) (lengthsIn (lengths c)) (tables c) (areas c) .answers
+pub all-told : (c : SiteCCall) → c .returned ≡ 0 → Bytes (tables c) → told c ≡ site c .answers
 all-told c e b =
-    let xs = inTurn (simplified (limit c) (edition c)) (lengthsIn (lengths c)) (tables c) (areas c) .answers in
+    let xs = site c .answers in
     let n = length (lengthsIn (lengths c)) in
     let g = site-given c in
     let same : length (told c) ≡ n = in-length n (g .answers) in
@@ -56,7 +58,7 @@ all-told c e b =
     let t = item-told (limit c) (edition c) (tables c) (lengths c) (areas c) (answers c) g (c .promised) e b i m in
     in-its-place n (g .answers) i (answerIn []) m ∙ t .answer ∙ sym (t .separate .answer (answerIn [])))
 
-pub out-is : (c : SiteCCall) → c .returned ≡ 0 → site-given c .lent .out ≡ inTurn (simplified (limit c) (edition c)) (lengthsIn (lengths c)) (tables c) (areas c) .lent .out
+pub out-is : (c : SiteCCall) → c .returned ≡ 0 → site-given c .lent .out ≡ site c .lent .out
 out-is c e = sym (out-left (limit c) (edition c) (tables c) (lengths c) (areas c) (answers c) (site-given c) (c .promised) e)
 
 -- two sites, the second of which has the tables and lengths that are restored of the first
@@ -78,17 +80,12 @@ site-returns c = ap (λ (x : SiteCall). x .number) (c .promised) ∙ returns-num
 module _ (c d : SiteCCall) (n : limit d ≡ limit c) (k : edition d ≡ edition c) (e : c .returned ≡ 0) (b : Bytes (tables c)) (q : tables d ≡ left-behind c)
     (whole : length (lengths d) % 8 ≡ 0) (r : lengthsIn (lengths d) ≡ restoredLengths (told c))
     (places : placeBytes * length (restoredLengths (told c)) ≤ length (answers d)) (room : Room (limit c) (restoredWeight (told c)) (areas d)) where
-  site : Site
-  site = inTurn (simplified (limit c) (edition c)) (lengthsIn (lengths c)) (tables c) (areas c)
-
-  handed-on : tables d ≡ restored (lengthsIn (lengths c)) (tables c) (site .answers) (site .lent .out)
-  unfolding site
+  handed-on : tables d ≡ restored (lengthsIn (lengths c)) (tables c) (site c .answers) (site c .lent .out)
   handed-on = q ∙ ap₂ (restored (lengthsIn (lengths c)) (tables c)) (all-told c e b) (out-is c e)
 
   accepted : d .returned ≡ 0
-  unfolding site
   accepted =
-      let told-so : restoredLengths (told c) ≡ restoredLengths (site .answers) = ap restoredLengths (all-told c e b) in
+      let told-so : restoredLengths (told c) ≡ restoredLengths (site c .answers) = ap restoredLengths (all-told c e b) in
       let passes =
       results-pass (limit c) (edition c) (tables c) (lengths c) (answers c) b (sym (site-returns c) ∙ e) (areas c) (lengths d) (answers d) whole (r ∙ told-so)
       (subst (λ (ms : List ℕ). placeBytes * length ms ≤ length (answers d)) told-so places) in
@@ -96,13 +93,12 @@ module _ (c d : SiteCCall) (n : limit d ≡ limit c) (k : edition d ≡ edition 
       ∙ ap (λ (t : List ℕ). siteNumber (limit c) (edition c) t (lengths d) (answers d)) handed-on ∙ passes
 
   pub c-site-takeover : (d .returned ≡ 0) × (told d ≡ againEach (told c)) × (left-behind d ≡ left-behind c)
-  unfolding site
   c-site-takeover =
       let b′ : Bytes (tables d) = subst Bytes (sym handed-on) (results-bytes (limit c) (edition c) (lengthsIn (lengths c)) (tables c) b (areas c)) in
       let repeated =
-      of-sites (limit c) (edition c) (lengthsIn (lengths c)) (tables c) b (areas c) (areas d) (told c) (site-given c .lent .out) (lengthsIn (lengths d)) (tables d)
-      (all-told c e b) (out-is c e) r q room in
-      let second : inTurn (simplified (limit d) (edition d)) (lengthsIn (lengths d)) (tables d) (areas d) ≡ inTurn (simplified (limit c) (edition c)) (lengthsIn (lengths d)) (tables d) (areas d) =
+      of-sites (limit c) (edition c) (lengthsIn (lengths c)) (tables c) b (areas c) (areas d) (told c) (site-given c .lent .out)
+      (lengthsIn (lengths d)) (tables d) (all-told c e b) (out-is c e) r q room in
+      let second : site d ≡ inTurn (simplified (limit c) (edition c)) (lengthsIn (lengths d)) (tables d) (areas d) =
       ap₂ (λ (i j : ℕ). inTurn (simplified i j) (lengthsIn (lengths d)) (tables d) (areas d)) n k in
       let answers-are = all-told d accepted b′ ∙ ap (λ x. x .answers) second in (
         accepted,

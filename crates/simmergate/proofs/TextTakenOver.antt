@@ -1,18 +1,15 @@
 -- The takeover of a result that travels as text, from C: of four calls, as the contracts that the check reads from the source let them be: one
 -- machine simplifies and writes what it has as text, the other reads that and simplifies, at the same limit or at another that holds the result.
 -- The numbers of both answers on text fit in 8 bytes, so their slices tell them; so the takeover of the definitions (paper_takeover) is that of
--- the calls. Assumes nothing.
+-- the calls.
 use Prim.Native.Nat.{ℕ, _*_, _≤_, _<_}
-use mathlib.Core.Path.{_≡_, refl, sym, ap, ap₂, _∙_, subst}
+use mathlib.Core.Path.{_≡_, sym, ap, ap₂, _∙_, subst}
 use mathlib.Core.Bool.{true}
 use mathlib.Core.List.{List}
 use mathlib.Core.Option.{some}
 use native.Mathlib.Omega.{arith}
 use lib.ListN.{length, take, drop}
 use lib.Dec.{lit<}
-use borrow.Fn.Kinds.{Dens, endedOf}
-use contract.Lifetimes.{Lfts}
-use denote.Triple.Clauses.{AtExit}
 use Rattle.paper.specs.Limits.{isLimit}
 use Rattle.paper.specs.Bytes.{Bytes, le8}
 use Rattle.paper.specs.Tree.{Tree}
@@ -27,16 +24,17 @@ use Rattle.paper.specs.Told.{FitEight}
 use Rattle.paper.specs.Demands.{result}
 use Rattle.paper.specs.Takeover.{Room, again}
 use Rattle.paper.proofs.EncodeLaws.{encode-bytes}
+use Rattle.paper.proofs.Slices.{measured-count}
 use Rattle.paper.proofs.Told.{number-at}
 use Rattle.paper.proofs.DemandLaws.{call-done}
 use Rattle.paper_text.specs.Answers.{Filled, Taken, takenNumbers, writeGiven, readGiven}
+use Rattle.paper_text.proofs.Slices.{text-slices}
 use Rattle.paper_takeover.specs.TakenOver.{writtenText, readRecords}
 use Rattle.paper_takeover.specs.LimitOver.{Holds}
 use Rattle.paper_takeover.specs.TextOver.{lineOf, arrivesAt, TextArrives}
 use Rattle.paper_takeover.proofs.LimitTaken.{own-limit}
 use Rattle.paper_takeover.proofs.TextOver.{write-fits, read-fits, text-takes-over-at, text-too-heavy}
-use Rattle.simmergate.proofs.NumbersLaws.{measured-count}
-use Rattle.simmergate.proofs.TextLaws.{write-text-room, read-text-room}
+use Rattle.simmergate.proofs.FromC.{FromC}
 use Rattle.simmergate.proofs.Demanded.{CCall, limit, edition, table, areas, slice, given, call-gives}
 use Rattle.simmergate.proofs.text_calls.simmergate_write_text.Reads as write-reads
 use Rattle.simmergate.proofs.text_calls.simmergate_write_text.Kinds as write-kinds
@@ -44,19 +42,11 @@ use Rattle.simmergate.proofs.text_calls.simmergate_read_text.Reads as r
 use Rattle.simmergate.proofs.text_calls.simmergate_read_text.Kinds as read-kinds
 
 -- ---- the two calls on text, as their contracts let them be
-pub record WriteCCall : Type 0 where
-  pub ends : Lfts 3
-  pub handed : Dens ends write-kinds.ps
-  pub returned : ℕ
-  pub left : AtExit (endedOf 3 write-kinds.ps write-kinds.r) ends
-  pub promised : write-reads.Post ends handed returned left
+abbrev pub WriteCCall : Type 0
+WriteCCall = FromC 3 write-kinds.ps write-kinds.r write-reads.Post
 
-pub record ReadCCall : Type 0 where
-  pub ends : Lfts 3
-  pub handed : Dens ends read-kinds.ps
-  pub returned : ℕ
-  pub left : AtExit (endedOf 3 read-kinds.ps read-kinds.r) ends
-  pub promised : read-reads.Post ends handed returned left
+abbrev pub ReadCCall : Type 0
+ReadCCall = FromC 3 read-kinds.ps read-kinds.r read-reads.Post
 
 -- the text that is written, and the records that are read, as a caller finds them: as many as the third number of the slice says
 abbrev pub sent : WriteCCall → List ℕ
@@ -96,25 +86,29 @@ read-slice c = c .handed .1 .1 .1 .0 .now
 -- where the numbers fit, what a caller finds is what the definitions give
 sent-is : (c : WriteCCall) → 40 ≤ length (write-slice c) → FitEight (measuredNumbers (writeGiven (write-limit c) (shown c) (text-area c) .answer))
     → sent c ≡ writtenText (write-limit c) (shown c) (text-area c)
-unfolding writtenText measuredNumbers
+unfolding writtenText writeGiven measuredNumbers
 sent-is c room fit =
     let g = writeGiven (write-limit c) (shown c) (text-area c) in
-    let told = write-text-room (write-limit c) (shown c) (text-area c) (write-slice c) g refl room _ refl in
-    let ns = measuredNumbers (g .answer) in
+    let told = text-slices .writing (write-limit c) (shown c) (text-area c) (write-slice c) .1 room in
     let third : le8 (c .left .1 .1 .1 .0 .now) 16 ≡ g .answer .result =
-    ap (λ (x : List ℕ). le8 x 16) (c .promised .1 .0 ∙ sym (told .1 .0))
-    ∙ number-at ns (drop 40 (write-slice c)) 2 (let n = measured-count (g .answer) in omega (arith, n)) fit in
-    ap₂ (λ (n : ℕ) (x : List ℕ). take n x) third (c .promised .1 .1 ∙ sym (told .1 .1))
+    ap (λ (x : List ℕ). le8 x 16) (c .promised .answers ∙ told .1)
+    ∙ number-at (measuredNumbers (g .answer)) (drop 40 (write-slice c)) 2 (omega (arith, measured-count (g .answer))) fit in
+    ap₂ (λ (n : ℕ) (x : List ℕ). take n x) third
+    (c .promised .leaves ∙ text-slices .writing-area (write-limit c) (shown c) (text-area c) (write-slice c) .1 room)
+
+-- what a call with room leaves in the area
+reads-area : (c : ReadCCall) → 24 ≤ length (read-slice c) → table-left c ≡ readGiven (read-limit c) (typed c) (table-area c) .area
+reads-area c room = c .promised .leaves ∙ text-slices .reading-area (read-limit c) (typed c) (table-area c) (read-slice c) .1 room
 
 arrived-is : (c : ReadCCall) → 24 ≤ length (read-slice c) → FitEight (takenNumbers (readGiven (read-limit c) (typed c) (table-area c) .answer))
     → arrived c ≡ readRecords (read-limit c) (typed c) (table-area c)
-unfolding readRecords takenNumbers
+unfolding readRecords readGiven takenNumbers
 arrived-is c room fit =
     let g = readGiven (read-limit c) (typed c) (table-area c) in
-    let told = read-text-room (read-limit c) (typed c) (table-area c) (read-slice c) g refl room _ refl in
+    let told = text-slices .reading (read-limit c) (typed c) (table-area c) (read-slice c) .1 room in
     let third : le8 (c .left .1 .1 .1 .0 .now) 16 ≡ g .answer .records-written =
-    ap (λ (x : List ℕ). le8 x 16) (c .promised .1 .0 ∙ sym (told .1 .0)) ∙ number-at (takenNumbers (g .answer)) (drop 24 (read-slice c)) 2 (lit< tt) fit in
-    ap₂ (λ (n : ℕ) (x : List ℕ). take (16 * n) x) third (c .promised .1 .1 ∙ sym (told .1 .1))
+    ap (λ (x : List ℕ). le8 x 16) (c .promised .answers ∙ told .1) ∙ number-at (takenNumbers (g .answer)) (drop 24 (read-slice c)) 2 (lit< tt) fit in
+    ap₂ (λ (n : ℕ) (x : List ℕ). take (16 * n) x) third (reads-area c room)
 
 -- ---- one machine simplifies (c) and writes its result (w), at one limit
 pub record Written (c : CCall) (w : WriteCCall) : Type 0 where
@@ -151,14 +145,12 @@ pub record CTextRepeats (c d : CCall) (w : WriteCCall) (r : ReadCCall) : Type 0 
 
 -- what a call with room returns
 write-returns : (w : WriteCCall) → 40 ≤ length (write-slice w) → w .returned ≡ writeGiven (write-limit w) (shown w) (text-area w) .answer .number
-write-returns w room =
-    let g = writeGiven (write-limit w) (shown w) (text-area w) in
-    w .promised .0 ∙ sym (write-text-room (write-limit w) (shown w) (text-area w) (write-slice w) g refl room _ refl .0)
+unfolding writeGiven
+write-returns w room = w .promised .returns ∙ text-slices .writing (write-limit w) (shown w) (text-area w) (write-slice w) .1 room .0
 
 read-returns : (r : ReadCCall) → 24 ≤ length (read-slice r) → r .returned ≡ readGiven (read-limit r) (typed r) (table-area r) .answer .number
-read-returns r room =
-    let g = readGiven (read-limit r) (typed r) (table-area r) in
-    r .promised .0 ∙ sym (read-text-room (read-limit r) (typed r) (table-area r) (read-slice r) g refl room _ refl .0)
+unfolding readGiven
+read-returns r room = r .promised .returns ∙ text-slices .reading (read-limit r) (typed r) (table-area r) (read-slice r) .1 room .0
 
 -- ---- what the first machine sends
 module _ (c : CCall) (w : WriteCCall) (k : Written c w) where
@@ -211,8 +203,9 @@ module _ (c d : CCall) (w : WriteCCall) (r : ReadCCall) (k : Texted c d w r) (h 
   repeats : TextArrives (limit c) (limit d) (edition c) (table c) p (text-area w) (table-area r) (areas d)
   unfolding g
   repeats =
-      text-takes-over-at (limit c) (limit d) (edition c) (table c) (k .first .table-bytes) (areas c) (g-accepted c w (k .first)) p-holds (text-area w) (table-area r)
-      (g-long c w (k .first)) p-wide (areas d) (subst (λ (x : Given). Room (limit d) (x .answer .weight-out) (areas d)) p-is (k .room))
+      text-takes-over-at (limit c) (limit d) (edition c) (table c) (k .first .table-bytes) (areas c) (g-accepted c w (k .first)) p-holds
+      (text-area w) (table-area r) (g-long c w (k .first)) p-wide (areas d)
+      (subst (λ (x : Given). Room (limit d) (x .answer .weight-out) (areas d)) p-is (k .room))
 
   reads-at : readGiven (read-limit r) (typed r) (table-area r) ≡ readGiven (limit d) (lineOf (limit c) p (text-area w)) (table-area r)
   reads-at = ap₂ (λ (i : ℕ) (x : List ℕ). readGiven i x (table-area r)) (k .read-at) (k .typed-in ∙ sends c w (k .first))
@@ -257,8 +250,7 @@ c-text-too-heavy c w r k typed-in room known heavy =
     let t =
     text-too-heavy (limit c) (read-limit r) (edition c) (table c) (k .table-bytes) (areas c) (g-accepted c w k) known
     (subst (λ (x : Given). read-limit r < x .answer .weight-out) (gives c w k) heavy) (text-area w) (table-area r) (g-long c w k) in
-    let at : typed r ≡ lineOf (limit c) (g c w k) (text-area w) = typed-in ∙ sends c w k in
-    let told = read-text-room (read-limit r) (typed r) (table-area r) (read-slice r) (readGiven (read-limit r) (typed r) (table-area r)) refl room _ refl in (
+    let at : typed r ≡ lineOf (limit c) (g c w k) (text-area w) = typed-in ∙ sends c w k in (
       read-returns r room ∙ ap (λ (x : List ℕ). readGiven (read-limit r) x (table-area r) .answer .number) at ∙ ap (λ (x : Taken). x .number) (t .by-three),
-      r .promised .1 .1 ∙ sym (told .1 .1) ∙ ap (λ (x : List ℕ). readGiven (read-limit r) x (table-area r) .area) at ∙ t .unchanged,
+      reads-area r room ∙ ap (λ (x : List ℕ). readGiven (read-limit r) x (table-area r) .area) at ∙ t .unchanged,
     )

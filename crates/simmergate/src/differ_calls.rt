@@ -1,7 +1,9 @@
 // The entry point for C on what differs between two tables.
-ghost use mathlib.Core.Path.{_≡_};
-ghost use Rattle.paper_differ.specs.Calls.{differReturns, differAnswers, differLeaves};
+ghost use Rattle.simmergate.specs.Calls.{DifferCall};
 use crate::write_numbers;
+
+// The bytes of the answer's six numbers.
+const DIFFER_BYTES: usize = 48;
 
 // Lists what differs between the trees of two tables, as pairs of record numbers, eight bytes each. The answer: number, place, which table is
 // refused, pairs, what is wrong with the record, which byte.
@@ -13,12 +15,10 @@ pub extern "C" fn simmergate_differ(
     list: &mut [u8],
     answer: &mut [u8],
 ) -> u32
-    ensures { λ r. ⌜ r ≡ differReturns limit (now (a .entry)) (now (b .entry)) (now (list .entry)) (now (answer .entry)) ⌝ }
-    ensures { λ _. ⌜ now (answer .exit) ≡ differAnswers limit (now (a .entry)) (now (b .entry)) (now (list .entry)) (now (answer .entry)) ⌝ }
-    ensures { λ _. ⌜ now (list .exit) ≡ differLeaves limit (now (a .entry)) (now (b .entry)) (now (list .entry)) (now (answer .entry)) ⌝ }
+    ensures { λ r. ⌜ DifferCall limit a b list answer r ⌝ }
 {
-    if answer.len() < 48 {
-        return 6;
+    if answer.len() < DIFFER_BYTES {
+        return crate::NO_ROOM;
     }
     let d = differ::differ(limit, a, b, list);
     let flaw = d.flaw;

@@ -1,5 +1,5 @@
 // The entry points for C. Each call but the one that says which release this is returns the refusal number and writes the numbers of its answer
-// to a lent slice; those that take tables take the limit first.
+// to a lent slice; those that take tables take the limit first. What each one promises stands in specs/Calls.
 mod differ_calls;
 mod receiver_calls;
 mod release_call;
@@ -8,12 +8,25 @@ mod shared_calls;
 mod site_calls;
 mod text_calls;
 
-use eights::write_numbers;
+use number::write_numbers;
 ghost use mathlib.Core.Path.{_≡_};
 ghost use Rattle.paper.specs.Equal.{one};
-ghost use Rattle.paper.specs.Calls.{checkReturns, checkAnswers, weightReturns, weightAnswers, valueReturns, valueAnswers, equalReturns, equalAnswers};
-ghost use Rattle.paper.specs.Calls.{simplifyReturns, simplifyAnswers, simplifyLeaves};
-ghost use Rattle.simplify.specs.Answer.{lent};
+ghost use Rattle.simmergate.specs.Calls.{CheckCall, WeightCall, ValueCall, EqualCall, SimplifyCall};
+
+// The refusal of a call whose answer slice, or the link task's record, is too short.
+const NO_ROOM: u32 = 6;
+
+// The bytes of the checker's answer, four numbers of eight bytes each.
+const CHECK_BYTES: usize = 32;
+
+// Those of a weight's and a value's, five numbers.
+const MEASURE_BYTES: usize = 40;
+
+// Those of a comparison's, six numbers.
+const EQUAL_BYTES: usize = 48;
+
+// Those of the simplifier's, ten numbers.
+const SIMPLIFY_BYTES: usize = 80;
 
 // Yes is 1, no is 0.
 fn number_of(yes: bool) -> u64
@@ -25,11 +38,10 @@ fn number_of(yes: bool) -> u64
 // Judges a table. The answer: number, place, what is wrong with the record, which byte.
 #[no_mangle]
 pub extern "C" fn simmergate_check(limit: usize, table: &[u8], answer: &mut [u8]) -> u32
-    ensures { λ r. ⌜ r ≡ checkReturns limit (now (table .entry)) (now (answer .entry)) ⌝ }
-    ensures { λ _. ⌜ now (answer .exit) ≡ checkAnswers limit (now (table .entry)) (now (answer .entry)) ⌝ }
+    ensures { λ r. ⌜ CheckCall limit table answer r ⌝ }
 {
-    if answer.len() < 32 {
-        return 6;
+    if answer.len() < CHECK_BYTES {
+        return NO_ROOM;
     }
     let f = table::fault_of(table::check(limit, table));
     let flaw = f.flaw;
@@ -42,11 +54,10 @@ pub extern "C" fn simmergate_check(limit: usize, table: &[u8], answer: &mut [u8]
 // Weighs a table. The answer: number, place, weight, what is wrong with the record, which byte.
 #[no_mangle]
 pub extern "C" fn simmergate_weight(limit: usize, table: &[u8], answer: &mut [u8]) -> u32
-    ensures { λ r. ⌜ r ≡ weightReturns limit (now (table .entry)) (now (answer .entry)) ⌝ }
-    ensures { λ _. ⌜ now (answer .exit) ≡ weightAnswers limit (now (table .entry)) (now (answer .entry)) ⌝ }
+    ensures { λ r. ⌜ WeightCall limit table answer r ⌝ }
 {
-    if answer.len() < 40 {
-        return 6;
+    if answer.len() < MEASURE_BYTES {
+        return NO_ROOM;
     }
     let w = table::weight(limit, table);
     let flaw = w.flaw;
@@ -70,11 +81,10 @@ pub extern "C" fn simmergate_value(
     registers: &[u8],
     answer: &mut [u8],
 ) -> u32
-    ensures { λ r. ⌜ r ≡ valueReturns limit (now (table .entry)) (now (registers .entry)) (now (answer .entry)) ⌝ }
-    ensures { λ _. ⌜ now (answer .exit) ≡ valueAnswers limit (now (table .entry)) (now (registers .entry)) (now (answer .entry)) ⌝ }
+    ensures { λ r. ⌜ ValueCall limit table registers answer r ⌝ }
 {
-    if answer.len() < 40 {
-        return 6;
+    if answer.len() < MEASURE_BYTES {
+        return NO_ROOM;
     }
     let v = value::value(limit, table, registers);
     let flaw = v.flaw;
@@ -94,11 +104,10 @@ pub extern "C" fn simmergate_value(
 // which byte.
 #[no_mangle]
 pub extern "C" fn simmergate_equal(limit: usize, a: &[u8], b: &[u8], answer: &mut [u8]) -> u32
-    ensures { λ r. ⌜ r ≡ equalReturns limit (now (a .entry)) (now (b .entry)) (now (answer .entry)) ⌝ }
-    ensures { λ _. ⌜ now (answer .exit) ≡ equalAnswers limit (now (a .entry)) (now (b .entry)) (now (answer .entry)) ⌝ }
+    ensures { λ r. ⌜ EqualCall limit a b answer r ⌝ }
 {
-    if answer.len() < 48 {
-        return 6;
+    if answer.len() < EQUAL_BYTES {
+        return NO_ROOM;
     }
     let c = equal::equal(limit, a, b);
     let yes = number_of(c.yes);
@@ -128,29 +137,14 @@ pub extern "C" fn simmergate_simplify(
     work: &mut [u8],
     answer: &mut [u8],
 ) -> u32
-    ensures { λ r. ⌜ r ≡ simplifyReturns limit edition (now (table .entry)) (lent (now (out .entry)) (now (steps .entry)) (now (work .entry))) (now (answer .entry)) ⌝ }
-    ensures { λ _. ⌜ now (answer .exit) ≡ simplifyAnswers limit edition (now (table .entry)) (lent (now (out .entry)) (now (steps .entry)) (now (work .entry))) (now (answer .entry)) ⌝ }
-    ensures { λ _. ⌜ lent (now (out .exit)) (now (steps .exit)) (now (work .exit))
-        ≡ simplifyLeaves limit edition (now (table .entry)) (lent (now (out .entry)) (now (steps .entry)) (now (work .entry))) (now (answer .entry)) ⌝ }
+    ensures { λ r. ⌜ SimplifyCall limit edition table out steps work answer r ⌝ }
 {
-    if answer.len() < 80 {
-        return 6;
+    if answer.len() < SIMPLIFY_BYTES {
+        return NO_ROOM;
     }
     let a = simplify::simplify(limit, edition, table, out, steps, work);
-    let flaw = a.flaw;
-    let wrong = record::flaw_numbers(flaw);
-    let numbers = [
-        a.number as u64,
-        a.place as u64,
-        a.records as u64,
-        a.steps as u64,
-        a.openings as u64,
-        a.weight_in as u64,
-        a.weight_out as u64,
-        wrong.what,
-        wrong.byte,
-        a.tries as u64,
-    ];
+    let number = a.number;
+    let numbers = simplify::answer_numbers(a);
     write_numbers(answer, &numbers);
-    a.number
+    number
 }

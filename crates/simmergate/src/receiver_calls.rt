@@ -7,10 +7,16 @@ ghost use mathlib.Core.List.{_++_};
 ghost use Prim.Native.Nat.{_≤_};
 ghost use lib.ListN.{length, drop};
 ghost use Rattle.paper.specs.Calls.{eights};
-ghost use Rattle.paper_receiver.specs.Calls.{receiverIn, receiverNumbers, receiveReturns, receiveRecord, receiveArea};
-ghost use Rattle.paper_receiver.specs.Calls.{finishReturns, finishRecord, finishAnswers};
+ghost use Rattle.paper_receiver.specs.Calls.{receiverIn, receiverNumbers};
 ghost use Rattle.receiver.specs.Receiving.{says};
+ghost use Rattle.simmergate.specs.Calls.{ReceiveCall, FinishCall};
 use crate::write_numbers;
+
+// The bytes of the link task's record.
+const RECORD_BYTES: usize = 16;
+
+// Where its second number begins.
+const PAST_AT: usize = 8;
 
 // Reads the record from its bytes.
 fn read_receiver(state: &[u8]) -> Receiver
@@ -18,7 +24,7 @@ fn read_receiver(state: &[u8]) -> Receiver
     ensures { λ r. ⌜ says r ≡ receiverIn (now (state .entry)) ⌝ }
 {
     let count = number::read8(state, 0) as usize;
-    let past = number::read8(state, 8) as usize;
+    let past = number::read8(state, PAST_AT) as usize;
     Receiver {
         count: count,
         past: past,
@@ -42,12 +48,10 @@ pub extern "C" fn simmergate_receive(
     area: &mut [u8],
     piece: &[u8],
 ) -> u32
-    ensures { λ r. ⌜ r ≡ receiveReturns limit (now (state .entry)) (now (area .entry)) (now (piece .entry)) ⌝ }
-    ensures { λ _. ⌜ now (state .exit) ≡ receiveRecord limit (now (state .entry)) (now (area .entry)) (now (piece .entry)) ⌝ }
-    ensures { λ _. ⌜ now (area .exit) ≡ receiveArea limit (now (state .entry)) (now (area .entry)) (now (piece .entry)) ⌝ }
+    ensures { λ r. ⌜ ReceiveCall limit state area piece r ⌝ }
 {
-    if state.len() < 16 {
-        return 6;
+    if state.len() < RECORD_BYTES {
+        return crate::NO_ROOM;
     }
     let r = read_receiver(state);
     let t = receiver::after_piece(limit, r, area, piece);
@@ -64,15 +68,13 @@ pub extern "C" fn simmergate_receive_finish(
     area: &[u8],
     answer: &mut [u8],
 ) -> u32
-    ensures { λ r. ⌜ r ≡ finishReturns limit (now (state .entry)) (now (area .entry)) (now (answer .entry)) ⌝ }
-    ensures { λ _. ⌜ now (state .exit) ≡ finishRecord limit (now (state .entry)) (now (area .entry)) (now (answer .entry)) ⌝ }
-    ensures { λ _. ⌜ now (answer .exit) ≡ finishAnswers limit (now (state .entry)) (now (area .entry)) (now (answer .entry)) ⌝ }
+    ensures { λ r. ⌜ FinishCall limit state area answer r ⌝ }
 {
-    if state.len() < 16 {
-        return 6;
+    if state.len() < RECORD_BYTES {
+        return crate::NO_ROOM;
     }
-    if answer.len() < 32 {
-        return 6;
+    if answer.len() < crate::CHECK_BYTES {
+        return crate::NO_ROOM;
     }
     let r = read_receiver(state);
     let f = receiver::at_finish(limit, r, area);

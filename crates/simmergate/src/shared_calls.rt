@@ -1,10 +1,10 @@
 // The entry points for C on formulas that share sub-formulas. Each writes the numbers of its answer to a lent slice, and the opened table to
 // the front of an area.
-ghost use mathlib.Core.Path.{_≡_};
-ghost use Rattle.paper_shared.specs.Calls.{openReturns, openAnswers, openLeaves, sharedReturns, sharedAnswers, sharedLeaves, sharedArea};
-ghost use Rattle.opening.specs.Planned.{handed};
-ghost use Rattle.simplify.specs.Answer.{lent};
+ghost use Rattle.simmergate.specs.Calls.{OpenCall, SharedCall};
 use crate::write_numbers;
+
+// The bytes of the answer of an opening, six numbers.
+const OPEN_BYTES: usize = 48;
 
 // Opens a formula. The answer: number, place, records and weight of the opened table, what is wrong with the record, which byte.
 #[no_mangle]
@@ -17,12 +17,10 @@ pub extern "C" fn simmergate_open(
     opened: &mut [u8],
     answer: &mut [u8],
 ) -> u32
-    ensures { λ r. ⌜ r ≡ openReturns limit (handed (now (table .entry)) (now (symbols .entry)) (now (lengths .entry)) (now (definitions .entry))) (now (opened .entry)) (now (answer .entry)) ⌝ }
-    ensures { λ _. ⌜ now (answer .exit) ≡ openAnswers limit (handed (now (table .entry)) (now (symbols .entry)) (now (lengths .entry)) (now (definitions .entry))) (now (opened .entry)) (now (answer .entry)) ⌝ }
-    ensures { λ _. ⌜ now (opened .exit) ≡ openLeaves limit (handed (now (table .entry)) (now (symbols .entry)) (now (lengths .entry)) (now (definitions .entry))) (now (opened .entry)) (now (answer .entry)) ⌝ }
+    ensures { λ r. ⌜ OpenCall limit table symbols lengths definitions opened answer r ⌝ }
 {
-    if answer.len() < 48 {
-        return 6;
+    if answer.len() < OPEN_BYTES {
+        return crate::NO_ROOM;
     }
     let o = shared::open(limit, table, symbols, lengths, definitions, opened);
     let flaw = o.flaw;
@@ -54,18 +52,10 @@ pub extern "C" fn simmergate_simplify_shared(
     work: &mut [u8],
     answer: &mut [u8],
 ) -> u32
-    ensures { λ r. ⌜ r ≡ sharedReturns limit edition (handed (now (table .entry)) (now (symbols .entry)) (now (lengths .entry)) (now (definitions .entry))) (now (opened .entry))
-        (lent (now (out .entry)) (now (steps .entry)) (now (work .entry))) (now (answer .entry)) ⌝ }
-    ensures { λ _. ⌜ now (answer .exit) ≡ sharedAnswers limit edition (handed (now (table .entry)) (now (symbols .entry)) (now (lengths .entry)) (now (definitions .entry))) (now (opened .entry))
-        (lent (now (out .entry)) (now (steps .entry)) (now (work .entry))) (now (answer .entry)) ⌝ }
-    ensures { λ _. ⌜ now (opened .exit) ≡ sharedArea limit edition (handed (now (table .entry)) (now (symbols .entry)) (now (lengths .entry)) (now (definitions .entry))) (now (opened .entry))
-        (lent (now (out .entry)) (now (steps .entry)) (now (work .entry))) (now (answer .entry)) ⌝ }
-    ensures { λ _. ⌜ lent (now (out .exit)) (now (steps .exit)) (now (work .exit))
-        ≡ sharedLeaves limit edition (handed (now (table .entry)) (now (symbols .entry)) (now (lengths .entry)) (now (definitions .entry))) (now (opened .entry))
-        (lent (now (out .entry)) (now (steps .entry)) (now (work .entry))) (now (answer .entry)) ⌝ }
+    ensures { λ r. ⌜ SharedCall limit edition table symbols lengths definitions opened out steps work answer r ⌝ }
 {
-    if answer.len() < 80 {
-        return 6;
+    if answer.len() < crate::SIMPLIFY_BYTES {
+        return crate::NO_ROOM;
     }
     let a = shared::simplify(
         limit,
@@ -79,20 +69,8 @@ pub extern "C" fn simmergate_simplify_shared(
         steps,
         work,
     );
-    let flaw = a.flaw;
-    let wrong = record::flaw_numbers(flaw);
-    let numbers = [
-        a.number as u64,
-        a.place as u64,
-        a.records as u64,
-        a.steps as u64,
-        a.openings as u64,
-        a.weight_in as u64,
-        a.weight_out as u64,
-        wrong.what,
-        wrong.byte,
-        a.tries as u64,
-    ];
+    let number = a.number;
+    let numbers = simplify::answer_numbers(a);
     write_numbers(answer, &numbers);
-    a.number
+    number
 }

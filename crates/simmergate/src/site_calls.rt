@@ -1,8 +1,5 @@
 // The entry point for C on a whole site. It has no answer slice of its own: each item's numbers go to its place in the list.
-ghost use mathlib.Core.Path.{_≡_};
-ghost use Rattle.simplify.specs.Answer.{lent};
-ghost use Rattle.paper_batch.specs.Batch.{siteCalled};
-ghost use Rattle.batch.specs.Turn.{called};
+ghost use Rattle.simmergate.specs.Calls.{BatchCall};
 
 // Simplifies the tables of a site, end to end with a list of their lengths, one after the other in what remains of the areas.
 #[no_mangle]
@@ -16,9 +13,7 @@ pub extern "C" fn simmergate_batch(
     work: &mut [u8],
     answers: &mut [u8],
 ) -> u32
-    ensures { λ r. ⌜ called r (now (out .exit)) (now (steps .exit)) (now (work .exit)) (now (answers .exit))
-        ≡ siteCalled limit edition (now (tables .entry)) (now (lengths .entry))
-        (lent (now (out .entry)) (now (steps .entry)) (now (work .entry))) (now (answers .entry)) ⌝ }
+    ensures { λ r. ⌜ BatchCall limit edition tables lengths out steps work answers r ⌝ }
 {
     batch::batch(limit, edition, tables, lengths, out, steps, work, answers)
 }

@@ -1,7 +1,9 @@
 // The entry points for C on formulas as text.
-ghost use mathlib.Core.Path.{_≡_};
-ghost use Rattle.paper_text.specs.Answers.{readTextReturns, readTextAnswers, readTextLeaves, writeTextReturns, writeTextAnswers, writeTextLeaves};
+ghost use Rattle.simmergate.specs.Calls.{ReadTextCall, WriteTextCall};
 use crate::write_numbers;
+
+// The bytes of the reader's answer, three numbers.
+const READ_BYTES: usize = 24;
 
 // Reads a text and writes its records to the table. The answer: number, place (always 0), records written.
 #[no_mangle]
@@ -11,12 +13,10 @@ pub extern "C" fn simmergate_read_text(
     table: &mut [u8],
     answer: &mut [u8],
 ) -> u32
-    ensures { λ r. ⌜ r ≡ readTextReturns limit (now (text .entry)) (now (table .entry)) (now (answer .entry)) ⌝ }
-    ensures { λ _. ⌜ now (answer .exit) ≡ readTextAnswers limit (now (text .entry)) (now (table .entry)) (now (answer .entry)) ⌝ }
-    ensures { λ _. ⌜ now (table .exit) ≡ readTextLeaves limit (now (text .entry)) (now (table .entry)) (now (answer .entry)) ⌝ }
+    ensures { λ r. ⌜ ReadTextCall limit text table answer r ⌝ }
 {
-    if answer.len() < 24 {
-        return 6;
+    if answer.len() < READ_BYTES {
+        return crate::NO_ROOM;
     }
     let r = text::read(limit, text, table);
     let numbers = [r.number as u64, r.place as u64, r.records as u64];
@@ -32,12 +32,10 @@ pub extern "C" fn simmergate_write_text(
     text: &mut [u8],
     answer: &mut [u8],
 ) -> u32
-    ensures { λ r. ⌜ r ≡ writeTextReturns limit (now (table .entry)) (now (text .entry)) (now (answer .entry)) ⌝ }
-    ensures { λ _. ⌜ now (answer .exit) ≡ writeTextAnswers limit (now (table .entry)) (now (text .entry)) (now (answer .entry)) ⌝ }
-    ensures { λ _. ⌜ now (text .exit) ≡ writeTextLeaves limit (now (table .entry)) (now (text .entry)) (now (answer .entry)) ⌝ }
+    ensures { λ r. ⌜ WriteTextCall limit table text answer r ⌝ }
 {
-    if answer.len() < 40 {
-        return 6;
+    if answer.len() < crate::MEASURE_BYTES {
+        return crate::NO_ROOM;
     }
     let w = text::write(limit, table, text);
     let flaw = w.flaw;

@@ -1,14 +1,14 @@
 -- The public call: what the checker's answer and the tests of the areas say of the paper's judgement, and how a run in stretches of
--- the areas gives the areas afterwards. Assumes nothing.
+-- the areas gives the areas afterwards.
 use Prim.Native.Nat.{ℕ, _+_, _-_, _*_, _<_, _≤_}
 use mathlib.Core.Path.{_≡_, refl, sym, ap, _∙_}
-use mathlib.Core.Bool.{true, false, _||_}
+use mathlib.Core.Bool.{Bool, true, false, cond, _||_}
 use mathlib.Core.List.{List, [], _++_, append-assoc}
 use native.Mathlib.Omega.{arith}
 use lib.ListN.{length, take, drop, replicate, length-replicate}
 use lib.Seq.{length-take-le, drop-at}
 use lib.Dec.{eqb, ltb}
-use borrow.Author.Tests.{eq-eqb, ne-eqb, lt-ltb, le-ltb, ltb-false}
+use borrow.Author.Tests.{eq-eqb, ne-eqb, ltb-false}
 use borrow.Rule.Slice.PartMut.{putMid, mid-len}
 use Rattle.paper.specs.Limits.{isLimit, workBytes}
 use Rattle.paper.specs.Bytes.{Bytes, stretch}
@@ -28,7 +28,7 @@ use Rattle.record.specs.Flaw.{flawOf}
 use Rattle.table.specs.declared.Measured.{Measured}
 use Rattle.table.specs.Measured as table
 use Rattle.simplify.specs.declared.Answer.{Answer}
-use Rattle.simplify.specs.Answer.{says, lent, gives, hasRun, cleaned, filled, Lending, Leaves}
+use Rattle.simplify.specs.Answer.{says, lent, gives, callNumber, short, hasRun, cleaned, filled, Lending, Leaves}
 use Rattle.driver.proofs.Runs.{drives}
 
 -- a stretch that was lent and filled
@@ -41,21 +41,6 @@ lent-stretch n d l xs h e =
     ∙ ap (λ i. (xs ++ replicate (n - length xs) 0) ++ drop i d) z
     ∙ append-assoc xs (replicate (n - length xs) 0) (drop n d)
 
--- which area is too short; `need` is what the limit asks of `work`
-module _ (lim w : ℕ) (out steps work : List ℕ) where
-  pub tight-out : length out < 16 * w → paper.cramped lim w (lent out steps work) ≡ true
-  unfolding paper.cramped
-  tight-out h = rw (lt-ltb (length out) (16 * w) h) refl
-
-  pub tight-steps : 16 * w ≤ length out → length steps < w → paper.cramped lim w (lent out steps work) ≡ true
-  unfolding paper.cramped
-  tight-steps g h = rw (le-ltb (length out) (16 * w) g, lt-ltb (length steps) w h) refl
-
-  pub tight-work : (need : ℕ) → need ≡ workBytes lim → 16 * w ≤ length out → w ≤ length steps → length work < need
-      → paper.cramped lim w (lent out steps work) ≡ true
-  unfolding paper.cramped
-  tight-work need e f g h = rw (le-ltb (length out) (16 * w) f, le-ltb (length steps) w g, lt-ltb (length work) (workBytes lim) (omega arith)) refl
-
 same-given : {a b : paper.Answer} {l m : paper.Lent} → a ≡ b → l ≡ m
     → _≡_ {A = paper.Given} (record { answer = a; lent = l }) (record { answer = b; lent = m })
 same-given e f = cc
@@ -63,15 +48,27 @@ same-given e f = cc
 same-lent : {a b c d e f : List ℕ} → a ≡ b → c ≡ d → e ≡ f → lent a c e ≡ lent b d f
 same-lent p q r = cc
 
--- refusal 19
-pub unlimited : (lim ed : ℕ) (s : List ℕ) (a : Answer) (out steps work : List ℕ) → isLimit lim ≡ false → says a ≡ paper.refusal 19 0
-    → gives a out steps work ≡ paper.simplified lim ed s (lent out steps work)
-unlimited lim ed s a out steps work e q = same-given q refl ∙ sym (another-limit lim e ed s (lent out steps work))
+-- ---- the limit and the edition: one of them is refused, or both are known
+module _ (lim ed k : ℕ) (e : k ≡ callNumber lim ed) where
+  pub called-off : 0 < k → (s : List ℕ) (a : Answer) (out steps work : List ℕ) → says a ≡ paper.refusal k 0
+      → gives a out steps work ≡ paper.simplified lim ed s (lent out steps work)
+  unfolding callNumber
+  called-off h s a out steps work q = go (isLimit lim) refl (isEdition ed) refl e
+    where
+      go : (b : Bool) → isLimit lim ≡ b → (c : Bool) → isEdition ed ≡ c → k ≡ cond b (cond c 0 9) 19
+          → gives a out steps work ≡ paper.simplified lim ed s (lent out steps work)
+      go false l c m f = same-given (q ∙ ap (λ i. paper.refusal i 0) f) refl ∙ sym (another-limit lim l ed s (lent out steps work))
+      go true l false m f = same-given (q ∙ ap (λ i. paper.refusal i 0) f) refl ∙ sym (unknown-edition lim l s (lent out steps work) ed m)
+      go true l true m f = absurd (omega arith)
 
--- refusal 9
-pub unknown : (lim ed : ℕ) (s : List ℕ) (a : Answer) (out steps work : List ℕ) → isLimit lim ≡ true → isEdition ed ≡ false → says a ≡ paper.refusal 9 0
-    → gives a out steps work ≡ paper.simplified lim ed s (lent out steps work)
-unknown lim ed s a out steps work k e q = same-given q refl ∙ sym (unknown-edition lim k s (lent out steps work) ed e)
+  pub both-known : k ≤ 0 → (isLimit lim ≡ true) × (isEdition ed ≡ true)
+  unfolding callNumber
+  both-known h = go (isLimit lim) refl (isEdition ed) refl e
+    where
+      go : (b : Bool) → isLimit lim ≡ b → (c : Bool) → isEdition ed ≡ c → k ≡ cond b (cond c 0 9) 19 → (isLimit lim ≡ true) × (isEdition ed ≡ true)
+      go false l c m f = absurd (omega arith)
+      go true l false m f = absurd (omega arith)
+      go true l true m f = (l, m)
 
 module _ (lim : ℕ) (limited : isLimit lim ≡ true) (s : List ℕ) (m : Measured) (e : table.says m ≡ paper.weighed lim s) where
   number-is : m .number ≡ verdict lim s .number
@@ -83,7 +80,8 @@ module _ (lim : ℕ) (limited : isLimit lim ≡ true) (s : List ℕ) (m : Measur
   verdict-is = ap (λ x. told (x .number) (x .place) (x .flaw)) e
 
   -- refusals 1 to 5
-  pub turned-down : (ed : ℕ) → isEdition ed ≡ true → (a : Answer) (out steps work : List ℕ) → 0 < m .number → says a ≡ paper.refusedBy (told (m .number) (m .place) (flawOf (m .flaw)))
+  pub turned-down : (ed : ℕ) → isEdition ed ≡ true → (a : Answer) (out steps work : List ℕ) → 0 < m .number
+      → says a ≡ paper.refusedBy (told (m .number) (m .place) (flawOf (m .flaw)))
       → gives a out steps work ≡ paper.simplified lim ed s (lent out steps work)
   unfolding paper.simplified simplifiedBy outcomeOf judgement judgedCall answerOf lentAfter outAfter stepsAfter workAfter isAccepted
   turned-down ed known a out steps work h q =
@@ -106,11 +104,13 @@ module _ (lim : ℕ) (limited : isLimit lim ≡ true) (s : List ℕ) (m : Measur
     light b = omega (arith, weight-is, holds b .weighs, holds b .light)
 
     -- refusal 6
-    pub cramped : (ed : ℕ) → isEdition ed ≡ true → (a : Answer) (out steps work : List ℕ) → paper.cramped lim (m .result) (lent out steps work) ≡ true → says a ≡ paper.refusal 6 0
+    pub cramped : (ed : ℕ) → isEdition ed ≡ true → (a : Answer) (out steps work : List ℕ)
+        → short lim (m .result) (length out) (length steps) (length work) ≡ true → says a ≡ paper.refusal 6 0
         → gives a out steps work ≡ paper.simplified lim ed s (lent out steps work)
-    unfolding paper.simplified simplifiedBy outcomeOf judgement judgedCall answerOf lentAfter outAfter stepsAfter workAfter isAccepted
+    unfolding paper.simplified paper.cramped short simplifiedBy outcomeOf judgement judgedCall answerOf lentAfter outAfter stepsAfter workAfter isAccepted
     cramped ed known a out steps work c q =
-        let k : paper.cramped lim (tableWeight s) (lent out steps work) ≡ true = ap (λ i. paper.cramped lim i (lent out steps work)) (sym weight-is) ∙ c in
+        let k : paper.cramped lim (tableWeight s) (lent out steps work) ≡ true
+        = ap (λ i. paper.cramped lim i (lent out steps work)) (sym weight-is) ∙ c in
         rw (limited, known, fine, k) (same-given q refl)
 
 -- ---- `work`, cleared where there was a run
@@ -153,7 +153,8 @@ module _ (lim ed : ℕ) (s : List ℕ) (b : Bytes s) (a : Answer) (out steps wor
     where
       go : Call lim ed (drives ed) s (lent out steps work) → cleaned lim (a .number) work ≡ work
       go (is-turned-down d) =
-          let k : a .number ≡ paper.judgement lim ed s (lent out steps work) .number = ap (λ (g : paper.Given). g .answer .number) e ∙ ap (λ (x : paper.Answer). x .number) (d .answer) in
+          let k : a .number ≡ paper.judgement lim ed s (lent out steps work) .number =
+          ap (λ (g : paper.Given). g .answer .number) e ∙ ap (λ (x : paper.Answer). x .number) (d .answer) in
           cleaned-down lim (a .number) work (ap hasRun k ∙ down-number _ (d .number) (d .not-7))
       go (is-run r) =
           let k : a .number ≡ paper.ranAnswer (weight (r .holds .tree)) (drives ed (r .holds .tree)) .number
@@ -186,7 +187,8 @@ put-zeros n d =
     ap (λ i. zeros ++ drop i d) l ∙ ap (λ i. replicate i 0 ++ drop n d) z
 
 -- and cleared it is as the simplifier leaves it
-pub cleared : (lim k need : ℕ) (work work' : List ℕ) → hasRun k ≡ true → need ≡ workBytes lim → work' ≡ put work 0 (replicate need 0) → work' ≡ cleaned lim k work
+pub cleared : (lim k need : ℕ) (work work' : List ℕ) → hasRun k ≡ true → need ≡ workBytes lim
+    → work' ≡ put work 0 (replicate need 0) → work' ≡ cleaned lim k work
 cleared lim k need work work' h asks e = e ∙ put-zeros need work ∙ ap (λ i. stretch i [] work) asks ∙ sym (cleaned-ran lim k work h)
 
 pub uncleared : (lim k : ℕ) (work : List ℕ) → hasRun k ≡ false → work ≡ cleaned lim k work
@@ -200,23 +202,26 @@ pub record Accepted (lim ed : ℕ) (s : List ℕ) (m : Measured) (need : ℕ) (o
   pub says-so : table.says m ≡ paper.weighed lim s
   pub none-refused : m .number ≤ 0
   pub bytes : Bytes s
-  pub out-room : 16 * m .result ≤ length out
-  pub steps-room : m .result ≤ length steps
-  pub work-room : need ≤ length work
+  pub roomy : short lim (m .result) (length out) (length steps) (length work) ≡ false
 
 module _ {lim ed : ℕ} {s : List ℕ} {m : Measured} {need : ℕ} {out steps work : List ℕ} (c : Accepted lim ed s m need out steps work) where
   weighs : m .result ≡ tableWeight s
   weighs = weight-is lim (c .limited) s m (c .says-so) (c .none-refused)
 
   uncramped : paper.cramped lim (tableWeight s) (lent out steps work) ≡ false
-  unfolding paper.cramped
-  uncramped =
-      ap (λ i. paper.cramped lim i (lent out steps work)) (sym weighs)
-      ∙ rw (
-        le-ltb (length out) (16 * m .result) (c .out-room),
-        le-ltb (length steps) (m .result) (c .steps-room),
-        le-ltb (length work) (workBytes lim) (omega (arith, c .work-room, c .asks)),
-      ) refl
+  unfolding paper.cramped short
+  uncramped = ap (λ i. paper.cramped lim i (lent out steps work)) (sym weighs) ∙ c .roomy
+
+  pub rooms : (16 * m .result ≤ length out) × (m .result ≤ length steps) × (need ≤ length work)
+  unfolding short
+  rooms =
+      let w = m .result in
+      let apart = or-neither (ltb (length out) (16 * w) || ltb (length steps) w) (ltb (length work) (workBytes lim)) (c .roomy) in
+      let front = or-neither (ltb (length out) (16 * w)) (ltb (length steps) w) (apart .0) in (
+        ltb-false (length out) (16 * w) (front .0),
+        ltb-false (length steps) w (front .1),
+        omega (arith, ltb-false (length work) (workBytes lim) (apart .1), c .asks),
+      )
 
   pub on : RunOn lim ed (drives ed) s (lent out steps work)
   on = go (call lim ed (drives ed) s (lent out steps work) (c .bytes))
@@ -224,7 +229,8 @@ module _ {lim ed : ℕ} {s : List ℕ} {m : Measured} {need : ℕ} {out steps wo
       go : Call lim ed (drives ed) s (lent out steps work) → RunOn lim ed (drives ed) s (lent out steps work)
       go (is-run r) = r
       go (is-turned-down d) =
-          let j = accepted-judgement lim ed s (lent out steps work) (c .limited) (c .known) (fine lim (c .limited) s m (c .says-so) (c .none-refused)) uncramped in
+          let j = accepted-judgement lim ed s (lent out steps work) (c .limited) (c .known)
+          (fine lim (c .limited) s m (c .says-so) (c .none-refused)) uncramped in
           absurd (let z = ap (λ v. v .number) j in omega (arith, d .number))
 
   abbrev pub tree : Tree
@@ -239,9 +245,9 @@ module _ {lim ed : ℕ} {s : List ℕ} {m : Measured} {need : ℕ} {out steps wo
       let few = limit-small lim (c .limited) in
       let whole = limit-work lim (c .limited) in
       let asks = c .asks in
-      let lo = mid-len 0 (16 * m .result) out (c .out-room) in
-      let lz = mid-len 0 (m .result) steps (c .steps-room) in
-      let lw = mid-len 0 need work (c .work-room) in
+      let lo = mid-len 0 (16 * m .result) out (rooms .0) in
+      let lz = mid-len 0 (m .result) steps (rooms .1) in
+      let lw = mid-len 0 need work (rooms .2) in
       record {
         wf = k .wf;
         light = omega arith;
@@ -265,7 +271,7 @@ module _ {lim ed : ℕ} {s : List ℕ} {m : Measured} {need : ℕ} {out steps wo
       same-given
       (r .answer ∙ ap (λ i. paper.ranAnswer i (drives ed tree)) w ∙ sym (on .answer))
       (same-lent
-      (lent-stretch (16 * m .result) out out' (paper.written (drives ed tree)) (c .out-room) (r .out-is))
-      (lent-stretch (m .result) steps steps' (paper.noted (drives ed tree)) (c .steps-room) (r .steps-is))
-      (cleans lim (a .number) (drives ed tree) (m .result) (ap (λ (x : paper.Answer). x .number) (r .answer)) need work work' (c .asks) (c .work-room) long)
+      (lent-stretch (16 * m .result) out out' (paper.written (drives ed tree)) (rooms .0) (r .out-is))
+      (lent-stretch (m .result) steps steps' (paper.noted (drives ed tree)) (rooms .1) (r .steps-is))
+      (cleans lim (a .number) (drives ed tree) (m .result) (ap (λ (x : paper.Answer). x .number) (r .answer)) need work work' (c .asks) (rooms .2) long)
       ∙ ap (λ i. paper.lentAfter lim (paper.ran i (drives ed tree)) (lent out steps work)) w ∙ sym (on .lent))

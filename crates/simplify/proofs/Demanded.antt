@@ -1,6 +1,6 @@
 -- The demands and the takeover hold of the code, at every limit and in every edition: of any simplifier that says, on every call with these, what the
 -- contract of `simplify` lets the function give, as the check reads that contract from the source. Such a one is the paper's, since any
--- table and any areas may be handed in. Assumes nothing.
+-- table and any areas may be handed in.
 use Prim.Native.Nat.{ℕ}
 use mathlib.Core.Path.{_≡_, refl, sym, ap, ap₂, _∙_, subst, fun-ext}
 use mathlib.Core.List.{List, []}

@@ -1,5 +1,5 @@
 -- A run in areas of its own: the table's tree stands at the end of `work` and gets its notes there, the driver takes it, the notes are taken out of
--- the result, and clearing leaves the result, the steps, and zeros after them; after a refusal, zeros alone. Assumes nothing.
+-- the result, and clearing leaves the result, the steps, and zeros after them; after a refusal, zeros alone.
 use Prim.Native.Nat.{ℕ, _+_, _-_, _*_, _/_, _%_, _<_, _≤_}
 use mathlib.Core.Path.{_≡_, refl, sym, ap, _∙_, subst}
 use mathlib.Core.List.{List, [], _∷_, _++_, append-nil}
@@ -68,7 +68,8 @@ module _ {table out steps work : List ℕ} {w : ℕ} {t : Tree} (h : Lending tab
       (omega (arith, h .work-room, h .weighs), omega (arith, h .work-room, h .weighs, h .work-records))
 
   -- the table is copied
-  module _ {work' : List ℕ} (c : work' ≡ put work ((length work / 16 - length table / 16) * 16) (part table 0 (length table))) (lw : length work' ≡ length work) where
+  module _ {work' : List ℕ} (c : work' ≡ put work ((length work / 16 - length table / 16) * 16) (part table 0 (length table)))
+      (lw : length work' ≡ length work) where
     abbrev p : ℕ
     p = length work / 16 - length table / 16
 

@@ -1,5 +1,7 @@
--- Two answers that meet the contract of `simplify`, of `refusal`, of `is_edition`, of `work_bytes` or of `has_run`, as the check reads it from the source, are the same, and
--- so are the areas afterwards: each contract is an equation with a function of what is handed in. Of `simplify_in` so are the answer, `out` and `steps`. Assumes nothing.
+-- Two answers that meet the contract of `simplify`, of `refusal`, of `answer_numbers`, of
+-- `judge_call`, of `work_bytes`, of `is_cramped` or of `has_run`, as the
+-- check reads it from the source, are the same, and so are the areas afterwards: each contract is an equation with a function of what is handed
+-- in. Of `simplify_in` so are the answer, `out` and `steps`.
 use Prim.Native.Nat.{ℕ}
 use mathlib.Core.Path.{_≡_, sym, ap, _∙_}
 use mathlib.Core.List.{List}
@@ -17,8 +19,12 @@ use Rattle.simplify.proofs.simplify.Reads as reads
 use Rattle.simplify.proofs.simplify.Kinds as kinds
 use Rattle.simplify.proofs.refusal.Reads as refusal-reads
 use Rattle.simplify.proofs.refusal.Kinds as refusal-kinds
-use Rattle.simplify.proofs.is_edition.Reads as is-edition-reads
-use Rattle.simplify.proofs.is_edition.Kinds as is-edition-kinds
+use Rattle.simplify.proofs.answer_numbers.Reads as answer-numbers-reads
+use Rattle.simplify.proofs.answer_numbers.Kinds as answer-numbers-kinds
+use Rattle.simplify.proofs.judge_call.Reads as judge-call-reads
+use Rattle.simplify.proofs.judge_call.Kinds as judge-call-kinds
+use Rattle.simplify.proofs.is_cramped.Reads as is-cramped-reads
+use Rattle.simplify.proofs.is_cramped.Kinds as is-cramped-kinds
 use Rattle.simplify.proofs.work_bytes.Reads as work-bytes-reads
 use Rattle.simplify.proofs.work_bytes.Kinds as work-bytes-kinds
 use Rattle.simplify.proofs.has_run.Reads as has-run-reads
@@ -79,8 +85,14 @@ says-once r r′ e = sym (answer-of r) ∙ ap answerOf e ∙ answer-of r′
 pub refusal-once : Once 0 refusal-kinds.ps refusal-kinds.r refusal-reads.Pre refusal-reads.Post
 refusal-once κs a v v' x x' q p p' = says-once v v' (p ∙ sym p')
 
-pub is-edition-once : Once 0 is-edition-kinds.ps is-edition-kinds.r is-edition-reads.Pre is-edition-reads.Post
-is-edition-once κs a v v' x x' q p p' = p ∙ sym p'
+pub answer-numbers-once : Once 0 answer-numbers-kinds.ps answer-numbers-kinds.r answer-numbers-reads.Pre answer-numbers-reads.Post
+answer-numbers-once κs a v v' x x' q p p' = p ∙ sym p'
+
+pub judge-call-once : Once 0 judge-call-kinds.ps judge-call-kinds.r judge-call-reads.Pre judge-call-reads.Post
+judge-call-once κs a v v' x x' q p p' = p ∙ sym p'
+
+pub is-cramped-once : Once 0 is-cramped-kinds.ps is-cramped-kinds.r is-cramped-reads.Pre is-cramped-reads.Post
+is-cramped-once κs a v v' x x' q p p' = p ∙ sym p'
 
 pub work-bytes-once : Once 0 work-bytes-kinds.ps work-bytes-kinds.r work-bytes-reads.Pre work-bytes-reads.Post
 work-bytes-once κs a v v' x x' q p p' = p ∙ sym p'

@@ -4,12 +4,13 @@ use mathlib.Core.Path.{_≡_}
 use mathlib.Core.Bool.{Bool, cond, _||_}
 use mathlib.Core.List.{List, [], _++_}
 use lib.ListN.{length, replicate}
-use lib.Dec.{eqb}
-use Rattle.paper.specs.Limits.{workBytes}
+use lib.Dec.{eqb, ltb}
+use Rattle.paper.specs.Limits.{isLimit, workBytes}
 use Rattle.paper.specs.Bytes.{stretch}
 use Rattle.paper.specs.Tree.{Tree, weight}
 use Rattle.paper.specs.WellFormed.{WF}
 use Rattle.paper.specs.Table.{encode}
+use Rattle.paper.specs.Rules.{isEdition}
 use Rattle.paper.specs.Driver.{Ran}
 use Rattle.paper.specs.Answers as paper
 use Rattle.record.specs.Flaw.{flawOf}
@@ -36,6 +37,14 @@ lent out steps work = record { out = out; steps = steps; work = work }
 -- an answer, and the areas afterwards, as the paper's
 abbrev pub gives : Answer → List ℕ → List ℕ → List ℕ → paper.Given
 gives a out steps work = record { answer = says a; lent = lent out steps work }
+
+-- what is refused before a table is looked at: 19 of the limit, 9 of the edition, or 0
+unfoldable pub callNumber : ℕ → ℕ → ℕ
+callNumber lim ed = cond (isLimit lim) (cond (isEdition ed) 0 9) 19
+
+-- 6, by the limit, the weight and the lengths of the three areas
+unfoldable pub short : ℕ → ℕ → ℕ → ℕ → ℕ → Bool
+short lim w out steps work = ltb out (16 * w) || ltb steps w || ltb work (workBytes lim)
 
 -- the number of an answer after a run, to its end or to 7
 unfoldable pub hasRun : ℕ → Bool

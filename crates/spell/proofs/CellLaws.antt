@@ -1,6 +1,5 @@
 -- The two cells that the levels of the writer share: what a write to one of them leaves, and what is promised from places that are the same.
--- Assumes nothing.
-use Prim.Native.Nat.{ℕ, _+_}
+use Prim.Native.Nat.{ℕ}
 use mathlib.Core.Path.{_≡_, refl, sym, subst}
 use mathlib.Core.List.{List, [], _∷_}
 use native.Mathlib.Omega.{arith}

@@ -1,8 +1,8 @@
--- A member's text has fewer than 65 characters for each of its records, so that places stay numbers of 64 bits. Assumes nothing.
+-- A member's text has fewer than 65 characters for each of its records, so that places stay numbers of 64 bits.
 use Prim.Native.Nat.{ℕ, _+_, _-_, _*_, _^_, _≤_, _<_}
 use mathlib.Core.Path.{_≡_}
 use mathlib.Core.Bool.{Bool, true, false}
-use mathlib.Core.List.{List, [], _∷_, _++_}
+use mathlib.Core.List.{List, [], _∷_}
 use native.Mathlib.Omega.{arith}
 use lib.ListN.{length, length-append}
 use Rattle.paper.specs.Tree.{Tree, Forest, integer, symbol, sum, product, power, nil, cons, records, recordses, weight, weights}

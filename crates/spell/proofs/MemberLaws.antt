@@ -1,15 +1,14 @@
 -- Members put one after the other with a sign between two, as a loop does: what is put so far, with the signs and members left, stays the
--- text of all of them. Assumes nothing.
-use Prim.Native.Nat.{ℕ, _+_, _-_, _*_, _≤_, _<_}
+-- text of all of them.
+use Prim.Native.Nat.{ℕ, _+_, _-_, _≤_, _<_}
 use mathlib.Core.Path.{_≡_, refl, sym, ap, _∙_, subst}
 use mathlib.Core.List.{List, [], _∷_, _++_, append-assoc, append-nil}
 use native.Mathlib.Omega.{arith}
 use lib.ListN.{length}
-use Rattle.paper.specs.Tree.{Tree, Forest, nil, cons, records, recordses}
+use Rattle.paper.specs.Tree.{Tree, Forest, records, recordses}
 use Rattle.paper_text.specs.Text.{Place, needs, enclosed, text, joined, others}
 use Rattle.paper.specs.Standing.{TreeIn, TreesIn, SomeTree, SomeTrees}
 use Rattle.paper.proofs.StandingLaws.{first-of, none-of}
-use Rattle.paper.proofs.EncodeLaws.{records-pos}
 use Rattle.stretch.proofs.Laws.{put-none}
 use Rattle.spell.specs.declared.Spelt.{Spelt}
 use Rattle.spell.specs.Spelt.{Put, TextPut, leastRank, Roomy}

@@ -1,12 +1,11 @@
--- Texts put to an area one after the other are put as one text: where the whole fits, each fits. Assumes nothing.
-use Prim.Native.Nat.{ℕ, suc, _+_, _-_, _*_, _^_, _≤_, _<_}
-use mathlib.Core.Path.{_≡_, refl, sym, ap, _∙_, subst}
+-- Texts put to an area one after the other are put as one text: where the whole fits, each fits.
+use Prim.Native.Nat.{ℕ, suc, _+_, _-_, _^_, _≤_, _<_}
+use mathlib.Core.Path.{_≡_, refl, ap, _∙_, subst}
 use mathlib.Core.List.{List, [], _∷_, _++_}
 use native.Mathlib.Omega.{arith}
 use native.Mathlib.Numerals.{add-one}
 use lib.ListN.{length, set, length-append}
 use lib.Seq.{set-split}
-use lib.IntN.{ℤ, pos, negsuc}
 use mir.Syntax.{w64}
 use mir.Facts.{toZ-pos}
 use Rattle.paper.specs.Bytes.{signed}

@@ -1,8 +1,8 @@
 -- The rank of a standing tree, from its first record: its kind, and for an integer whether its 64 bits stand for a negative one; and where a
--- rank puts parentheses. Assumes nothing.
-use Prim.Native.Nat.{ℕ, _+_, _-_, _*_, _^_, _≤_, _<_}
+-- rank puts parentheses.
+use Prim.Native.Nat.{ℕ, _-_, _^_, _≤_, _<_}
 use mathlib.Core.Path.{_≡_, refl, sym, ap, _∙_}
-use mathlib.Core.Bool.{Bool, true, false}
+use mathlib.Core.Bool.{true, false}
 use mathlib.Core.List.{List}
 use native.Mathlib.Omega.{arith}
 use native.Mathlib.Nat.{mod-eq-of-lt}
@@ -11,12 +11,12 @@ use lib.Dec.{leb}
 use lib.IntN.{ℤ, pos, negsuc}
 use Rattle.paper.specs.Limits.{modulus}
 use Rattle.paper.specs.Bytes.{word}
-use Rattle.paper.specs.Tree.{Tree, integer, symbol, sum, product, power}
+use Rattle.paper.specs.Tree.{Tree, integer}
 use Rattle.paper.specs.WellFormed.{InRange}
 use Rattle.paper.specs.Record.{kind, bits}
 use Rattle.paper_text.specs.Text.{Place, in-sum, in-product, as-base, needs}
 use Rattle.paper_text.specs.Levels.{rank}
-use Rattle.paper.specs.Standing.{TreeIn, SomeTree}
+use Rattle.paper.specs.Standing.{TreeIn}
 use Rattle.paper.proofs.Seen.{seen-integer, seen-symbol, seen-sum, seen-product, seen-power}
 use Rattle.paper.proofs.StandingLaws.{seen}
 use Rattle.paper_text.proofs.LevelLaws.{needsRank, needs-by-rank}

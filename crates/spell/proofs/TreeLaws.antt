@@ -1,16 +1,16 @@
--- The text of a standing tree, kind by kind, from its first record and from what its members put. Assumes nothing.
+-- The text of a standing tree, kind by kind, from its first record and from what its members put.
 use Prim.Native.Nat.{ℕ, _+_, _-_, _*_, _^_, _≤_, _<_}
-use mathlib.Core.Path.{_≡_, refl, sym, ap, _∙_, subst}
-use mathlib.Core.Bool.{Bool, true, false}
-use mathlib.Core.List.{List, [], _∷_, _++_, append-assoc}
+use mathlib.Core.Path.{_≡_, refl, ap, _∙_, subst}
+use mathlib.Core.Bool.{true, false}
+use mathlib.Core.List.{List, [], _∷_, _++_}
 use native.Mathlib.Omega.{arith}
 use lib.ListN.{length}
-use lib.IntN.{ℤ}
-use Rattle.paper.specs.Bytes.{signed, word}
-use Rattle.paper.specs.Tree.{Tree, Forest, integer, symbol, sum, product, power, count, records, recordses}
+use Rattle.paper.specs.Bytes.{signed}
+use Rattle.paper.specs.Tree.{Tree, Forest, sum, product, power, records, recordses}
 use Rattle.paper.specs.Record.{kind, countIn, bits, symbolIn}
 use Rattle.paper.specs.Verdict.{recordsIn}
-use Rattle.paper_text.specs.Text.{opens, closes, times, plus, minus, power-sign, ess, digits, signedDigits, Place, in-sum, in-product, as-base, needs, enclosed, text, joined}
+use Rattle.paper_text.specs.Text.{opens, closes, times, plus, power-sign, ess, digits, signedDigits}
+use Rattle.paper_text.specs.Text.{Place, in-sum, in-product, as-base, needs, enclosed, text, joined}
 use Rattle.paper.specs.Standing.{TreeIn, TreesIn, SomeTree, SomeTrees}
 use Rattle.paper.proofs.EncodeLaws.{signed-word}
 use Rattle.paper.proofs.Seen.{seen-kind, seen-integer, seen-symbol, seen-sum, seen-product, seen-power}

@@ -1,5 +1,5 @@
 -- Two answers that meet a contract of this crate, as the check reads it from the source, are the same: some tree stands there, and its text tells
--- where it ends, and the area, where it fits. Assumes nothing.
+-- where it ends, and the area, where it fits.
 use Prim.Native.Nat.{ℕ, _+_, _≤_}
 use mathlib.Core.Path.{_≡_, sym, ap₂, _∙_}
 use borrow.Fn.Kinds.{Dens, endedOf}

@@ -22,6 +22,22 @@ const NEXT: usize = 0;
 
 const END: usize = 1;
 
+const CELLS: usize = 2;
+
+// The ranks of trees: a symbol or an integer from 0; a negative integer or a power; a product; a sum.
+const RANK_LEAF: u8 = 0;
+
+const RANK_POWER: u8 = 1;
+
+const RANK_PRODUCT: u8 = 2;
+
+const RANK_SUM: u8 = 3;
+
+// The first bits that stand for a negative integer, and those of -1.
+const NEGATIVE: u64 = 0x8000_0000_0000_0000;
+
+const MINUS_ONE: u64 = 0xFFFF_FFFF_FFFF_FFFF;
+
 // One character, where it lies in the area; the place after it.
 fn put_sign(c: u8, out: &mut [u8], at: usize) -> usize
     requires { ⌜ at < 2 ^ 63 ⌝ }
@@ -39,11 +55,11 @@ fn put_integer(v: u64, out: &mut [u8], at: usize) -> usize
     requires { ⌜ at < 2 ^ 62 + 2 ⌝ }
     ensures { λ r. ⌜ Put (signedDigits (signed v)) (now (out .entry)) at (now (out .exit)) r ⌝ }
 {
-    if v < 0x8000_0000_0000_0000 {
+    if v < NEGATIVE {
         return decimal::spell_number(v, out, at);
     }
     let e = put_sign(b'-', out, at);
-    decimal::spell_number(0xFFFF_FFFF_FFFF_FFFF - v + 1, out, e)
+    decimal::spell_number(MINUS_ONE - v + 1, out, e)
 }
 
 // The rank of the tree at record i: 0 a symbol or an integer from 0, 1 a negative integer or a power, 2 a product, 3 a sum.
@@ -52,22 +68,22 @@ fn rank_at(s: &[u8], i: usize) -> u8
     ensures { λ r. ⌜ ((t : Tree) → TreeIn (now (s .entry)) i t → r ≡ rank t) ⌝ }
 {
     let k = record::kind(s, i);
-    if k < 1 {
-        if record::bits(s, i) < 0x8000_0000_0000_0000 {
-            return 0;
+    if k < record::SYMBOL {
+        if record::bits(s, i) < NEGATIVE {
+            return RANK_LEAF;
         }
-        return 1;
+        return RANK_POWER;
     }
-    if k < 2 {
-        return 0;
+    if k < record::SUM {
+        return RANK_LEAF;
     }
-    if k < 3 {
-        return 3;
+    if k < record::PRODUCT {
+        return RANK_SUM;
     }
-    if k < 4 {
-        return 2;
+    if k < record::POWER {
+        return RANK_PRODUCT;
     }
-    1
+    RANK_POWER
 }
 
 // The symbol or the integer at record i.
@@ -76,7 +92,7 @@ fn put_leaf(s: &[u8], i: usize, out: &mut [u8], at: usize) -> usize
     ensures { λ r. ⌜ ((t : Tree) → TreeIn (now (s .entry)) i t
         → TextPut i (records t) (text t) (now (out .entry)) at (now (out .exit)) (record { next = i + 1; end = r })) ⌝ }
 {
-    if record::kind(s, i) < 1 {
+    if record::kind(s, i) < record::SYMBOL {
         let v = record::bits(s, i);
         return put_integer(v, out, at);
     }
@@ -96,10 +112,11 @@ fn put_exponent(s: &[u8], i: usize, out: &mut [u8], at: usize) -> usize
 }
 
 // The n members from record st[NEXT] on, with a sign between two, each in parentheses from rank `least` on.
-fn joined_at(s: &&[u8], out: &mut &mut [u8], st: &mut [usize; 2], n: usize, least: u8, sign: u8)
+fn joined_at(s: &&[u8], out: &mut &mut [u8], st: &mut [usize; CELLS], n: usize, least: u8, sign: u8)
     requires { ⌜ Cells (now (now s)) (now st) × SomeTrees (now (now s)) (nextIn (now st)) n × (0 < n) × ((p : Place) × (least ≡ leastRank p))
         × Roomy (now (now s)) (nextIn (now st)) (endIn (now st)) ⌝ }
-    ensures { λ _. ⌜ (length (now (st .exit)) ≡ 2) × ((p : Place) (f : Forest) → least ≡ leastRank p → TreesIn (now (now (s .entry))) (nextIn (now (st .entry))) n f
+    ensures { λ _. ⌜ (length (now (st .exit)) ≡ 2)
+        × ((p : Place) (f : Forest) → least ≡ leastRank p → TreesIn (now (now (s .entry))) (nextIn (now (st .entry))) n f
         → Passed (now (st .entry)) (recordses f) (joined p sign f) (now (now (out .entry))) (now (now (out .exit))) (now (st .exit))) ⌝ }
     ensures { λ _. ⌜ (now (out .exit) .name ≡ now (out .entry) .name) × (length (now (now (out .exit))) ≡ length (now (now (out .entry)))) ⌝ }
 {
@@ -113,7 +130,7 @@ fn joined_at(s: &&[u8], out: &mut &mut [u8], st: &mut [usize; 2], n: usize, leas
 }
 
 // The tree at record st[NEXT] where it is a member, in parentheses from rank `least` on.
-fn member_at(s: &&[u8], out: &mut &mut [u8], st: &mut [usize; 2], least: u8)
+fn member_at(s: &&[u8], out: &mut &mut [u8], st: &mut [usize; CELLS], least: u8)
     requires { ⌜ Cells (now (now s)) (now st) × SomeTree (now (now s)) (nextIn (now st)) × ((p : Place) × (least ≡ leastRank p))
         × Roomy (now (now s)) (nextIn (now st)) (endIn (now st)) ⌝ }
     ensures { λ _. ⌜ (length (now (st .exit)) ≡ 2) × ((p : Place) (t : Tree) → least ≡ leastRank p → TreeIn (now (now (s .entry))) (nextIn (now (st .entry))) t
@@ -131,7 +148,7 @@ fn member_at(s: &&[u8], out: &mut &mut [u8], st: &mut [usize; 2], least: u8)
 
 // The tree at record st[NEXT], from place st[END] on; both move past it. Table and area stand behind references, one word of each level
 // where a slice is two, and what calls no further stands in functions of its own.
-fn tree_at(s: &&[u8], out: &mut &mut [u8], st: &mut [usize; 2])
+fn tree_at(s: &&[u8], out: &mut &mut [u8], st: &mut [usize; CELLS])
     requires { ⌜ Cells (now (now s)) (now st) × SomeTree (now (now s)) (nextIn (now st)) × Roomy (now (now s)) (nextIn (now st)) (endIn (now st) - 1) ⌝ }
     ensures { λ _. ⌜ (length (now (st .exit)) ≡ 2) × ((t : Tree) → TreeIn (now (now (s .entry))) (nextIn (now (st .entry))) t
         → Passed (now (st .entry)) (records t) (text t) (now (now (out .entry))) (now (now (out .exit))) (now (st .exit))) ⌝ }
@@ -140,26 +157,26 @@ fn tree_at(s: &&[u8], out: &mut &mut [u8], st: &mut [usize; 2])
     let i = st[NEXT];
     let k = record::kind(*s, i);
     st[NEXT] = i + 1;
-    if k < 2 {
+    if k < record::SUM {
         st[END] = put_leaf(*s, i, *out, st[END]);
         return;
     }
-    if k < 3 {
-        joined_at(s, out, st, record::count(*s, i), 3, b'+');
+    if k < record::PRODUCT {
+        joined_at(s, out, st, record::count(*s, i), RANK_SUM, b'+');
         return;
     }
-    if k < 4 {
-        joined_at(s, out, st, record::count(*s, i), 2, b'*');
+    if k < record::POWER {
+        joined_at(s, out, st, record::count(*s, i), RANK_PRODUCT, b'*');
         return;
     }
-    member_at(s, out, st, 1);
+    member_at(s, out, st, RANK_POWER);
     let e = st[NEXT];
     st[NEXT] = e + 1;
     st[END] = put_exponent(*s, e, *out, st[END]);
 }
 
 // The cycle over an area that is put behind a reference, and handed back.
-fn enter<'b>(s: &[u8], out: &'b mut [u8], st: &mut [usize; 2]) -> &'b mut [u8]
+fn enter<'b>(s: &[u8], out: &'b mut [u8], st: &mut [usize; CELLS]) -> &'b mut [u8]
     requires { ⌜ (length (now st) ≡ 2) × SomeTree (now s) (nextIn (now st)) × Roomy (now s) (nextIn (now st)) (endIn (now st) - 1) ⌝ }
     ensures { λ r. ⌜ (r .name ≡ out .entry .name) × (length (now r) ≡ length (now (out .entry))) × (length (now (st .exit)) ≡ 2)
         × ((t : Tree) → TreeIn (now (s .entry)) (nextIn (now (st .entry))) t

@@ -1,4 +1,4 @@
--- Skipping a tree that stands in a table by counting the trees owed: it ends as many records later as the tree has. Assumes nothing.
+-- Skipping a tree that stands in a table by counting the trees owed: it ends as many records later as the tree has.
 use Prim.Native.Nat.{ℕ, _+_, _-_, _*_, _≤_, _<_}
 use mathlib.Core.Path.{_≡_, refl, sym, _∙_}
 use mathlib.Core.List.{List}

@@ -1,5 +1,5 @@
 -- The splits of a tree that stands in a table, by the kind of its first record: coefficient and rest, base and exponent; and the
--- integers and the others of a product, one member at a time. By cases on the tree, which the record tells. Assumes nothing.
+-- integers and the others of a product, one member at a time. By cases on the tree, which the record tells.
 use Prim.Native.Nat.{ℕ, suc, _+_, _-_, _*_, _^_, _≤_, _<_}
 use mathlib.Core.Path.{_≡_, refl, sym, ap, _∙_, subst}
 use mathlib.Core.Bool.{Bool, true, false, cond, _&&_}
@@ -428,7 +428,8 @@ record Product (how : Tree → ℕ) (s : List ℕ) (i n m last : ℕ) (t : Tree)
   place : last ≡ lastOther (i + 1) i members
   rest : termOf t .rest ≡ productOf mark (othersOf (toList members))
 
-module _ {how : Tree → ℕ} {s : List ℕ} {i : ℕ} (t : Tree) (h : Told how s i t) (k : kind s i ≡ 3) {n m last : ℕ} (c : n ≡ countIn s i) (told : Counted how s i m last) where
+module _ {how : Tree → ℕ} {s : List ℕ} {i : ℕ} (t : Tree) (h : Told how s i t) (k : kind s i ≡ 3) {n m last : ℕ} (c : n ≡ countIn s i)
+    (told : Counted how s i m last) where
   is-product : Product how s i n m last t
   unfolding termOf productTerm
   is-product =

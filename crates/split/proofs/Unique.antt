@@ -1,5 +1,5 @@
 -- Each contract, as the check reads it off the source, leaves one answer open and no other: some tree stands at the record, and each answer
--- equals one definition of that tree and its record. Assumes nothing.
+-- equals one definition of that tree and its record.
 use mathlib.Core.Path.{sym, _∙_}
 use Rattle.paper.specs.Once.{Once}
 use Rattle.split.proofs.skip_tree.Reads as skip-tree

@@ -9,6 +9,9 @@ ghost use Rattle.split.specs.Place.{baseAt, lastOther, restAt};
 ghost use Rattle.split.specs.Rest.{coefficientOf, StandsFor};
 use number::Num;
 
+// From so many members on a rest is a product.
+const PAIR: usize = 2;
+
 // The rest of a member: 1, which stands in no record; the tree at a record, no integer; the product at a record without its integers,
 // so many members being left, two or more.
 pub enum Rest {
@@ -29,10 +32,10 @@ pub fn skip_tree(s: &[u8], i: usize) -> usize
     requires { ⌜ SomeTold (now s) i ⌝ }
     ensures { λ r. ⌜ ((how : Tree → ℕ) (t : Tree) → Told how (now (s .entry)) i t → r ≡ i + records t) ⌝ }
 {
-    if record::kind(s, i) < 2 {
+    if record::kind(s, i) < record::SUM {
         return i + 1;
     }
-    let told = (record::bits(s, i) % 0x1_0000) as usize;
+    let told = note::records_of(record::bits(s, i));
     if 0 < told {
         return i + told;
     }
@@ -54,7 +57,7 @@ fn product_coefficient(s: &[u8], i: usize) -> Num
     let mut at = i + 1;
     let mut left = record::count(s, i);
     while 0 < left {
-        if record::kind(s, at) < 1 {
+        if record::kind(s, at) < record::SYMBOL {
             let product = number::mul(n, record::bits(s, at));
             match product {
                 Num::Is(v) => n = v,
@@ -73,10 +76,10 @@ pub fn coefficient(s: &[u8], i: usize) -> Num
     ensures { λ r. ⌜ ((how : Tree → ℕ) (t : Tree) → Told how (now (s .entry)) i t → r ≡ coefficientOf (termOf t)) ⌝ }
 {
     let k = record::kind(s, i);
-    if k < 1 {
+    if k < record::SYMBOL {
         return Num::Is(record::bits(s, i));
     }
-    if k != 3 {
+    if k != record::PRODUCT {
         return Num::Is(1);
     }
     product_coefficient(s, i)
@@ -93,7 +96,7 @@ fn count_others(s: &[u8], i: usize) -> Counted
     let mut at = i + 1;
     let mut left = record::count(s, i);
     while 0 < left {
-        if 0 < record::kind(s, at) {
+        if record::INTEGER < record::kind(s, at) {
             many += 1;
             last = at;
         }
@@ -113,10 +116,10 @@ pub fn rest_of(s: &[u8], i: usize) -> Rest
     ensures place { λ r. ⌜ ((how : Tree → ℕ) (t : Tree) → Told how (now (s .entry)) i t → r ≡ restAt i t) ⌝ }
 {
     let k = record::kind(s, i);
-    if k < 1 {
+    if k < record::SYMBOL {
         return Rest::One;
     }
-    if k != 3 {
+    if k != record::PRODUCT {
         return Rest::At(i);
     }
     let others = count_others(s, i);
@@ -126,7 +129,7 @@ pub fn rest_of(s: &[u8], i: usize) -> Rest
     if others.many < 1 {
         return Rest::One;
     }
-    if others.many < 2 {
+    if others.many < PAIR {
         return Rest::At(others.last);
     }
     Rest::Others(i, others.many)
@@ -138,7 +141,7 @@ pub fn base(s: &[u8], i: usize) -> usize
     ensures { λ r. ⌜ ((how : Tree → ℕ) (t : Tree) → Told how (now (s .entry)) i t → Told how (now (s .entry)) r (factorOf t .base)) ⌝ }
     ensures place { λ r. ⌜ ((how : Tree → ℕ) (t : Tree) → Told how (now (s .entry)) i t → r ≡ baseAt i t) ⌝ }
 {
-    if record::kind(s, i) == 4 {
+    if record::kind(s, i) == record::POWER {
         return i + 1;
     }
     i
@@ -149,7 +152,7 @@ pub fn exponent(s: &[u8], i: usize) -> u64
     requires { ⌜ SomeTold (now s) i ⌝ }
     ensures { λ r. ⌜ ((how : Tree → ℕ) (t : Tree) → Told how (now (s .entry)) i t → (r ≡ factorOf t .exponent) × (r < 2 ^ 63)) ⌝ }
 {
-    if record::kind(s, i) == 4 {
+    if record::kind(s, i) == record::POWER {
         return record::bits(s, skip_tree(s, i + 1));
     }
     1

@@ -1,16 +1,15 @@
 -- The algebra of `part` and `put`. A put is a front, `take a d ++ s`, before what is left of the list; from that, what stands before
 -- a put, in it and past it is read off, and two puts side by side are one. A store is a put of one byte, so a turn of a loop that
--- copies is a put of one byte more. Assumes nothing.
+-- copies is a put of one byte more.
 use Prim.Native.Nat.{ℕ, suc, _+_, _-_, _≤_, _<_}
 use mathlib.Core.Path.{_≡_, refl, sym, ap, _∙_}
 use mathlib.Core.List.{List, [], _∷_, _++_, append-assoc}
-use native.Mathlib.Nat.{add-zero, add-assoc}
+use native.Mathlib.Nat.{add-zero}
 use native.Mathlib.Numerals.{add-one}
 use native.Mathlib.Omega.{arith}
 use lib.ListN.{length, take, drop, getD, set, replicate, length-append, length-drop, length-replicate, take-append-drop, replicate-append-replicate}
-use lib.Seq.{length-take-le, getD-take, getD-drop, take-suc, drop-cons, set-split, take-take, take-add, take-append-le, take-at, take-all}
-use lib.Seq.{drop-drop, drop-append-le, drop-at}
-use borrow.Rule.Slice.PartMut.{putMid}
+use lib.Seq.{length-take-le, getD-take, getD-drop, take-suc, drop-cons, set-split, take-take, take-append-le, take-at, take-all}
+use lib.Seq.{drop-drop, drop-at}
 use Rattle.stretch.specs.Put.{part, put}
 
 -- ---- how long a part and a put are
@@ -154,22 +153,3 @@ right-turn d a f n j le p q h =
       part-front d (f + (j - 1)) (n - j) (omega arith),
     )
     (put-front d (a + (j - 1)) (part d (suc (f + (j - 1))) (n - j)) (getD d (f + (j - 1)) 0) (omega arith))
-
--- ---- a part that was lent to a call, which put s at place i of it
--- what is put in a front of a list is put in the list
-front-put : (x : List ℕ) (k i : ℕ) (s : List ℕ) → k ≤ length x → i + length s ≤ k → put (take k x) i s ++ drop k x ≡ put x i s
-front-put x k i s h l =
-    let m : length (take k x) ≡ k = length-take-le k x h in
-    let past : drop (i + length s) (take k x) ++ drop k x ≡ drop (i + length s) x =
-    sym (drop-append-le (i + length s) (take k x) (drop k x) (omega arith)) ∙ ap (drop (i + length s)) (take-append-drop k x) in
-    rw (put-is (take k x) i s, put-is x i s, take-take i k x (omega arith), ← past) (simp append-assoc)
-
--- and what is put in the rest of a list is put in the list
-rest-put : (d : List ℕ) (a i : ℕ) (s : List ℕ) → take a d ++ put (drop a d) i s ≡ put d (a + i) s
-rest-put d a i s = rw (put-is (drop a d) i s, put-is d (a + i) s, take-add, drop-drop, add-assoc) (simp append-assoc)
-
-pub lent-put : (d l : List ℕ) (a e i : ℕ) (s : List ℕ) → a ≤ e → e ≤ length d → i + length s ≤ e - a
-    → l ≡ put (take (e - a) (drop a d)) i s → putMid a (e - a) d l ≡ put d (a + i) s
-lent-put d l a e i s h k f q =
-    rw q
-    (ap (λ (x : List ℕ). take a d ++ x) (front-put (drop a d) (e - a) i s (rw length-drop (omega arith)) f) ∙ rest-put d a i s)

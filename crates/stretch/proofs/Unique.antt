@@ -1,5 +1,5 @@
 -- Each contract, as the check reads it off the source, leaves one answer open and no other: two ends of a call that both meet it
--- leave the same bytes, since both equal one definition of what was lent. Assumes nothing.
+-- leave the same bytes, since both equal one definition of what was lent.
 use mathlib.Core.Path.{_≡_, sym, _∙_}
 use borrow.Fn.Kinds.{Dens, endedOf}
 use contract.Lifetimes.{Lfts}

@@ -1,14 +1,15 @@
 -- Laws of the first bad exponent among some records: it is the lesser one of the first record's and the others', and it stands behind the
--- first of the records, since an exponent stands behind its power. Assumes nothing.
+-- first of the records, since an exponent stands behind its power.
 use Prim.Native.Nat.{ℕ, zero, suc, _+_, _-_, _<_, _≤_, min}
 use mathlib.Core.Path.{_≡_, refl}
-use mathlib.Core.Bool.{Bool, true, false, cond, _&&_, _||_, not}
+use mathlib.Core.Bool.{Bool, true, false, cond, _&&_, not}
 use mathlib.Core.List.{List}
 use native.Mathlib.Omega.{arith}
 use borrow.Author.Tests.{eq-eqb, ne-eqb, eqb-false}
 use lib.Dec.{eqb, ltb}
 use Rattle.paper.specs.Record.{kind}
 use Rattle.paper.specs.Verdict.{treeEnd, isPositive, badExponent, firstBadExponent}
+use Rattle.paper.proofs.Tests.{or-neither}
 use Rattle.paper.proofs.SkipLaws.{skip-within, skip-one}
 use Rattle.table.specs.Due.{hasPower}
 
@@ -69,10 +70,6 @@ module _ (s : List ℕ) (n : ℕ) where
   unfolding firstBadExponent hasPower
   no-powers i zero h = refl
   no-powers i (suc f) h =
-      let r = no-powers (i + 1) f (neither (eqb (kind s i) 4) _ h .1) in
-      let none = no-power i (eqb-false (kind s i) 4 (neither (eqb (kind s i) 4) _ h .0)) in
+      let r = no-powers (i + 1) f (or-neither (eqb (kind s i) 4) _ h .1) in
+      let none = no-power i (eqb-false (kind s i) 4 (or-neither (eqb (kind s i) 4) _ h .0)) in
       omega arith
-    where
-      neither : (a b : Bool) → (a || b) ≡ false → (a ≡ false) × (b ≡ false)
-      neither true b e = (e, cc)
-      neither false b e = (refl, e)

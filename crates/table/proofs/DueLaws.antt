@@ -1,5 +1,5 @@
 -- Laws of the bits of the trees that are owed: turning one bit changes that one alone, since a word and a power of two differ, as bits, in the
--- one bit of the power. Assumes nothing.
+-- one bit of the power.
 use Prim.Native.Nat.{ℕ, zero, suc, _+_, _-_, _*_, _/_, _%_, _^_, _<_}
 use mathlib.Core.Path.{_≡_, refl, sym, ap, _∙_}
 use mathlib.Core.List.{List}

@@ -1,5 +1,5 @@
 -- The cases of the checker's definitions, one law for each answer of the code: what was found so far decides each test of the
--- definition before the last. Assumes nothing.
+-- definition before the last.
 use Prim.Native.Nat.{ℕ, _*_, _/_, _%_, _<_, _≤_, min}
 use mathlib.Core.Path.{_≡_, refl, sym, ap, _∙_}
 use mathlib.Core.Bool.{Bool, true, false, cond}
@@ -9,13 +9,15 @@ use borrow.Author.Tests.{eq-eqb, ne-eqb, lt-ltb, le-ltb}
 use lib.ListN.{length}
 use Rattle.paper.specs.Limits.{isLimit, maxBytes}
 use Rattle.paper.specs.Record.{Flaw, flaw, weightFrom}
-use Rattle.paper.specs.Verdict.{Verdict, accepted, refused, flawed, isAccepted, recordsIn, badLength, firstFlawed, treeEnd, firstBadExponent, judgeRecords, judgedTable, verdict}
+use Rattle.paper.specs.Verdict.{Verdict, accepted, refused, flawed, isAccepted, recordsIn, badLength, firstFlawed, treeEnd, firstBadExponent}
+use Rattle.paper.specs.Verdict.{judgeRecords, judgedTable, verdict}
 use Rattle.table.specs.Judged.{standsFor, Finds}
 use Rattle.table.specs.declared.Judged.{Judged}
 use Rattle.table.specs.declared.Found.{Found}
 
 -- what is found, by the verdict
-pub finds-refused : (v : Verdict) (w : ℕ) (j : Judged) (r : Found) → (r .judged ≡ j) × (r .weight ≡ 0) → standsFor j ≡ v → isAccepted (standsFor j) ≡ false → Finds v w r
+pub finds-refused : (v : Verdict) (w : ℕ) (j : Judged) (r : Found) → (r .judged ≡ j) × (r .weight ≡ 0) → standsFor j ≡ v
+    → isAccepted (standsFor j) ≡ false → Finds v w r
 finds-refused v w j r (e, z) s n = (ap standsFor e ∙ s, z ∙ sym (ap (λ (b : Bool). cond b w 0) (ap isAccepted (sym s) ∙ n)))
 
 pub finds-weight : (v : Verdict) (w x : ℕ) → v ≡ accepted → x ≡ w → x ≡ cond (isAccepted v) w 0

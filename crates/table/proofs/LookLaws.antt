@@ -1,5 +1,5 @@
 -- Laws of a look at the records of a table: what was counted up to record i, and what the definitions say of the records from there on, is what
--- they say of all; each record that has no flaw keeps that so, by its kind, and at the end nothing is left to count. Assumes nothing.
+-- they say of all; each record that has no flaw keeps that so, by its kind, and at the end nothing is left to count.
 use Prim.Native.Nat.{ℕ, _+_, _-_, _*_, _<_, _≤_}
 use mathlib.Core.Path.{_≡_, refl, sym, ap, _∙_}
 use mathlib.Core.Bool.{Bool, true, false, not, _||_}

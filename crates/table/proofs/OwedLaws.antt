@@ -1,6 +1,6 @@
 -- Laws of the trees that are owed, of which some are exponents: what they and the records that are left tell of bad exponents is what the
 -- whole table tells, record by record. A power's exponent is the record after its base, so where the base and the exponent are owed,
--- that tells what the power did. The first bad one that is met is the least, since the others stand behind it. Assumes nothing.
+-- that tells what the power did. The first bad one that is met is the least, since the others stand behind it.
 use Prim.Native.Nat.{ℕ, zero, suc, _+_, _-_, _*_, _<_, _≤_, min}
 use mathlib.Core.Path.{_≡_, refl, sym, _∙_}
 use mathlib.Core.Bool.{Bool, true, false, cond, _&&_, not}

@@ -1,6 +1,6 @@
 -- A record by the two numbers that its halves are. Bytes 0-7 are its kind, byte 1, its count, its mark, and bytes 6 and 7, each at its place: where
 -- the number is below the place of byte 6, what remains below the mark's place is kind, byte 1 and count. The other way round, a record
--- without a flaw has one of four forms, since its other bytes are zero; so one that has none of them is flawed. Assumes nothing.
+-- without a flaw has one of four forms, since its other bytes are zero; so one that has none of them is flawed.
 use Prim.Native.Nat.{ℕ, zero, suc, _+_, _*_, _/_, _%_, _<_, _≤_}
 use mathlib.Core.Path.{_≡_, refl, sym, ap, _∙_}
 use mathlib.Core.Bool.{Bool, true, false, cond, _&&_, _||_}

@@ -1,4 +1,4 @@
--- One record of each definition that goes through the records of a table, as a loop takes it. Assumes nothing.
+-- One record of each definition that goes through the records of a table, as a loop takes it.
 use Prim.Native.Nat.{ℕ, suc, _+_, _-_, _<_, _≤_}
 use mathlib.Core.Path.{_≡_, refl, sym, ap, _∙_}
 use mathlib.Core.Bool.{Bool, true, false, cond, not, _||_}

@@ -1,6 +1,6 @@
--- Two answers that meet the contract of `check`, of `weight`, of `fault_of`, of `weight_of` or of `is_limit`, as the check reads it from the
--- source, are the same: the paper's numbers tell every answer of the code from every other, the weight is one number, and yes or no is one.
--- Assumes nothing.
+-- Two answers that meet the contract of `check`, of `weight`, of `refusal`, of `fault_of`, of `with_result`, of `weight_of` or of `is_limit`, as
+-- the check reads it from the source, are the same: the paper's numbers tell every answer of the code from every other, the weight is one number,
+-- and yes or no is one.
 use Prim.Native.Nat.{ℕ, zero, suc}
 use mathlib.Core.Path.{_≡_, refl, sym, ap, _∙_}
 use Rattle.paper.specs.Record as paper-record
@@ -19,6 +19,10 @@ use Rattle.table.proofs.check.Reads as check-reads
 use Rattle.table.proofs.check.Kinds as check-kinds
 use Rattle.table.proofs.weight.Reads as weight-reads
 use Rattle.table.proofs.weight.Kinds as weight-kinds
+use Rattle.table.proofs.refusal.Reads as refusal-reads
+use Rattle.table.proofs.refusal.Kinds as refusal-kinds
+use Rattle.table.proofs.with_result.Reads as with-result-reads
+use Rattle.table.proofs.with_result.Kinds as with-result-kinds
 use Rattle.table.proofs.fault_of.Reads as fault-of-reads
 use Rattle.table.proofs.fault_of.Kinds as fault-of-kinds
 use Rattle.table.proofs.is_limit.Reads as is-limit-reads
@@ -57,7 +61,7 @@ fault-of : (r : Fault) → faultOf (verdictOf r) ≡ r
 unfolding faultOf
 fault-of r = ap (λ (f : Flaw). record { number = r .number; place = r .place; flaw = f }) (code-of (r .flaw))
 
-fault-once : (r r′ : Fault) → verdictOf r ≡ verdictOf r′ → r ≡ r′
+pub fault-once : (r r′ : Fault) → verdictOf r ≡ verdictOf r′ → r ≡ r′
 fault-once r r′ e = sym (fault-of r) ∙ ap faultOf e ∙ fault-of r′
 
 measuredOf : paper.Measured → Measured
@@ -75,6 +79,12 @@ check-once κs a v v' x x' q p p' = stands-once v v' (p ∙ sym p')
 
 pub weight-once : Once 1 weight-kinds.ps weight-kinds.r weight-reads.Pre weight-reads.Post
 weight-once κs a v v' x x' q p p' = says-once v v' (p ∙ sym p')
+
+pub refusal-once : Once 0 refusal-kinds.ps refusal-kinds.r refusal-reads.Pre refusal-reads.Post
+refusal-once κs a v v' x x' q p p' = fault-once v v' (p ∙ sym p')
+
+pub with-result-once : Once 0 with-result-kinds.ps with-result-kinds.r with-result-reads.Pre with-result-reads.Post
+with-result-once κs a v v' x x' q p p' = says-once v v' (p ∙ sym p')
 
 pub fault-of-once : Once 0 fault-of-kinds.ps fault-of-kinds.r fault-of-reads.Pre fault-of-reads.Post
 fault-of-once κs a v v' x x' q p p' = fault-once v v' (p ∙ sym p')

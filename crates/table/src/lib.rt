@@ -7,10 +7,11 @@ ghost use lib.ListN.{length};
 ghost use lib.Dec.{eqb};
 ghost use Rattle.paper.specs.Limits.{isLimit};
 ghost use Rattle.paper.specs.Record.{arity, weightFrom};
+ghost use Rattle.paper.specs.Verdict as paper;
 ghost use Rattle.paper.specs.Verdict.{recordsIn, firstFlawed, treeEnd, firstBadExponent, tableWeight, isAccepted, judgeRecords, verdict};
 ghost use Rattle.paper.specs.Answers.{weighed};
 ghost use Rattle.table.specs.Judged.{standsFor, verdictOf, Finds};
-ghost use Rattle.table.specs.Measured.{says};
+ghost use Rattle.table.specs.Measured.{says, withResult};
 ghost use Rattle.table.specs.Due.{dueAt, turned, owing};
 ghost use Rattle.table.specs.Look.{Sees, Looks};
 
@@ -21,6 +22,54 @@ const BYTE_2: usize = 0x1_0000;
 const BYTE_4: u64 = 0x1_0000_0000;
 
 const BYTE_6: u64 = 0x1_0000_0000_0000;
+
+// The kinds as such numbers.
+const SYMBOL: usize = record::SYMBOL as usize;
+
+const SUM: usize = record::SUM as usize;
+
+const PRODUCT: usize = record::PRODUCT as usize;
+
+const POWER: usize = record::POWER as usize;
+
+// The fewest members of a sum or a product, and the members of a power.
+const FEWEST: usize = 2;
+
+const OF_POWER: usize = 2;
+
+// The greatest number of a symbol.
+const LAST_SYMBOL: u64 = 255;
+
+// What a symbol weighs, and what it weighs more than another record.
+const SYMBOL_WEIGHS: usize = 3;
+
+const SYMBOL_MORE: usize = 2;
+
+// The bits of a word in a row of bits, and the words of the row, a bit for each record of the largest table.
+const WORD: usize = 64;
+
+const WORDS: usize = 256;
+
+// The limits that there are.
+pub const OLD_LIMIT: usize = 3072;
+
+pub const NEW_LIMIT: usize = 16384;
+
+// The numbers of refusals, by what is wrong: the length of a table, a record, the weight, the shape, an exponent; the room that a call is
+// lent; the limit.
+pub const LENGTH: u32 = 1;
+
+pub const RECORD: u32 = 2;
+
+pub const HEAVY: u32 = 3;
+
+pub const SHAPE: u32 = 4;
+
+pub const EXPONENT: u32 = 5;
+
+pub const ROOM: u32 = 6;
+
+pub const LIMIT: u32 = 19;
 
 // The checker's answer: nothing is refused, or which refusal it is, with the record where it has one, and what is wrong with it.
 pub enum Judged {
@@ -93,8 +142,8 @@ fn weight_of(s: &[u8], n: usize) -> usize
     let mut i = 0;
     let mut w = 0;
     while i < n {
-        if record::kind(s, i) == 1 {
-            w += 3;
+        if record::kind(s, i) == record::SYMBOL {
+            w += SYMBOL_WEIGHS;
         } else {
             w += 1;
         }
@@ -124,30 +173,30 @@ fn tree_end(s: &[u8], n: usize) -> usize
 }
 
 // Tree k of those that are owed is an exponent: its bit is 1.
-fn is_due(due: &[u64; 256], k: usize) -> bool
+fn is_due(due: &[u64; WORDS], k: usize) -> bool
     requires { ⌜ k < 16384 ⌝ }
     ensures { λ r. ⌜ r ≡ eqb (dueAt (now (due .entry)) k) 1 ⌝ }
 {
-    (due[k / 64] >> (k % 64)) % 2 == 1
+    (due[k / WORD] >> (k % WORD)) % 2 == 1
 }
 
 // Turns the bit of tree k of those that are owed: 1 to 0, 0 to 1.
-fn turn(due: &mut [u64; 256], k: usize)
+fn turn(due: &mut [u64; WORDS], k: usize)
     requires { ⌜ k < 16384 ⌝ }
     ensures { λ _. ⌜ now (due .exit) ≡ turned (now (due .entry)) k ⌝ }
 {
-    due[k / 64] = due[k / 64] ^ (1u64 << (k % 64));
+    due[k / WORD] = due[k / WORD] ^ (1u64 << (k % WORD));
 }
 
 // Record i, which is no exponent, is taken, k trees being owed besides: its members are owed, the first one on top, and of a power the
 // second one is the exponent. Answers how many are owed then.
-fn owe_members(s: &[u8], i: usize, due: &mut [u64; 256], k: usize) -> usize
+fn owe_members(s: &[u8], i: usize, due: &mut [u64; WORDS], k: usize) -> usize
     requires { ⌜ (i * 16 + 16 ≤ length (now s)) × (k < 16384) ⌝ }
     ensures { λ r. ⌜ (r ≡ k + arity (now (s .entry)) i) × (now (due .exit) ≡ owing (now (s .entry)) i (now (due .entry)) k) ⌝ }
 {
     let owed = k + record::arity(s, i);
-    if record::kind(s, i) == 4 {
-        turn(due, owed - 2);
+    if record::kind(s, i) == record::POWER {
+        turn(due, owed - OF_POWER);
     }
     owed
 }
@@ -158,7 +207,7 @@ fn first_bad(s: &[u8], n: usize) -> usize
     requires { ⌜ (n * 16 ≤ length (now s)) × (n ≤ 16384) × (treeEnd (now s) n 0 ≡ n) ⌝ }
     ensures { λ r. ⌜ r ≡ firstBadExponent (now (s .entry)) n 0 n ⌝ }
 {
-    let mut due = [0u64; 256];
+    let mut due = [0u64; WORDS];
     let mut owed = 1;
     let mut i = 0;
     while i < n {
@@ -181,17 +230,17 @@ fn glance(s: &[u8], i: usize) -> Seen
     requires { ⌜ i * 16 + 16 ≤ length (now s) ⌝ }
     ensures { λ r. ⌜ Sees (now (s .entry)) i r ⌝ }
 {
-    let h = number::read8(s, i * 16);
+    let h = number::read8(s, i * record::SIZE);
     let v = record::bits(s, i);
     if BYTE_6 <= h {
         return Seen::Flawed;
     }
     let front = (h % BYTE_4) as usize;
-    if front < 1 {
+    if front < SYMBOL {
         return Seen::Integer;
     }
-    if front < 2 {
-        if 255 < v {
+    if front < SUM {
+        if LAST_SYMBOL < v {
             return Seen::Flawed;
         }
         return Seen::Symbol;
@@ -199,17 +248,17 @@ fn glance(s: &[u8], i: usize) -> Seen
     if 0 < v {
         return Seen::Flawed;
     }
-    if front < 2 * BYTE_2 {
-        if front == 4 {
+    if front < FEWEST * BYTE_2 {
+        if front == POWER {
             return Seen::Power;
         }
         return Seen::Flawed;
     }
     let kind = front % BYTE_2;
-    if kind < 2 {
+    if kind < SUM {
         return Seen::Flawed;
     }
-    if 3 < kind {
+    if PRODUCT < kind {
         return Seen::Flawed;
     }
     Seen::Members(front / BYTE_2)
@@ -236,7 +285,7 @@ fn look(s: &[u8], n: usize) -> Looked
                 owed -= 1;
             }
             Seen::Symbol => {
-                w += 2;
+                w += SYMBOL_MORE;
                 owed -= 1;
             }
             Seen::Members(c) => {
@@ -311,10 +360,10 @@ fn judge_records(limit: usize, s: &[u8], n: usize) -> Found
 pub fn is_limit(limit: usize) -> bool
     ensures { λ r. ⌜ r ≡ isLimit limit ⌝ }
 {
-    if limit == 3072 {
+    if limit == OLD_LIMIT {
         return true;
     }
-    limit == 16384
+    limit == NEW_LIMIT
 }
 
 // Refusal 19 of the limit, and then 1 to 5, the lowest number first.
@@ -327,13 +376,13 @@ fn judge(limit: usize, s: &[u8]) -> Found
     if s.len() < 1 {
         return refused(Judged::Length);
     }
-    if 0 < s.len() % 16 {
+    if 0 < s.len() % record::SIZE {
         return refused(Judged::Length);
     }
-    if 16 * limit < s.len() {
+    if record::SIZE * limit < s.len() {
         return refused(Judged::Length);
     }
-    judge_records(limit, s, s.len() / 16)
+    judge_records(limit, s, s.len() / record::SIZE)
 }
 
 // The checker of tables: refusal 19 of the limit, and then 1 to 5, the lowest number first.
@@ -344,46 +393,46 @@ pub fn check(limit: usize, s: &[u8]) -> Judged
     found.judged
 }
 
+// A refusal by number and place, of no record; by 0 and 0 nothing is refused.
+pub fn refusal(number: u32, place: usize) -> Fault
+    ensures { λ r. ⌜ verdictOf r ≡ paper.refused number place ⌝ }
+{
+    Fault {
+        number: number,
+        place: place,
+        flaw: Flaw::Sound,
+    }
+}
+
 // The paper's number and place of the checker's answer, and what is wrong with the record.
 pub fn fault_of(j: Judged) -> Fault
     ensures { λ r. ⌜ verdictOf r ≡ standsFor j ⌝ }
 {
     match j {
-        Judged::Fine => Fault {
-            number: 0,
-            place: 0,
-            flaw: Flaw::Sound,
-        },
-        Judged::Length => Fault {
-            number: 1,
-            place: 0,
-            flaw: Flaw::Sound,
-        },
+        Judged::Fine => refusal(0, 0),
+        Judged::Length => refusal(LENGTH, 0),
         Judged::Record(p, f) => Fault {
-            number: 2,
+            number: RECORD,
             place: p,
             flaw: f,
         },
-        Judged::Heavy => Fault {
-            number: 3,
-            place: 0,
-            flaw: Flaw::Sound,
-        },
-        Judged::Shape(p) => Fault {
-            number: 4,
-            place: p,
-            flaw: Flaw::Sound,
-        },
-        Judged::Exponent(p) => Fault {
-            number: 5,
-            place: p,
-            flaw: Flaw::Sound,
-        },
-        Judged::Limit => Fault {
-            number: 19,
-            place: 0,
-            flaw: Flaw::Sound,
-        },
+        Judged::Heavy => refusal(HEAVY, 0),
+        Judged::Shape(p) => refusal(SHAPE, p),
+        Judged::Exponent(p) => refusal(EXPONENT, p),
+        Judged::Limit => refusal(LIMIT, 0),
+    }
+}
+
+// What was refused, and a number beside it.
+pub fn with_result(f: Fault, result: u64) -> Measured
+    ensures { λ r. ⌜ says r ≡ withResult (verdictOf f) result ⌝ }
+{
+    let flaw = f.flaw;
+    Measured {
+        number: f.number,
+        place: f.place,
+        flaw: flaw,
+        result: result,
     }
 }
 
@@ -394,12 +443,5 @@ pub fn weight(limit: usize, s: &[u8]) -> Measured
     let found = judge(limit, s);
     let w = found.weight;
     let judged = found.judged;
-    let f = fault_of(judged);
-    let flaw = f.flaw;
-    Measured {
-        number: f.number,
-        place: f.place,
-        flaw: flaw,
-        result: w as u64,
-    }
+    with_result(fault_of(judged), w as u64)
 }

@@ -1,19 +1,19 @@
 -- The reader's answer, case by case: refused by 14, 3 or 6, or the records of the text's tree at the front of the area; and what the verdict
--- on the text tells of its tree. Assumes nothing.
+-- on the text tells of its tree.
 use Prim.Native.Nat.{ℕ, _+_, _-_, _*_, _<_, _≤_}
 use mathlib.Core.Path.{_≡_, refl, sym, ap, _∙_}
-use mathlib.Core.List.{List, _++_}
+use mathlib.Core.List.{List}
 use mathlib.Core.Bool.{Bool, true, false, cond, not}
 use mathlib.Core.Option.{Option, none, some}
 use native.Mathlib.Omega.{arith}
 use borrow.Author.Tests.{lt-ltb, le-ltb, ltb-true, ltb-false}
 use lib.Dec.{ltb}
-use lib.ListN.{length, drop}
+use lib.ListN.{length}
 use Rattle.paper.specs.Limits.{isLimit}
 use Rattle.paper.specs.Tree.{Tree, records, weight}
 use Rattle.paper_text.specs.Text.{readText}
 use Rattle.paper.specs.Table.{encode}
-use Rattle.paper.specs.Verdict.{accepted, refused, isAccepted}
+use Rattle.paper.specs.Verdict.{isAccepted}
 use Rattle.paper_text.specs.Answers.{Filled, Taken, taken, areaAfter, roomFor, recordsOf, countOf, readJudged, readVerdict, readAnswer, readGiven}
 use Rattle.paper.proofs.Tests.{never}
 use Rattle.paper.proofs.EncodeLaws.{encode-length}

@@ -1,13 +1,12 @@
 -- Two answers that meet the contract of `read` or of `write`, as the check reads it from the source, are the same, and so is the area
--- afterwards: each contract is an equation with a function of what is handed in. Assumes nothing.
+-- afterwards: each contract is an equation with a function of what is handed in.
 use Prim.Native.Nat.{ℕ}
-use mathlib.Core.Path.{_≡_, refl, sym, ap, _∙_}
+use mathlib.Core.Path.{sym, ap, _∙_}
 use mathlib.Core.List.{List}
 use Rattle.paper.specs.Once.{OnceLeft}
 use Rattle.paper_text.specs.Answers as paper
 use Rattle.table.proofs.Unique.{says-once}
 use Rattle.text.specs.declared.Taken.{Taken}
-use Rattle.text.specs.Gives.{takes}
 use Rattle.text.proofs.read.Reads as read-reads
 use Rattle.text.proofs.read.Kinds as read-kinds
 use Rattle.text.proofs.write.Reads as write-reads

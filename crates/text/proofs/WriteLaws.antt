@@ -1,12 +1,10 @@
--- The writer's answer, case by case: refused by 1 to 5, by 6, or the text of the table's tree at the front of the area. Assumes nothing.
-use Prim.Native.Nat.{ℕ, _+_, _-_, _*_, _^_, _<_, _≤_}
-use mathlib.Core.Path.{_≡_, refl, sym, ap, _∙_}
+-- The writer's answer, case by case: refused by 1 to 5, by 6, or the text of the table's tree at the front of the area.
+use Prim.Native.Nat.{ℕ, _+_, _-_, _<_, _≤_}
+use mathlib.Core.Path.{_≡_, ap, _∙_}
 use mathlib.Core.List.{List, _++_}
 use native.Mathlib.Omega.{arith}
 use borrow.Author.Tests.{ne-eqb, lt-ltb, le-ltb}
 use lib.ListN.{length, drop}
-use Rattle.paper.specs.Bytes.{Bytes}
-use Rattle.paper.specs.Tree.{Tree, records, weight}
 use Rattle.paper_text.specs.Text.{text}
 use Rattle.paper.specs.Record.{Flaw, sound}
 use Rattle.paper.specs.Verdict.{accepted, told, isAccepted, verdict, recordsIn}

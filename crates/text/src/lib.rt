@@ -6,6 +6,15 @@ ghost use mathlib.Core.Path.{_≡_};
 ghost use Rattle.paper_text.specs.Answers.{readGiven, writeGiven};
 ghost use Rattle.text.specs.Gives.{takes, gives};
 
+// The refusals: there is no such limit; a text that the writer does not write; a tree over the limit; an area too short.
+const NO_LIMIT: u32 = 19;
+
+const NO_TEXT: u32 = 14;
+
+const HEAVY: u32 = 3;
+
+const NO_ROOM: u32 = 6;
+
 // What comes of reading a text: number, place (always 0), records written.
 pub struct Taken {
     pub number: u32,
@@ -19,26 +28,26 @@ pub fn read(limit: usize, text: &[u8], table: &mut [u8]) -> Taken
 {
     if !table::is_limit(limit) {
         return Taken {
-            number: 19,
+            number: NO_LIMIT,
             place: 0,
             records: 0,
         };
     }
     match parse::weigh(text, limit) {
         Weighed::Not => Taken {
-            number: 14,
+            number: NO_TEXT,
             place: 0,
             records: 0,
         },
         Weighed::Heavy => Taken {
-            number: 3,
+            number: HEAVY,
             place: 0,
             records: 0,
         },
         Weighed::Is(n) => {
-            if table.len() / 16 < n {
+            if table.len() / record::SIZE < n {
                 return Taken {
-                    number: 6,
+                    number: NO_ROOM,
                     place: 0,
                     records: 0,
                 };
@@ -70,7 +79,7 @@ pub fn write(limit: usize, table: &[u8], text: &mut [u8]) -> Measured
     let n = spell::measure(table);
     if text.len() < n {
         return Measured {
-            number: 6,
+            number: NO_ROOM,
             place: 0,
             flaw: Flaw::Sound,
             result: 0,

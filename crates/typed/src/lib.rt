@@ -2,56 +2,67 @@
 ghost use Prim.Native.Nat.{_≤_};
 ghost use lib.ListN.{length};
 use libc::STDERR_FILENO;
+use libc::STDIN_FILENO;
 use libc::STDOUT_FILENO;
 use record::Flaw;
+use report::LIMIT;
+use report::OVER_TABLE;
+use report::TABLE;
+use report::WORK;
+
+// The edition by which `shorten` shortens.
+const EDITION_ONE: usize = 1;
+
+// The longest text that a program reads, and one byte more.
+const TEXT: usize = 65536;
+
+const OVER_TEXT: usize = 65537;
+
+// The refusals of a table, of a run, and of a text.
+const LENGTH: u32 = 1;
+
+const RECORD: u32 = 2;
+
+const WEIGHT: u32 = 3;
+
+const TREE: u32 = 4;
+
+const EXPONENT: u32 = 5;
+
+const RANGE: u32 = 7;
+
+const FORM: u32 = 14;
+
+// Tells a word on standard error.
+fn tell(word: &[u8]) {
+    io::write_all(STDERR_FILENO, word);
+}
 
 // Tells on standard error, in words, why a formula or a table is refused.
 fn explain(number: u32) {
-    if number == 1 {
-        io::write_all(
-            STDERR_FILENO,
-            b"the table's length is zero, no multiple of 16, or over 49,152 bytes\n",
-        );
-    }
-    if number == 2 {
-        io::write_all(
-            STDERR_FILENO,
+    match number {
+        LENGTH => tell(b"the table's length is zero, no multiple of 16, or over 49,152 bytes\n"),
+        RECORD => tell(
             b"the record has an unknown kind, a byte that must be zero and is not, or fewer than two members\n",
-        );
-    }
-    if number == 3 {
-        io::write_all(STDERR_FILENO, b"the formula weighs over 3,072\n");
-    }
-    if number == 4 {
-        io::write_all(STDERR_FILENO, b"the records are not those of one formula\n");
-    }
-    if number == 5 {
-        io::write_all(
-            STDERR_FILENO,
-            b"the record is an exponent and no integer of at least 1\n",
-        );
-    }
-    if number == 7 {
-        io::write_all(
-            STDERR_FILENO,
-            b"an integer leaves the signed 64-bit range\n",
-        );
-    }
-    if number == 14 {
-        io::write_all(
-            STDERR_FILENO,
+        ),
+        WEIGHT => tell(b"the formula weighs over 3,072\n"),
+        TREE => tell(b"the records are not those of one formula\n"),
+        EXPONENT => tell(b"the record is an exponent and no integer of at least 1\n"),
+        RANGE => tell(b"an integer leaves the signed 64-bit range\n"),
+        FORM => tell(
             b"no formula in this form: s0 to s255, integers of 64 bits, + * ^ and no spaces, exponents of at least 1, parentheses only where they must stand\n",
-        );
+        ),
+        _ => (),
     }
 }
 
 // Tells of a refusal on standard error: number and place, and why, in words.
 fn turn_away(number: u32, place: usize) {
-    io::write_all(STDERR_FILENO, b"refused ");
+    tell(b"refused ");
     io::print_decimal(STDERR_FILENO, number as u64);
-    io::write_all(STDERR_FILENO, b" at ");
+    tell(b" at ");
     io::print_decimal(STDERR_FILENO, place as u64);
-    io::write_all(STDERR_FILENO, b"\n");
+    tell(b"\n");
     explain(number);
 }
 
@@ -75,7 +86,7 @@ fn without_end(text: &[u8]) -> usize
     if n < 1 {
         return 0;
     }
-    if text[n - 1] == 10 {
+    if text[n - 1] == b'\n' {
         return n - 1;
     }
     n
@@ -95,30 +106,30 @@ fn at_most(n: usize, all: usize) -> usize
 fn bytes_of(records: usize) -> usize
     ensures { λ r. ⌜ r ≤ 49152 ⌝ }
 {
-    if records < 3072 {
-        return 16 * records;
+    if records < LIMIT {
+        return record::SIZE * records;
     }
-    49152
+    TABLE
 }
 
 // Writes the text of a table, and a line feed; or its refusal. Whether it was written.
 fn print(table: &[u8]) -> bool {
-    let mut text = [0u8; 65536];
-    let w = text::write(3072, table, &mut text);
+    let mut text = [0u8; TEXT];
+    let w = text::write(LIMIT, table, &mut text);
     let flaw = w.flaw;
     if 0 < w.number {
         return refuse(w.number, w.place, flaw);
     }
-    let n = at_most(w.result as usize, 65536);
+    let n = at_most(w.result as usize, TEXT);
     io::write_all(STDOUT_FILENO, &text[..n]) && io::write_all(STDOUT_FILENO, b"\n")
 }
 
 // Simplifies a table; writes the text of what it has become, and its listing. Whether they were written.
 fn shorten_table(table: &[u8]) -> bool {
-    let mut out = [0u8; 49152];
-    let mut steps = [0u8; 3072];
-    let mut work = [0u8; 65536];
-    let a = simplify::simplify(3072, 1, table, &mut out, &mut steps, &mut work);
+    let mut out = [0u8; TABLE];
+    let mut steps = [0u8; LIMIT];
+    let mut work = [0u8; WORK];
+    let a = simplify::simplify(LIMIT, EDITION_ONE, table, &mut out, &mut steps, &mut work);
     if a.number < 1 {
         let written = bytes_of(a.records);
         if !print(&out[..written]) {
@@ -131,14 +142,14 @@ fn shorten_table(table: &[u8]) -> bool {
 
 // Reads a formula and shortens it. Whether what came of it was written.
 fn shorten_text() -> bool {
-    let mut text = [0u8; 65537];
-    let n = io::read_full(0, &mut text);
-    if 65536 < n {
+    let mut text = [0u8; OVER_TEXT];
+    let n = io::read_full(STDIN_FILENO, &mut text);
+    if TEXT < n {
         return too_long(STDOUT_FILENO);
     }
-    let m = at_most(without_end(&text[..n]), 65537);
-    let mut table = [0u8; 49152];
-    let r = text::read(3072, &text[..m], &mut table);
+    let m = at_most(without_end(&text[..n]), OVER_TEXT);
+    let mut table = [0u8; TABLE];
+    let r = text::read(LIMIT, &text[..m], &mut table);
     if 0 < r.number {
         return refuse(r.number, r.place, Flaw::Sound);
     }
@@ -155,15 +166,15 @@ pub fn shorten() {
 
 // Reads a formula and writes its table; a refusal goes to standard error.
 pub fn entry() {
-    let mut text = [0u8; 65537];
-    let n = io::read_full(0, &mut text);
-    if 65536 < n {
+    let mut text = [0u8; OVER_TEXT];
+    let n = io::read_full(STDIN_FILENO, &mut text);
+    if TEXT < n {
         too_long(STDERR_FILENO);
         return;
     }
-    let m = at_most(without_end(&text[..n]), 65537);
-    let mut table = [0u8; 49152];
-    let r = text::read(3072, &text[..m], &mut table);
+    let m = at_most(without_end(&text[..n]), OVER_TEXT);
+    let mut table = [0u8; TABLE];
+    let r = text::read(LIMIT, &text[..m], &mut table);
     if 0 < r.number {
         turn_away(r.number, r.place);
         return;
@@ -176,8 +187,8 @@ pub fn entry() {
 
 // Reads a table and writes its text. Of an input that is longer than any table only as much is read as shows that it is.
 pub fn show() {
-    let mut table = [0u8; 49168];
-    let n = io::read_full(0, &mut table);
+    let mut table = [0u8; OVER_TABLE];
+    let n = io::read_full(STDIN_FILENO, &mut table);
     if !print(&table[..n]) {
         report::lost();
     }

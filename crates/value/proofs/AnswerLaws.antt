@@ -1,5 +1,5 @@
 -- The evaluator's answer, case by case. An accepted table holds a tree, whose records are the table and whose value is the answer;
--- only the registers of its symbols, which are below 256, count. Assumes nothing.
+-- only the registers of its symbols, which are below 256, count.
 use Prim.Native.Nat.{ℕ, _%_, _^_, _<_}
 use mathlib.Core.Path.{_≡_, refl, ap}
 use mathlib.Core.List.{List}

@@ -1,6 +1,6 @@
 -- Adding up, or multiplying, the values of members one after the other, as a loop does: what is gathered so far, joined with what the
 -- members left would give, stays what all of them give, since the operation modulo 2^64 may be grouped as one likes. Once, for an
--- operation and what it gives for the members. Assumes nothing.
+-- operation and what it gives for the members.
 use Prim.Native.Nat.{ℕ, _+_, _-_, _*_, _%_, _<_, _≤_}
 use mathlib.Core.Path.{_≡_, refl, sym, ap, _∙_}
 use mathlib.Core.Bool.{Bool, true, false, cond}

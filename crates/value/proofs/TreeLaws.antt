@@ -1,5 +1,5 @@
 -- What the record of a standing tree tells the evaluator, kind by kind: the tree's value and end come from the record's fields and,
--- for a sum, a product or a power, from what the members that stand after it give, a power's base being its one. Assumes nothing.
+-- for a sum, a product or a power, from what the members that stand after it give, a power's base being its one.
 use Prim.Native.Nat.{ℕ, _+_, _*_, _%_, _^_, _<_, _≤_}
 use mathlib.Core.Path.{_≡_, refl, sym, ap, _∙_, subst}
 use mathlib.Core.List.{List, [], _∷_, append-nil}

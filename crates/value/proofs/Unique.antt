@@ -1,5 +1,4 @@
 -- Two answers that meet the contract of `value`, as the check reads it from the source, are the same: the contract tells each field.
--- Assumes nothing.
 use mathlib.Core.Path.{sym, _∙_}
 use Rattle.paper.specs.Once.{Once}
 use Rattle.table.proofs.Unique.{says-once}

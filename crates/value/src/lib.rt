@@ -1,5 +1,4 @@
 // The value of a table under 256 registers of 64 bits, modulo 2^64.
-use record::Flaw;
 use table::Measured;
 ghost use mathlib.Core.Path.{_≡_};
 ghost use Prim.Native.Nat.{ℕ, _+_, _*_, _%_, _^_, _<_, _≤_};
@@ -11,6 +10,11 @@ ghost use Rattle.table.specs.Measured.{says};
 ghost use Rattle.paper.specs.Standing.{TreeIn, SomeTree};
 ghost use Rattle.value.specs.Evaluated.{Evaluated, held, place, parts, neutral, joined};
 
+// How many registers there are, and their bytes.
+const REGISTERS: usize = 256;
+
+const REGISTER_BYTES: usize = 2048;
+
 // The registers as numbers, symbol 0 first.
 fn fill(registers: &[u8]) -> [u64; 256]
     requires { ⌜ length (now registers) ≡ 2048 ⌝ }
@@ -18,8 +22,8 @@ fn fill(registers: &[u8]) -> [u64; 256]
 {
     let mut r = [0u64; 256];
     let mut i: usize = 0;
-    while i < 256 {
-        r[i] = number::read8(registers, i * 8);
+    while i < REGISTERS {
+        r[i] = number::read8(registers, i * number::SIZE);
         i += 1;
     }
     r
@@ -37,7 +41,7 @@ fn parts(s: &[u8], i: usize) -> usize
     requires { ⌜ i * 16 + 16 ≤ length (now s) ⌝ }
     ensures { λ r. ⌜ r ≡ parts (now (s .entry)) i ⌝ }
 {
-    if record::kind(s, i) == 4 {
+    if record::kind(s, i) == record::POWER {
         return 1;
     }
     record::count(s, i)
@@ -47,7 +51,7 @@ fn parts(s: &[u8], i: usize) -> usize
 fn neutral(k: u8) -> u64
     ensures { λ r. ⌜ r ≡ neutral k ⌝ }
 {
-    if k < 3 {
+    if k < record::PRODUCT {
         return 0;
     }
     1
@@ -57,7 +61,7 @@ fn neutral(k: u8) -> u64
 fn joined(k: u8, total: u64, v: u64) -> u64
     ensures { λ r. ⌜ r ≡ joined k total v % modulus ⌝ }
 {
-    if k < 3 {
+    if k < record::PRODUCT {
         return std::num::wrapping_add_u64(total, v);
     }
     number::wrapping_mul(total, v)
@@ -76,10 +80,10 @@ fn value_at(s: &&[u8], regs: &[u64; 256], at: &mut [usize; 1]) -> u64
     let i = at[PLACE];
     let k = record::kind(*s, i);
     at[PLACE] = i + 1;
-    if k < 1 {
+    if k < record::SYMBOL {
         return record::bits(*s, i);
     }
-    if k < 2 {
+    if k < record::SUM {
         return register_of(regs, record::symbol(*s, i));
     }
     let mut left = parts(*s, i);
@@ -89,7 +93,7 @@ fn value_at(s: &&[u8], regs: &[u64; 256], at: &mut [usize; 1]) -> u64
         total = joined(k, total, v);
         left -= 1;
     }
-    if k < 4 {
+    if k < record::POWER {
         return total;
     }
     let e = at[PLACE];
@@ -102,31 +106,15 @@ pub fn value(limit: usize, s: &[u8], registers: &[u8]) -> Measured
     ensures { λ r. ⌜ says r ≡ valued limit (now (s .entry)) (now (registers .entry)) ⌝ }
 {
     let f = table::fault_of(table::check(limit, s));
-    let flaw = f.flaw;
     if 0 < f.number {
-        return Measured {
-            number: f.number,
-            place: f.place,
-            flaw: flaw,
-            result: 0,
-        };
+        return table::with_result(f, 0);
     }
-    if registers.len() != 2048 {
-        return Measured {
-            number: 6,
-            place: 0,
-            flaw: Flaw::Sound,
-            result: 0,
-        };
+    if registers.len() != REGISTER_BYTES {
+        return table::with_result(table::refusal(table::ROOM, 0), 0);
     }
     let regs = fill(registers);
     let mut at = [0usize; 1];
     let t = s;
     let v = value_at(&t, &regs, &mut at);
-    Measured {
-        number: 0,
-        place: 0,
-        flaw: Flaw::Sound,
-        result: v,
-    }
+    table::with_result(table::refusal(0, 0), v)
 }

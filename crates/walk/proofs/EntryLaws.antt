@@ -1,7 +1,7 @@
 -- The members' entries at the front of `work`: an entry that is written is read back, the others stay, and what stands from the node's
 -- record on stays too; so where the last entry moves into the place of a removed one, the entries from there on are those of the last
--- member and of the others in order. By induction on the members. Assumes nothing.
-use Prim.Native.Nat.{ℕ, zero, suc, _+_, _-_, _*_, _%_, _<_, _≤_}
+-- member and of the others in order. By induction on the members.
+use Prim.Native.Nat.{ℕ, suc, _+_, _-_, _*_, _%_, _<_, _≤_}
 use mathlib.Core.Path.{_≡_, refl, sym, ap, _∙_, subst}
 use mathlib.Core.Bool.{Bool}
 use mathlib.Core.List.{List, [], _∷_, _++_, append-nil, append-assoc}
@@ -22,11 +22,11 @@ use Rattle.note.specs.Note.{note}
 use Rattle.note.specs.Part.{partKey}
 use Rattle.note.specs.Noted.{encodeBy, encodesBy}
 use Rattle.stretch.specs.Put.{put, part}
-use Rattle.stretch.proofs.Laws.{length-part, drop-put, drop-put-at, put-put, put-none, getD-put-before, getD-put-after}
+use Rattle.stretch.proofs.Laws.{length-part, drop-put, drop-put-at, getD-put-before, getD-put-after}
 use Rattle.split.specs.Standing.{Told, ToldTrees}
 use Rattle.note.proofs.ToldLaws.{FirstOf, first-of, none-of}
-use Rattle.write.proofs.Encoded.{recordses-snoc}
-use Rattle.walk.specs.Listed.{shortKey, bitsOf, entryOf, entriesOf, Entry, Entries, Listable, ListedIs}
+use Rattle.rebuilt.proofs.Encoded.{recordses-snoc}
+use Rattle.walk.specs.Listed.{shortKey, bitsOf, entryOf, Entry, Entries, Listable, ListedIs}
 
 -- ---- what stands from record p on
 module _ (w w' : List ℕ) (p : ℕ) (same : drop (p * 16) w' ≡ drop (p * 16) w) where
@@ -189,25 +189,6 @@ module _ (w w' : List ℕ) (p j n : ℕ) (x : Tree) (l : List Tree) (many : n �
           )
 
 -- ---- the entries that are filled in, one after the other
-module _ (b : Bool) where
-  abbrev entry : ℕ → Tree → List ℕ
-  entry i t = entryOf i (shortKey (partKey b t))
-
-  entries-length : (i : ℕ) (l : List Tree) → length (entriesOf b i l) ≡ length l * 4
-  unfolding entriesOf
-  entries-length i [] = refl
-  entries-length i (t ∷ l) =
-      length-append (entry i t) (entriesOf b (i + records t) l)
-      ∙ omega (arith, entry-length i (shortKey (partKey b t)), entries-length (i + records t) l)
-
-  entriesOf-snoc : (i j : ℕ) (l : List Tree) (t : Tree) → j ≡ i + recordses (ofList l)
-      → entriesOf b i (l ++ (t ∷ [])) ≡ entriesOf b i l ++ entry j t
-  unfolding entriesOf ofList records
-  entriesOf-snoc i j [] t e = append-nil (entry i t) ∙ ap (λ n. entry n t) (omega arith)
-  entriesOf-snoc i j (u ∷ l) t e =
-      ap (λ (x : List ℕ). entry i u ++ x) (entriesOf-snoc (i + records u) j l t (omega arith))
-      ∙ sym (append-assoc (entry i u) (entriesOf b (i + records u) l) (entry j t))
-
 pub record Listing (b : Bool) (w₀ w : List ℕ) (p n : ℕ) (f : Forest) (at k : ℕ) : Type 0 where
   pub done : List Tree
   pub others : Forest
@@ -218,10 +199,9 @@ pub record Listing (b : Bool) (w₀ w : List ℕ) (p n : ℕ) (f : Forest) (at k
   pub pending : drop (p * 16) w ≡ drop (p * 16) w₀
   pub place : at + recordses others ≡ p + 1 + recordses f
   pub past : at ≡ p + (1 + recordses (ofList done))
-  pub exact : w ≡ put w₀ 0 (entriesOf b 1 done)
 
 pub listing-begins : {b : Bool} {w : List ℕ} {p : ℕ} (n : ℕ) {f : Forest} → Listable w p f → n ≡ countIn w p → Listing b w w p n f (p + 1) 0
-unfolding entriesOf ofList records
+unfolding ofList records
 listing-begins {b} {w} {p} n {f} h e =
     record {
       done = [];
@@ -233,7 +213,6 @@ listing-begins {b} {w} {p} n {f} h e =
       pending = refl;
       place = refl;
       past = omega arith;
-      exact = sym (put-none w 0);
     }
 
 module _ {b : Bool} {w₀ w : List ℕ} {p n : ℕ} {f : Forest} {at k : ℕ} (v : Listing b w₀ w p n f at k) (l : k < n) where
@@ -255,9 +234,9 @@ module _ {b : Bool} {w₀ w : List ℕ} {p n : ℕ} {f : Forest} {at k : ℕ} (v
       )
 
   pub listing-more : (w' : List ℕ) (next c : ℕ) → next ≡ at + records (head .tree) → c ≡ shortKey (partKey b (head .tree)) → recordses f < 65536
-      → n * 4 ≤ p * 16 → p * 16 ≤ length w → length w ≡ length w₀ → w' ≡ put w (k * 4) (entryOf (at - p) c) → Listing b w₀ w' p n f next (k + 1)
+      → n * 4 ≤ p * 16 → p * 16 ≤ length w → w' ≡ put w (k * 4) (entryOf (at - p) c) → Listing b w₀ w' p n f next (k + 1)
   unfolding records toList
-  listing-more w' next c e key-is few low within long q =
+  listing-more w' next c e key-is few low within q =
       let t = head .tree in
       let a = at - p in
       let x = entryOf a c in
@@ -292,22 +271,15 @@ module _ {b : Bool} {w₀ w : List ℕ} {p n : ℕ} {f : Forest} {at k : ℕ} (v
         pending = still ∙ v .pending;
         place = omega (arith, v .place);
         past = omega (arith, v .past, recordses-snoc (v .done) t);
-        exact =
-            q
-            ∙ ap (λ (y : List ℕ). put y (k * 4) x) (v .exact)
-            ∙ put-put w₀ 0 (entriesOf b 1 (v .done)) (k * 4) x (omega (arith, entries-length b 1 (v .done), v .many)) (omega (arith, entry-length a c, long))
-            ∙ ap (λ n. put w₀ 0 (entriesOf b 1 (v .done) ++ entryOf a n)) key-is
-            ∙ ap (put w₀ 0) (sym (entriesOf-snoc b 1 a (v .done) t (omega (arith, v .past))));
       }
 
 -- all are filled in
 pub listing-ends : {b : Bool} {w₀ w : List ℕ} {p n : ℕ} {f : Forest} {at k : ℕ} → Listing b w₀ w p n f at k → n ≤ k → k ≤ n → n ≡ countIn w₀ p
-    → n * 4 ≤ p * 16 → p * 16 ≤ length w → ListedIs b w₀ w p f at
-unfolding toList records
+    → n * 4 ≤ p * 16 → p * 16 ≤ length w → ListedIs b w₀ w p f
+unfolding toList
 listing-ends {b} {w₀} {w} {p} {n} {f} {at} {k} v h g e low within =
     let none : v .others ≡ nil = none-of (v .others) (v .stand) (omega arith) in
     let all : toList f ≡ v .done = v .whole ∙ ap (λ g. v .done ++ toList g) none ∙ append-nil (v .done) in
-    let zero = ap recordses none in
     record {
       listed = record {
         entries = subst (Entries b w p 0) (sym all) (v .entries);
@@ -316,6 +288,4 @@ listing-ends {b} {w₀} {w} {p} {n} {f} {at} {k} v h g e low within =
         within = within;
       };
       pending = v .pending;
-      end = omega (arith, v .place);
-      exact = v .exact ∙ ap (λ m. put w₀ 0 (entriesOf b 1 m)) (sym all);
     }

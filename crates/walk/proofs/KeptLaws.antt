@@ -1,8 +1,8 @@
 -- A member that comes out as it stands: it was copied where a record is answered, and where none is it was not, and nothing was written; and the turn of
--- a member that is alone with its key passes all later ones by. Assumes nothing.
+-- a member that is alone with its key passes all later ones by.
 use Prim.Native.Nat.{ℕ, _+_, _*_, _<_, _≤_}
-use mathlib.Core.Path.{_≡_, refl, sym, ap, _∙_}
-use mathlib.Core.Bool.{Bool, true, false, _&&_}
+use mathlib.Core.Path.{_≡_, refl}
+use mathlib.Core.Bool.{Bool, true, false}
 use mathlib.Core.List.{List, [], _∷_, map}
 use native.Mathlib.Omega.{arith}
 use lib.ListN.{length}

@@ -1,6 +1,5 @@
 -- The keys of parts in the walk: a member's key is that of its part, a part that takes up another keeps its key, and one takes up another
--- only where 15 bits of their keys are the same. By the law of keys where one part takes up another (`part-key`). Assumes nothing.
-use Prim.Native.Nat.{ℕ}
+-- only where 15 bits of their keys are the same. By the law of keys where one part takes up another (`part-key`).
 use mathlib.Core.Path.{_≡_, refl, ap, _∙_, sym}
 use mathlib.Core.Bool.{Bool, true, false}
 use mathlib.Core.Option.{Option, none, some}

@@ -1,6 +1,7 @@
--- Members that are alone with their keys. Counting never lowers a flag, and counting an entry raises its flag to 1, or to 2 where it was raised before: so a flag
--- that counts 1 is that of one entry alone, and an entry that gets its bit shares its 15 bits with no other (OneKeyed). The bits change neither the 15
--- bits nor the starts. Where the last entry moves into the place of another, this stays. By induction on the entries. Assumes nothing.
+-- Members that are alone with their keys. Counting never lowers a flag, and counting an entry raises its flag to 1, or to 2 where it was
+-- raised before: so a flag that counts 1 is that of one entry alone, and an entry that gets its bit shares its 15 bits with no other
+-- (OneKeyed). The bits change neither the 15 bits nor the starts. Where the last entry moves into the place of another, this stays. By
+-- induction on the entries.
 use Prim.Native.Nat.{ℕ, zero, suc, _+_, _*_, _/_, _%_, _<_, _≤_}
 use mathlib.Core.Path.{_≡_, refl, sym, ap, _∙_}
 use mathlib.Core.Bool.{Bool, true, false}
@@ -333,10 +334,26 @@ module _ (w w' : List ℕ) (j n : ℕ) (most : j ≤ n) (room : n * 4 + 4 ≤ le
       by (yes e) =
           let high : getD w' (i * 4 + 3) 0 ≡ getD w (n * 4 + 3) 0 = rw e (arrives 3 (omega arith)) in
           let low : getD w' (i * 4 + 2) 0 ≡ getD w (n * 4 + 2) 0 = rw e (arrives 2 (omega arith)) in
-          record { at = n; high = high; start = start-from i n (rw e (arrives 0 (omega arith))) (rw e (arrives 1 (omega arith))); bits = bits-from i n low high; place = yes e; moved = λ q. refl; kept = λ q. absurd (q e) }
+          record {
+            at = n;
+            high = high;
+            start = start-from i n (rw e (arrives 0 (omega arith))) (rw e (arrives 1 (omega arith)));
+            bits = bits-from i n low high;
+            place = yes e;
+            moved = λ q. refl;
+            kept = λ q. absurd (q e);
+          }
       by (no e) =
           let high = stays i 3 e (omega arith) in
-          record { at = i; high = high; start = start-from i i (stays i 0 e (omega arith)) (stays i 1 e (omega arith)); bits = bits-from i i (stays i 2 e (omega arith)) high; place = no e; moved = λ q. absurd (e q); kept = λ q. refl }
+          record {
+            at = i;
+            high = high;
+            start = start-from i i (stays i 0 e (omega arith)) (stays i 1 e (omega arith));
+            bits = bits-from i i (stays i 2 e (omega arith)) high;
+            place = no e;
+            moved = λ q. absurd (e q);
+            kept = λ q. refl;
+          }
 
   pub lonely-moves : (b : Bool) (p : ℕ) → n * 4 + 4 ≤ p * 16 → Lonely b w p (n + 1) → Lonely b w' p n
   lonely-moves b p low h i k hi hk apart bit t u et eu = at-most (f .place) (g .place)

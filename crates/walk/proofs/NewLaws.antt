@@ -1,5 +1,5 @@
 -- Which of the members that came out are none of the node's: none, one at a known record, or more, of which nothing is said. A member that is kept
--- is one of the node's, and so are those that are left, in whatever order; a new one is the only one where there was none. By induction on the members. Assumes nothing.
+-- is one of the node's, and so are those that are left, in whatever order; a new one is the only one where there was none. By induction on the members.
 use Prim.Native.Nat.{ℕ, zero, suc, _+_}
 use mathlib.Core.Path.{_≡_, refl, ap, _∙_, subst}
 use mathlib.Core.List.{List, [], _∷_, _++_, append-assoc}

@@ -1,6 +1,7 @@
--- Members that are put down at flags. Two of which one takes up the other share a flag: terms by equal rests, factors by equal exponents of integer bases or by equal
--- bases. A flag is filled once and keeps the entry that came first, which has its bit as long as no other comes there: so of two open entries that share a flag none has
--- its bit, and those that had theirs before are like none. Taking bits away keeps that. Assumes nothing.
+-- Members that are put down at flags. Two of which one takes up the other share a flag: terms by equal rests, factors by equal exponents
+-- of integer bases or by equal bases. A flag is filled once and keeps the entry that came first, which has its bit as long as no other
+-- comes there: so of two open entries that share a flag none has its bit, and those that had theirs before are like none. Taking bits
+-- away keeps that.
 use Prim.Native.Nat.{ℕ, _+_, _-_, _*_, _/_, _%_, _<_, _≤_}
 use mathlib.Core.Path.{_≡_, refl, sym, ap, _∙_, subst}
 use mathlib.Core.Bool.{Bool, true, false, cond}
@@ -15,7 +16,7 @@ use lib.Dec.{ltb}
 use lib.Seq.{getD-set-same, getD-set-other, drop-set-lt}
 use borrow.Author.Tests.{le-ltb, lt-ltb}
 use Rattle.paper.specs.Limits.{modulus}
-use Rattle.paper.specs.Bytes.{bytes, le, le2, word}
+use Rattle.paper.specs.Bytes.{bytes, le, le2}
 use Rattle.paper.specs.Equal.{equal}
 use Rattle.paper.specs.Record.{kind, bits}
 use Rattle.paper.specs.Standing.{kindNumber}
@@ -31,7 +32,7 @@ use Rattle.split.specs.Standing.{Told}
 use Rattle.part.specs.Like.{split, merge}
 use Rattle.stretch.specs.Put.{put}
 use Rattle.stretch.proofs.Laws.{length-put, take-put, drop-put-at, getD-put-before, getD-put-after}
-use Rattle.walk.specs.Listed.{shortKey, bitsOf, Entry, Entries, Listed}
+use Rattle.walk.specs.Listed.{shortKey, Entry, Entries, Listed}
 use Rattle.walk.specs.Stays.{isInteger}
 use Rattle.walk.specs.Spread.{stirred, spread, restSpread}
 use Rattle.walk.specs.Numbers.{wordOf, placeOf, exponentFlag, baseFlag, restFlag, firstFlag, secondFlag, heldAt, highOf, filled, Meets}
@@ -102,7 +103,9 @@ module _ (f m : ℕ) where
     where
       by : (d : Factor) → Merged c x d → ⊥
       by d (by-bases {y = y} {z = z} p q e) =
-          h (integer-exponent (c .base) (c .exponent) (is-integer y p) ∙ ap (placeOf f (4 * m)) e ∙ sym (integer-exponent (x .base) (x .exponent) (is-integer z q)))
+          h
+          (integer-exponent (c .base) (c .exponent) (is-integer y p) ∙ ap (placeOf f (4 * m)) e
+          ∙ sym (integer-exponent (x .base) (x .exponent) (is-integer z q)))
       by d (by-exponents e k) = g (same-base (same-view (c .base) (x .base) e))
 
       go : (r : Option Factor) → mergeFactors c x ≡ r → r ≡ none
@@ -122,7 +125,8 @@ module _ (f m : ℕ) where
   flags-apart false t u h = factors-apart (factorOf t) (factorOf u) (λ e. h (inl e)) (λ e. h (inr e))
 
 -- the flags of a member, by what its place in the table tells
-pub term-flags : (f m v a : ℕ) (t : Tree) → v ≡ restSpread (termOf t .rest) % modulus → a ≡ placeOf f (8 * m) v → (a ≡ firstFlag true f m t) × (a ≡ secondFlag true f m t)
+pub term-flags : (f m v a : ℕ) (t : Tree) → v ≡ restSpread (termOf t .rest) % modulus → a ≡ placeOf f (8 * m) v
+    → (a ≡ firstFlag true f m t) × (a ≡ secondFlag true f m t)
 unfolding restFlag
 term-flags f m v a t h e = let is = e ∙ ap (placeOf f (8 * m)) h in (is, is)
 
@@ -408,7 +412,8 @@ module _ (w : List ℕ) (j k : ℕ) (less : j < k) (fits : j * 4 + 4 ≤ length 
 pub unmarked-one : (w w' : List ℕ) (x k : ℕ) → 1 ≤ x → x ≤ k → k * 4 ≤ length w → w' ≡ set w (x * 4 - 1) (getD w (x * 4 - 1) 0 % 128) → Unmarked w w' x k
 unmarked-one w w' x k one most room e =
     let place : x * 4 - 1 ≡ (x - 1) * 4 + 3 = omega arith in
-    subst (λ (y : List ℕ). Unmarked w y x k) (sym (e ∙ ap (λ y. set w y (getD w y 0 % 128)) place)) (unmarked-at w (x - 1) k (omega arith) (omega arith) x (omega arith))
+    subst (λ (y : List ℕ). Unmarked w y x k) (sym (e ∙ ap (λ y. set w y (getD w y 0 % 128)) place))
+    (unmarked-at w (x - 1) k (omega arith) (omega arith) x (omega arith))
 
 -- ---- a bit that is given
 pub record MarkedOne (w w' : List ℕ) (k n : ℕ) (marks : Bool) : Type 0 where
@@ -458,7 +463,8 @@ visited-not b o w a k n m f marks t h =
       new = λ l. absurd (omega arith);
     }
 
-module _ {b : Bool} {o o' w w₁ w₂ : List ℕ} {a k n m f : ℕ} {t : Tree} {x y : ℕ} (less : k < n) (h : Put b o o' a k m f t x y) (one : Unmarked w w₁ x k) (two : Unmarked w₁ w₂ y k) where
+module _ {b : Bool} {o o' w w₁ w₂ : List ℕ} {a k n m f : ℕ} {t : Tree} {x y : ℕ} (less : k < n) (h : Put b o o' a k m f t x y)
+    (one : Unmarked w w₁ x k) (two : Unmarked w₁ w₂ y k) where
   later-two : (i : ℕ) → k ≤ i → highOf w₂ i ≡ highOf w i
   later-two i l = two .later i l ∙ one .later i l
 
@@ -507,7 +513,10 @@ module _ {b : Bool} {o o' w w₁ w₂ : List ℕ} {a k n m f : ℕ} {t : Tree} {
         fewer = λ i l q. fewer-two i (⊎-elim (λ (z : i ≡ k → ⊥). omega (arith, q, v .others i z)) (λ (z : marks ≡ false). v .fewer z i q) l);
         kept = h .kept;
         there = λ l. h .there;
-        hit = λ l i g e. absurd (⊎-elim (λ (s : heldAt o a (firstFlag b f m t) ≡ i + 1). omega (arith, h .first)) (λ (s : heldAt o a (secondFlag b f m t) ≡ i + 1). omega (arith, h .second)) e);
+        hit = λ l i g e.
+            absurd
+            (⊎-elim (λ (s : heldAt o a (firstFlag b f m t) ≡ i + 1). omega (arith, h .first))
+            (λ (s : heldAt o a (secondFlag b f m t) ≡ i + 1). omega (arith, h .second)) e);
         new = λ l q. ((sym (h .first) ∙ zero₁, sym (h .second) ∙ zero₂), h .new zero₁ zero₂);
       }
 
@@ -527,7 +536,8 @@ passed-none b o w p a n m f marks =
       fewer = λ e i q. q;
     }
 
-module _ {b : Bool} {o o₁ o₂ w w₁ w₂ : List ℕ} {p a n m f k : ℕ} {marks : Bool} (v : Passed b o o₁ w w₁ p a n m f marks k) (nb : Numbered b w p n) (less : k < n)
+module _ {b : Bool} {o o₁ o₂ w w₁ w₂ : List ℕ} {p a n m f k : ℕ} {marks : Bool} (v : Passed b o o₁ w w₁ p a n m f marks k)
+    (nb : Numbered b w p n) (less : k < n)
     (one : (t : Tree) → Entry b w₁ p k t → Visited b o₁ o₂ w₁ w₂ a k n m f marks t) where
   seen-by : (t : Tree) → Entry b w p k t → Visited b o₁ o₂ w₁ w₂ a k n m f marks t
   seen-by t e = one t (entry-forth (v .only) (nb .low) e)
@@ -569,7 +579,8 @@ module _ {b : Bool} {o o₁ o₂ w w₁ w₂ : List ℕ} {p a n m f k : ℕ} {ma
     earlier i t u l e d q r meets bit =
         let s = g .holds i t l e q (fewer-by i (λ z. omega arith) bit) in
         let hit = seen-by u d .hit (omega (arith, own)) i l
-        (⊎-elim (λ (z : firstFlag b f m t ≡ firstFlag b f m u). inl (ap (heldAt o₁ a) (sym z) ∙ s .0)) (λ (z : secondFlag b f m t ≡ secondFlag b f m u). inr (ap (heldAt o₁ a) (sym z) ∙ s .1)) meets) in
+        (⊎-elim (λ (z : firstFlag b f m t ≡ firstFlag b f m u). inl (ap (heldAt o₁ a) (sym z) ∙ s .0))
+        (λ (z : secondFlag b f m t ≡ secondFlag b f m u). inr (ap (heldAt o₁ a) (sym z) ∙ s .1)) meets) in
         omega arith
 
     -- this one and an earlier entry: it gets none
@@ -609,7 +620,8 @@ module _ {b : Bool} {o o₁ o₂ w w₁ w₂ : List ℕ} {p a n m f k : ℕ} {ma
       }
 
 -- ---- what is told then
-module _ {b : Bool} {o o' w w' : List ℕ} {p a n m f k : ℕ} {marks : Bool} (nb : Numbered b w p n) (v : Passed b o o' w w' p a n m f marks k) (all : n ≤ k) (lonely : Lonely b w p n) where
+module _ {b : Bool} {o o' w w' : List ℕ} {p a n m f k : ℕ} {marks : Bool} (nb : Numbered b w p n)
+    (v : Passed b o o' w w' p a n m f marks k) (all : n ≤ k) (lonely : Lonely b w p n) where
   abbrev Apart : Tree → Tree → Type 0
   Apart t u = (merge b (split b t) (split b u) ≡ none) × (merge b (split b u) (split b t) ≡ none)
 

@@ -1,6 +1,6 @@
 -- What the parts of the walk come to: a part that left the range stays out of it, and so does the member it becomes; and the member
 -- that a part becomes weighs no more than the members that it was made of. A coefficient or an exponent adds two at most, and what it was
--- taken up from weighs two or more unless it is an integer, when both are. Assumes nothing.
+-- taken up from weighs two or more unless it is an integer, when both are.
 use Prim.Native.Nat.{ℕ, _+_, _≤_}
 use mathlib.Core.Path.{_≡_, refl, sym, ap, _∙_, subst}
 use mathlib.Core.Bool.{Bool, true, false, _&&_}

@@ -1,5 +1,5 @@
 -- What tells in a table that a member stays: a coefficient by its record; a product by its members one after the other, where the first
--- is an integer or none but the last may be; a power by the record of its exponent. By cases on the trees, which their first records tell. Assumes nothing.
+-- is an integer or none but the last may be; a power by the record of its exponent. By cases on the trees, which their first records tell.
 use Prim.Native.Nat.{ℕ, _+_, _-_, _*_, _≤_, _<_}
 use mathlib.Core.Path.{_≡_, refl, sym, ap, _∙_, subst}
 use mathlib.Core.Bool.{Bool, true, false, cond, not, _&&_}
@@ -18,7 +18,8 @@ use Rattle.paper.specs.Equal.{eqZ}
 use Rattle.paper.proofs.EncodeLaws.{signed-word}
 use Rattle.paper.proofs.Tests.{both-ways, eqZ-true, eqZ-self}
 use Rattle.note.specs.Noted.{bitsBy}
-use Rattle.note.proofs.ToldLaws.{kind-number, mark-number, bits-number, product-trees, power-parts, power-tree, exponent-tree, exponent-mark, record-within, FirstOf, first-of, none-of}
+use Rattle.note.proofs.ToldLaws.{kind-number, mark-number, bits-number, record-within, FirstOf, first-of, none-of}
+use Rattle.note.proofs.ToldLaws.{product-trees, power-parts, power-tree, exponent-tree, exponent-mark}
 use Rattle.split.specs.Standing.{Told, ToldTrees}
 use Rattle.walk.specs.Stays.{isCoefficient, isInteger, isOtherRest, firstStays, lastStays, productStays, termStays, factorStays}
 
@@ -101,7 +102,9 @@ module _ {how : Tree → ℕ} {s : List ℕ} {three : Bool} {μ : ℕ} {f : Fore
         v .same ∙ ap (λ g. lastStays three μ (toList g)) (m .whole) ∙ last-cons three μ (m .tree) (m .others) (omega (arith, m .after .counted))
 
     pub seeking-stops : kind s at < 1 → lastStays three μ (toList f) ≡ false
-    seeking-stops k = let m = member (omega arith) in next ∙ ap (λ i. cond i false (lastStays three μ (toList (m .others)))) (integer-at (m .tree) (m .there) k .0)
+    seeking-stops k =
+        let m = member (omega arith) in
+        next ∙ ap (λ i. cond i false (lastStays three μ (toList (m .others)))) (integer-at (m .tree) (m .there) k .0)
 
     pub seeking-more : 0 < kind s at → (next : ℕ) → ((t : Tree) → Told how s at t → next ≡ at + records t) → Seeking how s three μ f next (left - 1)
     seeking-more k n e =

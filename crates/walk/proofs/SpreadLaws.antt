@@ -1,8 +1,8 @@
 -- The spread of a tree is what its records add up to, by induction on the tree; equal trees have equal spreads, since taking a member out of a list lowers a
--- total by its part; and that of a term's rest is the total over those members of a product that are no integers. Assumes nothing.
+-- total by its part; and that of a term's rest is the total over those members of a product that are no integers.
 use Prim.Native.Nat.{ℕ, zero, suc, _+_, _-_, _*_, _/_, _%_, _<_, _≤_}
 use mathlib.Core.Path.{_≡_, refl, sym, ap, _∙_, subst}
-use mathlib.Core.Bool.{Bool, true, false, cond}
+use mathlib.Core.Bool.{Bool, false, cond}
 use mathlib.Core.List.{List, [], _∷_}
 use native.Mathlib.Nat.{mul-le-mul-right, mod-lt}
 use native.Mathlib.Omega.{arith}

@@ -1,6 +1,6 @@
 -- The states of the walk: what has come out, what is being looked at and what is left, so that the rest of the walk from here, put onto
 -- what was done, is the whole walk. Each step of the code leads from one such state to the next, by the law of the paper's walk for that
--- step; where it ends, the whole walk's outcome is known. Assumes nothing.
+-- step; where it ends, the whole walk's outcome is known.
 use Prim.Native.Nat.{ℕ, zero, suc, _+_, _*_, _≤_}
 use mathlib.Core.Path.{_≡_, refl, sym, ap, _∙_}
 use mathlib.Core.Bool.{Bool, true, false, _&&_}
@@ -20,7 +20,7 @@ use Rattle.part.specs.Like.{Like, nodeOf, split, merge, join}
 use Rattle.part.specs.Part.{Shows, From}
 use Rattle.part.specs.declared.Part.{Part}
 use Rattle.part.specs.declared.Part.the-variants as part
-use Rattle.write.proofs.Encoded.{recordses-snoc, built-more}
+use Rattle.rebuilt.proofs.Encoded.{recordses-snoc, built-more}
 use Rattle.walk.specs.Walked.{combined}
 use Rattle.walk.proofs.EntryLaws.{tree-still}
 

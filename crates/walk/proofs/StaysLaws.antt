@@ -1,6 +1,6 @@
 -- A member that stays is what its own part becomes, and is in range. A product with no integer is its own rest, and 1 times it is
 -- itself; one with a coefficient where the rules write it is the coefficient times the product of its other members, and is written the
--- same; a power whose exponent has its mark is its base with that exponent. By cases on the member, and by induction on a product's members. Assumes nothing.
+-- same; a power whose exponent has its mark is its base with that exponent. By cases on the member, and by induction on a product's members.
 use Prim.Native.Nat.{ℕ, _+_, _≤_}
 use mathlib.Core.Path.{_≡_, refl, sym, ap, _∙_, subst}
 use mathlib.Core.Bool.{Bool, true, false, cond, not, _&&_}

@@ -1,5 +1,5 @@
 -- The steps of the walk, from state to state. Between two turns: the parts that came out, how many members were removed, and the members
--- that are left. Within a turn also the current part and the members that were passed by. Assumes nothing.
+-- that are left. Within a turn also the current part and the members that were passed by.
 use Prim.Native.Nat.{ℕ, _+_, _-_, _*_, _<_, _≤_}
 use mathlib.Core.Path.{_≡_, refl, sym, ap, _∙_, subst}
 use mathlib.Core.Bool.{Bool, true, false, cond}
@@ -104,7 +104,7 @@ pub head-of : (b : Bool) (w : List ℕ) (p i : ℕ) (left : List Tree) → Entri
 head-of b w p i [] e h = absurd (omega arith)
 head-of b w p i (t ∷ l) e h = record { tree = t; others = l; is = refl; entry = e .0; rest = e .1 }
 
-none-left : (l : List Tree) → length l ≡ 0 → l ≡ []
+pub none-left : (l : List Tree) → length l ≡ 0 → l ≡ []
 none-left [] e = refl
 none-left (t ∷ l) e = absurd (omega arith)
 
@@ -354,7 +354,9 @@ module _ {b : Bool} {l : List Tree} {o₀ w₀ : List ℕ} {d p count : ℕ} whe
             whole =
                 faced
                 ∙ takes-up (merge b) (v .done) (v .removed) (length (parts b m)) (v .current) (split b t) x (parts b (v .passed)) (parts b m) q
-                ∙ ap (λ (y : List (Like b)). resumed (v .done) (v .removed + 1) (after (merge b) (turn (merge b) (length (parts b m)) x (parts b (v .passed)) y)))
+                ∙ ap
+                (λ (y : List (Like b)).
+                resumed (v .done) (v .removed + 1) (after (merge b) (turn (merge b) (length (parts b m)) x (parts b (v .passed)) y)))
                 (sym (map-lastFirst (split b) m))
                 ∙ ap (λ n. resumed (v .done) (v .removed + 1) (after (merge b) (turn (merge b) n x (parts b (v .passed)) (parts b (lastFirst m))))) fuel;
             gone = omega (arith, v .gone);
@@ -376,7 +378,8 @@ module _ {b : Bool} {l : List Tree} {o₀ w₀ : List ℕ} {d p count : ℕ} whe
           }
 
       -- it is taken up, and the range is left
-      pub says-over : (x : Like b) → merge b (v .current) (split b (next .tree)) ≡ some x → inRange b x ≡ false → (μ : ℕ) → combined b μ l ≡ paper.range-exceeded
+      pub says-over : (x : Like b) → merge b (v .current) (split b (next .tree)) ≡ some x → inRange b x ≡ false → (μ : ℕ)
+          → combined b μ l ≡ paper.range-exceeded
       unfolding resumed after thenWalk
       says-over x q bad μ =
           let t = next .tree in

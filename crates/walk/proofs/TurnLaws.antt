@@ -1,6 +1,6 @@
 -- The paper's walk, step by step, as a program goes through it: the parts that came out so far, how many were removed, and the rest of
 -- the walk from here make up the whole walk. One law for each way that a step goes; the bounds on the number of steps do not matter,
--- since the members that are left are never more than that. Assumes nothing.
+-- since the members that are left are never more than that.
 use Prim.Native.Nat.{ℕ, zero, suc, _+_}
 use mathlib.Core.Path.{_≡_, refl, sym, ap, _∙_}
 use mathlib.Core.List.{List, [], _∷_, _++_, map, append-assoc, append-nil}

@@ -1,8 +1,7 @@
--- Two answers of `list_members`, and of `walk`, that meet their contracts as the check reads them from the source, are the same, but for the record that
--- `Done` may name, which is a hint; so are the entries, and what is pending, done and built. Of the other bytes of `out`, and of the entries after a walk, nothing is said.
--- Assumes nothing.
+-- Two answers of `walk_members` that meet its contract as the check reads it from the source are the same, but for the record that `Done` may
+-- name, which is a hint; so is what is pending, done and built. Of the other bytes of `out`, and of the entries, nothing is said.
 use Prim.Native.Nat.{ℕ, _*_}
-use mathlib.Core.Path.{_≡_, refl, sym, ap, _∙_}
+use mathlib.Core.Path.{_≡_, sym, ap, _∙_}
 use mathlib.Core.Bool.{Bool}
 use mathlib.Core.List.{List}
 use native.Mathlib.Omega.{arith}
@@ -10,21 +9,12 @@ use borrow.Fn.Kinds.{Dens, endedOf}
 use contract.Lifetimes.{Lfts}
 use denote.Triple.Clauses.{AtExit}
 use lib.ListN.{take, drop}
-use Rattle.paper.specs.Tree.{Tree}
-use Rattle.paper.specs.Once.{OnceLeft}
-use Rattle.walk.specs.Walked.{Walkable, Says}
+use Rattle.paper.specs.Tree.{Tree, Forest, toList}
+use Rattle.walk.specs.Walked.{Standing, Says}
 use Rattle.walk.specs.declared.Walked.{Walked}
 use Rattle.walk.specs.declared.Walked.the-variants.{Idle, Over, Done}
-use Rattle.walk.proofs.list_members.Reads as list-reads
-use Rattle.walk.proofs.list_members.Kinds as list-kinds
-use Rattle.walk.proofs.walk.Reads as reads
-use Rattle.walk.proofs.walk.Kinds as kinds
-
-pub list-members-once : OnceLeft 1 list-kinds.ps list-kinds.r list-reads.Pre list-reads.Post (List ℕ) (λ κs x. x .0 .now)
-list-members-once κs a v v' x x' q p p' =
-    let one = p (q .0) (q .1) in
-    let other = p' (q .0) (q .1) in
-    (one .end ∙ sym (other .end), one .exact ∙ sym (other .exact))
+use Rattle.walk.proofs.walk_members.Reads as reads
+use Rattle.walk.proofs.walk_members.Kinds as kinds
 
 -- what is built, where members came out
 abbrev BuiltAlike : (o o' : List ℕ) → Walked → Type 0
@@ -59,24 +49,22 @@ module _ (b : Bool) (l : List Tree) (s o o' : List ℕ) (d : ℕ) where
       let end : e ≡ e' = h .0 .end ∙ sym (h' .0 .end) in
       ((many, end), h .0 .built ∙ sym (h' .0 .built) ∙ ap (λ k. take (k * 16) o') (sym end))
 
-pub walk-once : (κs : Lfts 2) (a : Dens κs kinds.ps) (l : List Tree) (r r' : Walked) (x x' : AtExit (endedOf 2 kinds.ps kinds.r) κs)
+pub walk-once : (κs : Lfts 2) (a : Dens κs kinds.ps) (f : Forest) (r r' : Walked) (x x' : AtExit (endedOf 2 kinds.ps kinds.r) κs)
     → let out = a .0 .now in
     let work = a .1 .0 .now in
     let d = a .1 .1 .0 in
     let p = a .1 .1 .1 .0 in
-    let count = a .1 .1 .1 .1 .0 in
-    let terms = a .1 .1 .1 .1 .1 .0 in
-    Walkable terms out work d p count l → reads.Post κs a r x → reads.Post κs a r' x'
+    Standing out work d p f → reads.Post κs a r x → reads.Post κs a r' x'
     → (Alike r r' × BuiltAlike (x .0 .now) (x' .0 .now) r)
     × (drop (p * 16) (x .1 .0 .now) ≡ drop (p * 16) (x' .1 .0 .now))
     × (take (d * 16) (x .0 .now) ≡ take (d * 16) (x' .0 .now))
-walk-once κs a l r r' x x' h p p' =
+walk-once κs a f r r' x x' h p p' =
     let out = a .0 .now in
     let d = a .1 .1 .0 in
-    let terms = a .1 .1 .1 .1 .1 .0 in
-    let u = p l h in
-    let v = p' l h in (
-      says-once terms l out (x .0 .now) (x' .0 .now) d r r' (u .says) (v .says),
+    let terms = a .1 .1 .1 .1 .0 in
+    let u = p f h in
+    let v = p' f h in (
+      says-once terms (toList f) out (x .0 .now) (x' .0 .now) d r r' (u .answers) (v .answers),
       u .pending ∙ sym (v .pending),
       u .done ∙ sym (v .done),
     )

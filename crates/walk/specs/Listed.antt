@@ -6,11 +6,10 @@ use mathlib.Core.Bool.{Bool}
 use mathlib.Core.List.{List, [], _∷_, _++_}
 use lib.ListN.{length, drop}
 use Rattle.paper.specs.Bytes.{bytes, le2}
-use Rattle.paper.specs.Tree.{Tree, Forest, records, recordses, weights, toList}
+use Rattle.paper.specs.Tree.{Tree, Forest, weights, toList}
 use Rattle.paper.specs.Record.{countIn}
 use Rattle.note.specs.Note.{note}
 use Rattle.note.specs.Part.{partKey}
-use Rattle.stretch.specs.Put.{put}
 use Rattle.split.specs.Standing.{Told, ToldTrees}
 
 -- 15 bits of a key, from its upper half: the lower one is a number of records and a weight
@@ -20,11 +19,6 @@ shortKey key = key / 4294967296 % 32768
 -- the four bytes of an entry
 unfoldable pub entryOf : ℕ → ℕ → List ℕ
 entryOf start key = bytes 2 start ++ bytes 2 key
-
--- the entries of the trees l, members of a sum (true) or of a product, the first of them i records after the node's own
-unfoldable pub entriesOf : Bool → ℕ → List Tree → List ℕ
-entriesOf b i [] = []
-entriesOf b i (t ∷ l) = entryOf i (shortKey (partKey b t)) ++ entriesOf b (i + records t) l
 
 -- the 15 bits of entry k
 abbrev pub bitsOf : List ℕ → ℕ → ℕ
@@ -54,10 +48,7 @@ pub record Listable (w : List ℕ) (p : ℕ) (f : Forest) : Type 0 where
   pub low : countIn w p * 4 ≤ p * 16
   pub within : (p + 1) * 16 ≤ length w
 
--- the entries are written and nothing else, and r is the record after the members; so the entries are those of the members, and what
--- stands from record p on is as it was
-pub record ListedIs (b : Bool) (w w' : List ℕ) (p : ℕ) (f : Forest) (r : ℕ) : Type 0 where
-  pub exact : w' ≡ put w 0 (entriesOf b 1 (toList f))
+-- the entries are those of the members, and what stands from record p on is as it was
+pub record ListedIs (b : Bool) (w w' : List ℕ) (p : ℕ) (f : Forest) : Type 0 where
   pub listed : Listed b w' p (countIn w p) (toList f)
   pub pending : drop (p * 16) w' ≡ drop (p * 16) w
-  pub end : r ≡ p + 1 + recordses f

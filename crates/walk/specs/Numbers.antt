@@ -1,6 +1,7 @@
--- Members that keys do not tell apart. An entry that has no bit yet is open. The open ones are put down at 8 m flags, two bytes each from place a of `out` on: a
--- member of a product whose base is an integer at one for its exponent and at one for its base, any other at one for its spread, which is that of its base or, in a
--- sum, of its rest. Two members of which one takes up the other share a flag. A flag holds the first entry that came, counted from 1, or 0.
+-- Members that keys do not tell apart. An entry that has no bit yet is open. The open ones are put down at 8 m flags, two bytes each from
+-- place a of `out` on: a member of a product whose base is an integer at one for its exponent and at one for its base, any other at one
+-- for its spread, which is that of its base or, in a sum, of its rest. Two members of which one takes up the other share a flag. A flag
+-- holds the first entry that came, counted from 1, or 0.
 use Prim.Native.Nat.{ℕ, _+_, _*_, _/_, _%_, _<_, _≤_}
 use mathlib.Core.Path.{_≡_}
 use mathlib.Core.Bool.{Bool, true, false, cond}
@@ -101,7 +102,8 @@ abbrev pub MarkedIf : Bool → (w w' : List ℕ) (k : ℕ) → Type 0
 MarkedIf true w w' k = w' ≡ set w (k * 4 + 3) (highOf w k % 128 + 128)
 MarkedIf false w w' k = w' ≡ w
 
--- entry k, that of t, was visited: where it is open it is put down, those that its flags held have no bits, and it has one only where they held none and bits are given
+-- entry k, that of t, was visited: where it is open it is put down, those that its flags held have no bits, and it has one only where
+-- they held none and bits are given
 pub record Visited (b : Bool) (o o' w w' : List ℕ) (a k n m f : ℕ) (marks : Bool) (t : Tree) : Type 0 where
   pub long : length o' ≡ length o
   pub front : take a o' ≡ take a o
@@ -119,7 +121,8 @@ pub record Visited (b : Bool) (o o' w w' : List ℕ) (a k n m f : ℕ) (marks : 
 abbrev pub Meets : Bool → (f m : ℕ) → Tree → Tree → Type 0
 Meets b f m t u = (firstFlag b f m t ≡ firstFlag b f m u) ⊎ (secondFlag b f m t ≡ secondFlag b f m u)
 
--- the first k entries were visited, and bits given: the flags of the open ones hold an entry, that entry itself where it has its bit, and then no other has them
+-- the first k entries were visited, and bits given: the flags of the open ones hold an entry, that entry itself where it has its bit, and
+-- then no other has them
 pub record PutDown (b : Bool) (o w w' : List ℕ) (p a m f k : ℕ) : Type 0 where
   pub seen : (i : ℕ) (t : Tree) → i < k → Entry b w p i t → highOf w i < 128
       → (1 ≤ heldAt o a (firstFlag b f m t)) × (1 ≤ heldAt o a (secondFlag b f m t))

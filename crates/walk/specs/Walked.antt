@@ -5,7 +5,7 @@ use mathlib.Core.Bool.{Bool, true, false, cond, _&&_}
 use mathlib.Core.List.{List, [], _∷_, _++_, map}
 use lib.ListN.{length, take, drop}
 use lib.Dec.{leb, eqb}
-use Rattle.paper.specs.Tree.{Tree, ofList, recordses, weights, records}
+use Rattle.paper.specs.Tree.{Tree, Forest, ofList, recordses, weights, records}
 use Rattle.paper.specs.Walk.{walk}
 use Rattle.paper.specs.Rules as paper
 use Rattle.note.specs.Note.{note}
@@ -15,14 +15,19 @@ use Rattle.note.specs.Part.{termKey, factorKey}
 use Rattle.part.specs.Like.{Like, nodeOf, split, merge, join}
 use Rattle.part.specs.Part.{Shows}
 use Rattle.part.specs.declared.Part.{Part}
-use Rattle.write.specs.Written.{WrittenIs, Fitting}
-use Rattle.write.specs.declared.Written.the-variants as written
-use Rattle.walk.specs.Listed.{shortKey, Entry, Listed}
+use Rattle.rebuilt.specs.Written.{WrittenIs, Fitting}
+use Rattle.rebuilt.specs.declared.Written.the-variants as written
+use Rattle.walk.specs.Listed.{shortKey, Entry, Listed, Listable}
 use Rattle.walk.specs.Stays.{stays}
 use Rattle.walk.specs.declared.Walked.{Walked}
 use Rattle.walk.specs.declared.Walked.the-variants.{Idle, Over, Done}
 use Rattle.walk.specs.declared.Finished.{Finished}
 use Rattle.walk.specs.declared.Finished.the-variants as finished
+
+-- the members f of the node at record p can be listed, and `out` has room behind record d for all that they may become
+pub record Standing (out work : List ℕ) (d p : ℕ) (f : Forest) : Type 0 where
+  pub listable : Listable work p f
+  pub room : (d + (1 + weights f)) * 16 ≤ length out
 
 -- the members l are listed, and `out` has room behind record d for all that they may become, whose notes can be made
 pub record Walkable (b : Bool) (out work : List ℕ) (d p n : ℕ) (l : List Tree) : Type 0 where
@@ -73,7 +78,7 @@ Says b l out out' d (Done n e f) = CameOut b l out out' d n e × (0 < f → OneN
 
 -- what is pending and what is done stay
 pub record WalkedIs (b : Bool) (l : List Tree) (out out' work work' : List ℕ) (d p : ℕ) (r : Walked) : Type 0 where
-  pub says : Says b l out out' d r
+  pub answers : Says b l out out' d r
   pub pending : drop (p * 16) work' ≡ drop (p * 16) work
   pub done : take (d * 16) out' ≡ take (d * 16) out
 

@@ -17,18 +17,47 @@ ghost use Rattle.walk.specs.Listed.{shortKey, entryOf, Entry, Listed, Li
 ghost use Rattle.walk.specs.Lone.{isLone};
 ghost use Rattle.walk.specs.Numbers.{AfterTelling};
 ghost use Rattle.walk.specs.Stays.{isCoefficient, lastStays, productStays, stays};
-ghost use Rattle.walk.specs.Walked.{keyOf, Meeting, Keepable, KeptIs, Turned, Finishing, FinishedIs, answerOf, Walkable, WalkedIs};
+ghost use Rattle.walk.specs.Walked.{keyOf, Meeting, Keepable, KeptIs, Turned, Finishing, FinishedIs, answerOf, Walkable, Standing, WalkedIs};
 
 mod lone;
 mod numbers;
 mod spread;
+
+// The bytes of an entry; where in it the 15 bits of a key stand, and their high byte.
+const ENTRY: usize = 4;
+
+const KEY_AT: usize = 2;
+
+const HIGH_AT: usize = 3;
+
+// So many numbers have 15 bits, as two bytes of an entry hold them and as they are taken from a key.
+const KEYS: usize = 0x8000;
+
+const SHORT: u64 = 0x8000;
+
+// So many numbers a byte has.
+const BYTE: usize = 256;
+
+const KEY_BYTE: u64 = 256;
+
+// The members of a product of an integer and another tree, and where in it the second stands.
+const PAIR: usize = 2;
+
+const SECOND: usize = 2;
+
+// So many members at least has a product whose coefficient was appended last.
+const LONGER: usize = 3;
 
 // What the walk answers: nothing was removed; the range is left; how many members came out, where they end, and the record of the
 // only one of them that was no member before, or 0.
 pub enum Walked {
     Idle,
     Over,
-    Done(usize, usize, usize),
+    Done {
+        count: usize,
+        end: usize,
+        new: usize,
+    },
 }
 
 // The turn of a member is done: it stays, up to a record; it is new, up to a record; it is out of range.
@@ -43,18 +72,18 @@ fn write_entry(work: &mut [u8], k: usize, start: usize, key: u64)
     requires { ⌜ k * 4 + 4 ≤ length (now work) ⌝ }
     ensures { λ _. ⌜ now (work .exit) ≡ put (now (work .entry)) (k * 4) (entryOf start key) ⌝ }
 {
-    let a = (start % 256) as u8;
-    let b = (start / 256 % 256) as u8;
-    let c = (key % 256) as u8;
-    let d = (key / 256 % 256) as u8;
+    let a = (start % BYTE) as u8;
+    let b = (start / BYTE % BYTE) as u8;
+    let c = (key % KEY_BYTE) as u8;
+    let d = (key / KEY_BYTE % KEY_BYTE) as u8;
     let entry = [a, b, c, d];
-    stretch::copy_bytes(work, k * 4, &entry, 0, 4);
+    stretch::copy_bytes(work, k * ENTRY, &entry, 0, ENTRY);
 }
 
-// The entries of the members of the node at record p, a sum (terms) or a product; the record after them.
-pub fn list_members(work: &mut [u8], p: usize, terms: bool) -> usize
+// Writes the entries of the members of the node at record p, a sum (terms) or a product.
+fn list_members(work: &mut [u8], p: usize, terms: bool)
     requires { ⌜ ((f : Forest) × Listable (now work) p f) ⌝ }
-    ensures { λ r. ⌜ ((f : Forest) → Listable (now (work .entry)) p f → ListedIs terms (now (work .entry)) (now (work .exit)) p f r) ⌝ }
+    ensures { λ _. ⌜ ((f : Forest) → Listable (now (work .entry)) p f → ListedIs terms (now (work .entry)) (now (work .exit)) p f) ⌝ }
 {
     let n = record::count(work, p);
     let mut at = p + 1;
@@ -62,11 +91,10 @@ pub fn list_members(work: &mut [u8], p: usize, terms: bool) -> usize
     while k < n {
         let v = note::note_at(work, at);
         let key = note::part_key(work, at, record::kind(work, at), v, terms);
-        write_entry(work, k, at - p, key / 0x1_0000_0000 % 0x8000);
-        at += (v % 0x1_0000) as usize;
+        write_entry(work, k, at - p, note::key_of(key) % SHORT);
+        at += note::records_of(v);
         k += 1;
     }
-    at
 }
 
 // The part of the member of entry i.
@@ -75,7 +103,7 @@ fn current(s: &[u8], p: usize, i: usize, terms: bool) -> part::Part
     ensures { λ r. ⌜ ((t : Tree) → Entry terms (now (s .entry)) p i t → Shows terms (now (s .entry)) r (split terms t)) ⌝ }
     ensures place { λ r. ⌜ From p r ⌝ }
 {
-    let start = p + number::read2(s, i * 4);
+    let start = p + number::read2(s, i * ENTRY);
     part::part_of(s, start, split::skip_tree(s, start) - start, terms)
 }
 
@@ -86,10 +114,10 @@ fn meet(s: &[u8], c: part::Part, key: usize, p: usize, j: usize, ticks: &mut [u8
         → Entry b (now (s .entry)) p j t → MergedIs b (now (s .entry)) x (split b t) r) ⌝ }
     ensures place { λ r. ⌜ (From p c → IntoFrom p r) ⌝ }
 {
-    if number::read2(s, j * 4 + 2) % 0x8000 != key {
+    if number::read2(s, j * ENTRY + KEY_AT) % KEYS != key {
         return part::Merged::Apart;
     }
-    let start = p + number::read2(s, j * 4);
+    let start = p + number::read2(s, j * ENTRY);
     part::merge(s, c, start, ticks)
 }
 
@@ -98,7 +126,7 @@ fn remove(work: &mut [u8], j: usize, n: usize) -> usize
     requires { ⌜ (j ≤ n) × (n * 4 + 4 ≤ length (now work)) ⌝ }
     ensures { λ r. ⌜ (now (work .exit) ≡ put (now (work .entry)) (j * 4) (part (now (work .entry)) (n * 4) 4)) × (r ≡ j) ⌝ }
 {
-    stretch::shift_left(work, j * 4, n * 4, 4);
+    stretch::shift_left(work, j * ENTRY, n * ENTRY, ENTRY);
     j
 }
 
@@ -107,7 +135,7 @@ fn is_coefficient(s: &[u8], i: usize, mark: usize) -> bool
     requires { ⌜ SomeTold (now s) i ⌝ }
     ensures { λ r. ⌜ ((how : Tree → ℕ) (t : Tree) → Told how (now (s .entry)) i t → r ≡ isCoefficient mark t) ⌝ }
 {
-    if 0 < record::kind(s, i) {
+    if record::INTEGER < record::kind(s, i) {
         return false;
     }
     if record::bits(s, i) == 1 {
@@ -126,16 +154,16 @@ fn last_stays(s: &[u8], i: usize) -> bool
     let mut at = i + 1;
     let mut left = n;
     while 1 < left {
-        if record::kind(s, at) < 1 {
+        if record::kind(s, at) < record::SYMBOL {
             return false;
         }
         at = split::skip_tree(s, at);
         left -= 1;
     }
-    if 0 < record::kind(s, at) {
+    if record::INTEGER < record::kind(s, at) {
         return true;
     }
-    if n < 3 {
+    if n < LONGER {
         return false;
     }
     is_coefficient(s, at, record::mark(s, i))
@@ -147,17 +175,17 @@ fn product_stays(s: &[u8], i: usize) -> bool
     requires { ⌜ SomeProduct (now s) i ⌝ }
     ensures { λ r. ⌜ ((how : Tree → ℕ) (μ : ℕ) (f : Forest) → Told how (now (s .entry)) i (product μ f) → r ≡ productStays μ (toList f)) ⌝ }
 {
-    if 0 < record::kind(s, i + 1) {
+    if record::INTEGER < record::kind(s, i + 1) {
         return last_stays(s, i);
     }
-    if 2 < record::count(s, i) {
+    if PAIR < record::count(s, i) {
         return false;
     }
-    let k = record::kind(s, i + 2);
-    if k < 1 {
+    let k = record::kind(s, i + SECOND);
+    if k < record::SYMBOL {
         return false;
     }
-    if k == 3 {
+    if k == record::PRODUCT {
         return false;
     }
     is_coefficient(s, i + 1, record::mark(s, i))
@@ -170,12 +198,12 @@ fn stays(s: &[u8], i: usize, terms: bool) -> bool
 {
     let k = record::kind(s, i);
     if terms {
-        if k == 3 {
+        if k == record::PRODUCT {
             return product_stays(s, i);
         }
         return true;
     }
-    if k != 4 {
+    if k != record::POWER {
         return true;
     }
     let e = split::skip_tree(s, i + 1);
@@ -191,7 +219,7 @@ fn is_kept(s: &[u8], p: usize, i: usize, alone: bool, terms: bool) -> bool
     ensures { λ r. ⌜ ((t : Tree) → Entry terms (now (s .entry)) p i t → r ≡ (alone && stays terms t)) ⌝ }
 {
     if alone {
-        let start = p + number::read2(s, i * 4);
+        let start = p + number::read2(s, i * ENTRY);
         return stays(s, start, terms);
     }
     false
@@ -212,9 +240,15 @@ fn keep(
         → KeptIs (alone && stays terms t) t (now (out .entry)) (now (out .exit)) e r) ⌝ }
 {
     if is_kept(work, p, i, alone, terms) {
-        let start = p + number::read2(work, i * 4);
+        let start = p + number::read2(work, i * ENTRY);
         let k = split::skip_tree(work, start) - start;
-        stretch::copy_bytes(out, e * 16, work, start * 16, k * 16);
+        stretch::copy_bytes(
+            out,
+            e * record::SIZE,
+            work,
+            start * record::SIZE,
+            k * record::SIZE,
+        );
         return e + k;
     }
     0
@@ -260,10 +294,10 @@ fn finish(
     if 0 < kept {
         return Finished::Kept(kept);
     }
-    let w = write::write_part(out, e, work, c);
+    let w = rebuilt::write_part(out, e, work, c);
     match w {
-        write::Written::To(x) => Finished::New(x),
-        write::Written::Over => Finished::Over,
+        rebuilt::Written::To(x) => Finished::New(x),
+        rebuilt::Written::Over => Finished::Over,
     }
 }
 
@@ -279,9 +313,17 @@ fn answer(count: usize, n: usize, e: usize, late: bool, new: usize, f: usize) ->
         return Walked::Over;
     }
     if new == 1 {
-        return Walked::Done(n, e, f);
+        return Walked::Done {
+            count: n,
+            end: e,
+            new: f,
+        };
     }
-    Walked::Done(n, e, 0)
+    Walked::Done {
+        count: n,
+        end: e,
+        new: 0,
+    }
 }
 
 // Tells which of the n listed members are like no other, unless they are too few for that to pay: by their keys, and those that keys do not tell apart by
@@ -298,14 +340,7 @@ fn tell_lone(out: &mut [u8], work: &mut [u8], d: usize, p: usize, n: usize, term
 }
 
 // The walk over the `count` members that are listed. A member that is rebuilt out of range counts only if something is removed.
-pub fn walk(
-    out: &mut [u8],
-    work: &mut [u8],
-    d: usize,
-    p: usize,
-    count: usize,
-    terms: bool,
-) -> Walked
+fn walk(out: &mut [u8], work: &mut [u8], d: usize, p: usize, count: usize, terms: bool) -> Walked
     requires { ⌜ ((l : List Tree) × Walkable terms (now out) (now work) d p count l) ⌝ }
     ensures { λ r. ⌜ ((l : List Tree) → Walkable terms (now (out .entry)) (now (work .entry)) d p count l
         → WalkedIs terms l (now (out .entry)) (now (out .exit)) (now (work .entry)) (now (work .exit)) d p r) ⌝ }
@@ -319,7 +354,7 @@ pub fn walk(
     let mut new: usize = 0;
     let mut f = 0;
     'walk: while i < n {
-        let high = work[i * 4 + 3];
+        let high = work[i * ENTRY + HIGH_AT];
         let x = keep_lone(out, e, work, p, i, high, told, terms);
         if 0 < x {
             e = x;
@@ -327,11 +362,11 @@ pub fn walk(
             continue;
         }
         let mut c = current(work, p, i, terms);
-        let key = number::read2(work, i * 4 + 2) % 0x8000;
+        let key = number::read2(work, i * ENTRY + KEY_AT) % KEYS;
         let had = n;
         let mut j = i + 1;
         while j < n {
-            let a = e * 16;
+            let a = e * record::SIZE;
             let met = meet(work, c, key, p, j, &mut out[a..]);
             match met {
                 part::Merged::Apart => j += 1,
@@ -362,4 +397,15 @@ pub fn walk(
         return Walked::Over;
     }
     answer(count, n, e, late, new, f)
+}
+
+// The walk over the members of the node at record p, a sum (terms) or a product: what comes out stands behind record d of `out`.
+pub fn walk_members(out: &mut [u8], work: &mut [u8], d: usize, p: usize, terms: bool) -> Walked
+    requires { ⌜ ((f : Forest) × Standing (now out) (now work) d p f) ⌝ }
+    ensures { λ r. ⌜ ((f : Forest) → Standing (now (out .entry)) (now (work .entry)) d p f
+        → WalkedIs terms (toList f) (now (out .entry)) (now (out .exit)) (now (work .entry)) (now (work .exit)) d p r) ⌝ }
+{
+    let n = record::count(work, p);
+    list_members(work, p, terms);
+    walk(out, work, d, p, n, terms)
 }

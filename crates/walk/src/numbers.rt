@@ -13,6 +13,9 @@ ghost use Rattle.paper.specs.Tree.{Tree};
 ghost use Rattle.split.specs.Standing.{Told, SomeTold};
 ghost use Rattle.walk.specs.Listed.{Entry, Listed};
 ghost use Rattle.walk.specs.Numbers.{placeOf, firstFlag, secondFlag, filled, Numbered, Unmarked, Put, MarkedIf, Visited, ToldMore};
+use crate::BYTE;
+use crate::ENTRY;
+use crate::HIGH_AT;
 use crate::lone;
 use crate::spread;
 
@@ -35,10 +38,34 @@ const VAIN: usize = 4;
 // So many eighths of the flags for each open entry.
 const SPARSE: usize = 8;
 
+// The flags of an eighth, half of them, and the bytes of a flag.
+const EIGHTH: usize = 8;
+
+const HALF: usize = 4;
+
+const FLAG: usize = 2;
+
+// So many times those that share a flag are more than all: the next round is in vain. So many times those are open after it.
+const CROWDED: usize = 3;
+
+const AGAIN: usize = 2;
+
+// A half of the bits of a number.
+const WORD: u64 = 0x1_0000_0000;
+
 // What makes the factor of the first round of a number, and that of factors.
 const FACTOR: u64 = 0x9e37_79b9_7f4a_7c15;
 
 const NEXT: u64 = 0xd6e8_feb8_6659_fd93;
+
+// A round over the n listed members of the node at record p, a sum (terms) or a product: 8 m flags, and the factor f.
+struct Round {
+    p: usize,
+    n: usize,
+    m: usize,
+    f: u64,
+    terms: bool,
+}
 
 // The flags of a member.
 struct Flags {
@@ -58,7 +85,7 @@ fn place(v: u64, n: usize, f: u64) -> usize
     ensures { λ r. ⌜ (r ≡ placeOf f n v) × (r < n) ⌝ }
 {
     let x = number::wrapping_mul(spread::stirred(v), f);
-    (x / 0x1_0000_0000 * n as u64 / 0x1_0000_0000) as usize
+    (x / WORD * n as u64 / WORD) as usize
 }
 
 // The flags of the member at record i, of a sum (terms) or of a product, among 8 m.
@@ -68,22 +95,22 @@ fn flags_of(s: &[u8], i: usize, m: usize, f: u64, terms: bool) -> Flags
         → (r .first ≡ firstFlag terms f m t) × (r .second ≡ secondFlag terms f m t)) ⌝ }
 {
     if terms {
-        let a = place(spread::rest_spread(s, i), 8 * m, f);
+        let a = place(spread::rest_spread(s, i), EIGHTH * m, f);
         return Flags {
             first: a,
             second: a,
         };
     }
     let b = split::base(s, i);
-    if record::kind(s, b) < 1 {
-        let x = place(split::exponent(s, i), 4 * m, f);
-        let y = place(record::bits(s, b), 4 * m, f);
+    if record::kind(s, b) < record::SYMBOL {
+        let x = place(split::exponent(s, i), HALF * m, f);
+        let y = place(record::bits(s, b), HALF * m, f);
         return Flags {
             first: x,
-            second: 4 * m + y,
+            second: HALF * m + y,
         };
     }
-    let a = place(spread::spread(s, b), 8 * m, f);
+    let a = place(spread::spread(s, b), EIGHTH * m, f);
     Flags {
         first: a,
         second: a,
@@ -97,8 +124,8 @@ fn fill(out: &mut [u8], a: usize, x: usize, k: usize)
 {
     if x < 1 {
         let v = k + 1;
-        let entry = [(v % 256) as u8, (v / 256 % 256) as u8];
-        stretch::copy_bytes(out, a, &entry, 0, 2);
+        let entry = [(v % BYTE) as u8, (v / BYTE % BYTE) as u8];
+        stretch::copy_bytes(out, a, &entry, 0, FLAG);
     }
 }
 
@@ -113,29 +140,26 @@ fn unmark(work: &mut [u8], x: usize, k: usize)
     if k < x {
         return;
     }
-    let b = x * 4 - 1;
-    work[b] = work[b] % 0x80;
+    let b = x * ENTRY - 1;
+    work[b] = work[b] % lone::BIT;
 }
 
 // Puts entry k down at its flags, which lie from byte `at` of `out` on; what they held.
-fn put(
-    out: &mut [u8],
-    work: &[u8],
-    at: usize,
-    p: usize,
-    k: usize,
-    m: usize,
-    f: u64,
-    terms: bool,
-) -> Held
-    requires { ⌜ ((t : Tree) × Entry terms (now work) p k t) × (k * 4 + 4 ≤ length (now work)) × (k < 65535) ⌝ }
-    requires { ⌜ (0 < m) × (m < 65536) × (at + m * 16 ≤ length (now out)) ⌝ }
-    ensures { λ r. ⌜ ((t : Tree) → Entry terms (now (work .entry)) p k t
-        → Put terms (now (out .entry)) (now (out .exit)) at k m f t (r .first) (r .second)) ⌝ }
+fn put(out: &mut [u8], work: &[u8], at: usize, k: usize, round: Round) -> Held
+    requires { ⌜ ((t : Tree) × Entry (round .terms) (now work) (round .p) k t) × (k * 4 + 4 ≤ length (now work)) × (k < 65535) ⌝ }
+    requires { ⌜ (0 < round .m) × (round .m < 65536) × (at + round .m * 16 ≤ length (now out)) ⌝ }
+    ensures { λ r. ⌜ ((t : Tree) → Entry (round .terms) (now (work .entry)) (round .p) k t
+        → Put (round .terms) (now (out .entry)) (now (out .exit)) at k (round .m) (round .f) t (r .first) (r .second)) ⌝ }
 {
-    let v = flags_of(work, p + number::read2(work, k * 4), m, f, terms);
-    let a = at + v.first * 2;
-    let b = at + v.second * 2;
+    let v = flags_of(
+        work,
+        round.p + number::read2(work, k * ENTRY),
+        round.m,
+        round.f,
+        round.terms,
+    );
+    let a = at + v.first * FLAG;
+    let b = at + v.second * FLAG;
     let x = number::read2(out, a);
     let y = number::read2(out, b);
     fill(out, a, x, k);
@@ -152,32 +176,23 @@ fn mark(work: &mut [u8], k: usize, marks: bool)
     ensures { λ _. ⌜ MarkedIf marks (now (work .entry)) (now (work .exit)) k ⌝ }
 {
     if marks {
-        let c = k * 4 + 3;
+        let c = k * ENTRY + HIGH_AT;
         work[c] = lone::lone_byte(work[c], 1);
     }
 }
 
-// Puts entry k down, if it is open: it gets its bit, if bits are given, where its flags held none, else those that they held lose theirs. 1 where it shares a flag.
-fn visit(
-    out: &mut [u8],
-    work: &mut [u8],
-    at: usize,
-    p: usize,
-    k: usize,
-    n: usize,
-    m: usize,
-    f: u64,
-    marks: bool,
-    terms: bool,
-) -> usize
-    requires { ⌜ Numbered terms (now work) p n × (k < n) × (0 < m) × (m ≤ n) × (at + n * 16 ≤ length (now out)) ⌝ }
-    ensures { λ r. ⌜ (r < 2) × ((t : Tree) → Entry terms (now (work .entry)) p k t
-        → Visited terms (now (out .entry)) (now (out .exit)) (now (work .entry)) (now (work .exit)) at k n m f marks t) ⌝ }
+// Puts entry k down, if it is open: it gets its bit, if bits are given, where its flags held none, else those that they held lose theirs.
+// 1 where it shares a flag.
+fn visit(out: &mut [u8], work: &mut [u8], at: usize, k: usize, round: Round, marks: bool) -> usize
+    requires { ⌜ Numbered (round .terms) (now work) (round .p) (round .n) × (k < round .n) × (0 < round .m) × (round .m ≤ round .n)
+        × (at + round .n * 16 ≤ length (now out)) ⌝ }
+    ensures { λ r. ⌜ (r < 2) × ((t : Tree) → Entry (round .terms) (now (work .entry)) (round .p) k t
+        → Visited (round .terms) (now (out .entry)) (now (out .exit)) (now (work .entry)) (now (work .exit)) at k (round .n) (round .m) (round .f) marks t) ⌝ }
 {
-    if 0x7f < work[k * 4 + 3] {
+    if lone::NO_BIT < work[k * ENTRY + HIGH_AT] {
         return 0;
     }
-    let h = put(out, work, at, p, k, m, f, terms);
+    let h = put(out, work, at, k, round);
     unmark(work, h.first, k);
     unmark(work, h.second, k);
     if 0 < h.first + h.second {
@@ -198,28 +213,21 @@ fn stride(n: usize, all: bool) -> usize
     n / TRIES + 1
 }
 
-// Puts the n entries down, or some of them if no bits are given, at 8 m flags behind record d; how many share a flag.
-fn put_down(
-    out: &mut [u8],
-    work: &mut [u8],
-    d: usize,
-    p: usize,
-    n: usize,
-    m: usize,
-    f: u64,
-    marks: bool,
-    terms: bool,
-) -> usize
-    requires { ⌜ Numbered terms (now work) p n × (0 < m) × (m ≤ n) × ((d + 1) * 16 + n * 16 ≤ length (now out)) ⌝ }
-    ensures { λ r. ⌜ (r < 131073) × ToldMore terms (now (out .entry)) (now (out .exit)) (now (work .entry)) (now (work .exit)) d p n ⌝ }
+// Puts the entries of a round down, or some of them if no bits are given, at flags behind record d; how many share a flag.
+fn put_down(out: &mut [u8], work: &mut [u8], d: usize, round: Round, marks: bool) -> usize
+    requires { ⌜ Numbered (round .terms) (now work) (round .p) (round .n) × (0 < round .m) × (round .m ≤ round .n)
+        × ((d + 1) * 16 + round .n * 16 ≤ length (now out)) ⌝ }
+    ensures { λ r. ⌜ (r < 131073)
+        × ToldMore (round .terms) (now (out .entry)) (now (out .exit)) (now (work .entry)) (now (work .exit)) d (round .p) (round .n) ⌝ }
 {
-    let at = (d + 1) * 16;
-    stretch::clear(out, at, m * 16);
+    let at = (d + 1) * record::SIZE;
+    stretch::clear(out, at, round.m * record::SIZE);
+    let n = round.n;
     let step = stride(n, marks);
     let mut shared = 0;
     let mut k = 0;
     while k < n {
-        shared += visit(out, work, at, p, k, n, m, f, marks, terms);
+        shared += visit(out, work, at, k, round, marks);
         k += step;
     }
     shared
@@ -229,7 +237,7 @@ fn put_down(
 fn is_open(high: u8) -> usize
     ensures { λ r. ⌜ r < 2 ⌝ }
 {
-    if high < 0x80 {
+    if high < lone::BIT {
         return 1;
     }
     0
@@ -243,7 +251,7 @@ fn count_open(work: &[u8], n: usize) -> usize
     let mut many = 0;
     let mut k = 0;
     while k < n {
-        many += is_open(work[k * 4 + 3]);
+        many += is_open(work[k * ENTRY + HIGH_AT]);
         k += 1;
     }
     many
@@ -279,8 +287,7 @@ fn factor(work: &[u8], p: usize) -> u64
     requires { ⌜ p * 16 + 16 ≤ length (now work) ⌝ }
     ensures { λ r. ⌜ r < modulus ⌝ }
 {
-    let odd = record::bits(work, p) / 0x1_0000_0000 * 2 + 1;
-    number::wrapping_mul(odd, FACTOR)
+    number::wrapping_mul(note::odd_key(work, p), FACTOR)
 }
 
 // Eighths of the flags for n entries of which m are open: the fewer they are the less they share one.
@@ -305,20 +312,33 @@ pub fn tell_numbers(out: &mut [u8], work: &mut [u8], d: usize, p: usize, n: usiz
         return;
     }
     let mut f = factor(work, p);
-    if VAIN <= put_down(out, work, d, p, n, m, f, false, terms) {
+    let tried = Round {
+        p: p,
+        n: n,
+        m: m,
+        f: f,
+        terms: terms,
+    };
+    if VAIN <= put_down(out, work, d, tried, false) {
         return;
     }
     let mut r = 0;
     while r < ROUNDS {
-        let wide = room(m, n);
-        let shared = put_down(out, work, d, p, n, wide, f, true, terms);
-        if m < shared * 3 {
+        let round = Round {
+            p: p,
+            n: n,
+            m: room(m, n),
+            f: f,
+            terms: terms,
+        };
+        let shared = put_down(out, work, d, round, true);
+        if m < shared * CROWDED {
             return;
         }
-        if !pays(shared * 2, n) {
+        if !pays(shared * AGAIN, n) {
             return;
         }
-        m = shared * 2;
+        m = shared * AGAIN;
         f = number::wrapping_mul(f, NEXT);
         r += 1;
     }

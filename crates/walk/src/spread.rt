@@ -12,14 +12,19 @@ ghost use Rattle.walk.specs.Spread.{stirred, shareIn, spread, restSpread
 // What a head adds for each unit of its kind, and what is added to a leaf's bits.
 const KIND: u64 = 0x5a_8279_9950_7d31;
 
+// What stirs a number, and its two halves of 32 bits.
+const FACTOR: u64 = 0x9e37_79b9_7f4a_7c15;
+
+const HALF: u64 = 0x1_0000_0000;
+
 // v stirred, so that no simple relation brings sums of such numbers to agree.
 pub fn stirred(v: u64) -> u64
     ensures { λ r. ⌜ r ≡ stirred v ⌝ }
 {
-    let y = number::wrapping_mul(v, 0x9e37_79b9_7f4a_7c15);
-    let low = y % 0x1_0000_0000;
-    let high = y / 0x1_0000_0000;
-    (low + high) % 0x1_0000_0000 * high + low
+    let y = number::wrapping_mul(v, FACTOR);
+    let low = y % HALF;
+    let high = y / HALF;
+    (low + high) % HALF * high + low
 }
 
 // The share of record i: of a leaf by its kind and its bits, of the head of a sum or a power by its kind, of that of a product none.
@@ -28,10 +33,10 @@ fn share(s: &[u8], i: usize) -> u64
     ensures { λ r. ⌜ r ≡ shareIn (now (s .entry)) i ⌝ }
 {
     let k = record::kind(s, i);
-    if k < 2 {
+    if k < record::SUM {
         return stirred(std::num::wrapping_add_u64(record::bits(s, i), k as u64 * KIND));
     }
-    if k == 3 {
+    if k == record::PRODUCT {
         return 0;
     }
     k as u64 * KIND
@@ -62,7 +67,7 @@ fn others_spread(s: &[u8], i: usize) -> u64
     let mut at = i + 1;
     let mut left = record::count(s, i);
     while 0 < left {
-        if 0 < record::kind(s, at) {
+        if record::INTEGER < record::kind(s, at) {
             sum = std::num::wrapping_add_u64(sum, spread(s, at));
         }
         at = split::skip_tree(s, at);
@@ -77,10 +82,10 @@ pub fn rest_spread(s: &[u8], i: usize) -> u64
     ensures { λ r. ⌜ ((how : Tree → ℕ) (t : Tree) → Told how (now (s .entry)) i t → r ≡ restSpread (termOf t .rest) % modulus) ⌝ }
 {
     let k = record::kind(s, i);
-    if k < 1 {
+    if k < record::SYMBOL {
         return 0;
     }
-    if k == 3 {
+    if k == record::PRODUCT {
         return others_spread(s, i);
     }
     spread(s, i)

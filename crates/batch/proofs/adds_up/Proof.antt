@@ -1,5 +1,5 @@
 -- `batch::adds_up` meets its contract. The loop's invariant: the lengths of all items and what is left are together those of the items to
--- come and the bytes given. The measure is the number of items to come. Assumes nothing.
+-- come and the bytes given. The measure is the number of items to come.
 use Prim.Native.Nat.{_+_, _-_, _/_, _≤_}
 use mathlib.Core.Path.{_≡_, sym, ap}
 use native.Mathlib.Omega.{arith}
@@ -21,24 +21,12 @@ abbrev μ-loop : tie.MeasureT-loop
 loop-holds : tie.Need-loop-holds Inv-loop μ-loop
 loop-holds c = (omega arith, omega arith, omega (arith, ap total (from-all (c .before .args .lengths .now))))
 
-mul-read8 : tie.Need-mul-read8 Inv-loop μ-loop
-mul-read8 c = omega arith
-
-read8-requires : tie.Need-read8-requires Inv-loop μ-loop
-read8-requires c κs = omega arith
-
 returns : tie.Need-returns Inv-loop μ-loop
 returns c =
     let s = c .before .before .before .before .before .args .lengths .now in
     let i = c .before .before .before .loop .i in
     let turn = total-turn s (length s / 8) i (c .before .before .loop-test .taken) in
     sym (ne-eqb (total (lengthsIn s)) (c .before .before .before .before .before .args .given) (λ e. omega (arith, turn)))
-
-add-i : tie.Need-add-i Inv-loop μ-loop
-add-i c = omega arith
-
-loop-less : tie.Need-loop-less Inv-loop μ-loop
-loop-less c = omega arith
 
 loop-again : tie.Need-loop-again Inv-loop μ-loop
 loop-again c =
@@ -57,13 +45,4 @@ pub adds-up-spec : {M : Type 1} → statement M
 adds-up-spec =
     tie.close
     (tie.spec
-    Inv-loop
-    μ-loop
-    loop-holds
-    mul-read8
-    read8-requires
-    returns
-    add-i
-    loop-less
-    loop-again
-    returns-2)
+    Inv-loop μ-loop loop-holds (λ c. omega arith) (λ c κs. omega arith) returns (λ c. omega arith) (λ c. omega arith) loop-again returns-2)

@@ -1,4 +1,4 @@
--- `batch::batch` meets its contract: refused it changes nothing, and else it leaves what was still to do at its beginning. Assumes nothing.
+-- `batch::batch` meets its contract: refused it changes nothing, and else it leaves what was still to do at its beginning.
 use mathlib.Core.Path.{_≡_, sym, _∙_}
 use native.Mathlib.Omega.{arith}
 use borrow.Author.Needs.{needs}
@@ -9,61 +9,45 @@ use Rattle.batch.proofs.FitLaws.{fits, carried-out}
 use Rattle.batch.proofs.batch.Statement.{statement}
 use Rattle.batch.proofs.batch.Tie as tie
 
-judge-requires : tie.Need-judge-requires
-judge-requires c κs = search needs
+-- the call's beginning from where it is judged, and from where it is not refused
+abbrev begun : tie.After-judge → tie.Start
+begun c = c .before .before .before .before .before .before .before .before
 
-same-length : tie.Need-same-length
-same-length c = search needs
+abbrev judged : tie.Else1 → tie.After-judge
+judged c = c .before
 
 returns : tie.Need-returns
 unfolding untouched
 returns c =
-    let g = c .before .before .before .before .before .before .before .before .before .args in
+    let g = begun (c .before) .args in
     let asked = c .before .judge in
     sym
     (refused-changes-nothing (g .limit) (g .edition) (g .tables .now) (g .lengths .now) (g .answers .now) (lent (g .out .now) (g .steps .now) (g .work .now))
     (asked .result) (sym (asked .ensures)) (λ e. omega (arith, c .if1 .taken)))
 
 -- the call is not refused
-accepted-of : (c : tie.Else1) → let g = c .before .before .before .before .before .before .before .before .before .args in
+accepted-of : (c : tie.Else1) → let g = begun (judged c) .args in
     siteNumber (g .limit) (g .edition) (g .tables .now) (g .lengths .now) (g .answers .now) ≡ 0
-accepted-of c = let asked = c .before .judge in omega (arith, asked .ensures, c .if1 .left)
+accepted-of c = let asked = judged c .judge in omega (arith, asked .ensures, c .if1 .left)
 
 in-turn-requires : tie.Need-in-turn-requires
 in-turn-requires c κs =
-    let g = c .before .before .before .before .before .before .before .before .before .before .before .before .before .args in
-    fits (g .tables .now) (g .lengths .now) (g .answers .now) (g .limit) (g .edition) (accepted-of (c .before .before .before .before))
-
-same-length-2 : tie.Need-same-length-2
-same-length-2 c = search needs
-
-same-length-3 : tie.Need-same-length-3
-same-length-3 c = search needs
-
-same-length-4 : tie.Need-same-length-4
-same-length-4 c = search needs
-
-same-length-5 : tie.Need-same-length-5
-same-length-5 c = search needs
+    let here = c .before .before .before .before in
+    let g = begun (judged here) .args in
+    fits (g .tables .now) (g .lengths .now) (g .answers .now) (g .limit) (g .edition) (accepted-of here)
 
 returns-2 : tie.Need-returns-2
 returns-2 c =
-    let g = c .before .before .before .before .before .before .before .before .before .before .before .before .before .before .before .before .before .before .before .before .before .before .args in
     let done = c .before .before .before .before .before .before .before .before in
+    let here = done .before .before .before .before .before in
+    let g = begun (judged here) .args in
     done .in-turn .ensures
-    ∙ carried-out (g .tables .now) (g .lengths .now) (g .answers .now) (g .limit) (g .edition) (accepted-of (done .before .before .before .before .before))
+    ∙ carried-out (g .tables .now) (g .lengths .now) (g .answers .now) (g .limit) (g .edition) (accepted-of here)
     (lent (g .out .now) (g .steps .now) (g .work .now))
 
 pub batch-spec : {M : Type 1} → statement M
 batch-spec =
     tie.close
     (tie.spec
-    judge-requires
-    same-length
-    returns
-    in-turn-requires
-    same-length-2
-    same-length-3
-    same-length-4
-    same-length-5
-    returns-2)
+    (λ c κs. search needs) (λ c. search needs) returns in-turn-requires (λ c. search needs) (λ c. search needs) (λ c. search needs)
+    (λ c. search needs) returns-2)

@@ -1,5 +1,6 @@
--- `batch::in_turn` meets its contract. The loop's invariant: what is still to do, from what stands there now and with `work` cleared where an item ran, is what was to do
--- at the beginning; the items to come have the bytes from `at` on, and what is used up is within the areas. The measure is the number of items to come. Assumes nothing.
+-- `batch::in_turn` meets its contract. The loop's invariant: what is still to do, from what
+-- stands there now and with `work` cleared where an item ran, is what was to do
+-- at the beginning; the items to come have the bytes from `at` on, and what is used up is within the areas. The measure is the number of items to come.
 use Prim.Native.Nat.{ℕ, _+_, _-_, _*_, _/_, _≤_}
 use mathlib.Core.Path.{_≡_, refl, sym, ap, _∙_}
 use mathlib.Core.List.{List}
@@ -78,7 +79,8 @@ gone : (c : Back) → let read = read-of c in
     let g = known-of entered .before .args in
     let l = entered .loop in
     let call = c .before .before .before .before .before .before .before .before .item in
-    Passed (g .limit) (g .edition) (g .tables .now) (g .lengths .now) (l .answers) (l .out) (l .steps) (l .work) (length (g .lengths .now) / 8) (l .i) (l .at) (l .used)
+    Passed (g .limit) (g .edition) (g .tables .now) (g .lengths .now) (l .answers) (l .out) (l .steps)
+    (l .work) (length (g .lengths .now) / 8) (l .i) (l .at) (l .used)
     (read .read8 .result) (call .result) (call .last .1 .1 .1 .0) (call .last .1 .1 .1 .1 .0) (call .last .1 .1 .1 .1 .1 .0) (call .last .1 .1 .1 .1 .1 .1 .0)
 gone c =
     let read = read-of c in
@@ -88,7 +90,8 @@ gone c =
     let g = known .before .args in
     let l = entered .loop in
     let call = c .before .before .before .before .before .before .before .before .item in
-    passed (g .limit) (g .edition) (g .tables .now) (g .lengths .now) (l .answers) (l .out) (l .steps) (l .work) (length (g .lengths .now) / 8) (l .i) (l .at) (l .used)
+    passed (g .limit) (g .edition) (g .tables .now) (g .lengths .now) (l .answers) (l .out) (l .steps)
+    (l .work) (length (g .lengths .now) / 8) (l .i) (l .at) (l .used)
     (read .read8 .result) (call .result) (call .last .1 .1 .1 .0) (call .last .1 .1 .1 .1 .0) (call .last .1 .1 .1 .1 .1 .0) (call .last .1 .1 .1 .1 .1 .1 .0)
     (are-bytes (g .tables .now) (known .shared-slice-known .given)) (more .loop-test .taken) (l .inv .2) (l .inv .3) (omega arith)
     (read .read8 .ensures) (l .inv .9) (call .ensures)
@@ -105,62 +108,19 @@ loop-holds c =
       refl,
       refl,
       refl,
-      ap (λ (x : List ℕ). still (g .limit) (g .edition) 0 0 (lengthsFrom (g .lengths .now) (length (g .lengths .now) / 8) 0) (g .tables .now) (lent (g .out .now) (g .steps .now) x) (g .answers .now))
+      ap (λ (x : List ℕ). still (g .limit) (g .edition) 0 0 (lengthsFrom (g .lengths .now) (length (g .lengths .now) / 8) 0)
+          (g .tables .now) (lent (g .out .now) (g .steps .now) x) (g .answers .now))
           (sym (not-cleared (g .limit) 0 (g .work .now) (omega arith)))
-          ∙ ap (λ (ns : List ℕ). still (g .limit) (g .edition) 0 0 ns (g .tables .now) (lent (g .out .now) (g .steps .now) (g .work .now)) (g .answers .now)) all,
+          ∙ ap (λ (ns : List ℕ). still (g .limit) (g .edition) 0 0 ns (g .tables .now) (lent (g .out .now) (g .steps .now) (g .work .now)) (g .answers .now))
+          all,
       λ h. absurd (omega arith),
     )
-
-mul-read8 : tie.Need-mul-read8 Inv-loop μ-loop
-mul-read8 c = omega arith
-
-read8-requires : tie.Need-read8-requires Inv-loop μ-loop
-read8-requires c κs = omega arith
 
 add-end : tie.Need-add-end Inv-loop μ-loop
 add-end c = omega (arith, length-read c)
 
-mul-o : tie.Need-mul-o Inv-loop μ-loop
-mul-o c = omega arith
-
-mul-p : tie.Need-mul-p Inv-loop μ-loop
-mul-p c = omega arith
-
-sub-item : tie.Need-sub-item Inv-loop μ-loop
-sub-item c = omega arith
-
-part-item-start : tie.Need-part-item-start Inv-loop μ-loop
-part-item-start c = search needs
-
 part-item-end : tie.Need-part-item-end Inv-loop μ-loop
 part-item-end c = search (needs, length-read c)
-
-sub-item-2 : tie.Need-sub-item-2 Inv-loop μ-loop
-sub-item-2 c = omega arith
-
-part-item-start-2 : tie.Need-part-item-start-2 Inv-loop μ-loop
-part-item-start-2 c = search needs
-
-part-item-end-2 : tie.Need-part-item-end-2 Inv-loop μ-loop
-part-item-end-2 c = search needs
-
-sub-item-3 : tie.Need-sub-item-3 Inv-loop μ-loop
-sub-item-3 c = omega arith
-
-part-item-start-3 : tie.Need-part-item-start-3 Inv-loop μ-loop
-part-item-start-3 c = search needs
-
-part-item-end-3 : tie.Need-part-item-end-3 Inv-loop μ-loop
-part-item-end-3 c = search needs
-
-sub-item-4 : tie.Need-sub-item-4 Inv-loop μ-loop
-sub-item-4 c = omega arith
-
-part-item-start-4 : tie.Need-part-item-start-4 Inv-loop μ-loop
-part-item-start-4 c = search needs
-
-part-item-end-4 : tie.Need-part-item-end-4 Inv-loop μ-loop
-part-item-end-4 c = search needs
 
 item-requires : tie.Need-item-requires Inv-loop μ-loop
 item-requires c κs = simp (length-take, length-drop) (omega arith)
@@ -170,12 +130,6 @@ add-used c =
     let entered = entered-of (more-of (read-of c)) in
     let turn = gone c .gone in
     omega (arith, turn .out-fits)
-
-add-i : tie.Need-add-i Inv-loop μ-loop
-add-i c = omega arith
-
-loop-less : tie.Need-loop-less Inv-loop μ-loop
-loop-less c = omega arith
 
 loop-again : tie.Need-loop-again Inv-loop μ-loop
 loop-again c =
@@ -195,25 +149,13 @@ loop-again c =
       λ h. omega (arith, gone c .room h, long),
     )
 
-work-bytes-requires : tie.Need-work-bytes-requires Inv-loop μ-loop
-work-bytes-requires c κs = search needs
-
 clear-requires : tie.Need-clear-requires Inv-loop μ-loop
 clear-requires c κs =
     let l = c .before .before .before .before .loop in
     omega (arith, l .inv .9 (c .before .before .if1 .taken), c .work-bytes .ensures)
 
-same-length : tie.Need-same-length Inv-loop μ-loop
-same-length c = omega arith
-
-same-length-2 : tie.Need-same-length-2 Inv-loop μ-loop
-same-length-2 c = omega arith
-
 same-length-3 : tie.Need-same-length-3 Inv-loop μ-loop
 same-length-3 c = omega (arith, c .before .before .clear .kept .0)
-
-same-length-4 : tie.Need-same-length-4 Inv-loop μ-loop
-same-length-4 c = omega arith
 
 -- where no item is left
 abbrev Left : Type 0
@@ -243,20 +185,9 @@ returns c =
     let clear = c .before .before .clear in
     let need = c .before .before .before .work-bytes in
     ap (λ (x : List ℕ). called 0 (l .out) (l .steps) x (l .answers))
-    (cleared-once (g .limit) (l .used) (need .result) (l .work) (clear .last .0) (c .before .before .before .before .before .if1 .taken) (need .ensures) (clear .ensures))
+    (cleared-once (g .limit) (l .used) (need .result) (l .work) (clear .last .0)
+    (c .before .before .before .before .before .if1 .taken) (need .ensures) (clear .ensures))
     ∙ ended over
-
-same-length-5 : tie.Need-same-length-5 Inv-loop μ-loop
-same-length-5 c = omega arith
-
-same-length-6 : tie.Need-same-length-6 Inv-loop μ-loop
-same-length-6 c = omega arith
-
-same-length-7 : tie.Need-same-length-7 Inv-loop μ-loop
-same-length-7 c = omega arith
-
-same-length-8 : tie.Need-same-length-8 Inv-loop μ-loop
-same-length-8 c = omega arith
 
 returns-2 : tie.Need-returns-2 Inv-loop μ-loop
 returns-2 c =
@@ -270,40 +201,8 @@ pub in-turn-spec : {M : Type 1} → statement M
 in-turn-spec =
     tie.close
     (tie.spec
-    Inv-loop
-    μ-loop
-    loop-holds
-    mul-read8
-    read8-requires
-    add-end
-    mul-o
-    mul-p
-    sub-item
-    part-item-start
-    part-item-end
-    sub-item-2
-    part-item-start-2
-    part-item-end-2
-    sub-item-3
-    part-item-start-3
-    part-item-end-3
-    sub-item-4
-    part-item-start-4
-    part-item-end-4
-    item-requires
-    add-used
-    add-i
-    loop-less
-    loop-again
-    work-bytes-requires
-    clear-requires
-    same-length
-    same-length-2
-    same-length-3
-    same-length-4
-    returns
-    same-length-5
-    same-length-6
-    same-length-7
-    same-length-8
-    returns-2)
+    Inv-loop μ-loop loop-holds (λ c. omega arith) (λ c κs. omega arith) add-end (λ c. omega arith) (λ c. omega arith) (λ c. omega arith)
+    (λ c. search needs) part-item-end (λ c. omega arith) (λ c. search needs) (λ c. search needs) (λ c. omega arith) (λ c. search needs)
+    (λ c. search needs) (λ c. omega arith) (λ c. search needs) (λ c. search needs) item-requires add-used (λ c. omega arith) (λ c. omega arith)
+    loop-again (λ c κs. search needs) clear-requires (λ c. omega arith) (λ c. omega arith) same-length-3 (λ c. omega arith) returns (λ c. omega arith)
+    (λ c. omega arith) (λ c. omega arith) (λ c. omega arith) returns-2)

@@ -1,15 +1,19 @@
--- `differ::differ` meets its contract: another limit is answered by 19, a refused table by its verdict; two accepted tables hold trees, whose pairs are counted, and
--- written where the list has room for them. Assumes nothing.
-use mathlib.Core.Path.{_≡_, sym, _∙_}
+-- `differ::differ` meets its contract: another limit is answered by 19, a refused table by its verdict; two accepted tables hold trees,
+-- whose pairs are counted, and written where the list has room for them.
+use Prim.Native.Nat.{ℕ}
+use mathlib.Core.Path.{_≡_, sym, ap, _∙_}
 use mathlib.Core.Bool.{true}
+use mathlib.Core.List.{List}
 use native.Mathlib.Omega.{arith}
 use borrow.Author.Needs.{needs}
 use borrow.Author.Tests.{not-true, not-false}
 use Rattle.paper.specs.Limits.{isLimit}
-use Rattle.paper.specs.Verdict.{accepted, told, verdict}
+use Rattle.paper.specs.Verdict.{Verdict, accepted, verdict}
 use Rattle.paper.proofs.BytesLaws.{are-bytes}
 use Rattle.paper.proofs.CallLaws.{told-accepted}
-use Rattle.record.specs.Flaw.{flawOf}
+use Rattle.paper_differ.specs.Differ as paper
+use Rattle.table.specs.Judged.{verdictOf}
+use Rattle.differ.specs.Differed.{answered}
 use Rattle.differ.specs.Together.{Together}
 use Rattle.differ.proofs.DifferedLaws.{limit-refused, first-refused, second-refused, list-refused, none-refused, both-accepted}
 use Rattle.differ.proofs.differ.Statement.{statement}
@@ -73,10 +77,7 @@ known-both : (c : BothFine) → isLimit (begun c .args .limit) ≡ true
 known-both c = known-then (judged-of (fine-of (other-judged-of c)))
 
 -- what the faults say of the tables
-judges : (c : Judged)
-    → let f = c .fault-of .result in
-    let a = start-of c .args in
-    told (f .number) (f .place) (flawOf (f .flaw)) ≡ verdict (a .limit) (a .a .now)
+judges : (c : Judged) → let a = start-of c .args in verdictOf (c .fault-of .result) ≡ verdict (a .limit) (a .a .now)
 judges c = c .fault-of .ensures ∙ c .before .check .ensures
 
 fine : (c : Fine) → let a = start-of (judged-of c) .args in verdict (a .limit) (a .a .now) ≡ accepted
@@ -85,10 +86,7 @@ fine c =
     let a = start-of judged .args in
     told-accepted (a .limit) (a .a .now) _ _ _ (judges judged) (omega (arith, c .if2 .left))
 
-other-judges : (c : OtherJudged)
-    → let f = c .fault-of2 .result in
-    let a = start-of (judged-of (fine-of c)) .args in
-    told (f .number) (f .place) (flawOf (f .flaw)) ≡ verdict (a .limit) (a .b .now)
+other-judges : (c : OtherJudged) → let a = start-of (judged-of (fine-of c)) .args in verdictOf (c .fault-of2 .result) ≡ verdict (a .limit) (a .b .now)
 other-judges c = c .fault-of2 .ensures ∙ c .before .check2 .ensures
 
 other-fine : (c : BothFine) → let a = begun c .args in verdict (a .limit) (a .b .now) ≡ accepted
@@ -106,82 +104,72 @@ together c =
     both-accepted (a .limit) (a .a .now) (a .b .now) (are-bytes (a .a .now) (slices .before .shared-slice-known .given))
     (are-bytes (a .b .now) (slices .shared-slice-known2 .given)) (one-fine c) (other-fine c)
 
-is-limit-requires : tie.Need-is-limit-requires
-is-limit-requires c κs = search needs
+-- a refusal of neither table, and an answer with the list afterwards
+refused : {v w : Verdict} → v ≡ w → answered v 0 0 ≡ answered w 0 0
+refused e = ap (λ (v : Verdict). answered v 0 0) e
+
+gives-both : {d e : paper.Differed} {list : List ℕ} {whole : paper.Differed × List ℕ} → d ≡ e → (e, list) ≡ whole → (d, list) ≡ whole
+gives-both {list = list} p q = ap (λ (x : paper.Differed). (x, list)) p ∙ q
 
 returns : tie.Need-returns
 returns c =
-    let asked = c .before in
+    let other = c .before .before in
+    let asked = other .before in
     let a = entry-of asked .args in
-    limit-refused (a .limit) (a .a .now) (a .b .now) (a .list .now) (sym (asked .is-limit .ensures) ∙ not-true _ (c .if1 .taken))
-
-check-requires : tie.Need-check-requires
-check-requires c κs = search needs
-
-fault-of-requires : tie.Need-fault-of-requires
-fault-of-requires c κs = search needs
+    gives-both (c .answer .ensures ∙ refused (c .before .refusal .ensures))
+    (limit-refused (a .limit) (a .a .now) (a .b .now) (a .list .now) (sym (asked .is-limit .ensures) ∙ not-true _ (other .if1 .taken)))
 
 returns-2 : tie.Need-returns-2
 returns-2 c =
-    let judged = c .before .before in
+    let judged = c .before .before .before in
     let a = start-of judged .args in
-    first-refused (a .limit) (known-then judged) (a .a .now) (a .b .now) (a .list .now) _ _ _ (judges judged) (omega arith)
-
-check-requires-2 : tie.Need-check-requires-2
-check-requires-2 c κs = search needs
-
-fault-of-requires-2 : tie.Need-fault-of-requires-2
-fault-of-requires-2 c κs = search needs
+    gives-both (c .answer2 .ensures)
+    (first-refused (a .limit) (known-then judged) (a .a .now) (a .b .now) (a .list .now) _ _ _ (judges judged) (omega (arith, c .before .if2 .taken)))
 
 returns-3 : tie.Need-returns-3
 returns-3 c =
-    let judged = c .before .before in
+    let judged = c .before .before .before in
     let one = fine-of judged in
     let a = start-of (judged-of one) .args in
-    second-refused (a .limit) (known-then (judged-of one)) (a .a .now) (a .b .now) (a .list .now) _ _ _ (fine one) (other-judges judged) (omega arith)
+    gives-both (c .answer3 .ensures)
+    (second-refused (a .limit) (known-then (judged-of one)) (a .a .now) (a .b .now) (a .list .now) _ _ _ (fine one) (other-judges judged)
+    (omega (arith, c .before .if3 .taken)))
 
 count-pairs-requires : tie.Need-count-pairs-requires
 count-pairs-requires c κs = together c
 
 returns-4 : tie.Need-returns-4
 returns-4 c =
-    let both = c .before .before in
+    let short = c .before .before in
+    let both = short .before .before in
     let a = begun both .args in
-    let pairs = c .before .count-pairs in
-    list-refused (a .limit) (known-both both) (a .a .now) (a .b .now) (a .list .now) (one-fine both) (other-fine both) (pairs .result) (pairs .ensures)
-    (c .if4 .taken)
+    let pairs = short .before .count-pairs in
+    gives-both (c .answer4 .ensures ∙ refused (c .before .refusal2 .ensures))
+    (list-refused (a .limit) (known-both both) (a .a .now) (a .b .now) (a .list .now) (one-fine both) (other-fine both) (pairs .result)
+    (pairs .ensures) (short .if4 .taken))
 
 write-pairs-requires : tie.Need-write-pairs-requires
 write-pairs-requires c κs =
     let both = c .before .before .before in
     (together both, omega (arith, c .before .before .count-pairs .ensures, c .before .if4 .left))
 
-same-length : tie.Need-same-length
-same-length c = search needs
-
 returns-5 : tie.Need-returns-5
 returns-5 c =
-    let both = c .before .before .before .before .before .before in
+    let wrote = c .before .before .before .before in
+    let room = wrote .before .before in
+    let both = room .before .before in
     let a = begun both .args in
-    let pairs = c .before .before .before .before .before .count-pairs in
-    let written = c .before .before .write-pairs in
-    none-refused (a .limit) (known-both both) (a .a .now) (a .b .now) (a .list .now) (one-fine both) (other-fine both) (pairs .result)
-    (pairs .ensures) (c .before .before .before .before .if4 .left) (written .last .1 .1 .0) (written .ensures)
+    let pairs = room .before .count-pairs in
+    let written = wrote .write-pairs in
+    gives-both (c .answer5 .ensures ∙ ap (λ (v : Verdict). answered v 0 (pairs .result)) (c .before .refusal3 .ensures))
+    (none-refused (a .limit) (known-both both) (a .a .now) (a .b .now) (a .list .now) (one-fine both) (other-fine both) (pairs .result)
+    (pairs .ensures) (room .if4 .left) (written .last .1 .1 .0) (written .ensures))
 
 pub differ-spec : {M : Type 1} → statement M
 differ-spec =
     tie.close
     (tie.spec
-    is-limit-requires
-    returns
-    check-requires
-    fault-of-requires
-    returns-2
-    check-requires-2
-    fault-of-requires-2
-    returns-3
-    count-pairs-requires
-    returns-4
-    write-pairs-requires
-    same-length
-    returns-5)
+    (λ c κs. search needs) (λ c κs. search needs) (λ c κs. search needs) returns (λ c κs. search needs) (λ c κs. search needs)
+    (λ c κs. search needs) returns-2 (λ c κs. search needs) (λ c κs. search needs) (λ c κs. search needs) returns-3 count-pairs-requires
+    (λ c κs. search needs) (λ c κs. search needs) returns-4 write-pairs-requires (λ c κs. search needs) (λ c κs. search needs)
+    (λ c. search needs) returns-5)

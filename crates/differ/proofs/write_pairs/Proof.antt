@@ -1,5 +1,5 @@
 -- `differ::write_pairs` meets its contract. The loop's invariant: the pairs behind the walk stand at the front of the list, which is else as it
--- was, and the others are ahead. The measure is what is left of the first table's records. Assumes nothing.
+-- was, and the others are ahead. The measure is what is left of the first table's records.
 use Prim.Native.Nat.{ℕ, _+_, _-_, _*_, _/_, _≤_, _<_}
 use mathlib.Core.Path.{_≡_, refl, sym, ap, _∙_}
 use mathlib.Core.Bool.{true, false}
@@ -64,14 +64,8 @@ agree-requires c κs =
     let w = c .before .loop .inv .1 in
     (walked-tree w (c .loop-test .taken), walked-other w (c .loop-test .taken))
 
-add-i : tie.Need-add-i Inv-loop μ-loop
-add-i c = omega arith
-
 add-j : tie.Need-add-j Inv-loop μ-loop
 add-j c = omega (arith, record-within (walked-other (c .before .before .before .loop .inv .1) (c .before .before .loop-test .taken) .there))
-
-loop-less : tie.Need-loop-less Inv-loop μ-loop
-loop-less c = omega arith
 
 loop-again : tie.Need-loop-again Inv-loop μ-loop
 loop-again c =
@@ -130,19 +124,5 @@ pub write-pairs-spec : {M : Type 1} → statement M
 write-pairs-spec =
     tie.close
     (tie.spec
-    Inv-loop
-    μ-loop
-    loop-holds
-    agree-requires
-    add-i
-    add-j
-    loop-less
-    loop-again
-    write-pair-requires
-    add-pairs
-    skip-tree-requires
-    skip-tree-requires-2
-    loop-less-2
-    loop-again-2
-    same-length
-    returns)
+    Inv-loop μ-loop loop-holds agree-requires (λ c. omega arith) add-j (λ c. omega arith) loop-again write-pair-requires add-pairs skip-tree-requires
+    skip-tree-requires-2 loop-less-2 loop-again-2 same-length returns)

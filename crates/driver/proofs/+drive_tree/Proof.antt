@@ -1,6 +1,7 @@
--- `driver::drive_tree`, which calls itself, meets its contract. What is pending in a call weighs less than what was pending before, for a member weighs less than the
--- tree; so the calls end. The loop keeps that the driver waits for a member or is at its end, on every call on which it did or was; a member that is
--- driven takes a try, so the tries tell that the loop ends. The numbers of the node that a level keeps are those that `come_out` puts back. Assumes nothing.
+-- `driver::drive_tree`, which calls itself, meets its contract. What is pending in a call weighs less than what was pending before, for a member
+-- weighs less than the tree; so the calls end. The loop keeps that the driver waits for a member or is at its end, on every call on which it did or
+-- was; a member that is driven takes a try, so the tries tell that the loop ends. The numbers of the node that a level keeps are those that
+-- `come_out` puts back.
 use Prim.Native.Nat.{ℕ, _-_, _*_, _^_, _<_, _≤_}
 use mathlib.Core.Path.{_≡_, refl, sym, ap, _∙_, subst}
 use mathlib.Core.List.{List, _++_}
@@ -11,6 +12,7 @@ use borrow.Fn.PlainCycle.{Measures, is, falls, and}
 use lib.ListN.{length, drop, getD}
 use Rattle.paper.specs.Tree.{Tree}
 use Rattle.paper.specs.Verdict.{tableWeight}
+use Rattle.driver.specs.declared.Stand.{Stand}
 use Rattle.driver.specs.Driven.{encodeAll}
 use Rattle.driver.specs.Paused.{standOf, entered, returned, Call, call, Called, Fell, DrivenTo, Midway, GoesOn, WentOn}
 use Rattle.driver.proofs.Runs.{drives-tried}
@@ -117,7 +119,8 @@ module _ (t : ℕ) where
   waits : (c : Entered) → 1 ≤ standOf (head-of c .loop .st) .left
   waits c = c .before .before .before .before .before .before .if1 .taken
 
-  midway : (c : Entered) (x : Call) → Was (begun-of (head-of c)) x → let l = head-of c .loop in Midway x (l .out .now) (l .work .now) (l .steps .now) (standOf (l .st))
+  midway : (c : Entered) (x : Call) → Was (begun-of (head-of c)) x
+      → let l = head-of c .loop in Midway x (l .out .now) (l .work .now) (l .steps .now) (standOf (l .st))
   midway c x v = head-of c .loop .inv .0 .on x v .waits (waits c)
 
   entered-cells : (c : Entered) → standOf (c .go-in .last .0) ≡ entered (standOf (head-of c .loop .st))
@@ -126,26 +129,26 @@ module _ (t : ℕ) where
   next : (c : Entered) (x : Call) (v : Was (begun-of (head-of c)) x) → First (midway c x v .gathering .r)
   next c x v = next-of (midway c x v) (waits c)
 
-  member-called : (c : Entered) (x : Call) (v : Was (begun-of (head-of c)) x)
-      → let l = head-of c .loop in let n = next c x v in Called (call (l .out .now) (l .work .now) (l .steps .now) (standOf (c .go-in .last .0)) (n .x) (encodeAll (n .xs) ++ x .rest))
-  member-called c x v =
+  -- the call on it, at a stand
+  abbrev call-next : (c : Entered) (x : Call) → Was (begun-of (head-of c)) x → Stand → Call
+  call-next c x v y =
       let l = head-of c .loop in
       let n = next c x v in
-      subst (λ y. Called (call (l .out .now) (l .work .now) (l .steps .now) y (n .x) (encodeAll (n .xs) ++ x .rest))) (sym (entered-cells c)) (next-called (midway c x v) (n .is))
+      call (l .out .now) (l .work .now) (l .steps .now) y (n .x) (encodeAll (n .xs) ++ x .rest)
+
+  member-called : (c : Entered) (x : Call) (v : Was (begun-of (head-of c)) x) → Called (call-next c x v (standOf (c .go-in .last .0)))
+  member-called c x v = subst (λ y. Called (call-next c x v y)) (sym (entered-cells c)) (next-called (midway c x v) (next c x v .is))
 
   -- what the run on the member says
   member-driven : (c : Driven) (x : Call) (v : Was (begun-of (head-of (entered-of c))) x)
-      → let l = head-of (entered-of c) .loop in
-      let n = next (entered-of c) x v in
-      let d = c .drive-tree in
-      DrivenTo (call (l .out .now) (l .work .now) (l .steps .now) (entered (standOf (l .st))) (n .x) (encodeAll (n .xs) ++ x .rest)) (d .last .0 .now) (d .last .1 .0 .now) (d .last .1 .1 .0 .now)
-      (standOf (d .last .1 .1 .1 .0)) (d .result)
+      → let d = c .drive-tree in
+      DrivenTo (call-next (entered-of c) x v (entered (standOf (head-of (entered-of c) .loop .st))))
+      (d .last .0 .now) (d .last .1 .0 .now) (d .last .1 .1 .0 .now) (standOf (d .last .1 .1 .1 .0)) (d .result)
   member-driven c x v =
       let entered = entered-of c in
-      let l = head-of entered .loop in
       let n = next entered x v in
       let d = c .drive-tree in
-      subst (λ y. DrivenTo (call (l .out .now) (l .work .now) (l .steps .now) y (n .x) (encodeAll (n .xs) ++ x .rest)) (d .last .0 .now) (d .last .1 .0 .now) (d .last .1 .1 .0 .now) (standOf (d .last .1 .1 .1 .0)) (d .result))
+      subst (λ y. DrivenTo (call-next entered x v y) (d .last .0 .now) (d .last .1 .0 .now) (d .last .1 .1 .0 .now) (standOf (d .last .1 .1 .1 .0)) (d .result))
       (entered-cells entered) (d .ensures .0 .1 (n .x) (encodeAll (n .xs) ++ x .rest) (member-called entered x v))
 
   -- the node's numbers come back
@@ -192,21 +195,6 @@ module _ (t : ℕ) where
   loop-holds : lts.Need-loop-holds (claims t) (here t) drive.Post Inv μ
   loop-holds c = (record { out-long = refl; work-long = refl; steps-long = refl; ten = λ l. l; end-is = λ e. e; on = λ x w. w }, refl, refl, refl)
 
-  element-copy-out-if1 : lts.Need-element-copy-out-if1 (claims t) (here t) drive.Post Inv μ
-  element-copy-out-if1 c = search needs
-
-  element-copy-out-node : lts.Need-element-copy-out-node (claims t) (here t) drive.Post Inv μ
-  element-copy-out-node c = search needs
-
-  element-copy-out-left : lts.Need-element-copy-out-left (claims t) (here t) drive.Post Inv μ
-  element-copy-out-left c = search needs
-
-  element-copy-out-gathered : lts.Need-element-copy-out-gathered (claims t) (here t) drive.Post Inv μ
-  element-copy-out-gathered c = search needs
-
-  element-copy-out-prior : lts.Need-element-copy-out-prior (claims t) (here t) drive.Post Inv μ
-  element-copy-out-prior c = search needs
-
   go-in-requires : lts.Need-go-in-requires (claims t) (here t) drive.Post Inv μ
   go-in-requires c κs = ten-cells (c .before .before .before .before .before .before .before)
 
@@ -219,8 +207,10 @@ module _ (t : ℕ) where
       let measure = entry .pre .0 in
       let n = next entered _ v in
       let place : getD (entered .go-in .last .0) 1 0 ≡ getD (head .loop .st) 1 0 = ap (λ y. y .place) (entered-cells entered) in
-      let same = ap (λ i. tableWeight (drop (i * 16) (head .loop .work .now))) place in
-      (omega (arith, lighter-now (midway entered _ v)), (ap length (entered .go-in .ensures), (n .x, encodeAll (n .xs) ++ entry .pre .1 .1 .1, member-called entered _ v)))
+      let same = ap (λ i. tableWeight (drop (i * 16) (head .loop .work .now))) place in (
+        omega (arith, lighter-now (midway entered _ v)),
+        (ap length (entered .go-in .ensures), (n .x, encodeAll (n .xs) ++ entry .pre .1 .1 .1, member-called entered _ v)),
+      )
 
   come-out-requires : lts.Need-come-out-requires (claims t) (here t) drive.Post Inv μ
   come-out-requires c κs = c .before .drive-tree .ensures .0 .0
@@ -231,7 +221,8 @@ module _ (t : ℕ) where
       let driven = driven-of returned-now in
       let entered = entered-of driven in
       let begun = begun-of (head-of entered) in
-      let noted : standOf (returned-now .come-out .last .0) .noted ≡ standOf (driven .drive-tree .last .1 .1 .1 .0) .noted = ap (λ y. y .noted) (back returned-now) in (
+      let noted : standOf (returned-now .come-out .last .0) .noted ≡ standOf (driven .drive-tree .last .1 .1 .1 .0) .noted =
+      ap (λ y. y .noted) (back returned-now) in (
         (
           ap length (returned-now .come-out .ensures),
           λ x r v.
@@ -272,7 +263,8 @@ module _ (t : ℕ) where
       let n = next entered _ w in
       let m = member-driven driven _ w .reached (c .before .before .before .before .before .if2 .left) in
       let some = drives-tried _ (n .x) (next-called v (n .is) .set .ready .wf) _ _ _ _ (m .drove .ran) in
-      let same : standOf (returned-now .come-out .last .0) .tries ≡ standOf (driven .drive-tree .last .1 .1 .1 .0) .tries = ap (λ y. y .tries) (back returned-now) in
+      let same : standOf (returned-now .come-out .last .0) .tries ≡ standOf (driven .drive-tree .last .1 .1 .1 .0) .tries =
+      ap (λ y. y .tries) (back returned-now) in
       omega (arith, tries-now v, m .tries-are, c .go-on2 .ensures .0 .2 .tries)
 
   loop-again : lts.Need-loop-again (claims t) (here t) drive.Post Inv μ
@@ -304,7 +296,8 @@ module _ (t : ℕ) where
         (
           ten-cells head,
           λ x r v.
-              subst (λ i. DrivenTo (call-on (entry-of begun) x r) (l .out .now) (l .work .now) (l .steps .now) (standOf (l .st)) i) (sym (l .inv .0 .end-is (begun .go-on .ensures .0 .1)))
+              subst (λ i. DrivenTo (call-on (entry-of begun) x r) (l .out .now) (l .work .now) (l .steps .now) (standOf (l .st)) i)
+              (sym (l .inv .0 .end-is (begun .go-on .ensures .0 .1)))
               (l .inv .0 .on (call-on (entry-of begun) x r) (was begun x r v) .ends (c .if1 .left)),
         ),
         (
@@ -320,11 +313,11 @@ pub +drive-tree-spec : {M : Type 1} → statement M
     close μ-drive λ t. lts.spec (claims t) (here t) drive.Post Inv μ
     (go-on-requires t)
     (loop-holds t)
-    (element-copy-out-if1 t)
-    (element-copy-out-node t)
-    (element-copy-out-left t)
-    (element-copy-out-gathered t)
-    (element-copy-out-prior t)
+    (λ c. search needs)
+    (λ c. search needs)
+    (λ c. search needs)
+    (λ c. search needs)
+    (λ c. search needs)
     (go-in-requires t)
     (drive-tree-requires t)
     (come-out-requires t)

@@ -1,28 +1,10 @@
--- `driver::begin` meets its contract: by those of what it calls. Assumes nothing.
+-- `driver::begin` meets its contract: by those of what it calls.
 use mathlib.Core.Path.{_≡_, ap}
 use Rattle.paper.specs.Record.{arity}
 use Rattle.driver.specs.Paused.{begunAt}
 use borrow.Author.Needs.{needs}
 use Rattle.driver.proofs.begin.Statement.{statement}
 use Rattle.driver.proofs.begin.Tie as tie
-
-copy-record-requires : tie.Need-copy-record-requires
-copy-record-requires c κs = search needs
-
-arity-requires : tie.Need-arity-requires
-arity-requires c κs = search needs
-
-add-t : tie.Need-add-t
-add-t c = search needs
-
-add-t-2 : tie.Need-add-t-2
-add-t-2 c = search needs
-
-add-t-3 : tie.Need-add-t-3
-add-t-3 c = search needs
-
-same-length : tie.Need-same-length
-same-length c = search needs
 
 returns : tie.Need-returns
 returns c =
@@ -34,10 +16,4 @@ pub begin-spec : {M : Type 1} → statement M
 begin-spec =
     tie.close
     (tie.spec
-    copy-record-requires
-    add-t
-    add-t-2
-    arity-requires
-    add-t-3
-    same-length
-    returns)
+    (λ c κs. search needs) (λ c. search needs) (λ c. search needs) (λ c κs. search needs) (λ c. search needs) (λ c. search needs) returns)

@@ -1,4 +1,4 @@
--- `driver::close_up` meets its contract: each return is one law of Closing. Assumes nothing.
+-- `driver::close_up` meets its contract: each return is one law of Closing.
 use native.Mathlib.Omega.{arith}
 use Rattle.driver.proofs.Closing.{first-within, leaf-stays, raised, counted, unnoted, closed}
 use borrow.Author.Needs.{needs}
@@ -12,9 +12,6 @@ close-requires : tie.Need-close-requires
 close-requires c κs =
     let g = c .before .before .before .before .pre .3 in
     (_, unnoted g (raised g (c .before .if2 .taken)))
-
-same-length : tie.Need-same-length
-same-length c = search needs
 
 returns-2 : tie.Need-returns-2
 returns-2 c =
@@ -35,11 +32,11 @@ close-requires-2 c κs =
     let marked = c .before .before .before .before .before .mark in
     let two = c .before .before .before .before .before .before .before in
     let one = two .before in
-    let g = one .before .before .pre .3 in
-    (_, unnoted g (counted g (one .if1 .left) (omega (arith, two .if2 .left)) (written .last .0) (marked .result) (marked .ensures .0) (written .ensures) (written .kept .0)))
-
-same-length-2 : tie.Need-same-length-2
-same-length-2 c = search needs
+    let g = one .before .before .pre .3 in (
+      _,
+      unnoted g (counted g (one .if1 .left) (omega (arith, two .if2 .left)) (written .last .0)
+          (marked .result) (marked .ensures .0) (written .ensures) (written .kept .0)),
+    )
 
 returns-3 : tie.Need-returns-3
 returns-3 c =
@@ -49,10 +46,11 @@ returns-3 c =
     let two = c .before .before .before .before .before .before .before .before .before .before in
     let one = two .before in
     λ t l e g.
-    let over = counted g (one .if1 .left) (omega (arith, two .if2 .left)) (written .last .0) (marked .result) (marked .ensures .0) (written .ensures) (written .kept .0) in
+    let over = counted g (one .if1 .left) (omega (arith, two .if2 .left)) (written .last .0) (marked .result)
+    (marked .ensures .0) (written .ensures) (written .kept .0) in
     closed g over (made .last .0) (made .ensures _ (unnoted g over))
 
 pub close-up-spec : {M : Type 1} → statement M
 close-up-spec =
     tie.close
-    (tie.spec returns close-requires same-length returns-2 mark-requires write-record-requires close-requires-2 same-length-2 returns-3)
+    (tie.spec returns close-requires (λ c. search needs) returns-2 mark-requires write-record-requires close-requires-2 (λ c. search needs) returns-3)

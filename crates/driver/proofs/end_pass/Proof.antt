@@ -1,13 +1,14 @@
--- `driver::end_pass` meets its contract: each need is one law of Between, for the call that `requires` names, and each answer one for every call. Assumes nothing.
-use Prim.Native.Nat.{_+_, _<_}
+-- `driver::end_pass` meets its contract: each need is one law of Between, for the call that `requires` names, and each answer one for every call.
+use Prim.Native.Nat.{_+_, _-_, _^_, _<_, _≤_}
 use mathlib.Core.Path.{_≡_, sym, subst}
 use native.Mathlib.Omega.{arith}
 use Rattle.paper.specs.Rules.{rulesOf}
-use Rattle.driver.specs.declared.Taken.{Taken as Answer}
-use Rattle.driver.specs.declared.Taken.the-variants as taken
+use Rattle.driver.specs.declared.TakenUp.{TakenUp as Answer}
+use Rattle.driver.specs.declared.TakenUp.the-variants as taken
 use Rattle.driver.specs.Driven.{closedOver, TakenIs, Gathers, Closed as Shut}
 use Rattle.driver.specs.Paused.{Call, Midway}
-use Rattle.driver.proofs.Between.{few-now, tries-now, gave, gathers, unchanged, finish-fits, pass-driven, taken-back, turned-over, turned-finished, quiet-fits, turned-quiet, again-fits, turned-again}
+use Rattle.driver.proofs.Between.{few-now, tries-now, gave, gathers, unchanged, finish-fits, pass-driven, taken-back}
+use Rattle.driver.proofs.Between.{turned-over, turned-finished, quiet-fits, turned-quiet, again-fits, turned-again}
 use borrow.Author.Needs.{needs}
 use Rattle.driver.proofs.end_pass.Statement.{statement}
 use Rattle.driver.proofs.end_pass.Tie as tie
@@ -18,7 +19,7 @@ use Rattle.driver.proofs.take_up.Reads as take-up-reads
 use Rattle.record.proofs.kind.Reads as kind-reads
 
 -- places on the way through the code, and from each the one before it: the entry, after the node's kind was read, after the node was closed up, after
--- it was taken up
+-- it was taken up; and where it is finished after one step more, or begins again after steps
 abbrev claims : lts.Claims
 claims = (kind-reads.Asked, kind-reads.Learnt, close-up-reads.Asked, close-up-reads.Learnt, take-up-reads.Asked, take-up-reads.Learnt)
 
@@ -43,6 +44,21 @@ kinded-of c = c .before
 abbrev closed-of : Called → Closed
 closed-of c = c .before .before .before .before .before .before
 
+abbrev entry-called : Called → Entry
+entry-called c = entry-of (kinded-of (closed-of c))
+
+abbrev Quieted : Type 0
+Quieted = lts.After-t3 claims reads.Pre reads.Post
+
+abbrev Stepped : Type 0
+Stepped = lts.After-t4 claims reads.Pre reads.Post
+
+abbrev quieted-of : Quieted → Called
+quieted-of c = c .before .before .before .before .before .before .before .before
+
+abbrev stepped-of : Stepped → Called
+stepped-of c = c .before .before .before .before .before .before .before .before
+
 -- the driver is midway on a call
 abbrev On : Entry → Call → Type 0
 On c x = let g = c .args in Midway x (g .out .now) (g .work .now) (g .steps .now) (g .s)
@@ -55,7 +71,8 @@ members-there : (c : Kinded) (x : Call) (v : On (entry-of c) x)
 members-there c x v =
     let entry = entry-of c in
     let g = entry .args in
-    subst (λ j. Gathers (v .come .u) (gave v (entry .pre .0) .to) (g .out .now) (g .s .node) (g .s .end) j (g .s .gathered)) (sym (c .kind .ensures)) (gathers v (entry .pre .0))
+    subst (λ j. Gathers (v .come .u) (gave v (entry .pre .0) .to) (g .out .now) (g .s .node) (g .s .end) j (g .s .gathered))
+    (sym (c .kind .ensures)) (gathers v (entry .pre .0))
 
 shut : (c : Closed) (x : Call) (v : On (entry-of (kinded-of c)) x)
     → let entry = entry-of (kinded-of c) in
@@ -74,7 +91,8 @@ answer : (c : Called) (x : Call) (v : On (entry-of (kinded-of (closed-of c))) x)
     let g = entry .args in
     let s = g .s in
     let r = c .take-up in
-    r .result ≡ a → TakenIs (rulesOf (s .edition)) (pass-driven v (entry .pre .0) (changed closed) (shut closed x v) (closed .close-up .kept .0) .to) (x .rest) (closed .close-up .last .0) (r .last .0)
+    r .result ≡ a → TakenIs (rulesOf (s .edition)) (pass-driven v (entry .pre .0) (changed closed) (shut closed x v) (closed .close-up .kept .0) .to)
+    (x .rest) (closed .close-up .last .0) (r .last .0)
     (r .last .1 .0) (g .steps .now) (r .last .1 .1 .0) (s .node) (s .end) (s .noted) a
 answer c x v a e =
     let closed = closed-of c in
@@ -83,7 +101,8 @@ answer c x v a e =
     let s = g .s in
     let r = c .take-up in
     let to = pass-driven v (entry .pre .0) (changed closed) (shut closed x v) (closed .close-up .kept .0) .to in
-    subst (TakenIs (rulesOf (s .edition)) to (x .rest) (closed .close-up .last .0) (r .last .0) (r .last .1 .0) (g .steps .now) (r .last .1 .1 .0) (s .node) (s .end) (s .noted)) e
+    subst (TakenIs (rulesOf (s .edition)) to (x .rest) (closed .close-up .last .0) (r .last .0) (r .last .1 .0)
+    (g .steps .now) (r .last .1 .1 .0) (s .node) (s .end) (s .noted)) e
     (r .ensures to (x .rest) (taken-back v (entry .pre .0) (changed closed) (shut closed x v) (closed .close-up .kept .0)))
 
 add-tries : tie.Need-add-tries
@@ -91,16 +110,10 @@ add-tries c =
     let entry = c .before .before .before .before in
     omega (arith, tries-now (entry .pre .1 .1))
 
-add-if1 : tie.Need-add-if1
-add-if1 c = search needs
-
 returns : tie.Need-returns
 returns c =
     let entry = c .before .before .before .before .before .before .before in
     λ x v. (unchanged v (entry .pre .0) (c .if1 .taken), omega arith)
-
-kind-requires : tie.Need-kind-requires
-kind-requires c κs = search needs
 
 close-up-requires : tie.Need-close-up-requires
 close-up-requires c κs =
@@ -114,158 +127,99 @@ take-up-requires c κs =
     let v = entry .pre .1 .1 in
     (_, _, taken-back v (entry .pre .0) (changed closed) (shut closed _ v) (closed .close-up .kept .0))
 
-enum-known-t : tie.Need-enum-known-t
-enum-known-t c = search needs
+-- the numbers where it is finished after one step more, and where it begins again
+quiet-at : (c : Quieted)
+    → let s = entry-called (quieted-of c) .args .s in
+    let f = c .t3 .given .0 .0 in
+    (s .node ≤ f) × (s .tries + 1 + 1 + (f - s .node) < 2 ^ 63 + 65538) × (s .noted < 65536)
+quiet-at c =
+    let called = quieted-of c in
+    let r = called .take-up in
+    let closed = closed-of called in
+    let entry = entry-called called in
+    let v = entry .pre .1 .1 in
+    let told = c .t3 .given in
+    quiet-fits v (entry .pre .0) (changed closed) (shut closed _ v) (closed .close-up .kept .0) (r .last .0) (r .last .1 .0) (r .last .1 .1 .0)
+    (r .kept .0) (r .kept .1 .0) (r .kept .1 .1 .0) (told .0 .0) (told .0 .1 .0) (answer called _ v _ (told .1))
 
-enum-known-t-2 : tie.Need-enum-known-t-2
-enum-known-t-2 c = search needs
+again-at : (c : Stepped)
+    → let s = entry-called (stepped-of c) .args .s in
+    let m = c .t4 .given .0 .1 .0 in
+    (s .noted ≤ m) × (s .tries + 1 + (m - s .noted) < 2 ^ 63 + 65536)
+again-at c =
+    let called = stepped-of c in
+    let r = called .take-up in
+    let closed = closed-of called in
+    let entry = entry-called called in
+    let v = entry .pre .1 .1 in
+    let told = c .t4 .given in
+    again-fits v (entry .pre .0) (changed closed) (shut closed _ v) (closed .close-up .kept .0) (r .last .0) (r .last .1 .0) (r .last .1 .1 .0)
+    (r .kept .0) (r .kept .1 .0) (r .kept .1 .1 .0) (told .0 .0) (told .0 .1 .0) (answer called _ v _ (told .1))
 
 sub-t28 : tie.Need-sub-t28
 sub-t28 c =
-    let entry = entry-of (kinded-of (closed-of (c .before .before .before .before .before .before .before .before .before .before))) in
+    let entry = entry-called (c .before .before .before .before .before .before .before .before .before .before) in
     finish-fits (entry .pre .1 .1) (entry .pre .0) .0
 
 add-t29 : tie.Need-add-t29
 add-t29 c =
-    let entry = entry-of (kinded-of (closed-of (c .before .before .before .before .before .before .before .before .before .before))) in
+    let entry = entry-called (c .before .before .before .before .before .before .before .before .before .before) in
     omega (arith, finish-fits (entry .pre .1 .1) (entry .pre .0) .1)
 
-enum-known-t-3 : tie.Need-enum-known-t-3
-enum-known-t-3 c = search needs
-
 add-t30 : tie.Need-add-t30
-add-t30 c =
-    let v = entry-of (kinded-of (closed-of (c .before .before .before .before .before .before .before .before .before .before))) .pre .1 .1 in
-    omega (arith, few-now v)
+add-t30 c = omega (arith, few-now (entry-called (c .before .before .before .before .before .before .before .before .before .before) .pre .1 .1))
 
 add-t31 : tie.Need-add-t31
-add-t31 c =
-    let v = entry-of (kinded-of (closed-of (c .before .before .before .before .before .before .before .before .before .before))) .pre .1 .1 in
-    omega (arith, tries-now v)
+add-t31 c = omega (arith, tries-now (entry-called (c .before .before .before .before .before .before .before .before .before .before) .pre .1 .1))
 
 sub-t32 : tie.Need-sub-t32
-sub-t32 c =
-    let called = c .before .before .before .before .before .before .before .before .before .before .before in
-    let r = called .take-up in
-    let closed = closed-of called in
-    let entry = entry-of (kinded-of closed) in
-    let v = entry .pre .1 .1 in
-    let told = c .before .before .before .t3 .given in
-    let fits = quiet-fits v (entry .pre .0) (changed closed) (shut closed _ v) (closed .close-up .kept .0) (r .last .0) (r .last .1 .0) (r .last .1 .1 .0)
-    (r .kept .0) (r .kept .1 .0) (r .kept .1 .1 .0) (told .0 .0) (told .0 .1 .0) (answer called _ v _ (told .1)) in
-    fits .0
+sub-t32 c = quiet-at (c .before .before .before) .0
 
 add-t33 : tie.Need-add-t33
-add-t33 c =
-    let called = c .before .before .before .before .before .before .before .before .before .before .before in
-    let r = called .take-up in
-    let closed = closed-of called in
-    let entry = entry-of (kinded-of closed) in
-    let v = entry .pre .1 .1 in
-    let told = c .before .before .before .t3 .given in
-    let fits = quiet-fits v (entry .pre .0) (changed closed) (shut closed _ v) (closed .close-up .kept .0) (r .last .0) (r .last .1 .0) (r .last .1 .1 .0)
-    (r .kept .0) (r .kept .1 .0) (r .kept .1 .1 .0) (told .0 .0) (told .0 .1 .0) (answer called _ v _ (told .1)) in
-    omega (arith, fits .1)
-
-enum-known-t-4 : tie.Need-enum-known-t-4
-enum-known-t-4 c = search needs
+add-t33 c = omega (arith, quiet-at (c .before .before .before) .1)
 
 sub-t34 : tie.Need-sub-t34
-sub-t34 c =
-    let called = c .before .before .before .before .before .before .before .before .before .before in
-    let r = called .take-up in
-    let closed = closed-of called in
-    let entry = entry-of (kinded-of closed) in
-    let v = entry .pre .1 .1 in
-    let told = c .before .before .t4 .given in
-    let fits = again-fits v (entry .pre .0) (changed closed) (shut closed _ v) (closed .close-up .kept .0) (r .last .0) (r .last .1 .0) (r .last .1 .1 .0)
-    (r .kept .0) (r .kept .1 .0) (r .kept .1 .1 .0) (told .0 .0) (told .0 .1 .0) (answer called _ v _ (told .1)) in
-    fits .0
+sub-t34 c = again-at (c .before .before) .0
 
 add-t35 : tie.Need-add-t35
-add-t35 c =
-    let called = c .before .before .before .before .before .before .before .before .before .before in
-    let r = called .take-up in
-    let closed = closed-of called in
-    let entry = entry-of (kinded-of closed) in
-    let v = entry .pre .1 .1 in
-    let told = c .before .before .t4 .given in
-    let fits = again-fits v (entry .pre .0) (changed closed) (shut closed _ v) (closed .close-up .kept .0) (r .last .0) (r .last .1 .0) (r .last .1 .1 .0)
-    (r .kept .0) (r .kept .1 .0) (r .kept .1 .1 .0) (told .0 .0) (told .0 .1 .0) (answer called _ v _ (told .1)) in
-    omega (arith, fits .1)
-
-same-length : tie.Need-same-length
-same-length c = search needs
-
-same-length-2 : tie.Need-same-length-2
-same-length-2 c = search needs
-
-same-length-3 : tie.Need-same-length-3
-same-length-3 c = search needs
+add-t35 c = omega (arith, again-at (c .before .before) .1)
 
 returns-2 : tie.Need-returns-2
 returns-2 c =
     let called = c .before .before .before .before .before .before .before .before .before in
     let r = called .take-up in
     let closed = closed-of called in
-    let entry = entry-of (kinded-of closed) in
+    let entry = entry-called called in
     let told = c .before .t .given in
     λ x v. turned-over v (entry .pre .0) (changed closed) (shut closed x v) (closed .close-up .kept .0) (r .last .0) (r .last .1 .0) (r .last .1 .1 .0)
     (r .kept .0) (r .kept .1 .0) (r .kept .1 .1 .0) (told .0 .0) (answer called x v _ (told .1))
-
-same-length-4 : tie.Need-same-length-4
-same-length-4 c = search needs
-
-same-length-5 : tie.Need-same-length-5
-same-length-5 c = search needs
-
-same-length-6 : tie.Need-same-length-6
-same-length-6 c = search needs
 
 returns-3 : tie.Need-returns-3
 returns-3 c =
     let called = c .before .before .before .before .before .before .before .before .before .before in
     let r = called .take-up in
     let closed = closed-of called in
-    let entry = entry-of (kinded-of closed) in
+    let entry = entry-called called in
     let told = c .before .before .t2 .given in
     λ x v. turned-finished v (entry .pre .0) (changed closed) (shut closed x v) (closed .close-up .kept .0) (r .last .0) (r .last .1 .0) (r .last .1 .1 .0)
     (r .kept .0) (r .kept .1 .0) (r .kept .1 .1 .0) (told .0 .0) (answer called x v _ (told .1))
-
-same-length-7 : tie.Need-same-length-7
-same-length-7 c = search needs
-
-same-length-8 : tie.Need-same-length-8
-same-length-8 c = search needs
-
-same-length-9 : tie.Need-same-length-9
-same-length-9 c = search needs
 
 returns-4 : tie.Need-returns-4
 returns-4 c =
     let called = c .before .before .before .before .before .before .before .before .before .before .before in
     let r = called .take-up in
     let closed = closed-of called in
-    let entry = entry-of (kinded-of closed) in
+    let entry = entry-called called in
     let told = c .before .before .before .t3 .given in
     λ x v. turned-quiet v (entry .pre .0) (changed closed) (shut closed x v) (closed .close-up .kept .0) (r .last .0) (r .last .1 .0) (r .last .1 .1 .0)
     (r .kept .0) (r .kept .1 .0) (r .kept .1 .1 .0) (told .0 .0) (told .0 .1 .0) (answer called x v _ (told .1))
-
-same-length-10 : tie.Need-same-length-10
-same-length-10 c = search needs
-
-same-length-11 : tie.Need-same-length-11
-same-length-11 c = search needs
-
-same-length-12 : tie.Need-same-length-12
-same-length-12 c = search needs
 
 returns-5 : tie.Need-returns-5
 returns-5 c =
     let called = c .before .before .before .before .before .before .before .before .before .before in
     let r = called .take-up in
     let closed = closed-of called in
-    let entry = entry-of (kinded-of closed) in
+    let entry = entry-called called in
     let told = c .before .before .t4 .given in
     λ x v. turned-again v (entry .pre .0) (changed closed) (shut closed x v) (closed .close-up .kept .0) (r .last .0) (r .last .1 .0) (r .last .1 .1 .0)
     (r .kept .0) (r .kept .1 .0) (r .kept .1 .1 .0) (told .0 .0) (told .0 .1 .0) (answer called x v _ (told .1))
@@ -274,37 +228,7 @@ pub end-pass-spec : {M : Type 1} → statement M
 end-pass-spec =
     tie.close
     (tie.spec
-    add-tries
-    add-if1
-    returns
-    kind-requires
-    close-up-requires
-    take-up-requires
-    enum-known-t
-    enum-known-t-2
-    sub-t28
-    add-t29
-    enum-known-t-3
-    add-t30
-    add-t31
-    sub-t32
-    add-t33
-    enum-known-t-4
-    sub-t34
-    add-t35
-    same-length
-    same-length-2
-    same-length-3
-    returns-2
-    same-length-4
-    same-length-5
-    same-length-6
-    returns-3
-    same-length-7
-    same-length-8
-    same-length-9
-    returns-4
-    same-length-10
-    same-length-11
-    same-length-12
-    returns-5)
+    add-tries (λ c. search needs) returns (λ c κs. search needs) close-up-requires take-up-requires (λ c. search needs) (λ c. search needs) sub-t28
+    add-t29 (λ c. search needs) add-t30 add-t31 sub-t32 add-t33 (λ c. search needs) sub-t34 add-t35 (λ c. search needs) (λ c. search needs)
+    (λ c. search needs) returns-2 (λ c. search needs) (λ c. search needs) (λ c. search needs) returns-3 (λ c. search needs) (λ c. search needs)
+    (λ c. search needs) returns-4 (λ c. search needs) (λ c. search needs) (λ c. search needs) returns-5)

@@ -1,4 +1,4 @@
--- `driver::enter_out` meets its contract: the slice that is handed back is the one that was driven in. Assumes nothing.
+-- `driver::enter_out` meets its contract: the slice that is handed back is the one that was driven in.
 use native.Mathlib.Omega.{arith}
 use lib.ListN.{length-set}
 use lib.Seq.{getD-set-same}
@@ -6,12 +6,6 @@ use mathlib.Core.Path.{_∙_}
 use borrow.Author.Needs.{needs}
 use Rattle.driver.proofs.enter_out.Statement.{statement}
 use Rattle.driver.proofs.enter_out.Tie as tie
-
-drive-tree-requires : tie.Need-drive-tree-requires
-drive-tree-requires c κs = search needs
-
-element-write-end : tie.Need-element-write-end
-element-write-end c = search needs
 
 returns : tie.Need-returns
 returns c =
@@ -28,4 +22,4 @@ returns c =
     )
 
 pub enter-out-spec : {M : Type 1} → statement M
-enter-out-spec = tie.close (tie.spec drive-tree-requires element-write-end returns)
+enter-out-spec = tie.close (tie.spec (λ c κs. search needs) (λ c. search needs) returns)

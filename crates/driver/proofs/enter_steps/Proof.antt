@@ -1,17 +1,8 @@
--- `driver::enter_steps` meets its contract: what `enter_work` hands back is what was lent to it. Assumes nothing.
+-- `driver::enter_steps` meets its contract: what `enter_work` hands back is what was lent to it.
 use mathlib.Core.Path.{sym}
 use borrow.Author.Needs.{needs}
 use Rattle.driver.proofs.enter_steps.Statement.{statement}
 use Rattle.driver.proofs.enter_steps.Tie as tie
-
-enter-work-requires : tie.Need-enter-work-requires
-enter-work-requires c κs = search needs
-
-same-length : tie.Need-same-length
-same-length c = search needs
-
-same-length-2 : tie.Need-same-length-2
-same-length-2 c = search needs
 
 returns : tie.Need-returns
 returns c =
@@ -20,4 +11,4 @@ returns c =
     ((e .0 .0, λ t r h. rw tie (e .0 .1 t r h)), (e .1 .3, e .1 .4, e .1 .2))
 
 pub enter-steps-spec : {M : Type 1} → statement M
-enter-steps-spec = tie.close (tie.spec enter-work-requires same-length same-length-2 returns)
+enter-steps-spec = tie.close (tie.spec (λ c κs. search needs) (λ c. search needs) (λ c. search needs) returns)

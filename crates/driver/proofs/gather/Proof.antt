@@ -1,4 +1,4 @@
--- `driver::gather` meets its contract: each need is one law of Between on the member that the driver waited for. Assumes nothing.
+-- `driver::gather` meets its contract: each need is one law of Between on the member that the driver waited for.
 use Prim.Native.Nat.{_+_, _-_, _*_, _<_, _≤_}
 use mathlib.Core.Path.{_≡_, refl, sym, ap, _∙_, subst}
 use mathlib.Core.Bool.{Bool, true, false, _&&_}
@@ -48,7 +48,8 @@ abbrev Fit : Entry → Type 0
 Fit c =
     let g = c .args in
     let s = g .s in
-    (s .end + 1 ≤ g .g) × (g .g * 16 ≤ length (g .out .now)) × (s .node * 16 + 16 ≤ length (g .out .now)) × (s .openings < 131072) × (s .gathered < 65536) × (1 ≤ s .left)
+    (s .end + 1 ≤ g .g) × (g .g * 16 ≤ length (g .out .now)) × (s .node * 16 + 16 ≤ length (g .out .now))
+    × (s .openings < 131072) × (s .gathered < 65536) × (1 ≤ s .left)
 
 fits : (c : Entry) → Fit c
 fits c = gather-fits (c .pre .3)
@@ -72,9 +73,6 @@ kind-requires c κs =
 kind-requires-2 : tie.Need-kind-requires-2
 kind-requires-2 c κs =
     omega (arith, fits (c .before .before .before .before))
-
-opens-requires : tie.Need-opens-requires
-opens-requires c κs = search needs
 
 count-requires : tie.Need-count-requires
 count-requires c κs =
@@ -115,9 +113,6 @@ shift-left-requires c κs =
     let f = fits (c .before .before .before .before .before .before .before .before .before .before) in
     (omega arith, omega (arith, f))
 
-sub-joined : tie.Need-sub-joined
-sub-joined c = search needs
-
 add-joined : tie.Need-add-joined
 add-joined c =
     omega (arith, fits (c .before .before .before .before .before .before .before .before .before .before .before .before .before .before))
@@ -126,9 +121,6 @@ joined-requires : tie.Need-joined-requires
 joined-requires c κs =
     let f = fits (c .before .before .before .before .before .before .before .before .before .before .before .before .before .before) in
     (f .5, omega (arith, f .4, c .before .before .before .before .before .count .ensures .1))
-
-same-length : tie.Need-same-length
-same-length c = search needs
 
 returns : tie.Need-returns
 returns c =
@@ -141,7 +133,8 @@ returns c =
     let same = e ∙ ap (joinedTo (g .s) (g .g - 1) (g .s .openings + 1)) (counted .ensures .0) in (
       onward (g .s) e refl (omega arith),
       λ x work steps v.
-          subst (λ y. Midway x (shifted .last .0) work steps y) (sym same) (opened-into v (test tested true opens-it) (shifted .last .0) (shifted .ensures) (shifted .kept .0)),
+          subst (λ y. Midway x (shifted .last .0) work steps y) (sym same)
+          (opened-into v (test tested true opens-it) (shifted .last .0) (shifted .ensures) (shifted .kept .0)),
     )
 
 joined-requires-2 : tie.Need-joined-requires-2
@@ -149,36 +142,20 @@ joined-requires-2 c κs =
     let f = fits (c .before .before .before .before .before .before .before) in
     (f .5, omega (arith, f .4))
 
-same-length-2 : tie.Need-same-length-2
-same-length-2 c = search needs
-
 returns-2 : tie.Need-returns-2
 returns-2 c =
     let tested = c .before .before in
     let g = entry-of tested .args in
-    let e : c .joined2 .result ≡ joinedTo (g .s) (g .g) (g .s .openings) 1 = c .joined2 .ensures in
-    (onward (g .s) e refl (omega arith), λ x work steps v. subst (λ y. Midway x (g .out .now) work steps y) (sym e) (kept-whole v (test tested false (c .before .if1 .left))))
+    let e : c .joined2 .result ≡ joinedTo (g .s) (g .g) (g .s .openings) 1 = c .joined2 .ensures in (
+      onward (g .s) e refl (omega arith),
+      λ x work steps v. subst (λ y. Midway x (g .out .now) work steps y)
+          (sym e) (kept-whole v (test tested false (c .before .if1 .left))),
+    )
 
 pub gather-spec : {M : Type 1} → statement M
 gather-spec =
     tie.close
     (tie.spec
-    kind-requires
-    kind-requires-2
-    opens-requires
-    count-requires
-    mul-shift-left
-    mul-shift-left-2
-    add-shift-left
-    sub-shift-left
-    sub-shift-left-2
-    mul-shift-left-3
-    shift-left-requires
-    sub-joined
-    add-joined
-    joined-requires
-    same-length
-    returns
-    joined-requires-2
-    same-length-2
-    returns-2)
+    kind-requires kind-requires-2 (λ c κs. search needs) count-requires mul-shift-left mul-shift-left-2 add-shift-left sub-shift-left sub-shift-left-2
+    mul-shift-left-3 shift-left-requires (λ c. search needs) add-joined joined-requires (λ c. search needs) returns joined-requires-2
+    (λ c. search needs) returns-2)

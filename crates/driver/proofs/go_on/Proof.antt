@@ -1,4 +1,4 @@
--- `driver::go_on` meets its contract: by those of what it calls, between reading the cells and writing them. Assumes nothing.
+-- `driver::go_on` meets its contract: by those of what it calls, between reading the cells and writing them.
 use mathlib.Core.Path.{_≡_, refl, sym, ap, _∙_, subst}
 use lib.ListN.{length}
 use Rattle.driver.specs.Paused.{standOf, Onward, Call, GoesOn, Begun, WentOn}
@@ -65,9 +65,6 @@ edition-made c =
     let e : s .result ≡ standOf (entry-of c .args .st .now) = s .ensures in
     c .first .ensures .0 .edition ∙ ap (λ y. y .edition) e
 
-from-cells-requires : tie.Need-from-cells-requires
-from-cells-requires c κs = search needs
-
 first-requires : tie.Need-first-requires
 first-requires c κs =
     let entry = c .before .before .before .before .before in
@@ -93,7 +90,8 @@ returns c =
         subst (Onward _) (sym e) (onward-made made),
         λ x v.
             let over = begun-on made x v .refused (c .before .before .if1 .taken) in
-            subst (λ y. WentOn x (r .last .0) (r .last .1 .0) (r .last .1 .1 .0) y) (sym e) (fell-down (r .result) (over .0) (c .before .before .if1 .taken) (over .1)),
+            subst (λ y. WentOn x (r .last .0) (r .last .1 .0) (r .last .1 .1 .0) y) (sym e)
+            (fell-down (r .result) (over .0) (c .before .before .if1 .taken) (over .1)),
       ),
       ((r .kept .0, r .kept .1 .0, r .kept .1 .1 .0), (refl, refl, refl)),
     )
@@ -123,7 +121,8 @@ returns-2 c =
         stored .ensures .0 ∙ sym (ap (λ y. y .end) e),
         subst (Onward _) (sym e) (onward-both (onward-made made) (r .ensures .0)),
         λ x v.
-            subst (λ y. WentOn x (r .last .0) (r .last .1 .0) (r .last .1 .1 .0) y) (sym e) (r .ensures .1 x (begun-on made x v .midway (passed .before .before .before .before .if1 .left))),
+            subst (λ y. WentOn x (r .last .0) (r .last .1 .0) (r .last .1 .1 .0) y) (sym e)
+            (r .ensures .1 x (begun-on made x v .midway (passed .before .before .before .before .if1 .left))),
       ),
       ((r .kept .0 ∙ f .0, r .kept .1 .0 ∙ f .1 .0, r .kept .1 .1 .0 ∙ f .1 .1 .0), (refl, refl, refl)),
     )
@@ -150,16 +149,5 @@ pub go-on-spec : {M : Type 1} → statement M
 go-on-spec =
     tie.close
     (tie.spec
-    from-cells-requires
-    slice-aggregate-first
-    slice-aggregate-first-2
-    slice-aggregate-first-3
-    first-requires
-    to-cells-requires
-    returns
-    slice-aggregate-pass-on
-    slice-aggregate-pass-on-2
-    slice-aggregate-pass-on-3
-    pass-on-requires
-    to-cells-requires-2
-    returns-2)
+    (λ c κs. search needs) slice-aggregate-first slice-aggregate-first-2 slice-aggregate-first-3 first-requires to-cells-requires returns
+    slice-aggregate-pass-on slice-aggregate-pass-on-2 slice-aggregate-pass-on-3 pass-on-requires to-cells-requires-2 returns-2)

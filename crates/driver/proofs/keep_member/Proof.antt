@@ -1,6 +1,6 @@
--- `driver::keep_member` meets its contract: what the first record tells, and the keys, decide whether the tree is kept, and each answer is a law of Keeping. Assumes
--- nothing.
-use Prim.Native.Nat.{ℕ, _+_, _%_, _≤_}
+-- `driver::keep_member` meets its contract: what the first record tells, and the keys, decide whether the tree is kept, and each answer is a law of
+-- Keeping.
+use Prim.Native.Nat.{ℕ, _+_, _≤_}
 use mathlib.Core.Path.{_≡_, refl, sym, ap, _∙_}
 use mathlib.Core.Bool.{false, _&&_}
 use mathlib.Core.List.{List}
@@ -25,7 +25,7 @@ abbrev Read : Type 0
 Read = tie.After-kind
 
 abbrev Counted : Type 0
-Counted = tie.After-bits
+Counted = tie.After-records-of
 
 abbrev Looked : Type 0
 Looked = tie.After-still
@@ -34,7 +34,7 @@ abbrev entry-of : Read → Entry
 entry-of c = c .before .before .before
 
 abbrev read-of : Counted → Read
-read-of c = c .before .before .before .before .before .before .before
+read-of c = c .before .before .before .before .before .before .before .before
 
 abbrev counted-of : Looked → Counted
 counted-of c = c .before .before .before .before .before
@@ -44,20 +44,24 @@ abbrev There : Entry → Tree → List ℕ → Type 0
 There c t rest = let g = c .args in Ready (g .out .now) (g .work .now) (g .e) (g .q) t rest
 
 -- how many records it has
-size-of : (c : Counted) {t : Tree} {rest : List ℕ} → There (entry-of (read-of c)) t rest → c .bits .result % 65536 ≡ records t
+size-of : (c : Counted) {t : Tree} {rest : List ℕ} → There (entry-of (read-of c)) t rest → c .records-of .result ≡ records t
 size-of c h =
     let read = read-of c in
-    size-of-node (tree-pending h) (omega (arith, c .before .before .before .before .before .before .if1 .left, read .kind .ensures, pending-kind h)) (c .bits .result) (c .bits .ensures)
+    let bits = c .before .bits in
+    c .records-of .ensures
+    ∙ size-of-node (tree-pending h) (omega (arith, c .before .before .before .before .before .before .before .if1 .left, read .kind .ensures, pending-kind h))
+    (bits .result) (bits .ensures)
 
 -- it is not opened
 shut : (c : Counted) → let g = entry-of (read-of c) .args in let k = kind (g .out .now) (g .d) in (eqb (kind (g .work .now) (g .q)) k && isNode k) ≡ false
 shut c =
     let read = read-of c in
     let g = entry-of read .args in
-    let node : c .before .before .before .before .kind2 .result ≡ kind (g .out .now) (g .d) = c .before .before .before .before .kind2 .ensures in
+    let asked = c .before .before .before .before in
+    let node : asked .before .kind2 .result ≡ kind (g .out .now) (g .d) = asked .before .kind2 .ensures in
     let member : read .kind .result ≡ kind (g .work .now) (g .q) = read .kind .ensures in
     ap (λ j. eqb j (kind (g .out .now) (g .d)) && isNode (kind (g .out .now) (g .d))) (sym member) ∙ ap (λ k. eqb (read .kind .result) k && isNode k) (sym node)
-    ∙ sym (c .before .before .before .opens .ensures) ∙ c .before .before .if2 .left
+    ∙ sym (asked .opens .ensures) ∙ c .before .before .before .if2 .left
 
 -- it has no more records than its members and its own
 few : (c : Looked) {t : Tree} {rest : List ℕ}
@@ -65,7 +69,7 @@ few : (c : Looked) {t : Tree} {rest : List ℕ}
 few c h =
     let counted = counted-of c in
     let size = size-of counted h in
-    omega (arith, c .before .before .before .before .if3 .left, counted .before .arity .ensures .0)
+    omega (arith, c .before .before .before .before .if3 .left, counted .before .before .arity .ensures .0)
 
 kind-requires : tie.Need-kind-requires
 kind-requires c κs = record-within (noted-told (tree-pending (c .before .before .pre .1 .2)))
@@ -76,26 +80,18 @@ copy-record-requires c κs =
     let fits = room h in
     (omega (arith, fits .0, fits .1), record-within (noted-told (tree-pending h)))
 
-same-length : tie.Need-same-length
-same-length c = search needs
-
 returns : tie.Need-returns
 returns c =
     let read = c .before .before .before .before .before in
     let g = entry-of read .args in
     λ t rest h.
-    leaf-kept h (g .edition) (kind (g .out .now) (g .d)) (omega (arith, c .before .before .before .before .if1 .taken, read .kind .ensures)) _ (c .before .before .copy-record .ensures)
+    leaf-kept h (g .edition) (kind (g .out .now) (g .d)) (omega (arith, c .before .before .before .before .if1 .taken, read .kind .ensures))
+    _ (c .before .before .copy-record .ensures)
 
 kind-requires-2 : tie.Need-kind-requires-2
 kind-requires-2 c κs =
     let entry = entry-of (c .before .before) in
     omega (arith, entry .pre .0, entry .pre .1 .2 .out-room)
-
-opens-requires : tie.Need-opens-requires
-opens-requires c κs = search needs
-
-same-length-2 : tie.Need-same-length-2
-same-length-2 c = search needs
 
 returns-2 : tie.Need-returns-2
 returns-2 c =
@@ -105,14 +101,8 @@ returns-2 c =
 arity-requires : tie.Need-arity-requires
 arity-requires c κs = record-within (noted-told (tree-pending (entry-of (c .before .before .before .before .before) .pre .1 .2)))
 
-add-if3 : tie.Need-add-if3
-add-if3 c = search needs
-
 bits-requires : tie.Need-bits-requires
 bits-requires c κs = record-within (noted-told (tree-pending (entry-of (c .before .before .before .before .before .before) .pre .1 .2)))
-
-same-length-3 : tie.Need-same-length-3
-same-length-3 c = search needs
 
 returns-3 : tie.Need-returns-3
 returns-3 c =
@@ -122,16 +112,10 @@ returns-3 c =
 arity-requires-2 : tie.Need-arity-requires-2
 arity-requires-2 c κs = record-within (noted-told (tree-pending (entry-of (read-of (c .before)) .pre .1 .2)))
 
-same-length-4 : tie.Need-same-length-4
-same-length-4 c = search needs
-
 returns-4 : tie.Need-returns-4
 returns-4 c =
     let g = entry-of (read-of (c .before .before .before)) .args in
     λ t rest h. not-kept h (g .edition) (kind (g .out .now) (g .d)) _ refl
-
-mul-still : tie.Need-mul-still
-mul-still c = search needs
 
 still-requires : tie.Need-still-requires
 still-requires c κs =
@@ -141,19 +125,10 @@ still-requires c κs =
 arity-requires-3 : tie.Need-arity-requires-3
 arity-requires-3 c κs = record-within (noted-told (tree-pending (entry-of (read-of (counted-of (c .before .before .before))) .pre .1 .2)))
 
-add-n : tie.Need-add-n
-add-n c = search needs
-
-mul-copy-bytes : tie.Need-mul-copy-bytes
-mul-copy-bytes c = search needs
-
 mul-copy-bytes-2 : tie.Need-mul-copy-bytes-2
 mul-copy-bytes-2 c =
     let entry = entry-of (read-of (counted-of (c .before .before .before .before .before))) in
     omega (arith, record-within (noted-told (tree-pending (entry .pre .1 .2))), entry .good)
-
-mul-copy-bytes-3 : tie.Need-mul-copy-bytes-3
-mul-copy-bytes-3 c = search needs
 
 copy-bytes-requires : tie.Need-copy-bytes-requires
 copy-bytes-requires c κs =
@@ -163,9 +138,6 @@ copy-bytes-requires c κs =
     let size = calm-size (q .2) (few looked (q .2)) in
     let many = c .before .arity3 .ensures .0 in
     (omega (arith, room (q .2) .0, scratch .long), omega (arith, pending-ends (q .2)))
-
-same-length-5 : tie.Need-same-length-5
-same-length-5 c = search needs
 
 returns-5 : tie.Need-returns-5
 returns-5 c =
@@ -178,9 +150,6 @@ returns-5 c =
     (ap (λ a. a + 1) (c .before .before .before .before .arity3 .ensures .0) ∙ calm-size h (few looked h)) (few looked h)
     (sym (still .0 t there) ∙ c .before .before .before .before .before .if5 .taken) (still .1 t there) _ (c .before .before .copy-bytes .ensures)
 
-same-length-6 : tie.Need-same-length-6
-same-length-6 c = search needs
-
 returns-6 : tie.Need-returns-6
 returns-6 c =
     let looked = c .before .before .before in
@@ -191,31 +160,7 @@ pub keep-member-spec : {M : Type 1} → statement M
 keep-member-spec =
     tie.close
     (tie.spec
-    kind-requires
-    copy-record-requires
-    same-length
-    returns
-    kind-requires-2
-    opens-requires
-    same-length-2
-    returns-2
-    arity-requires
-    add-if3
-    bits-requires
-    same-length-3
-    returns-3
-    arity-requires-2
-    same-length-4
-    returns-4
-    mul-still
-    still-requires
-    arity-requires-3
-    add-n
-    mul-copy-bytes
-    mul-copy-bytes-2
-    mul-copy-bytes-3
-    copy-bytes-requires
-    same-length-5
-    returns-5
-    same-length-6
-    returns-6)
+    kind-requires copy-record-requires (λ c. search needs) returns kind-requires-2 (λ c κs. search needs) (λ c. search needs) returns-2 arity-requires
+    (λ c. search needs) bits-requires (λ c κs. search needs) (λ c. search needs) returns-3 arity-requires-2 (λ c. search needs) returns-4
+    (λ c. search needs) still-requires arity-requires-3 (λ c. search needs) (λ c. search needs) mul-copy-bytes-2 (λ c. search needs) copy-bytes-requires
+    (λ c. search needs) returns-5 (λ c. search needs) returns-6)

@@ -1,6 +1,6 @@
--- `driver::keep_members` meets its contract: before each turn the driver is midway with the members kept so far, and one that is kept is one more; where one is to
--- be driven scratch alone has changed (Between). The members left are the measure. Assumes nothing.
-use Prim.Native.Nat.{ℕ, _+_, _-_, _*_, _<_, _≤_}
+-- `driver::keep_members` meets its contract: before each turn the driver is midway with the members kept so far, and one that is kept is one more;
+-- where one is to be driven scratch alone has changed (Between). The members left are the measure.
+use Prim.Native.Nat.{ℕ, _+_, _-_, _<_, _≤_}
 use mathlib.Core.Path.{_≡_, refl, sym, ap, _∙_, subst}
 use mathlib.Core.List.{List}
 use native.Mathlib.Omega.{arith}
@@ -47,7 +47,9 @@ abbrev head-of : Asked → Head
 head-of c = c .before .before .before .before .before .before
 
 -- the driver is midway, for the call that `requires` names
-midway-now : (c : Head) → let entry = entry-of c in Midway (entry .pre .0) (c .loop .out) (entry .args .work .now) (entry .pre .1) (keptBy (entry .args .s) (c .loop .i) (c .loop .r))
+midway-now : (c : Head)
+    → let entry = entry-of c in
+    Midway (entry .pre .0) (c .loop .out) (entry .args .work .now) (entry .pre .1) (keptBy (entry .args .s) (c .loop .i) (c .loop .r))
 midway-now c = let entry = entry-of c in c .loop .inv .midway (entry .pre .0) (entry .pre .1) (entry .pre .2)
 
 fits : (c : Head) → let entry = entry-of c in KeptFits (entry .args .s) (c .loop .i) (c .loop .r) (c .loop .out) (entry .args .work .now)
@@ -172,19 +174,5 @@ pub keep-members-spec : {M : Type 1} → statement M
 keep-members-spec =
     tie.close
     (tie.spec
-    Inv-loop
-    μ-loop
-    loop-holds
-    add-keep-member
-    add-keep-member-2
-    keep-member-requires
-    kept-requires
-    same-length
-    returns
-    add-i
-    add-r
-    loop-less
-    loop-again
-    kept-requires-2
-    same-length-2
-    returns-2)
+    Inv-loop μ-loop loop-holds add-keep-member add-keep-member-2 keep-member-requires kept-requires same-length returns add-i add-r loop-less
+    loop-again kept-requires-2 same-length-2 returns-2)

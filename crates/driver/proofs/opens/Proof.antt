@@ -1,4 +1,4 @@
--- `driver::opens` meets its contract: by its tests. Assumes nothing.
+-- `driver::opens` meets its contract: by its tests.
 use borrow.Author.Tests.{eq-eqb, ne-eqb}
 use Rattle.paper.specs.Record.{isNode}
 use Rattle.driver.proofs.opens.Statement.{statement}

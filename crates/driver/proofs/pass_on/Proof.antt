@@ -1,6 +1,7 @@
--- `driver::pass_on` meets its contract: before each turn the driver is midway, on every call on which it was; the members are kept up to the next node, and where
--- none is left the pass ends, by the laws of Between. Each new beginning has noted a step, so the steps left to note are the measure. Assumes nothing.
-use Prim.Native.Nat.{ℕ, _-_, _≤_}
+-- `driver::pass_on` meets its contract: before each turn the driver is midway, on every call on which it was; the members are kept up to the next
+-- node, and where none is left the pass ends, by the laws of Between. Each new beginning has noted a step, so the steps left to note are the
+-- measure.
+use Prim.Native.Nat.{ℕ, _-_}
 use mathlib.Core.Path.{_≡_, refl, sym, ap, _∙_, subst}
 use mathlib.Core.List.{List}
 use native.Mathlib.Omega.{arith}
@@ -73,12 +74,9 @@ abbrev On : Entry → Call → Type 0
 On c x = let g = c .args in Midway x (g .out .now) (g .work .now) (g .steps .now) (g .from)
 
 -- and is midway on it after members were kept
-led-on : (c : Led) (x : Call) → On (entry-of (head-of c)) x → let l = head-of c .loop in Midway x (c .keep-members .last .0) (l .work) (l .steps) (c .keep-members .result)
+led-on : (c : Led) (x : Call) → On (entry-of (head-of c)) x
+    → let l = head-of c .loop in Midway x (c .keep-members .last .0) (l .work) (l .steps) (c .keep-members .result)
 led-on c x v = let l = head-of c .loop in c .keep-members .ensures .2 x (l .steps) (l .inv .midway x v)
-
--- none is left
-none-left : (c : Passed) → led-of c .keep-members .result .left ≤ 0
-none-left c = c .before .before .before .before .if1 .left
 
 -- what the answer a says of the pass
 answer : (c : Passed) (x : Call) → On (entry-of (head-of (led-of c))) x → (a : Answer)
@@ -122,12 +120,6 @@ end-pass-requires c κs =
     let entry = entry-of (head-of led) in
     (c .before .before .before .if1 .left, (entry .pre .0, led-on led (entry .pre .0) (entry .pre .1)))
 
-enum-known-t : tie.Need-enum-known-t Inv-loop μ-loop
-enum-known-t c = search needs
-
-ended-requires : tie.Need-ended-requires Inv-loop μ-loop
-ended-requires c κs = search needs
-
 same-length-4 : tie.Need-same-length-4 Inv-loop μ-loop
 same-length-4 c =
     let passed = c .before .before .before .before .before .before .before .before .before .before in
@@ -153,14 +145,9 @@ returns-2 c =
     let told = c .before .before .t .given in
     let e : c .ended .result ≡ endedAt k 0 (k .place) (told .0 .0) (k .tries) = c .ended .ensures in (
       onward-both (onward-both (head-of led .loop .inv .onward) (led .keep-members .ensures .0)) (onward k e refl (omega arith)),
-      λ x v. subst (λ y. WentOn x (r .last .0) (r .last .1 .0) (r .last .1 .1 .0) y) (sym e) (fell-down (endedAt k 0 (k .place) (told .0 .0) (k .tries)) refl (omega arith) (answer passed x v _ (told .1))),
+      λ x v. subst (λ y. WentOn x (r .last .0) (r .last .1 .0) (r .last .1 .1 .0) y) (sym e)
+          (fell-down (endedAt k 0 (k .place) (told .0 .0) (k .tries)) refl (omega arith) (answer passed x v _ (told .1))),
     )
-
-enum-known-t-2 : tie.Need-enum-known-t-2 Inv-loop μ-loop
-enum-known-t-2 c = search needs
-
-ended-requires-2 : tie.Need-ended-requires-2 Inv-loop μ-loop
-ended-requires-2 c κs = search needs
 
 same-length-7 : tie.Need-same-length-7 Inv-loop μ-loop
 same-length-7 c =
@@ -187,12 +174,11 @@ returns-3 c =
     let r = passed .end-pass in
     let told = c .before .before .t2 .given in
     let e : c .ended2 .result ≡ endedAt k (told .0 .0) (told .0 .1 .0) (told .0 .1 .1 .0) (told .0 .1 .1 .1 .0) = c .ended2 .ensures in (
-      onward-both (onward-both (head-of led .loop .inv .onward) (led .keep-members .ensures .0)) (onward k e refl (answer passed (entry .pre .0) (entry .pre .1) _ (told .1) .1)),
-      λ x v. subst (λ y. WentOn x (r .last .0) (r .last .1 .0) (r .last .1 .1 .0) y) (sym e) (came-home k (told .0 .0) (told .0 .1 .0) (told .0 .1 .1 .0) (told .0 .1 .1 .1 .0) (answer passed x v _ (told .1) .0)),
+      onward-both (onward-both (head-of led .loop .inv .onward) (led .keep-members .ensures .0))
+          (onward k e refl (answer passed (entry .pre .0) (entry .pre .1) _ (told .1) .1)),
+      λ x v. subst (λ y. WentOn x (r .last .0) (r .last .1 .0) (r .last .1 .1 .0) y) (sym e)
+          (came-home k (told .0 .0) (told .0 .1 .0) (told .0 .1 .1 .0) (told .0 .1 .1 .1 .0) (answer passed x v _ (told .1) .0)),
     )
-
-enum-known-t-3 : tie.Need-enum-known-t-3 Inv-loop μ-loop
-enum-known-t-3 c = search needs
 
 begin-requires : tie.Need-begin-requires Inv-loop μ-loop
 begin-requires c κs =
@@ -200,7 +186,8 @@ begin-requires c κs =
     let entry = entry-of (head-of (led-of passed)) in
     let r = passed .end-pass in
     let told = c .before .before .before .t3 .given in
-    let room = again-room (led-on (led-of passed) (entry .pre .0) (entry .pre .1)) (r .last .0) (r .last .1 .0) (r .last .1 .1 .0) (told .0 .0) (told .0 .1 .0) (told .0 .1 .1 .0)
+    let room = again-room (led-on (led-of passed) (entry .pre .0) (entry .pre .1)) (r .last .0) (r .last .1 .0)
+    (r .last .1 .1 .0) (told .0 .0) (told .0 .1 .0) (told .0 .1 .1 .0)
     (answer passed (entry .pre .0) (entry .pre .1) _ (told .1)) in
     (room .0, room .1, room .2)
 
@@ -217,7 +204,8 @@ loop-less c =
     let e : started .result ≡ begunAt k (told .0 .0) (told .0 .1 .0) (told .0 .1 .1 .0) (arity (r .last .1 .0) (told .0 .0)) = started .ensures .0 in
     let turn-is = answer passed (entry .pre .0) (entry .pre .1) _ (told .1) in
     let more = turn-is .5 in
-    let room = again-room (led-on led (entry .pre .0) (entry .pre .1)) (r .last .0) (r .last .1 .0) (r .last .1 .1 .0) (told .0 .0) (told .0 .1 .0) (told .0 .1 .1 .0) turn-is .3 in
+    let room = again-room (led-on led (entry .pre .0) (entry .pre .1)) (r .last .0) (r .last .1 .0)
+    (r .last .1 .1 .0) (told .0 .0) (told .0 .1 .0) (told .0 .1 .1 .0) turn-is .3 in
     let n : started .result .noted ≡ told .0 .1 .0 = ap (λ y. y .noted) e in
     omega (arith, led .keep-members .ensures .1, r .kept .1 .1 .0)
 
@@ -241,7 +229,8 @@ loop-again c =
       steps-long = r .kept .1 .1 .0 ∙ head .loop .inv .steps-long;
       midway = λ x v.
           subst (λ y. Midway x (started .last .0) (r .last .1 .0) (r .last .1 .1 .0) y) (sym e)
-          (again-midway (led-on led x v) (r .last .0) (r .last .1 .0) (r .last .1 .1 .0) (told .0 .0) (told .0 .1 .0) (told .0 .1 .1 .0) (answer passed x v _ (told .1))
+          (again-midway (led-on led x v) (r .last .0) (r .last .1 .0) (r .last .1 .1 .0) (told .0 .0)
+          (told .0 .1 .0) (told .0 .1 .1 .0) (answer passed x v _ (told .1))
           (started .last .0) (started .ensures .1) (started .kept .0));
     }
 
@@ -249,28 +238,6 @@ pub pass-on-spec : {M : Type 1} → statement M
 pass-on-spec =
     tie.close
     (tie.spec
-    Inv-loop
-    μ-loop
-    loop-holds
-    keep-members-requires
-    same-length
-    same-length-2
-    same-length-3
-    returns
-    end-pass-requires
-    enum-known-t
-    ended-requires
-    same-length-4
-    same-length-5
-    same-length-6
-    returns-2
-    enum-known-t-2
-    ended-requires-2
-    same-length-7
-    same-length-8
-    same-length-9
-    returns-3
-    enum-known-t-3
-    begin-requires
-    loop-less
-    loop-again)
+    Inv-loop μ-loop loop-holds keep-members-requires same-length same-length-2 same-length-3 returns end-pass-requires (λ c. search needs)
+    (λ c κs. search needs) same-length-4 same-length-5 same-length-6 returns-2 (λ c. search needs) (λ c κs. search needs) same-length-7 same-length-8
+    same-length-9 returns-3 (λ c. search needs) begin-requires loop-less loop-again)

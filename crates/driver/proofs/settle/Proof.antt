@@ -1,5 +1,5 @@
 -- `driver::settle` meets its contract: the invariant of its loop, and a law for each answer of the rules, are those of Stepping. The steps left to note
--- are the measure. Assumes nothing.
+-- are the measure.
 use Prim.Native.Nat.{_-_}
 use mathlib.Core.Path.{_≡_, sym, _∙_, subst}
 use mathlib.Core.Bool.{true}
@@ -10,8 +10,8 @@ use Rattle.paper.specs.Rules.{rulesOf}
 use Rattle.rules.specs.declared.Asked.{Asked as Answer}
 use Rattle.rules.specs.declared.Asked.the-variants.{Nothing, Step, Over}
 use Rattle.rules.specs.Asked.{AskedIs}
-use Rattle.note.specs.Still.{stillBy}
-use Rattle.note.proofs.StillLaws.{still-no-rule, still-by}
+use Rattle.still.specs.Still.{stillBy}
+use Rattle.still.proofs.StillLaws.{still-no-rule, still-by}
 use Rattle.driver.specs.declared.Settled.the-variants as settled
 use Rattle.driver.specs.Driven.{Burst, SettledIs}
 use Rattle.driver.proofs.Forests.{for-every}
@@ -20,7 +20,7 @@ use Rattle.driver.proofs.settle.Statement.{statement}
 use Rattle.driver.proofs.settle.Tie as tie
 use Rattle.driver.proofs.settle.Reads as reads
 use Rattle.driver.proofs.settle.Lts as lts
-use Rattle.note.proofs.still.Reads as still-reads
+use Rattle.still.proofs.still.Reads as still-reads
 use Rattle.rules.proofs.ask.Reads as ask-reads
 
 abbrev Inv-loop : tie.InvT-loop
@@ -55,6 +55,9 @@ head-of c = c .before .before .before
 abbrev looked-of : Asked → Looked
 looked-of c = c .before .before .before .before .before .before
 
+abbrev head-asked : Asked → Head
+head-asked c = head-of (looked-of c)
+
 -- the state after the keys were looked at
 state : (c : Looked)
     → let head = head-of c in
@@ -71,46 +74,32 @@ answer : (c : Asked) (x : Answer)
     let head = head-of looked in
     let v = state looked in
     let a = c .ask in
-    a .result ≡ x → AskedIs (rulesOf (entry-of head .args .edition)) (v .u) (v .rest) (looked .still .last .1 .1 .0) (a .last .0) (a .last .1 .0) (entry-of head .args .d) (head .loop .at) x
+    a .result ≡ x → AskedIs (rulesOf (entry-of head .args .edition)) (v .u) (v .rest) (looked .still .last .1 .1 .0)
+    (a .last .0) (a .last .1 .0) (entry-of head .args .d) (head .loop .at) x
 answer c x e =
     let looked = looked-of c in
     let head = head-of looked in
     let v = state looked in
     let a = c .ask in
-    subst (AskedIs (rulesOf (entry-of head .args .edition)) (v .u) (v .rest) (looked .still .last .1 .1 .0) (a .last .0) (a .last .1 .0) (entry-of head .args .d) (head .loop .at)) e
+    subst (AskedIs (rulesOf (entry-of head .args .edition)) (v .u) (v .rest) (looked .still .last .1 .1 .0)
+    (a .last .0) (a .last .1 .0) (entry-of head .args .d) (head .loop .at)) e
     (a .ensures (v .u) (v .rest) (set-now v .ready))
 
--- src/lib.rt:50:5
 loop-holds : tie.Need-loop-holds Inv-loop μ-loop
 loop-holds c =
     let entry = c .before .before .before in
     start (entry .pre .2)
 
--- src/lib.rt:51:39
 mul-still : tie.Need-mul-still Inv-loop μ-loop
 mul-still c =
     let head = c .before .before in
     omega (arith, scratch-fits (head .loop .inv), head .loop .inv .out-long, entry-of head .good)
 
--- src/lib.rt:51:12
 still-requires : tie.Need-still-requires Inv-loop μ-loop
 still-requires c κs =
     let v = c .before .before .loop .inv in
     (v .u, tree-there v, scratch-fits v)
 
--- src/lib.rt:52:13
-same-length : tie.Need-same-length Inv-loop μ-loop
-same-length c = search needs
-
--- src/lib.rt:52:13
-same-length-2 : tie.Need-same-length-2 Inv-loop μ-loop
-same-length-2 c = search needs
-
--- src/lib.rt:52:13
-same-length-3 : tie.Need-same-length-3 Inv-loop μ-loop
-same-length-3 c = search needs
-
--- src/lib.rt:52:13
 returns : tie.Need-returns Inv-loop μ-loop
 returns c =
     let looked = c .before .before .before in
@@ -121,57 +110,24 @@ returns c =
     let true-of : stillBy (g .edition) (v .u) ≡ true = sym (looked .still .ensures .0 (v .u) (tree-there v)) ∙ c .if1 .taken in
     let w = looked-at v (looked .still .last .1 .1 .0) (looked .still .ensures .1 (v .u) (tree-there v)) in
     for-every (v .set-up)
-    (λ t r. SettledIs (rulesOf (g .edition)) t r (g .out .now) (looked .still .last .1 .1 .0) (l .work) (g .steps .now) (l .steps) (g .d) (g .s) (settled.At (l .at) (l .n)))
+    (λ t r. SettledIs (rulesOf (g .edition)) t r (g .out .now) (looked .still .last .1 .1 .0) (l .work)
+    (g .steps .now) (l .steps) (g .d) (g .s) (settled.At (l .at) (l .n)))
     (v .u, w .came, still-no-rule (g .edition) (v .u) (still-by (g .edition) (v .u) true-of))
 
--- src/lib.rt:54:13
 ask-requires : tie.Need-ask-requires Inv-loop μ-loop
 ask-requires c κs =
     let v = state (c .before .before .before .before .before) in
     (v .u, v .rest, set-now v .ready)
 
--- src/lib.rt:56:35
-enum-told : tie.Need-enum-told Inv-loop μ-loop
-enum-told c = search needs
-
--- src/lib.rt:56:35
-same-length-4 : tie.Need-same-length-4 Inv-loop μ-loop
-same-length-4 c = search needs
-
--- src/lib.rt:56:35
-same-length-5 : tie.Need-same-length-5 Inv-loop μ-loop
-same-length-5 c = search needs
-
--- src/lib.rt:56:35
-same-length-6 : tie.Need-same-length-6 Inv-loop μ-loop
-same-length-6 c = search needs
-
--- src/lib.rt:56:35
 returns-2 : tie.Need-returns-2 Inv-loop μ-loop
 returns-2 c =
     let asked = c .before .before .before .before .before .before in
     let looked = looked-of asked in
     let head = head-of looked in
     let g = entry-of head .args in
-    for-every (state looked .set-up) (λ t r. Burst (rulesOf (g .edition)) t (g .s) (head .loop .n)) (burst (state looked) (answer asked Over (c .enum-told .given .1)))
+    for-every (state looked .set-up) (λ t r. Burst (rulesOf (g .edition)) t (g .s) (head .loop .n))
+    (burst (state looked) (answer asked Over (c .enum-told .given .1)))
 
--- src/lib.rt:57:38
-enum-told-2 : tie.Need-enum-told-2 Inv-loop μ-loop
-enum-told-2 c = search needs
-
--- src/lib.rt:57:38
-same-length-7 : tie.Need-same-length-7 Inv-loop μ-loop
-same-length-7 c = search needs
-
--- src/lib.rt:57:38
-same-length-8 : tie.Need-same-length-8 Inv-loop μ-loop
-same-length-8 c = search needs
-
--- src/lib.rt:57:38
-same-length-9 : tie.Need-same-length-9 Inv-loop μ-loop
-same-length-9 c = search needs
-
--- src/lib.rt:57:38
 returns-3 : tie.Need-returns-3 Inv-loop μ-loop
 returns-3 c =
     let asked = c .before .before .before .before .before .before in
@@ -181,63 +137,35 @@ returns-3 c =
     let l = head .loop in
     let a = asked .ask in
     for-every (state looked .set-up)
-    (λ t r. SettledIs (rulesOf (g .edition)) t r (g .out .now) (a .last .0) (a .last .1 .0) (g .steps .now) (l .steps) (g .d) (g .s) (settled.At (l .at) (l .n)))
+    (λ t r. SettledIs (rulesOf (g .edition)) t r (g .out .now) (a .last .0) (a .last .1 .0)
+    (g .steps .now) (l .steps) (g .d) (g .s) (settled.At (l .at) (l .n)))
     (idle (state looked) (a .last .0) (a .last .1 .0) (a .kept .0) (a .kept .1 .0) (answer asked Nothing (c .enum-told2 .given .1)))
 
--- src/lib.rt:58:32
-enum-known-asked : tie.Need-enum-known-asked Inv-loop μ-loop
-enum-known-asked c = search needs
-
--- src/lib.rt:59:17
 slice-write-steps : tie.Need-slice-write-steps Inv-loop μ-loop
-slice-write-steps c = step-fits (c .before .before .before .before .before .before .before .before .before .before .before .before .before .before .before .before .loop .inv)
+slice-write-steps c =
+    step-fits (head-asked (c .before .before .before .before .before .before .before) .loop .inv)
 
--- src/lib.rt:60:17
 add-n : tie.Need-add-n Inv-loop μ-loop
 add-n c =
-    let fits = step-fits (c .before .before .before .before .before .before .before .before .before .before .before .before .before .before .before .before .loop .inv) in
-    omega arith
+    omega (arith, step-fits (head-asked (c .before .before .before .before .before .before .before) .loop .inv))
 
--- src/lib.rt:50:5
 loop-less : tie.Need-loop-less Inv-loop μ-loop
 loop-less c =
-    let head = c .before .before .before .before .before .before .before .before .before .before .before .before .before .before .before .before in
+    let head = head-asked (c .before .before .before .before .before .before .before) in
     omega (arith, step-fits (head .loop .inv), length-set (head .loop .steps) (head .loop .n) (c .before .asked .given .0 .0))
 
--- src/lib.rt:50:5
 loop-again : tie.Need-loop-again Inv-loop μ-loop
 loop-again c =
     let asked = c .before .before .before .before .before .before .before in
     let a = asked .ask in
     let given = c .before .asked .given in
-    stepped (state (looked-of asked)) (a .last .0) (a .last .1 .0) (a .kept .0) (a .kept .1 .0) (given .0 .0) (given .0 .1 .0) (answer asked (Step (given .0 .0) (given .0 .1 .0)) (given .1))
+    stepped (state (looked-of asked)) (a .last .0) (a .last .1 .0) (a .kept .0) (a .kept .1 .0) (given .0 .0)
+    (given .0 .1 .0) (answer asked (Step (given .0 .0) (given .0 .1 .0)) (given .1))
 
 pub settle-spec : {M : Type 1} → statement M
 settle-spec =
     tie.close
     (tie.spec
-    Inv-loop
-    μ-loop
-    loop-holds
-    mul-still
-    still-requires
-    same-length
-    same-length-2
-    same-length-3
-    returns
-    ask-requires
-    enum-told
-    same-length-4
-    same-length-5
-    same-length-6
-    returns-2
-    enum-told-2
-    same-length-7
-    same-length-8
-    same-length-9
-    returns-3
-    enum-known-asked
-    slice-write-steps
-    add-n
-    loop-less
-    loop-again)
+    Inv-loop μ-loop loop-holds mul-still still-requires (λ c. search needs) (λ c. search needs) (λ c. search needs) returns ask-requires
+    (λ c. search needs) (λ c. search needs) (λ c. search needs) (λ c. search needs) returns-2 (λ c. search needs) (λ c. search needs)
+    (λ c. search needs) (λ c. search needs) returns-3 (λ c. search needs) slice-write-steps add-n loop-less loop-again)

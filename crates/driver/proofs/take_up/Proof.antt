@@ -1,29 +1,31 @@
--- `driver::take_up` meets its contract: each need is one law of Taking, for the node that `requires` says is gathered. Assumes nothing.
+-- `driver::take_up` meets its contract: each need is one law of Taking, for the node that `requires` says is gathered.
 use Prim.Native.Nat.{_+_, _-_, _*_}
 use mathlib.Core.Path.{_≡_, refl, sym, ap, _∙_, subst}
 use mathlib.Core.Bool.{true}
-use lib.ListN.{drop}
+use lib.ListN.{length, drop}
 use native.Mathlib.Omega.{arith}
 use Rattle.paper.specs.Tree.{weight}
 use Rattle.paper.specs.Rules.{rulesOf}
 use Rattle.paper.specs.Driver.{ask}
-use Rattle.note.specs.Still.{stillBy}
-use Rattle.note.specs.Keys.{Scratched}
-use Rattle.note.proofs.StillLaws.{still-no-rule, still-by}
+use Rattle.still.specs.Still.{stillBy}
+use Rattle.still.specs.Keys.{Scratched}
+use Rattle.still.proofs.StillLaws.{still-no-rule, still-by}
 use Rattle.driver.specs.declared.Eased.{Eased}
-use Rattle.driver.specs.declared.Taken.the-variants as taken
+use Rattle.driver.specs.declared.TakenUp.the-variants as taken
 use Rattle.driver.specs.Driven.{Set, Burst, EasedIs, TakenIs}
-use Rattle.driver.proofs.Taking.{tree-done, ends-quiet, scratch-room, size-fits, left-alone, place-kept, set-back, same-tree, same-steps, ends-there, left-there, done-again, back-for-every}
+use Rattle.driver.proofs.Taking.{tree-done, ends-quiet, scratch-room, size-fits, left-alone, place-kept, set-back}
+use Rattle.driver.proofs.Taking.{same-tree, same-steps, ends-there, left-there, done-again, back-for-every}
 use borrow.Author.Needs.{needs}
 use Rattle.driver.proofs.take_up.Statement.{statement}
 use Rattle.driver.proofs.take_up.Tie as tie
 use Rattle.driver.proofs.take_up.Reads as reads
 use Rattle.driver.proofs.take_up.Lts as lts
 use Rattle.driver.proofs.ease.Reads as ease-reads
-use Rattle.note.proofs.still.Reads as still-reads
+use Rattle.still.proofs.still.Reads as still-reads
 use Rattle.stretch.proofs.copy_bytes.Reads as copy-bytes-reads
 
--- places on the way through the code, and from each the one before it: the entry, after the test, after the node went back, after it was eased
+-- places on the way through the code, and from each the one before it: the entry, after the test, after the node went back, after it was eased,
+-- and where no step was taken
 abbrev claims : lts.Claims
 claims = (still-reads.Asked, still-reads.Learnt, copy-bytes-reads.Asked, copy-bytes-reads.Learnt, ease-reads.Asked, ease-reads.Learnt)
 
@@ -48,6 +50,18 @@ tested-of c = c .before .before .before .before .before .before
 abbrev copied-of : Called → Copied
 copied-of c = c .before .before .before .before .before .before
 
+abbrev entry-called : Called → Entry
+entry-called c = entry-of (tested-of (copied-of c))
+
+abbrev Unmoved : Type 0
+Unmoved = lts.Else2 claims reads.Pre reads.Post
+
+abbrev called-of : Unmoved → Called
+called-of c = c .before .before .before .before .before .before .before .before .before .before
+
+abbrev told-of : (c : Unmoved) → lts.After-g3 claims reads.Pre reads.Post
+told-of c = c .before .before
+
 abbrev scratched : (c : Tested) → let entry = entry-of c in Scratched (entry .args .work .now) (c .still .last .1 .1 .0) 0 (16 * weight (entry .pre .0))
 scratched c = let entry = entry-of c in c .still .ensures .1 (entry .pre .0) (tree-done (entry .pre .2))
 
@@ -66,13 +80,15 @@ answer : (c : Called) (x : Eased)
     → let copied = copied-of c in
     let entry = entry-of (tested-of copied) in
     let g = entry .args in let r = c .ease in
-    r .result ≡ x → EasedIs (rulesOf (g .edition)) (entry .pre .0) (entry .pre .1) (g .out .now) (r .last .0) (r .last .1 .0) (g .steps .now) (r .last .1 .1 .0) (g .d) (g .q - (g .e - g .d)) (g .s) x
+    r .result ≡ x → EasedIs (rulesOf (g .edition)) (entry .pre .0) (entry .pre .1) (g .out .now) (r .last .0) (r .last .1 .0)
+    (g .steps .now) (r .last .1 .1 .0) (g .d) (g .q - (g .e - g .d)) (g .s) x
 answer c x e =
     let copied = copied-of c in
     let entry = entry-of (tested-of copied) in
     let g = entry .args in
     let r = c .ease in
-    subst (EasedIs (rulesOf (g .edition)) (entry .pre .0) (entry .pre .1) (g .out .now) (r .last .0) (r .last .1 .0) (g .steps .now) (r .last .1 .1 .0) (g .d) (g .q - (g .e - g .d)) (g .s)) e
+    subst (EasedIs (rulesOf (g .edition)) (entry .pre .0) (entry .pre .1) (g .out .now) (r .last .0) (r .last .1 .0)
+    (g .steps .now) (r .last .1 .1 .0) (g .d) (g .q - (g .e - g .d)) (g .s)) e
     (r .ensures (entry .pre .0) (entry .pre .1) (set-again copied))
 
 still-requires : tie.Need-still-requires
@@ -80,12 +96,6 @@ still-requires c κs =
     let entry = c .before .before .before .before .before in
     let b = entry .pre .2 in
     (entry .pre .0, tree-done b, scratch-room b)
-
-same-length : tie.Need-same-length
-same-length c = search needs
-
-same-length-2 : tie.Need-same-length-2
-same-length-2 c = search needs
 
 returns : tie.Need-returns
 returns c =
@@ -95,22 +105,19 @@ returns c =
     let b = entry .pre .2 in
     let true-of : stillBy (g .edition) (entry .pre .0) ≡ true = sym (tested .still .ensures .0 (entry .pre .0) (tree-done b)) ∙ c .if1 .taken in
     back-for-every b
-    (λ t r. TakenIs (rulesOf (g .edition)) t r (g .out .now) (g .out .now) (tested .still .last .1 .1 .0) (g .steps .now) (g .steps .now) (g .d) (g .e) (g .s) (taken.Finished (g .q)))
-    (still-no-rule (g .edition) (entry .pre .0) (still-by (g .edition) (entry .pre .0) true-of), refl, left-alone b (scratched tested), place-kept b (scratched tested), refl)
-
-sub-size : tie.Need-sub-size
-sub-size c = search needs
+    (λ t r. TakenIs (rulesOf (g .edition)) t r (g .out .now) (g .out .now) (tested .still .last .1 .1 .0)
+    (g .steps .now) (g .steps .now) (g .d) (g .e) (g .s) (taken.Finished (g .q))) (
+      still-no-rule (g .edition) (entry .pre .0) (still-by (g .edition) (entry .pre .0) true-of),
+      refl,
+      left-alone b (scratched tested),
+      place-kept b (scratched tested),
+      refl,
+    )
 
 sub-at : tie.Need-sub-at
 sub-at c =
     let fits = size-fits (c .before .before .before .before .before .before .before .before .before .pre .2) in
     omega (arith, fits)
-
-mul-copy-bytes : tie.Need-mul-copy-bytes
-mul-copy-bytes c = search needs
-
-mul-copy-bytes-2 : tie.Need-mul-copy-bytes-2
-mul-copy-bytes-2 c = search needs
 
 mul-copy-bytes-3 : tie.Need-mul-copy-bytes-3
 mul-copy-bytes-3 c =
@@ -130,94 +137,61 @@ ease-requires c κs =
     let entry = entry-of (tested-of copied) in
     (entry .pre .0, entry .pre .1, set-again copied)
 
-enum-known-g : tie.Need-enum-known-g
-enum-known-g c = search needs
-
-enum-known-g-2 : tie.Need-enum-known-g-2
-enum-known-g-2 c = search needs
-
-enum-known-g-3 : tie.Need-enum-known-g-3
-enum-known-g-3 c = search needs
-
-same-length-3 : tie.Need-same-length-3
-same-length-3 c = search needs
-
-same-length-4 : tie.Need-same-length-4
-same-length-4 c = search needs
-
-same-length-5 : tie.Need-same-length-5
-same-length-5 c = search needs
-
 returns-2 : tie.Need-returns-2
 returns-2 c =
     let called = c .before .before .before .before .before .before .before .before .before .before in
-    let entry = entry-of (tested-of (copied-of called)) in
+    let entry = entry-called called in
     let g = entry .args in
     let n = c .before .before .g3 .given in
     let r = called .ease in
     let a = answer called _ (n .1) in
     back-for-every (entry .pre .2)
-    (λ t x. TakenIs (rulesOf (g .edition)) t x (g .out .now) (r .last .0) (r .last .1 .0) (g .steps .now) (r .last .1 .1 .0) (g .d) (g .e) (g .s) (taken.Stepped (n .0 .0) (n .0 .1 .0)))
+    (λ t x. TakenIs (rulesOf (g .edition)) t x (g .out .now) (r .last .0) (r .last .1 .0) (g .steps .now)
+    (r .last .1 .1 .0) (g .d) (g .e) (g .s) (taken.Stepped (n .0 .0) (n .0 .1 .0)))
     (a .0, a .1, c .if2 .taken, a .2)
 
-mul-copy-bytes-4 : tie.Need-mul-copy-bytes-4
-mul-copy-bytes-4 c = search needs
+-- the node's tree ends where it did
+ends-at : (c : Unmoved)
+    → let called = called-of c in
+    let g = entry-called called .args in
+    (told-of c .g3 .given .0 .0 + (g .e - g .d)) * 16 + length (entry-called called .pre .1) ≡ length (called .ease .last .1 .0)
+ends-at c =
+    let called = called-of c in
+    let a = answer called _ (told-of c .g3 .given .1) in
+    ends-there (entry-called called .pre .2) _ (a .1) (called .ease .kept .0) (c .if2 .left)
 
 mul-copy-bytes-5 : tie.Need-mul-copy-bytes-5
 mul-copy-bytes-5 c =
-    let called = c .before .before .before .before .before .before .before .before .before .before .before .before in
-    let entry = entry-of (tested-of (copied-of called)) in
-    let a = answer called _ (c .before .before .before .before .g3 .given .1) in
-    let r = called .ease in
-    omega (arith, ends-there (entry .pre .2) _ (a .1) (r .kept .0) (c .before .before .if2 .left), r .kept, copied-of called .copy-bytes .kept, tested-of (copied-of called) .still .kept, entry .good)
+    let unmoved = c .before .before in
+    let called = called-of unmoved in
+    let copied = copied-of called in
+    omega (arith, ends-at unmoved, called .ease .kept, copied .copy-bytes .kept, tested-of copied .still .kept, entry-called called .good)
 
 mul-copy-bytes-6 : tie.Need-mul-copy-bytes-6
 mul-copy-bytes-6 c =
-    let entry = entry-of (tested-of (copied-of (c .before .before .before .before .before .before .before .before .before .before .before .before))) in
+    let entry = entry-called (called-of (c .before .before)) in
     omega (arith, size-fits (entry .pre .2), entry .good)
 
 copy-bytes-requires-2 : tie.Need-copy-bytes-requires-2
 copy-bytes-requires-2 c κs =
-    let called = c .before .before .before .before .before .before .before .before .before .before .before .before in
-    let copied = copied-of called in
-    let entry = entry-of (tested-of copied) in
-    let a = answer called _ (c .before .before .before .before .g3 .given .1) in
-    let r = called .ease in
-    let fits = size-fits (entry .pre .2) in
-    let ends = ends-there (entry .pre .2) _ (a .1) (r .kept .0) (c .before .before .if2 .left) in
-    (omega (arith, fits, r .kept), omega (arith, ends, fits))
+    let unmoved = c .before .before in
+    let called = called-of unmoved in
+    let fits = size-fits (entry-called called .pre .2) in
+    (omega (arith, fits, called .ease .kept), omega (arith, ends-at unmoved, fits))
 
 add-t40 : tie.Need-add-t40
 add-t40 c =
-    let called = c .before .before .before .before .before .before .before .before .before .before .before .before .before .before .before in
-    let entry = entry-of (tested-of (copied-of called)) in
-    let a = answer called _ (c .before .before .before .before .before .before .before .g3 .given .1) in
-    let r = called .ease in
-    omega (arith, ends-there (entry .pre .2) _ (a .1) (r .kept .0) (c .before .before .before .before .before .if2 .left), r .kept, copied-of called .copy-bytes .kept, tested-of (copied-of called) .still .kept, entry .good)
-
-same-length-6 : tie.Need-same-length-6
-same-length-6 c = search needs
-
-same-length-7 : tie.Need-same-length-7
-same-length-7 c = search needs
-
-same-length-8 : tie.Need-same-length-8
-same-length-8 c = search needs
+    let unmoved = c .before .before .before .before .before in
+    let called = called-of unmoved in
+    let copied = copied-of called in
+    omega (arith, ends-at unmoved, called .ease .kept, copied .copy-bytes .kept, tested-of copied .still .kept, entry-called called .good)
 
 returns-3 : tie.Need-returns-3
 returns-3 c =
     let called = c .before .before .before .before .before .before .before .before .before in
-    let entry = entry-of (tested-of (copied-of called)) in
-    back-for-every (entry .pre .2) (λ t x. Burst (rulesOf (entry .args .edition)) t (entry .args .s) (c .before .g .given .0 .0)) (answer called _ (c .before .g .given .1))
-
-same-length-9 : tie.Need-same-length-9
-same-length-9 c = search needs
-
-same-length-10 : tie.Need-same-length-10
-same-length-10 c = search needs
-
-same-length-11 : tie.Need-same-length-11
-same-length-11 c = search needs
+    let entry = entry-called called in
+    back-for-every (entry .pre .2) (λ t x. Burst (rulesOf (entry .args .edition)) t (entry .args .s) (c .before .g .given .0 .0))
+    (answer called _ (c .before .g .given .1))
 
 returns-4 : tie.Need-returns-4
 returns-4 c =
@@ -232,7 +206,8 @@ returns-4 c =
     let a = answer called _ (told .1) in
     let ends = ends-quiet b in
     back-for-every b
-    (λ t x. TakenIs (rulesOf (g .edition)) t x (g .out .now) (r .last .0) (r .last .1 .0) (g .steps .now) (r .last .1 .1 .0) (g .d) (g .e) (g .s) (taken.Quiet (told .0 .0) (g .q))) (
+    (λ t x. TakenIs (rulesOf (g .edition)) t x (g .out .now) (r .last .0) (r .last .1 .0) (g .steps .now)
+    (r .last .1 .1 .0) (g .d) (g .e) (g .s) (taken.Quiet (told .0 .0) (g .q))) (
       a .0,
       a .1,
       a .2,
@@ -244,28 +219,21 @@ returns-4 c =
       a .7,
     )
 
-same-length-12 : tie.Need-same-length-12
-same-length-12 c = search needs
-
-same-length-13 : tie.Need-same-length-13
-same-length-13 c = search needs
-
-same-length-14 : tie.Need-same-length-14
-same-length-14 c = search needs
-
 returns-5 : tie.Need-returns-5
 returns-5 c =
-    let called = c .before .before .before .before .before .before .before .before .before .before .before .before .before .before .before in
-    let entry = entry-of (tested-of (copied-of called)) in
+    let unmoved = c .before .before .before .before .before in
+    let called = called-of unmoved in
+    let entry = entry-called called in
     let g = entry .args in
     let b = entry .pre .2 in
-    let n = c .before .before .before .before .before .before .before .g3 .given in
+    let n = told-of unmoved .g3 .given in
     let r = called .ease in
     let a = answer called _ (n .1) in
-    let none = c .before .before .before .before .before .if2 .left in
+    let none = unmoved .if2 .left in
     let moved = c .before .before .copy-bytes2 in
     back-for-every b
-    (λ t x. TakenIs (rulesOf (g .edition)) t x (g .out .now) (moved .last .0) (r .last .1 .0) (g .steps .now) (r .last .1 .1 .0) (g .d) (g .e) (g .s) (taken.Finished (n .0 .0 + (g .e - g .d)))) (
+    (λ t x. TakenIs (rulesOf (g .edition)) t x (g .out .now) (moved .last .0) (r .last .1 .0) (g .steps .now)
+    (r .last .1 .1 .0) (g .d) (g .e) (g .s) (taken.Finished (n .0 .0 + (g .e - g .d)))) (
       ap (ask (rulesOf (g .edition))) (same-tree b _ (a .1) (r .kept .0) none) ∙ a .2,
       done-again b _ (a .1) (r .kept .0) none (moved .last .0) (moved .ensures),
       left-there b _ (a .1) (r .kept .0) none,
@@ -277,38 +245,8 @@ pub take-up-spec : {M : Type 1} → statement M
 take-up-spec =
     tie.close
     (tie.spec
-    still-requires
-    same-length
-    same-length-2
-    returns
-    sub-size
-    sub-at
-    mul-copy-bytes
-    mul-copy-bytes-2
-    mul-copy-bytes-3
-    copy-bytes-requires
-    ease-requires
-    enum-known-g
-    enum-known-g-2
-    enum-known-g-3
-    same-length-3
-    same-length-4
-    same-length-5
-    returns-2
-    mul-copy-bytes-4
-    mul-copy-bytes-5
-    mul-copy-bytes-6
-    copy-bytes-requires-2
-    add-t40
-    same-length-6
-    same-length-7
-    same-length-8
-    returns-3
-    same-length-9
-    same-length-10
-    same-length-11
-    returns-4
-    same-length-12
-    same-length-13
-    same-length-14
-    returns-5)
+    still-requires (λ c. search needs) (λ c. search needs) returns (λ c. search needs) sub-at (λ c. search needs) (λ c. search needs) mul-copy-bytes-3
+    copy-bytes-requires ease-requires (λ c. search needs) (λ c. search needs) (λ c. search needs) (λ c. search needs) (λ c. search needs)
+    (λ c. search needs) returns-2 (λ c. search needs) mul-copy-bytes-5 mul-copy-bytes-6 copy-bytes-requires-2 add-t40 (λ c. search needs)
+    (λ c. search needs) (λ c. search needs) returns-3 (λ c. search needs) (λ c. search needs) (λ c. search needs) returns-4 (λ c. search needs)
+    (λ c. search needs) (λ c. search needs) returns-5)

@@ -1,5 +1,5 @@
 -- `note::members_note` meets its contract. The loop's invariant: what is added and what the members still to come add make the node's
--- note. Assumes nothing.
+-- note.
 use Prim.Native.Nat.{_+_, _%_, _≤_, _<_}
 use mathlib.Core.Path.{ap, _∙_}
 use native.Mathlib.Omega.{arith}
@@ -23,15 +23,6 @@ abbrev μ-loop : tie.MeasureT-loop
 
 kind-requires : tie.Need-kind-requires Inv-loop μ-loop
 kind-requires c κs = own-within (headed (c .before .pre .1))
-
-cast-sum : tie.Need-cast-sum Inv-loop μ-loop
-cast-sum c = search needs
-
-mul-sum : tie.Need-mul-sum Inv-loop μ-loop
-mul-sum c = search needs
-
-add-sum : tie.Need-add-sum Inv-loop μ-loop
-add-sum c = search needs
 
 add-at : tie.Need-add-at Inv-loop μ-loop
 add-at c = omega (arith, own-within (headed (c .before .before .pre .1)))
@@ -65,33 +56,25 @@ added-requires c κs =
     let f = summing-first (head .loop .inv .1 (some .0) (some .1) (some .2)) (test .loop-test .taken) in
     omega (arith, c .kind2 .ensures, kind-number (noted-told (f .there)), kind-lt (f .tree))
 
-wrapping-add-u64-requires : tie.Need-wrapping-add-u64-requires Inv-loop μ-loop
-wrapping-add-u64-requires c κs = search needs
-
 add-at-2 : tie.Need-add-at-2 Inv-loop μ-loop
 add-at-2 c =
-    let test = c .before .before .before .before in
+    let test = c .before .before .before .before .before in
     let head = test .before in
     let some = head .before .before .before .before .pre in
     omega (arith, record-within (noted-told (summing-first (head .loop .inv .1 (some .0) (some .1) (some .2)) (test .loop-test .taken) .there)))
 
-sub-left : tie.Need-sub-left Inv-loop μ-loop
-sub-left c = omega arith
-
-loop-less : tie.Need-loop-less Inv-loop μ-loop
-loop-less c = omega arith
-
 loop-again : tie.Need-loop-again Inv-loop μ-loop
 loop-again c =
-    let more = c .wrapping-add-u64 in
-    let k = c .before .before .kind2 in
-    let n = c .before .before .before .note-at in
-    let test = c .before .before .before .before in
+    let more = c .before .wrapping-add-u64 in
+    let k = c .before .before .before .kind2 in
+    let n = c .before .before .before .before .note-at in
+    let test = c .before .before .before .before .before in
     let loop = test .before .loop in (
       omega (arith, more .ensures),
       λ t q l.
-          summing-step (loop .inv .1 t q l) (test .loop-test .taken) (k .result) (n .result) (k .ensures) (n .ensures) (more .result)
-          (more .ensures ∙ ap (λ x. (loop .sum + x) % modulus) (c .before .added .ensures)),
+          rw (c .records-of .ensures)
+          (summing-step (loop .inv .1 t q l) (test .loop-test .taken) (k .result) (n .result) (k .ensures) (n .ensures) (more .result)
+          (more .ensures ∙ ap (λ x. (loop .sum + x) % modulus) (c .before .before .added .ensures))),
     )
 
 returns : tie.Need-returns Inv-loop μ-loop
@@ -103,21 +86,5 @@ pub members-note-spec : {M : Type 1} → statement M
 members-note-spec =
     tie.close
     (tie.spec
-    Inv-loop
-    μ-loop
-    kind-requires
-    cast-sum
-    mul-sum
-    add-sum
-    add-at
-    count-requires
-    loop-holds
-    note-at-requires
-    kind-requires-2
-    added-requires
-    wrapping-add-u64-requires
-    add-at-2
-    sub-left
-    loop-less
-    loop-again
-    returns)
+    Inv-loop μ-loop kind-requires (λ c. search needs) (λ c. search needs) (λ c. search needs) add-at count-requires loop-holds note-at-requires
+    kind-requires-2 added-requires (λ c κs. search needs) (λ c κs. search needs) add-at-2 (λ c. omega arith) (λ c. omega arith) loop-again returns)

@@ -51,9 +51,6 @@ note-at-requires c κs =
     let f = resting-first (head .loop .inv .1 (some .0) (some .1) (some .2)) (test .loop-test .taken) in
     (f .tree, f .there)
 
-wrapping-add-u64-requires : tie.Need-wrapping-add-u64-requires Inv-loop μ-loop
-wrapping-add-u64-requires c κs = search needs
-
 add-kept : tie.Need-add-kept Inv-loop μ-loop
 add-kept c = omega (arith, c .before .before .before .loop .inv .0)
 
@@ -76,12 +73,6 @@ add-at-2 c =
     let z = c .size-at .ensures (f .tree) (f .there) (read .kind .ensures ∙ kind-number (noted-told (f .there))) in
     omega (arith, z, tree-within (noted-told (f .there)))
 
-sub-left : tie.Need-sub-left Inv-loop μ-loop
-sub-left c = omega arith
-
-loop-less : tie.Need-loop-less Inv-loop μ-loop
-loop-less c = omega arith
-
 loop-again : tie.Need-loop-again Inv-loop μ-loop
 loop-again c =
     let z = c .size-at in
@@ -103,9 +94,6 @@ loop-again c =
           (i .came),
     )
 
-leaf-note-requires : tie.Need-leaf-note-requires Inv-loop μ-loop
-leaf-note-requires c κs = search needs
-
 returns : tie.Need-returns Inv-loop μ-loop
 returns c = λ μ f q.
     c .leaf-note .ensures ∙ resting-none (c .before .before .before .loop .inv .1 μ f q) (omega arith) (c .before .if2 .taken)
@@ -124,9 +112,6 @@ returns-2 c = λ μ f q.
     let k : loop .kept ≡ 1 = omega arith in
     c .note-at2 .ensures (a .single k .tree) (a .single k .there) ∙ resting-one a (omega arith) k
 
-wrapping-sub-u64-requires : tie.Need-wrapping-sub-u64-requires Inv-loop μ-loop
-wrapping-sub-u64-requires c κs = search needs
-
 returns-3 : tie.Need-returns-3 Inv-loop μ-loop
 returns-3 c = λ μ f q.
     let v = c .wrapping-sub-u64 in
@@ -137,23 +122,5 @@ pub members-rest-spec : {M : Type 1} → statement M
 members-rest-spec =
     tie.close
     (tie.spec
-    Inv-loop
-    μ-loop
-    add-at
-    count-requires
-    loop-holds
-    kind-requires
-    note-at-requires
-    wrapping-add-u64-requires
-    add-kept
-    size-at-requires
-    add-at-2
-    sub-left
-    loop-less
-    loop-again
-    leaf-note-requires
-    returns
-    note-at-requires-2
-    returns-2
-    wrapping-sub-u64-requires
-    returns-3)
+    Inv-loop μ-loop add-at count-requires loop-holds kind-requires note-at-requires (λ c κs. search needs) add-kept size-at-requires add-at-2
+    (λ c. omega arith) (λ c. omega arith) loop-again (λ c κs. search needs) returns note-at-requires-2 returns-2 (λ c κs. search needs) returns-3)

@@ -1,4 +1,4 @@
--- `note::node_note` meets its contract: each of its two callees is asked for its kind. Assumes nothing.
+-- `note::node_note` meets its contract: each of its two callees is asked for its kind.
 use native.Mathlib.Omega.{arith}
 use Rattle.note.proofs.NotedLaws.{own-within, own-kind}
 use Rattle.note.proofs.AddingLaws.{headed}

@@ -1,5 +1,5 @@
 -- `note::note_all` meets its contract. The loop's invariant: from the record that is reached on all nodes are noted, and before it the table
--- is as it was. Assumes nothing.
+-- is as it was.
 use Prim.Native.Nat.{_≤_}
 use mathlib.Core.Path.{_≡_, refl, _∙_}
 use native.Mathlib.Omega.{arith}
@@ -20,9 +20,6 @@ abbrev μ-loop : tie.MeasureT-loop
 
 loop-holds : tie.Need-loop-holds Inv-loop μ-loop
 loop-holds c = (refl, omega arith, λ t q. half-start q note)
-
-sub-j : tie.Need-sub-j Inv-loop μ-loop
-sub-j c = omega arith
 
 add-kind : tie.Need-add-kind Inv-loop μ-loop
 add-kind c =
@@ -53,9 +50,6 @@ close-requires c κs =
     let a = head .loop .inv .2 (some .0) (some .1) in
     (reached-tree (some .1) j t l, reached-unnoted (some .1) j t l a (read .kind .result) (read .kind .ensures) (c .before .if1 .taken))
 
-loop-less : tie.Need-loop-less Inv-loop μ-loop
-loop-less c = omega arith
-
 loop-again : tie.Need-loop-again Inv-loop μ-loop
 loop-again c =
     let close = c .before .before .close in
@@ -75,9 +69,6 @@ loop-again c =
           reached-node q (loop .j) p l a k e w (close .last .0)
           (close .ensures (reached-tree q (loop .j) p l) (reached-unnoted q (loop .j) p l a k e w)),
     )
-
-loop-less-2 : tie.Need-loop-less-2 Inv-loop μ-loop
-loop-less-2 c = omega arith
 
 loop-again-2 : tie.Need-loop-again-2 Inv-loop μ-loop
 loop-again-2 c =
@@ -100,17 +91,5 @@ pub note-all-spec : {M : Type 1} → statement M
 note-all-spec =
     tie.close
     (tie.spec
-    Inv-loop
-    μ-loop
-    loop-holds
-    sub-j
-    add-kind
-    kind-requires
-    add-close
-    close-requires
-    loop-less
-    loop-again
-    loop-less-2
-    loop-again-2
-    same-length
-    returns)
+    Inv-loop μ-loop loop-holds (λ c. omega arith) add-kind kind-requires add-close close-requires (λ c. omega arith) loop-again (λ c. omega arith)
+    loop-again-2 same-length returns)

@@ -1,4 +1,4 @@
--- `note::note_at` meets its contract: a leaf's note is made from its record, a node's stands in it. Assumes nothing.
+-- `note::note_at` meets its contract: a leaf's note is made from its record, a node's stands in it.
 use mathlib.Core.Path.{_∙_}
 use Rattle.note.proofs.ToldLaws.{noted-told, record-within}
 use Rattle.note.proofs.LightLaws.{note-of-leaf, note-of-node}
@@ -11,9 +11,6 @@ kind-requires c κs = record-within (noted-told (c .before .pre .1))
 
 bits-requires : tie.Need-bits-requires
 bits-requires c κs = record-within (noted-told (c .before .before .pre .1))
-
-leaf-note-requires : tie.Need-leaf-note-requires
-leaf-note-requires c κs = search needs
 
 returns : tie.Need-returns
 returns c = λ t q.
@@ -29,4 +26,4 @@ returns-2 c = λ t q.
 
 pub note-at-spec : {M : Type 1} → statement M
 note-at-spec =
-    tie.close (tie.spec kind-requires bits-requires leaf-note-requires returns returns-2)
+    tie.close (tie.spec kind-requires bits-requires (λ c κs. search needs) returns returns-2)

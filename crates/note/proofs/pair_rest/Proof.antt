@@ -1,4 +1,4 @@
--- `note::pair_rest` meets its contract: the kinds of the two members tell which of them are left (RestingLaws). Assumes nothing.
+-- `note::pair_rest` meets its contract: the kinds of the two members tell which of them are left (RestingLaws).
 use Prim.Native.Nat.{ℕ, _+_}
 use mathlib.Core.Path.{_≡_, _∙_}
 use mathlib.Core.List.{List}
@@ -55,21 +55,20 @@ Read = tie.After-kind2
 abbrev start-of : Read → tie.Start
 start-of c = c .before .before .before .before
 
-module _ (c : Read) {μ : ℕ} {f : Forest} (q : Known (start-of c .args .s .now) (start-of c .args .i) 3 (start-of c .args .n) (product μ f)) (two : count f ≡ 2) where
+module _ (c : Read) {μ : ℕ} {f : Forest} (q : Known (start-of c .args .s .now) (start-of c .args .i) 3 (start-of c .args .n) (product μ f))
+    (two : count f ≡ 2) where
   sized : c .before .size-at .result ≡ records (pair-first q two .tree)
   sized = let u = pair-first q two in c .before .size-at .ensures (u .tree) (u .there) (c .before .before .kind .ensures ∙ kind-number (noted-told (u .there)))
 
   abbrev second : FirstBy note (start-of c .args .s .now) (start-of c .args .i + 1 + c .before .size-at .result) 1 (pair-first q two .others)
   second = pair-second q two _ _ (c .before .before .kind .ensures) sized
 
-leaf-note-requires : tie.Need-leaf-note-requires
-leaf-note-requires c κs = search needs
-
 returns : tie.Need-returns
 returns c = λ μ f q two.
     let at = c .before .before .before in
     c .leaf-note .ensures
-    ∙ both-integers q two _ _ (at .before .before .kind .ensures) (sized at q two) _ (at .kind2 .ensures) (c .before .before .if1 .taken) (c .before .if2 .taken)
+    ∙ both-integers q two _ _ (at .before .before .kind .ensures) (sized at q two) _ (at .kind2 .ensures) (c .before .before .if1 .taken)
+    (c .before .if2 .taken)
 
 note-at-requires : tie.Need-note-at-requires
 note-at-requires c κs =
@@ -109,18 +108,5 @@ pub pair-rest-spec : {M : Type 1} → statement M
 pair-rest-spec =
     tie.close
     (tie.spec
-    add-kind
-    kind-requires
-    add-at
-    add-size-at
-    size-at-requires
-    add-at-2
-    kind-requires-2
-    leaf-note-requires
-    returns
-    note-at-requires
-    returns-2
-    add-note-at
-    note-at-requires-2
-    returns-3
-    returns-4)
+    add-kind kind-requires add-at add-size-at size-at-requires add-at-2 kind-requires-2 (λ c κs. search needs) returns note-at-requires returns-2
+    add-note-at note-at-requires-2 returns-3 returns-4)

@@ -1,22 +1,16 @@
--- `note::part_key` meets its contract: the definition's two cases. Assumes nothing.
+-- `note::part_key` meets its contract: the definition's two cases.
 use Rattle.note.specs.Part.{partKey}
 use borrow.Author.Needs.{needs}
 use Rattle.note.proofs.part_key.Statement.{statement}
 use Rattle.note.proofs.part_key.Tie as tie
 
-rest-note-requires : tie.Need-rest-note-requires
-rest-note-requires c κs = search needs
-
 returns : tie.Need-returns
 unfolding partKey
 returns c = λ t h. rw (c .before .if1 .taken) (c .rest-note .ensures t h)
-
-base-note-requires : tie.Need-base-note-requires
-base-note-requires c κs = search needs
 
 returns-2 : tie.Need-returns-2
 unfolding partKey
 returns-2 c = λ t h. rw (c .before .if1 .left) (c .base-note .ensures t h)
 
 pub part-key-spec : {M : Type 1} → statement M
-part-key-spec = tie.close (tie.spec rest-note-requires returns base-note-requires returns-2)
+part-key-spec = tie.close (tie.spec (λ c κs. search needs) returns (λ c κs. search needs) returns-2)

@@ -1,5 +1,5 @@
 -- `note::power_note` meets its contract: the base stands behind the record, and the exponent as many records later as the base's note
--- says. Assumes nothing.
+-- says.
 use Prim.Native.Nat.{_+_, _%_}
 use mathlib.Core.Path.{_≡_, ap, _∙_}
 use native.Mathlib.Omega.{arith}
@@ -40,38 +40,31 @@ add-bits : tie.Need-add-bits
 add-bits c = omega (arith, own-within (headed (c .before .before .before .before .pre .1)))
 
 add-bits-2 : tie.Need-add-bits-2
-add-bits-2 c = omega (arith, own-within (headed (c .before .before .before .before .pre .1)))
+add-bits-2 c = omega (arith, own-within (headed (c .before .before .before .before .before .pre .1)))
 
 bits-requires : tie.Need-bits-requires
 bits-requires c κs =
-    let some = c .before .before .before .before .pre in
+    let some = c .before .before .before .before .before .pre in
     let r = raised (some .0) (some .1) (some .2) in
-    let size = raised-size r (c .before .kind .result) (c .before .before .note-at .result) 0 (c .before .kind .ensures)
-    (c .before .before .note-at .ensures (r .base) (r .there)) in
-    omega (arith, size, r .within)
-
-wrapping-add-u64-requires : tie.Need-wrapping-add-u64-requires
-wrapping-add-u64-requires c κs = search needs
-
-added-exponent-requires : tie.Need-added-exponent-requires
-added-exponent-requires c κs = search needs
-
-wrapping-add-u64-requires-2 : tie.Need-wrapping-add-u64-requires-2
-wrapping-add-u64-requires-2 c κs = search needs
+    let k = c .before .before .kind in
+    let n = c .before .before .before .note-at in
+    let size = raised-size r (k .result) (n .result) 0 (k .ensures) (n .ensures (r .base) (r .there)) in
+    omega (arith, c .records-of .ensures, size, r .within)
 
 returns : tie.Need-returns
 returns c = λ t q l.
-    let a = c .before .before .before .before .before .before .before .before .args in
+    let a = c .before .before .before .before .before .before .before .before .before .args in
     let r = raised t q l in
     let first = c .before .before .wrapping-add-u64 in
     let x = c .before .before .before .bits in
-    let b = c .before .before .before .before .added in
-    let k = c .before .before .before .before .before .kind in
-    let n = c .before .before .before .before .before .before .note-at in
+    let told = c .before .before .before .before .records-of in
+    let b = c .before .before .before .before .before .added in
+    let k = c .before .before .before .before .before .before .kind in
+    let n = c .before .before .before .before .before .before .before .note-at in
     let p = c .before .added-exponent in
     let y = n .ensures (r .base) (r .there) in
     let size = raised-size r (k .result) (n .result) (x .result) (k .ensures) y in
-    let place : x .result ≡ r .exponent = x .ensures ∙ ap (λ m. bits (a .s .now) (a .i + 1 + m)) size ∙ r .bits-there in
+    let place : x .result ≡ r .exponent = x .ensures ∙ ap (λ m. bits (a .s .now) (a .i + 1 + m)) (told .ensures ∙ size) ∙ r .bits-there in
     raised-note r (k .result) (n .result) (x .result) (k .ensures) y (b .result) (p .result) (c .wrapping-add-u642 .result) (b .ensures) place
     (p .ensures) (c .wrapping-add-u642 .ensures ∙ ap (λ m. (m + p .result) % modulus) (first .ensures))
 
@@ -79,15 +72,5 @@ pub power-note-spec : {M : Type 1} → statement M
 power-note-spec =
     tie.close
     (tie.spec
-    add-note-at
-    note-at-requires
-    add-kind
-    kind-requires
-    added-requires
-    add-bits
-    add-bits-2
-    bits-requires
-    wrapping-add-u64-requires
-    added-exponent-requires
-    wrapping-add-u64-requires-2
-    returns)
+    add-note-at note-at-requires add-kind kind-requires added-requires add-bits (λ c κs. search needs) add-bits-2 bits-requires
+    (λ c κs. search needs) (λ c κs. search needs) (λ c κs. search needs) returns)

@@ -1,4 +1,4 @@
--- `note::product_rest` meets its contract: of two members the pair's rest is found, of more the members'. Assumes nothing.
+-- `note::product_rest` meets its contract: of two members the pair's rest is found, of more the members'.
 use mathlib.Core.Path.{sym, _∙_}
 use Rattle.note.specs.Noted.{countOf}
 use Rattle.note.proofs.ToldLaws.{noted-told, record-within, count-number}
@@ -21,11 +21,5 @@ returns c = λ μ f q.
     let read = c .before .before in
     c .pair-rest .ensures μ f q (sym (count-number (noted-told (q .there))) ∙ sym (read .count .ensures .0) ∙ c .before .if1 .taken)
 
-members-rest-requires : tie.Need-members-rest-requires
-members-rest-requires c κs = search needs
-
-returns-2 : tie.Need-returns-2
-returns-2 c = search needs
-
 pub product-rest-spec : {M : Type 1} → statement M
-product-rest-spec = tie.close (tie.spec count-requires pair-rest-requires returns members-rest-requires returns-2)
+product-rest-spec = tie.close (tie.spec count-requires pair-rest-requires returns (λ c κs. search needs) (λ c. search needs))

@@ -1,4 +1,4 @@
--- `note::rest_note` meets its contract, by the kind. Assumes nothing.
+-- `note::rest_note` meets its contract, by the kind.
 use mathlib.Core.Path.{sym, ap, _∙_}
 use native.Mathlib.Omega.{arith}
 use Rattle.paper.specs.Rules.{termOf}
@@ -7,9 +7,6 @@ use Rattle.note.proofs.RestingLaws.{integer-rest, other-rest, product-k
 use borrow.Author.Needs.{needs}
 use Rattle.note.proofs.rest_note.Statement.{statement}
 use Rattle.note.proofs.rest_note.Tie as tie
-
-leaf-note-requires : tie.Need-leaf-note-requires
-leaf-note-requires c κs = search needs
 
 returns : tie.Need-returns
 returns c = λ t h. let k = h .kind-known in c .leaf-note .ensures ∙ integer-rest t (omega arith)
@@ -29,4 +26,4 @@ returns-3 c = λ t h.
     c .product-rest .ensures (p .mark) (p .members) (known-product p h) ∙ ap (λ u. termKey (termOf u)) (sym (p .whole))
 
 pub rest-note-spec : {M : Type 1} → statement M
-rest-note-spec = tie.close (tie.spec leaf-note-requires returns returns-2 product-rest-requires returns-3)
+rest-note-spec = tie.close (tie.spec (λ c κs. search needs) returns returns-2 product-rest-requires returns-3)

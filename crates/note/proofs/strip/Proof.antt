@@ -1,5 +1,5 @@
 -- `note::strip` meets its contract. The loop's invariant: from the record that is reached on all notes are taken out, and before it the
--- table is as it was. Assumes nothing.
+-- table is as it was.
 use Prim.Native.Nat.{_*_, _≤_}
 use mathlib.Core.Path.{_≡_, refl, ap, _∙_}
 use native.Mathlib.Omega.{arith}
@@ -21,9 +21,6 @@ abbrev μ-loop : tie.MeasureT-loop
 
 loop-holds : tie.Need-loop-holds Inv-loop μ-loop
 loop-holds c = (refl, omega arith, λ t q. half-start q (λ u. 0))
-
-sub-j : tie.Need-sub-j Inv-loop μ-loop
-sub-j c = omega arith
 
 add-kind : tie.Need-add-kind Inv-loop μ-loop
 add-kind c =
@@ -64,9 +61,6 @@ write8-requires c κs =
     let within = reached-within (head .before .before .pre .1) (head .loop .j) (test .loop-test .taken) (head .loop .inv .1) in
     omega (arith, within, head .loop .inv .0)
 
-loop-less : tie.Need-loop-less Inv-loop μ-loop
-loop-less c = omega arith
-
 loop-again : tie.Need-loop-again Inv-loop μ-loop
 loop-again c =
     let write = c .before .before .write8 in
@@ -79,9 +73,6 @@ loop-again c =
       λ t q. reached-node q (loop .j) (test .loop-test .taken) (loop .inv .1) (loop .inv .2 t q) (read .kind .result) (read .kind .ensures)
           (branch .if1 .taken) (write .last .0) (write .ensures),
     )
-
-loop-less-2 : tie.Need-loop-less-2 Inv-loop μ-loop
-loop-less-2 c = omega arith
 
 loop-again-2 : tie.Need-loop-again-2 Inv-loop μ-loop
 loop-again-2 c =
@@ -106,19 +97,5 @@ pub strip-spec : {M : Type 1} → statement M
 strip-spec =
     tie.close
     (tie.spec
-    Inv-loop
-    μ-loop
-    loop-holds
-    sub-j
-    add-kind
-    kind-requires
-    add-write8
-    mul-write8
-    add-write8-2
-    write8-requires
-    loop-less
-    loop-again
-    loop-less-2
-    loop-again-2
-    same-length
-    returns)
+    Inv-loop μ-loop loop-holds (λ c. omega arith) add-kind kind-requires add-write8 mul-write8 add-write8-2 write8-requires (λ c. omega arith)
+    loop-again (λ c. omega arith) loop-again-2 same-length returns)

@@ -1,13 +1,10 @@
--- `number::add` meets its contract, by the signs of both numbers and of the sum of their bits. Assumes nothing.
+-- `number::add` meets its contract, by the signs of both numbers and of the sum of their bits.
 use mathlib.Core.Path.{sym}
 use native.Mathlib.Omega.{arith}
 use Rattle.number.proofs.NumLaws.{add-pos-in, add-pos-out, add-mixed, add-mixed′, add-neg-out, add-neg-in}
 use borrow.Author.Needs.{needs}
 use Rattle.number.proofs.add.Statement.{statement}
 use Rattle.number.proofs.add.Tie as tie
-
-wrapping-add-u64-requires : tie.Need-wrapping-add-u64-requires
-wrapping-add-u64-requires c κs = search needs
 
 returns : tie.Need-returns
 returns c =
@@ -48,4 +45,4 @@ returns-6 c =
 pub add-spec : {M : Type 1} → statement M
 add-spec =
     tie.close
-    (tie.spec wrapping-add-u64-requires returns returns-2 returns-3 returns-4 returns-5 returns-6)
+    (tie.spec (λ c κs. search needs) returns returns-2 returns-3 returns-4 returns-5 returns-6)

@@ -1,34 +1,10 @@
--- `number::mul` meets its contract, by the signs: the sizes multiply, under the limit that the product's sign allows. Assumes nothing.
+-- `number::mul` meets its contract, by the signs: the sizes multiply, under the limit that the product's sign allows.
 use mathlib.Core.Path.{sym}
 use native.Mathlib.Omega.{arith}
 use Rattle.number.proofs.NumLaws.{mul-pos, mul-mixed, mul-mixed′, mul-neg}
 use borrow.Author.Needs.{needs}
 use Rattle.number.proofs.mul.Statement.{statement}
 use Rattle.number.proofs.mul.Tie as tie
-
-size-requires : tie.Need-size-requires
-size-requires c κs = search needs
-
-size-requires-2 : tie.Need-size-requires-2
-size-requires-2 c κs = search needs
-
-mul-within-requires : tie.Need-mul-within-requires
-mul-within-requires c κs = search needs
-
-mul-within-requires-2 : tie.Need-mul-within-requires-2
-mul-within-requires-2 c κs = search needs
-
-negated-requires : tie.Need-negated-requires
-negated-requires c κs = search needs
-
-mul-within-requires-3 : tie.Need-mul-within-requires-3
-mul-within-requires-3 c κs = search needs
-
-negated-requires-2 : tie.Need-negated-requires-2
-negated-requires-2 c κs = search needs
-
-mul-within-requires-4 : tie.Need-mul-within-requires-4
-mul-within-requires-4 c κs = search needs
 
 returns : tie.Need-returns
 returns c =
@@ -62,15 +38,5 @@ pub mul-spec : {M : Type 1} → statement M
 mul-spec =
     tie.close
     (tie.spec
-    size-requires
-    size-requires-2
-    mul-within-requires
-    mul-within-requires-2
-    negated-requires
-    mul-within-requires-3
-    negated-requires-2
-    mul-within-requires-4
-    returns
-    returns-2
-    returns-3
-    returns-4)
+    (λ c κs. search needs) (λ c κs. search needs) (λ c κs. search needs) (λ c κs. search needs) (λ c κs. search needs) (λ c κs. search needs)
+    (λ c κs. search needs) (λ c κs. search needs) returns returns-2 returns-3 returns-4)

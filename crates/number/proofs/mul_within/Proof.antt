@@ -1,5 +1,5 @@
 -- `number::mul_within` meets its contract: with a divisor that is not 0, x is at most the limit's quotient exactly when the product is
--- at most the limit. Assumes nothing.
+-- at most the limit.
 use mathlib.Core.Path.{_≡_, sym}
 use Prim.Native.Nat.{_*_}
 use native.Mathlib.Nat.{mul-zero}
@@ -14,9 +14,6 @@ returns c =
     let g = c .before .args in
     let z : g .y ≡ 0 = omega arith in
     sym (rw (z, mul-zero (g .x)) (within-in 0 (g .limit) (omega arith)))
-
-div-if2 : tie.Need-div-if2
-div-if2 c = search needs
 
 mul-t6 : tie.Need-mul-t6
 mul-t6 c =
@@ -34,4 +31,4 @@ returns-3 c =
     sym (within-out (g .x * g .y) (g .limit) (quotient-lt (g .x) (g .y) (g .limit) (c .before .if1 .left) (c .if2 .left)))
 
 pub mul-within-spec : {M : Type 1} → statement M
-mul-within-spec = tie.close (tie.spec returns div-if2 mul-t6 returns-2 returns-3)
+mul-within-spec = tie.close (tie.spec returns (λ c. search needs) mul-t6 returns-2 returns-3)

@@ -1,4 +1,4 @@
--- `number::wrapping_mul` meets its contract: a product of halves fits, and the three that count make the product. Assumes nothing.
+-- `number::wrapping_mul` meets its contract: a product of halves fits, and the three that count make the product.
 use mathlib.Core.Path.{_∙_}
 use Prim.Native.Nat.{_^_}
 use native.Mathlib.Omega.{arith}
@@ -13,17 +13,8 @@ mul-m c = record { fits = below 32 (omega arith) (omega arith) }
 mul-m-2 : tie.Need-mul-m-2
 mul-m-2 c = record { fits = below 32 (omega arith) (omega arith) }
 
-add-m : tie.Need-add-m
-add-m c = search needs
-
 mul-wrapping-add-u64 : tie.Need-mul-wrapping-add-u64
 mul-wrapping-add-u64 c = record { fits = below 32 (omega arith) (omega arith) }
-
-mul-wrapping-add-u64-2 : tie.Need-mul-wrapping-add-u64-2
-mul-wrapping-add-u64-2 c = search needs
-
-wrapping-add-u64-requires : tie.Need-wrapping-add-u64-requires
-wrapping-add-u64-requires c κs = search needs
 
 returns : tie.Need-returns
 returns c = c .wrapping-add-u64 .ensures ∙ halves (2 ^ 32) (c .before .args .a) (c .before .args .b)
@@ -32,10 +23,4 @@ pub wrapping-mul-spec : {M : Type 1} → statement M
 wrapping-mul-spec =
     tie.close
     (tie.spec
-    mul-m
-    mul-m-2
-    add-m
-    mul-wrapping-add-u64
-    mul-wrapping-add-u64-2
-    wrapping-add-u64-requires
-    returns)
+    mul-m mul-m-2 (λ c. search needs) mul-wrapping-add-u64 (λ c. search needs) (λ c κs. search needs) returns)

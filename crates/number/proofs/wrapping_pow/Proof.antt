@@ -1,4 +1,4 @@
--- `number::wrapping_pow` meets its contract: acc times base to the left is b to the e, modulo 2^64, at every turn. Assumes nothing.
+-- `number::wrapping_pow` meets its contract: acc times base to the left is b to the e, modulo 2^64, at every turn.
 use mathlib.Core.Path.{_≡_, sym, _∙_}
 use mathlib.Core.Logic.{⊎-elim}
 use Prim.Native.Nat.{_*_, _%_, _^_, _<_}
@@ -17,15 +17,6 @@ abbrev μ-loop : tie.MeasureT-loop
 
 loop-holds : tie.Need-loop-holds Inv-loop μ-loop
 loop-holds c = (omega arith, rw one-mul)
-
-wrapping-mul-requires : tie.Need-wrapping-mul-requires Inv-loop μ-loop
-wrapping-mul-requires c κs = search needs
-
-wrapping-mul-requires-2 : tie.Need-wrapping-mul-requires-2 Inv-loop μ-loop
-wrapping-mul-requires-2 c κs = search needs
-
-loop-less : tie.Need-loop-less Inv-loop μ-loop
-loop-less c = omega arith
 
 loop-again : tie.Need-loop-again Inv-loop μ-loop
 loop-again c =
@@ -51,11 +42,4 @@ pub wrapping-pow-spec : {M : Type 1} → statement M
 wrapping-pow-spec =
     tie.close
     (tie.spec
-    Inv-loop
-    μ-loop
-    loop-holds
-    wrapping-mul-requires
-    wrapping-mul-requires-2
-    loop-less
-    loop-again
-    returns)
+    Inv-loop μ-loop loop-holds (λ c κs. search needs) (λ c κs. search needs) (λ c. omega arith) loop-again returns)

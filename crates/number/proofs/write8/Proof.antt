@@ -1,22 +1,10 @@
--- `number::write8` meets its contract: what is copied is the whole of the eight bytes. Assumes nothing.
+-- `number::write8` meets its contract: what is copied is the whole of the eight bytes.
 use Rattle.paper.specs.Bytes.{bytes}
 use Rattle.stretch.proofs.Laws.{part-whole}
 use Rattle.paper.proofs.BytesLaws.{length-bytes}
 use borrow.Author.Needs.{needs}
 use Rattle.number.proofs.write8.Statement.{statement}
 use Rattle.number.proofs.write8.Tie as tie
-
-bytes8-requires : tie.Need-bytes8-requires
-bytes8-requires c κs = search needs
-
-slice-aggregate-copy-bytes : tie.Need-slice-aggregate-copy-bytes
-slice-aggregate-copy-bytes c = search needs
-
-copy-bytes-requires : tie.Need-copy-bytes-requires
-copy-bytes-requires c κs = search needs
-
-same-length : tie.Need-same-length
-same-length c = search needs
 
 returns : tie.Need-returns
 returns c =
@@ -27,4 +15,4 @@ returns c =
 pub write8-spec : {M : Type 1} → statement M
 write8-spec =
     tie.close
-    (tie.spec bytes8-requires slice-aggregate-copy-bytes copy-bytes-requires same-length returns)
+    (tie.spec (λ c κs. search needs) (λ c. search needs) (λ c κs. search needs) (λ c. search needs) returns)

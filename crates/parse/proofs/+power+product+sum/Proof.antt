@@ -1,20 +1,20 @@
 -- `parse::sum`, `product` and `power`, which call each other, meet their contracts. They end because the text left falls: a group begins behind
--- its parenthesis, and at one place a sum asks a product and a product a power. Assumes nothing.
-use Prim.Native.Nat.{ℕ, suc, _+_, _-_, _*_, _^_, _≤_, _<_}
+-- its parenthesis, and at one place a sum asks a product and a product a power.
+use Prim.Native.Nat.{ℕ, _+_, _-_, _*_, _≤_, _<_}
 use mathlib.Core.Bool.{true, false}
 use mathlib.Core.List.{List}
 use mathlib.Core.Path.{_≡_, refl, sym, ap, _∙_, subst}
 use native.Mathlib.Omega.{arith}
 use borrow.Author.Needs.{needs}
-use lib.ListN.{length, drop, getD, set}
+use lib.ListN.{length, drop, set}
 use Rattle.paper.specs.Tree.{Tree}
-use Rattle.paper_text.specs.Text.{Reading, then, closed, begins, opens, readPower, readProduct, readSum}
+use Rattle.paper_text.specs.Text.{Reading, readPower, readProduct, readSum}
 use Rattle.paper_text.specs.Levels.{readCut}
 use Rattle.paper_text.proofs.PlaceLaws.{sign-inside}
-use Rattle.parse.specs.Parsed.{bared, raising}
-use Rattle.parse.specs.Joined.{Read, Inside, Turn, Followed, EntersIs, whole, placeIn, recordIn, weightIn, levelIn, firstOf, kindOf}
+use Rattle.parse.specs.Parsed.{bared}
+use Rattle.parse.specs.Joined.{Read, Inside, Turn, EntersIs, placeIn, recordIn, weightIn, levelIn, firstOf, kindOf}
 use Rattle.parse.proofs.LevelReads.{sums, products, sum-kind, product-kind, sum-whole, product-whole, group-read}
-use Rattle.parse.proofs.TurnLaws.{number-low, set-up, kinded, moved-read, read-as, turn-numbers, turn-few, turn-asks, turn-ahead}
+use Rattle.parse.proofs.TurnLaws.{number-low, set-up, kinded, moved-read, read-as, turn-numbers, turn-few, Outcome, turn-handed, turn-outcome}
 use borrow.Fn.Kinds.{In}
 use borrow.Fn.PlainCycle.{Measures, is, falls, and}
 use Rattle.parse.proofs.power.Reads as power
@@ -100,14 +100,16 @@ module _ (t : ℕ) where
 
   -- what stands in the group
   abbrev content-read : Content → Reading Tree
-  content-read c = let a = power-entry (group-of c .before) .args in readSum (readCut (levelIn (a .st .now) - 1)) (drop (placeIn (a .st .now) + 1) (a .text .now .now))
+  content-read c =
+      let a = power-entry (group-of c .before) .args in readSum (readCut (levelIn (a .st .now) - 1)) (drop (placeIn (a .st .now) + 1) (a .text .now .now))
 
   abbrev content-cells : Content → List ℕ
   content-cells c = set (c .sum .last .1 .1 .0) 5 4
 
   inside : (c : Content)
       → let a = power-entry (group-of c .before) .args in
-      Inside (a .text .now .now) (placeIn (a .st .now)) (content-read c) (a .out .now .now) (c .sum .last .1 .0 .now) (content-cells c) (weightIn (a .st .now)) (c .sum .result)
+      Inside (a .text .now .now) (placeIn (a .st .now)) (content-read c) (a .out .now .now) (c .sum .last .1 .0 .now) (content-cells c)
+      (weightIn (a .st .now)) (c .sum .result)
   inside c =
       let entry = power-entry (group-of c .before) in
       let a = entry .args in
@@ -121,8 +123,11 @@ module _ (t : ℕ) where
       let low = entry .pre .1 .2 in
       let f : firstOf (content-cells c) ≡ recordIn (a .st .now) = k .5 ∙ told .1 ∙ e .4 in
       record {
-        read = read-as s _ (at + 1) _ (bared (content-read c)) (a .out .now .now) _ (firstOf (content-cells c)) (c .sum .last .1 .0 .now) _ (weightIn (a .st .now)) (content-cells c) (c .sum .result)
-            (moved-read s _ _ (a .out .now .now) _ (c .sum .last .1 .0 .now) _ (c .sum .last .1 .1 .0) (content-cells c) (c .sum .result) (told .2) (k .1) (k .2) (k .3))
+        read =
+            read-as s _ (at + 1) _ (bared (content-read c)) (a .out .now .now) _ (firstOf (content-cells c)) (c .sum .last .1 .0 .now) _
+            (weightIn (a .st .now)) (content-cells c) (c .sum .result)
+            (moved-read s _ _ (a .out .now .now) _ (c .sum .last .1 .0 .now) _ (c .sum .last .1 .1 .0) (content-cells c) (c .sum .result) (told .2) (k .1)
+            (k .2) (k .3))
             (e .3) reading (sym (k .5 ∙ told .1)) (e .5);
         low = omega (arith, f, low);
         light = entry .pre .1 .3;
@@ -130,9 +135,6 @@ module _ (t : ℕ) where
 
   small : (c : Content) → c .sum .result ≤ 8
   small c = let i = c .sum .ensures .0 .2 in number-low (i .item) _ _ _ (i .given)
-
-  power-element-copy-out-w : power-lts.Need-element-copy-out-w (power-rs t) (power-at t) power.Post
-  power-element-copy-out-w c = search needs
 
   power-enters-requires : power-lts.Need-enters-requires (power-rs t) (power-at t) power.Post
   power-enters-requires c κs = c .before .before .pre .1
@@ -155,9 +157,6 @@ module _ (t : ℕ) where
       let r3 = r .3 in
       let r4 = r .4 in
       (omega (arith, h, m, e3), (e .2, r .1, omega (arith, e3, e4, r2), omega (arith, e3, e5, r3), omega (arith, e6, e0, r4)))
-
-  power-element-write-st : power-lts.Need-element-write-st (power-rs t) (power-at t) power.Post
-  power-element-write-st c = search needs
 
   power-follow-requires : power-lts.Need-follow-requires (power-rs t) (power-at t) power.Post
   power-follow-requires c κs =
@@ -197,7 +196,8 @@ module _ (t : ℕ) where
       let u0 = up .0 in (
         (
           (c .follow .ensures .0 .0, omega (arith, u0, lv, e0)),
-          read-as s (placeIn st) (placeIn st) _ (readPower (readCut (levelIn st)) (drop (placeIn st) s)) (a .out .now .now) _ (recordIn st) (c .follow .last .1 .0 .now) (weightIn st) (weightIn st)
+          read-as s (placeIn st) (placeIn st) _ (readPower (readCut (levelIn st)) (drop (placeIn st) s)) (a .out .now .now) _ (recordIn st)
+              (c .follow .last .1 .0 .now) (weightIn st) (weightIn st)
               (c .follow .last .1 .1 .0) (c .follow .result) (up .1 (placeIn st) (content-read content) (a .out .now .now) (inside content)) refl
               (sym (group-read s (placeIn st) (levelIn st) (e .0) (e .1))) (k .5 ∙ told .0 .1 ∙ e .4) refl,
         ),
@@ -210,12 +210,14 @@ module _ (t : ℕ) where
   -- the cells are as they were but for the kind
   as-before : (c : Flat)
       → let st = power-entry (c .before) .args .st .now in
-      (length (flat-cells c) ≡ 6) × (placeIn (flat-cells c) ≡ placeIn st) × (recordIn (flat-cells c) ≡ recordIn st) × (weightIn (flat-cells c) ≡ weightIn st) × (levelIn (flat-cells c) ≡ levelIn st)
+      (length (flat-cells c) ≡ 6) × (placeIn (flat-cells c) ≡ placeIn st) × (recordIn (flat-cells c) ≡ recordIn st)
+      × (weightIn (flat-cells c) ≡ weightIn st) × (levelIn (flat-cells c) ≡ levelIn st)
       × (kindOf (flat-cells c) ≡ 4)
   as-before c =
       let st = power-entry (c .before) .args .st .now in
       let k = kinded st 4 (power-entry (c .before) .pre .1 .0) in
-      subst (λ (l : List ℕ). (length (set l 5 4) ≡ 6) × (placeIn (set l 5 4) ≡ placeIn st) × (recordIn (set l 5 4) ≡ recordIn st) × (weightIn (set l 5 4) ≡ weightIn st)
+      subst (λ (l : List ℕ). (length (set l 5 4) ≡ 6) × (placeIn (set l 5 4) ≡ placeIn st) × (recordIn (set l 5 4) ≡ recordIn st)
+      × (weightIn (set l 5 4) ≡ weightIn st)
       × (levelIn (set l 5 4) ≡ levelIn st) × (kindOf (set l 5 4) ≡ 4)) (sym (passes c .0)) (k .0, k .1, k .2, k .3, k .4, k .6)
 
   power-element-write-st-2 : power-lts.Need-element-write-st-2 (power-rs t) (power-at t) power.Post
@@ -249,7 +251,8 @@ module _ (t : ℕ) where
       let up = told .0 .3 (k .5) .0 (omega arith) in (
         (
           (told .0 .0, up .0 ∙ k .4),
-          read-as s (placeIn (flat-cells flat)) (placeIn st) _ (readPower (readCut (levelIn st)) (drop (placeIn st) s)) (a .out .now .now) _ (recordIn st) (c .follow2 .last .1 .0 .now) _ (weightIn st)
+          read-as s (placeIn (flat-cells flat)) (placeIn st) _ (readPower (readCut (levelIn st)) (drop (placeIn st) s)) (a .out .now .now) _ (recordIn st)
+              (c .follow2 .last .1 .0 .now) _ (weightIn st)
               (c .follow2 .last .1 .1 .0) (c .follow2 .result) (up .1) (k .1)
               (ap (λ (y : ℕ). readPower (readCut 0) (drop y s)) (k .1) ∙ sym (passes flat .1)) (k .2) (k .3),
         ),
@@ -259,7 +262,8 @@ module _ (t : ℕ) where
 -- ---- product: the loop stands before a member, as `Turn` has it
 abbrev product-Inv-loop : product-lts.InvT-loop
 product-Inv-loop text out₀ st₀ d c₀ out st c =
-    (length st ≡ 6) × (levelIn st ≡ levelIn st₀) × Turn (products (readCut (levelIn st₀))) (text .now) (out₀ .now) (placeIn st₀) (recordIn st₀) (weightIn st₀) c (out .now) st
+    (length st ≡ 6) × (levelIn st ≡ levelIn st₀)
+    × Turn (products (readCut (levelIn st₀))) (text .now) (out₀ .now) (placeIn st₀) (recordIn st₀) (weightIn st₀) c (out .now) st
     × (out .name ≡ out₀ .name) × (length (out .now) ≡ length (out₀ .now))
 
 abbrev product-μ-loop : product-lts.MeasureT-loop
@@ -284,62 +288,48 @@ module _ (t : ℕ) where
   abbrev product-member-of : product-Followed → product-Member
   product-member-of c = c .before .before .before
 
-  -- the cells before `follow`
-  abbrev product-cells : product-Member → List ℕ
-  product-cells c = set (set (c .power .last .1 .1 .0) 4 (recordIn (product-entry (product-turn-of c) .args .st .now))) 5 3
-
   product-member : (c : product-Member)
       → let turn = product-turn-of c in
       let a = product-entry turn .args in
       let l = turn .loop in
-      Read (a .text .now .now) (placeIn (l .st)) (readPower (readCut (levelIn (a .st .now))) (drop (placeIn (l .st)) (a .text .now .now))) (l .out .now) (recordIn (l .st))
+      Read (a .text .now .now) (placeIn (l .st)) (readPower (readCut (levelIn (a .st .now))) (drop (placeIn (l .st)) (a .text .now .now)))
+      (l .out .now) (recordIn (l .st))
       (c .power .last .1 .0 .now) (weightIn (l .st)) (c .power .last .1 .1 .0) (c .power .result)
   product-member c =
       let turn = product-turn-of c in
       let a = product-entry turn .args in
       let l = turn .loop in
       let s = a .text .now .now in
-      read-as s (placeIn (l .st)) (placeIn (l .st)) _ _ (l .out .now) (recordIn (l .st)) (recordIn (l .st)) (c .power .last .1 .0 .now) (weightIn (l .st)) (weightIn (l .st)) (c .power .last .1 .1 .0) (c .power .result)
+      read-as s (placeIn (l .st)) (placeIn (l .st)) _ _ (l .out .now) (recordIn (l .st)) (recordIn (l .st)) (c .power .last .1 .0 .now) (weightIn (l .st))
+      (weightIn (l .st)) (c .power .last .1 .1 .0) (c .power .result)
       (c .power .ensures .0 .1) refl (ap (λ (k : ℕ). readPower (readCut k) (drop (placeIn (l .st)) s)) (l .inv .1)) refl refl
 
-  -- what follows
+  -- what a turn comes to
   product-outcome : (c : product-Followed)
       → let member = product-member-of c in
       let turn = product-turn-of member in
       let a = product-entry turn .args in
-      let st = a .st .now in
-      let s = a .text .now .now in
-      let n = products (readCut (levelIn st)) in
       let f = c .follow in
-      (levelIn (f .last .1 .1 .0) ≡ levelIn (product-cells member)) × (firstOf (f .last .1 .1 .0) ≡ firstOf (product-cells member))
-      × (9 ≤ f .result → (1 ≤ member .power .result) × (placeIn (f .last .1 .1 .0) ≡ placeIn (product-cells member) + 1)
-      × Turn n s (a .out .now .now) (placeIn st) (recordIn st) (weightIn st) (suc (turn .loop .c)) (f .last .1 .0 .now) (f .last .1 .1 .0))
-      × (f .result < 9 → Read s (placeIn st) (whole n (drop (placeIn st) s)) (a .out .now .now) (recordIn st) (f .last .1 .0 .now) (weightIn st) (f .last .1 .1 .0) (f .result))
+      Outcome 3 (products (readCut (levelIn (a .st .now)))) (a .text .now .now) (a .out .now .now) (a .st .now) (turn .loop .c) (turn .loop .st)
+      (member .power .last .1 .1 .0) (f .last .1 .0 .now) (f .last .1 .1 .0) (f .result)
   product-outcome c =
       let member = product-member-of c in
       let turn = product-turn-of member in
-      let a = product-entry turn .args in
+      let entry = product-entry turn in
+      let a = entry .args in
       let l = turn .loop in
-      let st = a .st .now in
-      let s = a .text .now .now in
+      let inner = readCut (levelIn (a .st .now)) in
       let told = member .power .ensures in
-      let u = set-up (member .power .last .1 .1 .0) (recordIn st) 3 (told .0 .0 .0) in
-      let f = c .follow .ensures .0 .2 (u .6) in
-      let o = f .2 _ _ _ _ (products (readCut (levelIn st))) (product-kind (readCut (levelIn st))) (a .out .now .now) (placeIn st) (recordIn st) (weightIn st) (l .out .now) (l .st) (l .inv .2)
-      (moved-read s (placeIn (l .st)) _ (l .out .now) (recordIn (l .st)) (member .power .last .1 .0 .now) (weightIn (l .st)) (member .power .last .1 .1 .0) (product-cells member) (member .power .result)
-      (product-member member) (u .1) (u .2) (u .3)) (u .5) (told .1 .1) in
-      (f .0, f .1, o .0, o .1)
+      let f = c .follow in
+      let u = set-up (member .power .last .1 .1 .0) (recordIn (a .st .now)) 3 (told .0 .0 .0) in
+      turn-outcome (products inner) (product-kind inner) (a .text .now .now) (a .out .now .now) (a .st .now) (entry .pre .1 .2) (entry .pre .1 .3) (l .c)
+      (l .out .now) (l .st) (l .inv .2) (member .power .last .1 .0 .now) (member .power .last .1 .1 .0) (member .power .result)
+      (product-member member) (told .0 .0 .0) (f .last .1 .0 .now) (f .last .1 .1 .0) (f .result) (told .1 .1) (f .ensures .0 .2 (u .6))
 
   product-level : (c : product-Followed) → levelIn (c .follow .last .1 .1 .0) ≡ levelIn (product-entry (product-turn-of (product-member-of c)) .args .st .now)
   product-level c =
       let member = product-member-of c in
-      let turn = product-turn-of member in
-      let told = member .power .ensures in
-      let u = set-up (member .power .last .1 .1 .0) (recordIn (product-entry turn .args .st .now)) 3 (told .0 .0 .0) in
-      product-outcome c .0 ∙ u .4 ∙ told .0 .0 .1 ∙ turn .loop .inv .1
-
-  product-element-copy-out-d : product-lts.Need-element-copy-out-d (product-rs t) (product-at t) product.Post product-Inv-loop product-μ-loop
-  product-element-copy-out-d c = search needs
+      product-outcome c .level ∙ member .power .ensures .0 .0 .1 ∙ product-turn-of member .loop .inv .1
 
   product-loop-holds : product-lts.Need-loop-holds (product-rs t) (product-at t) product.Post product-Inv-loop product-μ-loop
   product-loop-holds c = (c .before .pre .1 .0, refl, record { here = refl; next = refl; weighs = refl; same = refl }, refl, refl)
@@ -352,18 +342,13 @@ module _ (t : ℕ) where
       let l = turn .loop in
       let r = entry .pre .1 in
       let inner = readCut (levelIn (a .st .now)) in
-      let x = turn-numbers (products inner) (product-kind inner) (a .text .now .now) (a .out .now .now) (placeIn (a .st .now)) (recordIn (a .st .now)) (weightIn (a .st .now)) (l .c) (l .out .now) (l .st) (l .inv .2) (r .2) (r .3) in
+      let x = turn-numbers (products inner) (product-kind inner) (a .text .now .now) (a .out .now .now) (placeIn (a .st .now)) (recordIn (a .st .now))
+      (weightIn (a .st .now)) (l .c) (l .out .now) (l .st) (l .inv .2) (r .2) (r .3) in
       let x3 = x .3 in
       let m = entry .pre .0 in
       let v = l .inv .1 in
       let r4 = r .4 in
       (omega (arith, x3, m), (l .inv .0, r .1, x .0, x .1, omega (arith, v, r4)))
-
-  product-element-write-st : product-lts.Need-element-write-st (product-rs t) (product-at t) product.Post product-Inv-loop product-μ-loop
-  product-element-write-st c = search needs
-
-  product-element-write-st-2 : product-lts.Need-element-write-st-2 (product-rs t) (product-at t) product.Post product-Inv-loop product-μ-loop
-  product-element-write-st-2 c = search needs
 
   product-follow-requires : product-lts.Need-follow-requires (product-rs t) (product-at t) product.Post product-Inv-loop product-μ-loop
   product-follow-requires c κs =
@@ -371,15 +356,14 @@ module _ (t : ℕ) where
       let turn = product-turn-of member in
       let entry = product-entry turn in
       let a = entry .args in
-      let st = a .st .now in
       let l = turn .loop in
       let r = entry .pre .1 in
-      let inner = readCut (levelIn st) in
-      let u = set-up (member .power .last .1 .1 .0) (recordIn st) 3 (member .power .ensures .0 .0 .0) in
-      let k = u .6 in (
+      let inner = readCut (levelIn (a .st .now)) in
+      let six = member .power .ensures .0 .0 .0 in
+      let k = set-up (member .power .last .1 .1 .0) (recordIn (a .st .now)) 3 six .6 in (
         omega (arith, k),
-        λ h. turn-asks (products inner) (product-kind inner) (a .text .now .now) (a .out .now .now) (placeIn st) (recordIn st) (weightIn st) (l .c) (l .out .now) (l .st) (member .power .last .1 .0 .now)
-            (member .power .last .1 .1 .0) (product-cells member) (member .power .result) _ (l .inv .2) (r .2) (r .3) (r .1) (product-member member) (u .0) (u .1) (u .2) (u .3) (u .5),
+        λ h. turn-handed (products inner) (product-kind inner) (a .text .now .now) (a .out .now .now) (a .st .now) (r .2) (r .3) (l .c) (l .out .now) (l .st)
+            (l .inv .2) (member .power .last .1 .0 .now) (member .power .last .1 .1 .0) (member .power .result) (product-member member) six (r .1),
         λ h. absurd (omega (arith, h, k)),
       )
 
@@ -393,8 +377,10 @@ module _ (t : ℕ) where
       let s = a .text .now .now in
       let f = followed .follow in
       let o = product-outcome followed in
-      let whole-read = read-as s (placeIn st) (placeIn st) _ (readProduct (readCut (levelIn st)) (drop (placeIn st) s)) (a .out .now .now) (recordIn st) (recordIn st) (f .last .1 .0 .now) (weightIn st) (weightIn st)
-      (f .last .1 .1 .0) (f .result) (o .3 (c .if1 .taken)) refl (sym (product-whole (readCut (levelIn st)) (drop (placeIn st) s))) refl refl in (
+      let whole-read =
+      read-as s (placeIn st) (placeIn st) _ (readProduct (readCut (levelIn st)) (drop (placeIn st) s)) (a .out .now .now) (recordIn st) (recordIn st)
+      (f .last .1 .0 .now) (weightIn st) (weightIn st)
+      (f .last .1 .1 .0) (f .result) (o .done (c .if1 .taken)) refl (sym (product-whole (readCut (levelIn st)) (drop (placeIn st) s))) refl refl in (
         ((f .ensures .0 .0, product-level followed), whole-read),
         (f .ensures .1 .0 ∙ member .power .ensures .1 .0 ∙ turn .loop .inv .3, f .ensures .1 .1 ∙ member .power .ensures .1 .1 ∙ turn .loop .inv .4),
       )
@@ -406,40 +392,23 @@ module _ (t : ℕ) where
       let a = entry .args in
       let st = a .st .now in
       let inner = readCut (levelIn st) in
-      let x = turn-few (products inner) (product-kind inner) (a .text .now .now) (a .out .now .now) (placeIn st) (recordIn st) (weightIn st) (turn .loop .c) (turn .loop .out .now) (turn .loop .st) (turn .loop .inv .2)
+      let x = turn-few (products inner) (product-kind inner) (a .text .now .now) (a .out .now .now) (placeIn st) (recordIn st) (weightIn st) (turn .loop .c)
+      (turn .loop .out .now) (turn .loop .st) (turn .loop .inv .2)
       (entry .pre .1 .1) in
       record { fits = omega (arith, x) }
 
   product-loop-less : product-lts.Need-loop-less (product-rs t) (product-at t) product.Post product-Inv-loop product-μ-loop
-  product-loop-less c =
-      let followed = c .before in
-      let member = product-member-of followed in
-      let turn = product-turn-of member in
-      let entry = product-entry turn in
-      let a = entry .args in
-      let st = a .st .now in
-      let l = turn .loop in
-      let r = entry .pre .1 in
-      let inner = readCut (levelIn st) in
-      let f = followed .follow in
-      let u = set-up (member .power .last .1 .1 .0) (recordIn st) 3 (member .power .ensures .0 .0 .0) in
-      let o = product-outcome followed .2 (c .if1 .left) in
-      turn-ahead (products inner) (product-kind inner) (a .text .now .now) (a .out .now .now) (placeIn st) (recordIn st) (weightIn st) (l .c) (l .out .now) (l .st) (member .power .last .1 .0 .now)
-      (member .power .last .1 .1 .0) (product-cells member) (f .last .1 .0 .now) (f .last .1 .1 .0) (member .power .result) _ (l .inv .2) (r .2) (r .3) (product-member member) (o .0) (u .1) (o .1) (o .2)
+  product-loop-less c = product-outcome (c .before) .less (c .if1 .left)
 
   product-loop-again : product-lts.Need-loop-again (product-rs t) (product-at t) product.Post product-Inv-loop product-μ-loop
   product-loop-again c =
       let followed = c .before in
       let member = product-member-of followed in
       let turn = product-turn-of member in
-      let a = product-entry turn .args in
-      let st = a .st .now in
-      let f = followed .follow in
-      let count : suc (turn .loop .c) ≡ turn .loop .c + 1 = omega arith in (
+      let f = followed .follow in (
         f .ensures .0 .0,
         product-level followed,
-        subst (λ (y : ℕ). Turn (products (readCut (levelIn st))) (a .text .now .now) (a .out .now .now) (placeIn st) (recordIn st) (weightIn st) y (f .last .1 .0 .now) (f .last .1 .1 .0)) count
-            (product-outcome followed .2 (c .if1 .left) .2),
+        product-outcome followed .again (c .if1 .left),
         f .ensures .1 .0 ∙ member .power .ensures .1 .0 ∙ turn .loop .inv .3,
         f .ensures .1 .1 ∙ member .power .ensures .1 .1 ∙ turn .loop .inv .4,
       )
@@ -447,7 +416,8 @@ module _ (t : ℕ) where
 -- ---- sum: the loop stands before a member, as `Turn` has it
 abbrev sum-Inv-loop : sum-lts.InvT-loop
 sum-Inv-loop text out₀ st₀ d c₀ out st c =
-    (length st ≡ 6) × (levelIn st ≡ levelIn st₀) × Turn (sums (readCut (levelIn st₀))) (text .now) (out₀ .now) (placeIn st₀) (recordIn st₀) (weightIn st₀) c (out .now) st
+    (length st ≡ 6) × (levelIn st ≡ levelIn st₀)
+    × Turn (sums (readCut (levelIn st₀))) (text .now) (out₀ .now) (placeIn st₀) (recordIn st₀) (weightIn st₀) c (out .now) st
     × (out .name ≡ out₀ .name) × (length (out .now) ≡ length (out₀ .now))
 
 abbrev sum-μ-loop : sum-lts.MeasureT-loop
@@ -472,62 +442,48 @@ module _ (t : ℕ) where
   abbrev sum-member-of : sum-Followed → sum-Member
   sum-member-of c = c .before .before .before
 
-  -- the cells before `follow`
-  abbrev sum-cells : sum-Member → List ℕ
-  sum-cells c = set (set (c .product .last .1 .1 .0) 4 (recordIn (sum-entry (sum-turn-of c) .args .st .now))) 5 2
-
   sum-member : (c : sum-Member)
       → let turn = sum-turn-of c in
       let a = sum-entry turn .args in
       let l = turn .loop in
-      Read (a .text .now .now) (placeIn (l .st)) (readProduct (readCut (levelIn (a .st .now))) (drop (placeIn (l .st)) (a .text .now .now))) (l .out .now) (recordIn (l .st))
+      Read (a .text .now .now) (placeIn (l .st)) (readProduct (readCut (levelIn (a .st .now))) (drop (placeIn (l .st)) (a .text .now .now)))
+      (l .out .now) (recordIn (l .st))
       (c .product .last .1 .0 .now) (weightIn (l .st)) (c .product .last .1 .1 .0) (c .product .result)
   sum-member c =
       let turn = sum-turn-of c in
       let a = sum-entry turn .args in
       let l = turn .loop in
       let s = a .text .now .now in
-      read-as s (placeIn (l .st)) (placeIn (l .st)) _ _ (l .out .now) (recordIn (l .st)) (recordIn (l .st)) (c .product .last .1 .0 .now) (weightIn (l .st)) (weightIn (l .st)) (c .product .last .1 .1 .0) (c .product .result)
+      read-as s (placeIn (l .st)) (placeIn (l .st)) _ _ (l .out .now) (recordIn (l .st)) (recordIn (l .st)) (c .product .last .1 .0 .now) (weightIn (l .st))
+      (weightIn (l .st)) (c .product .last .1 .1 .0) (c .product .result)
       (c .product .ensures .0 .1) refl (ap (λ (k : ℕ). readProduct (readCut k) (drop (placeIn (l .st)) s)) (l .inv .1)) refl refl
 
-  -- what follows
+  -- what a turn comes to
   sum-outcome : (c : sum-Followed)
       → let member = sum-member-of c in
       let turn = sum-turn-of member in
       let a = sum-entry turn .args in
-      let st = a .st .now in
-      let s = a .text .now .now in
-      let n = sums (readCut (levelIn st)) in
       let f = c .follow in
-      (levelIn (f .last .1 .1 .0) ≡ levelIn (sum-cells member)) × (firstOf (f .last .1 .1 .0) ≡ firstOf (sum-cells member))
-      × (9 ≤ f .result → (1 ≤ member .product .result) × (placeIn (f .last .1 .1 .0) ≡ placeIn (sum-cells member) + 1)
-      × Turn n s (a .out .now .now) (placeIn st) (recordIn st) (weightIn st) (suc (turn .loop .c)) (f .last .1 .0 .now) (f .last .1 .1 .0))
-      × (f .result < 9 → Read s (placeIn st) (whole n (drop (placeIn st) s)) (a .out .now .now) (recordIn st) (f .last .1 .0 .now) (weightIn st) (f .last .1 .1 .0) (f .result))
+      Outcome 2 (sums (readCut (levelIn (a .st .now)))) (a .text .now .now) (a .out .now .now) (a .st .now) (turn .loop .c) (turn .loop .st)
+      (member .product .last .1 .1 .0) (f .last .1 .0 .now) (f .last .1 .1 .0) (f .result)
   sum-outcome c =
       let member = sum-member-of c in
       let turn = sum-turn-of member in
-      let a = sum-entry turn .args in
+      let entry = sum-entry turn in
+      let a = entry .args in
       let l = turn .loop in
-      let st = a .st .now in
-      let s = a .text .now .now in
+      let inner = readCut (levelIn (a .st .now)) in
       let told = member .product .ensures in
-      let u = set-up (member .product .last .1 .1 .0) (recordIn st) 2 (told .0 .0 .0) in
-      let f = c .follow .ensures .0 .1 (u .6) in
-      let o = f .2 _ _ _ _ (sums (readCut (levelIn st))) (sum-kind (readCut (levelIn st))) (a .out .now .now) (placeIn st) (recordIn st) (weightIn st) (l .out .now) (l .st) (l .inv .2)
-      (moved-read s (placeIn (l .st)) _ (l .out .now) (recordIn (l .st)) (member .product .last .1 .0 .now) (weightIn (l .st)) (member .product .last .1 .1 .0) (sum-cells member) (member .product .result)
-      (sum-member member) (u .1) (u .2) (u .3)) (u .5) (told .1 .1) in
-      (f .0, f .1, o .0, o .1)
+      let f = c .follow in
+      let u = set-up (member .product .last .1 .1 .0) (recordIn (a .st .now)) 2 (told .0 .0 .0) in
+      turn-outcome (sums inner) (sum-kind inner) (a .text .now .now) (a .out .now .now) (a .st .now) (entry .pre .1 .2) (entry .pre .1 .3) (l .c)
+      (l .out .now) (l .st) (l .inv .2) (member .product .last .1 .0 .now) (member .product .last .1 .1 .0) (member .product .result)
+      (sum-member member) (told .0 .0 .0) (f .last .1 .0 .now) (f .last .1 .1 .0) (f .result) (told .1 .1) (f .ensures .0 .1 (u .6))
 
   sum-level : (c : sum-Followed) → levelIn (c .follow .last .1 .1 .0) ≡ levelIn (sum-entry (sum-turn-of (sum-member-of c)) .args .st .now)
   sum-level c =
       let member = sum-member-of c in
-      let turn = sum-turn-of member in
-      let told = member .product .ensures in
-      let u = set-up (member .product .last .1 .1 .0) (recordIn (sum-entry turn .args .st .now)) 2 (told .0 .0 .0) in
-      sum-outcome c .0 ∙ u .4 ∙ told .0 .0 .1 ∙ turn .loop .inv .1
-
-  sum-element-copy-out-d : sum-lts.Need-element-copy-out-d (sum-rs t) (sum-at t) sum.Post sum-Inv-loop sum-μ-loop
-  sum-element-copy-out-d c = search needs
+      sum-outcome c .level ∙ member .product .ensures .0 .0 .1 ∙ sum-turn-of member .loop .inv .1
 
   sum-loop-holds : sum-lts.Need-loop-holds (sum-rs t) (sum-at t) sum.Post sum-Inv-loop sum-μ-loop
   sum-loop-holds c = (c .before .pre .1 .0, refl, record { here = refl; next = refl; weighs = refl; same = refl }, refl, refl)
@@ -540,18 +496,13 @@ module _ (t : ℕ) where
       let l = turn .loop in
       let r = entry .pre .1 in
       let inner = readCut (levelIn (a .st .now)) in
-      let x = turn-numbers (sums inner) (sum-kind inner) (a .text .now .now) (a .out .now .now) (placeIn (a .st .now)) (recordIn (a .st .now)) (weightIn (a .st .now)) (l .c) (l .out .now) (l .st) (l .inv .2) (r .2) (r .3) in
+      let x = turn-numbers (sums inner) (sum-kind inner) (a .text .now .now) (a .out .now .now) (placeIn (a .st .now)) (recordIn (a .st .now))
+      (weightIn (a .st .now)) (l .c) (l .out .now) (l .st) (l .inv .2) (r .2) (r .3) in
       let x3 = x .3 in
       let m = entry .pre .0 in
       let v = l .inv .1 in
       let r4 = r .4 in
       (omega (arith, x3, m), (l .inv .0, r .1, x .0, x .1, omega (arith, v, r4)))
-
-  sum-element-write-st : sum-lts.Need-element-write-st (sum-rs t) (sum-at t) sum.Post sum-Inv-loop sum-μ-loop
-  sum-element-write-st c = search needs
-
-  sum-element-write-st-2 : sum-lts.Need-element-write-st-2 (sum-rs t) (sum-at t) sum.Post sum-Inv-loop sum-μ-loop
-  sum-element-write-st-2 c = search needs
 
   sum-follow-requires : sum-lts.Need-follow-requires (sum-rs t) (sum-at t) sum.Post sum-Inv-loop sum-μ-loop
   sum-follow-requires c κs =
@@ -559,15 +510,14 @@ module _ (t : ℕ) where
       let turn = sum-turn-of member in
       let entry = sum-entry turn in
       let a = entry .args in
-      let st = a .st .now in
       let l = turn .loop in
       let r = entry .pre .1 in
-      let inner = readCut (levelIn st) in
-      let u = set-up (member .product .last .1 .1 .0) (recordIn st) 2 (member .product .ensures .0 .0 .0) in
-      let k = u .6 in (
+      let inner = readCut (levelIn (a .st .now)) in
+      let six = member .product .ensures .0 .0 .0 in
+      let k = set-up (member .product .last .1 .1 .0) (recordIn (a .st .now)) 2 six .6 in (
         omega (arith, k),
-        λ h. turn-asks (sums inner) (sum-kind inner) (a .text .now .now) (a .out .now .now) (placeIn st) (recordIn st) (weightIn st) (l .c) (l .out .now) (l .st) (member .product .last .1 .0 .now)
-            (member .product .last .1 .1 .0) (sum-cells member) (member .product .result) _ (l .inv .2) (r .2) (r .3) (r .1) (sum-member member) (u .0) (u .1) (u .2) (u .3) (u .5),
+        λ h. turn-handed (sums inner) (sum-kind inner) (a .text .now .now) (a .out .now .now) (a .st .now) (r .2) (r .3) (l .c) (l .out .now) (l .st)
+            (l .inv .2) (member .product .last .1 .0 .now) (member .product .last .1 .1 .0) (member .product .result) (sum-member member) six (r .1),
         λ h. absurd (omega (arith, h, k)),
       )
 
@@ -581,9 +531,15 @@ module _ (t : ℕ) where
       let s = a .text .now .now in
       let f = followed .follow in
       let o = sum-outcome followed in
-      let whole-read = read-as s (placeIn st) (placeIn st) _ (bared (readSum (readCut (levelIn st)) (drop (placeIn st) s))) (a .out .now .now) (recordIn st) (recordIn st) (f .last .1 .0 .now) (weightIn st) (weightIn st)
-      (f .last .1 .1 .0) (f .result) (o .3 (c .if1 .taken)) refl (sym (sum-whole (readCut (levelIn st)) (drop (placeIn st) s))) refl refl in (
-        ((f .ensures .0 .0, sum-level followed), o .1 ∙ set-up (member .product .last .1 .1 .0) (recordIn st) 2 (member .product .ensures .0 .0 .0) .5, whole-read),
+      let whole-read =
+      read-as s (placeIn st) (placeIn st) _ (bared (readSum (readCut (levelIn st)) (drop (placeIn st) s))) (a .out .now .now) (recordIn st)
+      (recordIn st) (f .last .1 .0 .now) (weightIn st) (weightIn st)
+      (f .last .1 .1 .0) (f .result) (o .done (c .if1 .taken)) refl (sym (sum-whole (readCut (levelIn st)) (drop (placeIn st) s))) refl refl in (
+        (
+          (f .ensures .0 .0, sum-level followed),
+          o .first,
+          whole-read,
+        ),
         (f .ensures .1 .0 ∙ member .product .ensures .1 .0 ∙ turn .loop .inv .3, f .ensures .1 .1 ∙ member .product .ensures .1 .1 ∙ turn .loop .inv .4),
       )
 
@@ -594,84 +550,34 @@ module _ (t : ℕ) where
       let a = entry .args in
       let st = a .st .now in
       let inner = readCut (levelIn st) in
-      let x = turn-few (sums inner) (sum-kind inner) (a .text .now .now) (a .out .now .now) (placeIn st) (recordIn st) (weightIn st) (turn .loop .c) (turn .loop .out .now) (turn .loop .st) (turn .loop .inv .2)
+      let x = turn-few (sums inner) (sum-kind inner) (a .text .now .now) (a .out .now .now) (placeIn st) (recordIn st) (weightIn st) (turn .loop .c)
+      (turn .loop .out .now) (turn .loop .st) (turn .loop .inv .2)
       (entry .pre .1 .1) in
       record { fits = omega (arith, x) }
 
   sum-loop-less : sum-lts.Need-loop-less (sum-rs t) (sum-at t) sum.Post sum-Inv-loop sum-μ-loop
-  sum-loop-less c =
-      let followed = c .before in
-      let member = sum-member-of followed in
-      let turn = sum-turn-of member in
-      let entry = sum-entry turn in
-      let a = entry .args in
-      let st = a .st .now in
-      let l = turn .loop in
-      let r = entry .pre .1 in
-      let inner = readCut (levelIn st) in
-      let f = followed .follow in
-      let u = set-up (member .product .last .1 .1 .0) (recordIn st) 2 (member .product .ensures .0 .0 .0) in
-      let o = sum-outcome followed .2 (c .if1 .left) in
-      turn-ahead (sums inner) (sum-kind inner) (a .text .now .now) (a .out .now .now) (placeIn st) (recordIn st) (weightIn st) (l .c) (l .out .now) (l .st) (member .product .last .1 .0 .now)
-      (member .product .last .1 .1 .0) (sum-cells member) (f .last .1 .0 .now) (f .last .1 .1 .0) (member .product .result) _ (l .inv .2) (r .2) (r .3) (sum-member member) (o .0) (u .1) (o .1) (o .2)
+  sum-loop-less c = sum-outcome (c .before) .less (c .if1 .left)
 
   sum-loop-again : sum-lts.Need-loop-again (sum-rs t) (sum-at t) sum.Post sum-Inv-loop sum-μ-loop
   sum-loop-again c =
       let followed = c .before in
       let member = sum-member-of followed in
       let turn = sum-turn-of member in
-      let a = sum-entry turn .args in
-      let st = a .st .now in
-      let f = followed .follow in
-      let count : suc (turn .loop .c) ≡ turn .loop .c + 1 = omega arith in (
+      let f = followed .follow in (
         f .ensures .0 .0,
         sum-level followed,
-        subst (λ (y : ℕ). Turn (sums (readCut (levelIn st))) (a .text .now .now) (a .out .now .now) (placeIn st) (recordIn st) (weightIn st) y (f .last .1 .0 .now) (f .last .1 .1 .0)) count
-            (sum-outcome followed .2 (c .if1 .left) .2),
+        sum-outcome followed .again (c .if1 .left),
         f .ensures .1 .0 ∙ member .product .ensures .1 .0 ∙ turn .loop .inv .3,
         f .ensures .1 .1 ∙ member .product .ensures .1 .1 ∙ turn .loop .inv .4,
       )
 
 pub +power+product+sum-spec : {M : Type 1} → statement M
-+power+product+sum-spec = close μ-power μ-product μ-sum (λ t. power-lts.spec (power-rs t)
-    (power-at t)
-    power.Post
-    (power-element-copy-out-w t)
-    (power-enters-requires t)
-    (power-sum-requires t)
-    (power-element-write-st t)
-    (power-follow-requires t)
-    (power-returns t)
-    (power-element-write-st-2 t)
-    (power-follow-requires-2 t)
-    (power-returns-2 t))
-    (λ t. product-lts.spec (product-rs t)
-    (product-at t)
-    product.Post
-    product-Inv-loop
-    product-μ-loop
-    (product-element-copy-out-d t)
-    (product-loop-holds t)
-    (product-power-requires t)
-    (product-element-write-st t)
-    (product-element-write-st-2 t)
-    (product-follow-requires t)
-    (product-returns t)
-    (product-add-c t)
-    (product-loop-less t)
-    (product-loop-again t))
-    λ t. sum-lts.spec (sum-rs t)
-    (sum-at t)
-    sum.Post
-    sum-Inv-loop
-    sum-μ-loop
-    (sum-element-copy-out-d t)
-    (sum-loop-holds t)
-    (sum-product-requires t)
-    (sum-element-write-st t)
-    (sum-element-write-st-2 t)
-    (sum-follow-requires t)
-    (sum-returns t)
-    (sum-add-c t)
-    (sum-loop-less t)
-    (sum-loop-again t)
++power+product+sum-spec =
+    close μ-power μ-product μ-sum
+    (λ t. power-lts.spec (power-rs t) (power-at t) power.Post (λ c. search needs) (power-enters-requires t) (power-sum-requires t) (λ c. search needs)
+    (power-follow-requires t) (power-returns t) (power-element-write-st-2 t) (power-follow-requires-2 t) (power-returns-2 t))
+    (λ t. product-lts.spec (product-rs t) (product-at t) product.Post product-Inv-loop product-μ-loop (λ c. search needs) (product-loop-holds t)
+    (product-power-requires t) (λ c. search needs) (λ c. search needs) (product-follow-requires t) (product-returns t) (product-add-c t)
+    (product-loop-less t) (product-loop-again t))
+    (λ t. sum-lts.spec (sum-rs t) (sum-at t) sum.Post sum-Inv-loop sum-μ-loop (λ c. search needs) (sum-loop-holds t) (sum-product-requires t)
+    (λ c. search needs) (λ c. search needs) (sum-follow-requires t) (sum-returns t) (sum-add-c t) (sum-loop-less t) (sum-loop-again t))

@@ -1,13 +1,13 @@
--- `parse::after` meets its contract, once for sums and products: what the member makes of the turn. Assumes nothing.
+-- `parse::after` meets its contract, once for sums and products: what the member makes of the turn.
 use Prim.Native.Nat.{ℕ, _+_, _-_, _<_}
 use mathlib.Core.Bool.{true}
 use mathlib.Core.Logic.{⊎-elim}
-use mathlib.Core.Path.{_≡_, refl, sym, ap, _∙_, subst}
+use mathlib.Core.Path.{_≡_, refl, sym, _∙_, subst}
 use native.Mathlib.Omega.{arith}
 use lib.ListN.{drop}
 use Rattle.paper.specs.Table.{recordOf}
 use Rattle.paper_text.specs.Text.{begins}
-use Rattle.area.specs.Written.{Written, Shifted}
+use Rattle.parse.specs.Written.{Written, Shifted}
 use Rattle.parse.specs.declared.Item.the-variants.{Not}
 use Rattle.parse.specs.Joined.{Held, placeIn, recordIn}
 use Rattle.parse.proofs.TurnLaws.{no-sign, a-sign, fit-yes, fit-no, number-low, turn-start, turn-on, turn-one, not-there, not-fitting, stands-alone}
@@ -15,13 +15,6 @@ use Rattle.parse.proofs.TurnLaws.{first-of-more, one-of-more, last-of-m
 use borrow.Author.Needs.{needs}
 use Rattle.parse.proofs.after.Statement.{statement}
 use Rattle.parse.proofs.after.Tie as tie
-use Rattle.parse.proofs.after.Reads as reads
-use Rattle.parse.proofs.after.Lts as lts
-use Rattle.area.proofs.make_room.Reads as make-room-reads
-use Rattle.area.proofs.put_record.Reads as put-record-reads
-use Rattle.parse.proofs.fits.Reads as fits-reads
-use Rattle.parse.proofs.lone_in.Reads as lone-in-reads
-use Rattle.parse.proofs.sign_at.Reads as sign-at-reads
 
 -- places on the way through the code: the entry, after the sign was looked for, where the ways meet again, and after the fit was asked for
 abbrev entry-of : tie.After-sign-at → tie.Start
@@ -44,22 +37,15 @@ returns c =
         refl,
         λ r p node from n κ old at d w area cells z h f l. (
           λ q. absurd (omega (arith, q)),
-          λ q. record { item = Not; given = refl; is = not-there n κ (a .text .now) old at d w (a .c) area cells (a .out .now) (a .st .now) (a .m) z h (c .if1 .taken) },
+          λ q. record {
+            item = Not;
+            given = refl;
+            is =
+                not-there n κ (a .text .now) old at d w (a .c) area cells (a .out .now) (a .st .now) (a .m) z h (c .if1 .taken);
+          },
         ),
       ),
     )
-
-element-copy-out-sign-at : tie.Need-element-copy-out-sign-at
-element-copy-out-sign-at c = search needs
-
-sub-sign-at : tie.Need-sub-sign-at
-sub-sign-at c = search needs
-
-sign-at-requires : tie.Need-sign-at-requires
-sign-at-requires c κs = search needs
-
-lone-in-requires : tie.Need-lone-in-requires
-lone-in-requires c κs = search needs
 
 returns-2 : tie.Need-returns-2
 returns-2 c =
@@ -73,17 +59,12 @@ returns-2 c =
         refl,
         λ r p node from n κ old at d w area cells z h f l.
             let start = turn-start n κ (a .text .now) old at d w (a .c) area cells (c .before .before .if2 .taken) z in
-            let alone = stands-alone n κ (a .text .now) old at d w area cells (a .out .now) (a .st .now) (a .m) (c .lone-in .result) start h (sign .before .before .if1 .left) b (c .lone-in .ensures) in
+            let alone = stands-alone n κ (a .text .now) old at d w area cells (a .out .now) (a .st .now) (a .m) (c .lone-in .result) start h
+            (sign .before .before .if1 .left) b (c .lone-in .ensures) in
             let low = number-low (alone .item) _ _ _ (alone .given) in
             (λ q. absurd (omega (arith, q, low)), λ q. alone),
       ),
     )
-
-sub-fits : tie.Need-sub-fits
-sub-fits c = search needs
-
-fits-requires : tie.Need-fits-requires
-fits-requires c κs = search needs
 
 returns-3 : tie.Need-returns-3
 returns-3 c =
@@ -108,19 +89,10 @@ returns-3 c =
       ),
     )
 
-element-copy-out-d : tie.Need-element-copy-out-d
-element-copy-out-d c = search needs
-
-element-copy-out-make-room : tie.Need-element-copy-out-make-room
-element-copy-out-make-room c = search needs
-
 make-room-requires : tie.Need-make-room-requires
 make-room-requires c κs =
     let sign = c .before .before .before .before .before .before .before in
     held sign .0
-
-element-copy-out-st : tie.Need-element-copy-out-st
-element-copy-out-st c = search needs
 
 add-st : tie.Need-add-st
 add-st c =
@@ -130,12 +102,6 @@ add-st c =
     let y = h .3 in
     let g = entry-of sign .good .0 .1 in
     record { fits = omega (arith, x, y, g) }
-
-element-write-st : tie.Need-element-write-st
-element-write-st c = search needs
-
-element-copy-out-st-2 : tie.Need-element-copy-out-st-2
-element-copy-out-st-2 c = search needs
 
 add-st-2 : tie.Need-add-st-2
 add-st-2 c =
@@ -147,12 +113,6 @@ add-st-2 c =
     let e = stepped (entry-of sign .args .st .now) (entry-of sign .pre .2 .0) .6 in
     record { fits = omega (arith, x, y, g, e) }
 
-element-write-st-2 : tie.Need-element-write-st-2
-element-write-st-2 c = search needs
-
-element-copy-out-st-3 : tie.Need-element-copy-out-st-3
-element-copy-out-st-3 c = search needs
-
 add-st-3 : tie.Need-add-st-3
 add-st-3 c =
     let sign = c .before .before .before .before .before .before .before .before .before .before .before .before .before in
@@ -161,12 +121,6 @@ add-st-3 c =
     let g = entry-of sign .good .0 .1 in
     let e = stepped (entry-of sign .args .st .now) (entry-of sign .pre .2 .0) .7 in
     record { fits = omega (arith, y, g, e) }
-
-element-write-st-3 : tie.Need-element-write-st-3
-element-write-st-3 c = search needs
-
-same-length : tie.Need-same-length
-same-length c = search needs
 
 returns-4 : tie.Need-returns-4
 returns-4 c =
@@ -190,7 +144,8 @@ returns-4 c =
                 sign .before .before .if1 .left,
                 e .3,
                 turn-one n κ (a .text .now) old at d w (a .c) _ _ (test .if5 .taken)
-                    (first-of-more n κ (a .text .now) old at d w area cells (a .out .now) _ (a .st .now) _ (a .m) start h (sign .before .before .if1 .left) fitting
+                    (first-of-more n κ (a .text .now) old at d w area cells (a .out .now) _ (a .st .now) _ (a .m) start h (sign .before .before .if1 .left)
+                    fitting
                     (several joined (test .if5 .taken)) (held sign .1) shifted (e .3) (e .4) (e .5)),
               ),
               λ q. absurd (omega (arith, q)),
@@ -198,18 +153,12 @@ returns-4 c =
       ),
     )
 
-element-copy-out-st-4 : tie.Need-element-copy-out-st-4
-element-copy-out-st-4 c = search needs
-
 add-st-4 : tie.Need-add-st-4
 add-st-4 c =
     let sign = c .before .before .before .before .before .before .before in
     let y = held sign .3 in
     let g = entry-of sign .good .0 .1 in
     record { fits = omega (arith, y, g) }
-
-element-write-st-4 : tie.Need-element-write-st-4
-element-write-st-4 c = search needs
 
 returns-5 : tie.Need-returns-5
 returns-5 c =
@@ -236,18 +185,6 @@ returns-5 c =
         ),
       ),
     )
-
-add-put-record : tie.Need-add-put-record
-add-put-record c = search needs
-
-put-record-requires : tie.Need-put-record-requires
-put-record-requires c κs = search needs
-
-sub-result : tie.Need-sub-result
-sub-result c = search needs
-
-same-length-2 : tie.Need-same-length-2
-same-length-2 c = search needs
 
 returns-6 : tie.Need-returns-6
 returns-6 c =
@@ -278,35 +215,7 @@ pub after-spec : {M : Type 1} → statement M
 after-spec =
     tie.close
     (tie.spec
-    returns
-    element-copy-out-sign-at
-    sub-sign-at
-    sign-at-requires
-    lone-in-requires
-    returns-2
-    sub-fits
-    fits-requires
-    returns-3
-    element-copy-out-d
-    element-copy-out-make-room
-    make-room-requires
-    element-copy-out-st
-    add-st
-    element-write-st
-    element-copy-out-st-2
-    add-st-2
-    element-write-st-2
-    element-copy-out-st-3
-    add-st-3
-    element-write-st-3
-    same-length
-    returns-4
-    element-copy-out-st-4
-    add-st-4
-    element-write-st-4
-    returns-5
-    add-put-record
-    put-record-requires
-    sub-result
-    same-length-2
-    returns-6)
+    returns (λ c. search needs) (λ c. search needs) (λ c κs. search needs) (λ c κs. search needs) returns-2 (λ c. search needs) (λ c κs. search needs)
+    returns-3 (λ c. search needs) (λ c. search needs) make-room-requires (λ c. search needs) add-st (λ c. search needs) (λ c. search needs) add-st-2
+    (λ c. search needs) (λ c. search needs) add-st-3 (λ c. search needs) (λ c. search needs) returns-4 (λ c. search needs) add-st-4
+    (λ c. search needs) returns-5 (λ c. search needs) (λ c κs. search needs) (λ c. search needs) (λ c. search needs) returns-6)

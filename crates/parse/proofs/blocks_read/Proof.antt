@@ -1,4 +1,4 @@
--- `parse::blocks_read` meets its contract: what is judged from each place on is what is judged of the whole text. Assumes nothing.
+-- `parse::blocks_read` meets its contract: what is judged from each place on is what is judged of the whole text.
 use Prim.Native.Nat.{_-_}
 use native.Mathlib.Omega.{arith}
 use borrow.Author.Needs.{needs}
@@ -6,9 +6,6 @@ use lib.ListN.{length}
 use Rattle.parse.proofs.BlockLaws.{Judging, begin-judging, judge-on, judged-bad, judged-all}
 use Rattle.parse.proofs.blocks_read.Statement.{statement}
 use Rattle.parse.proofs.blocks_read.Tie as tie
-use Rattle.parse.proofs.blocks_read.Reads as reads
-use Rattle.parse.proofs.blocks_read.Lts as lts
-use Rattle.parse.proofs.turn.Reads as turn-reads
 
 abbrev Inv-loop : tie.InvT-loop
 Inv-loop text k left₀ i₀ left i = Judging text k left i
@@ -24,21 +21,12 @@ turn-requires : tie.Need-turn-requires Inv-loop μ-loop
 turn-requires c κs =
     (c .loop-test .taken, c .before .loop .inv .low, c .before .before .before .pre)
 
-enum-known-l : tie.Need-enum-known-l Inv-loop μ-loop
-enum-known-l c = search needs
-
-enum-told : tie.Need-enum-told Inv-loop μ-loop
-enum-told c = search needs
-
 returns : tie.Need-returns Inv-loop μ-loop
 returns c =
     let a = c .before .before .before .before .before .before .args in
     let s = a .text .now in
     let l = c .before .before .before .before .loop in
     judged-bad s (a .k) (l .left) (l .i) (l .inv) (rw (c .enum-told .given .1) at (c .before .before .turn .ensures))
-
-add-i : tie.Need-add-i Inv-loop μ-loop
-add-i c = search needs
 
 loop-less : tie.Need-loop-less Inv-loop μ-loop
 loop-less c =
@@ -64,14 +52,4 @@ pub blocks-read-spec : {M : Type 1} → statement M
 blocks-read-spec =
     tie.close
     (tie.spec
-    Inv-loop
-    μ-loop
-    loop-holds
-    turn-requires
-    enum-known-l
-    enum-told
-    returns
-    add-i
-    loop-less
-    loop-again
-    returns-2)
+    Inv-loop μ-loop loop-holds turn-requires (λ c. search needs) (λ c. search needs) returns (λ c. search needs) loop-less loop-again returns-2)

@@ -1,10 +1,8 @@
--- `parse::dive` meets its contract: one law a kind of character. Assumes nothing.
+-- `parse::dive` meets its contract: one law a kind of character.
 use Rattle.parse.proofs.WeighLaws.{too-deep, one-deeper, one-out, as-deep}
 use borrow.Author.Needs.{needs}
 use Rattle.parse.proofs.dive.Statement.{statement}
 use Rattle.parse.proofs.dive.Tie as tie
-use Rattle.parse.proofs.dive.Reads as reads
-use Rattle.parse.proofs.dive.Lts as lts
 
 returns : tie.Need-returns
 returns c =
@@ -15,9 +13,6 @@ returns-2 : tie.Need-returns-2
 returns-2 c =
     let a = c .before .before .args in
     one-deeper (a .c) (a .left) (c .before .if1 .taken) (c .if2 .left)
-
-add-t6 : tie.Need-add-t6
-add-t6 c = search needs
 
 returns-3 : tie.Need-returns-3
 returns-3 c =
@@ -30,4 +25,4 @@ returns-4 c =
     as-deep (a .c) (a .left) (c .before .if1 .left) (c .if3 .left)
 
 pub dive-spec : {M : Type 1} → statement M
-dive-spec = tie.close (tie.spec returns returns-2 add-t6 returns-3 returns-4)
+dive-spec = tie.close (tie.spec returns returns-2 (λ c. search needs) returns-3 returns-4)

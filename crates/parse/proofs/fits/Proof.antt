@@ -1,9 +1,7 @@
--- `parse::fits` meets its contract. Assumes nothing.
+-- `parse::fits` meets its contract.
 use Rattle.parse.proofs.TurnLaws.{fits-none, fits-bare, fits-grouped}
 use Rattle.parse.proofs.fits.Statement.{statement}
 use Rattle.parse.proofs.fits.Tie as tie
-use Rattle.parse.proofs.fits.Reads as reads
-use Rattle.parse.proofs.fits.Lts as lts
 
 returns : tie.Need-returns
 returns c = let a = c .before .args in λ i w st g. fits-none (a .p) i (a .m) w st g (c .if1 .taken)

@@ -1,4 +1,4 @@
--- `parse::flat` meets its contract: a group is passed over, any other power begins with a leaf. Assumes nothing.
+-- `parse::flat` meets its contract: a group is passed over, any other power begins with a leaf.
 use Prim.Native.Nat.{_+_}
 use mathlib.Core.Path.{sym, _∙_, subst}
 use lib.ListN.{drop}
@@ -11,15 +11,6 @@ use Rattle.parse.proofs.LevelReads.{power-leaf, group-passed}
 use borrow.Author.Needs.{needs}
 use Rattle.parse.proofs.flat.Statement.{statement}
 use Rattle.parse.proofs.flat.Tie as tie
-use Rattle.parse.proofs.flat.Reads as reads
-use Rattle.parse.proofs.flat.Lts as lts
-use Rattle.parse.proofs.leaf.Reads as leaf-reads
-use Rattle.parse.proofs.passed.Reads as passed-reads
-use Rattle.parse.proofs.raised.Reads as raised-reads
-use Rattle.parse.proofs.sign_at.Reads as sign-at-reads
-
-sign-at-requires : tie.Need-sign-at-requires
-sign-at-requires c κs = search needs
 
 passed-requires : tie.Need-passed-requires
 passed-requires c κs =
@@ -35,9 +26,6 @@ raised-requires c κs =
     let passed = c .before .before .before .passed in
     sized s (a .at) (then (skim (drop (a .at + 1) s)) closed) (a .out .now) _ (a .d) (entry .pre) (passed .result) (passed .ensures)
 
-same-length : tie.Need-same-length
-same-length c = search needs
-
 returns : tie.Need-returns
 returns c =
     let test = c .before .before .before .before .before .before .before .before in
@@ -49,9 +37,6 @@ returns c =
     (sym (group-passed s (a .at) opened))
     (raised .ensures (a .at) (then (skim (drop (a .at + 1) s)) closed) (a .out .now) (c .before .before .before .before .before .before .passed .ensures))
 
-leaf-requires : tie.Need-leaf-requires
-leaf-requires c κs = search needs
-
 raised-requires-2 : tie.Need-raised-requires-2
 raised-requires-2 c κs =
     let entry = c .before .before .before .before .before .before .before .before .before in
@@ -59,9 +44,6 @@ raised-requires-2 c κs =
     let s = a .text .now in
     let leaf = c .before .before .before .leaf in
     sized s (a .at) (bared (readLeaf (drop (a .at) s))) (a .out .now) _ (a .d) (entry .pre) (leaf .result) (leaf .ensures)
-
-same-length-2 : tie.Need-same-length-2
-same-length-2 c = search needs
 
 returns-2 : tie.Need-returns-2
 returns-2 c =
@@ -78,12 +60,5 @@ pub flat-spec : {M : Type 1} → statement M
 flat-spec =
     tie.close
     (tie.spec
-    sign-at-requires
-    passed-requires
-    raised-requires
-    same-length
-    returns
-    leaf-requires
-    raised-requires-2
-    same-length-2
+    (λ c κs. search needs) passed-requires raised-requires (λ c. search needs) returns (λ c κs. search needs) raised-requires-2 (λ c. search needs)
     returns-2)

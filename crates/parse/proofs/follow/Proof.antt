@@ -1,19 +1,9 @@
--- `parse::follow` meets its contract: it hands on what the kind asks for. Assumes nothing.
+-- `parse::follow` meets its contract: it hands on what the kind asks for.
 use mathlib.Core.Path.{refl}
 use native.Mathlib.Omega.{arith}
 use borrow.Author.Needs.{needs}
 use Rattle.parse.proofs.follow.Statement.{statement}
 use Rattle.parse.proofs.follow.Tie as tie
-use Rattle.parse.proofs.follow.Reads as reads
-use Rattle.parse.proofs.follow.Lts as lts
-use Rattle.parse.proofs.after.Reads as after-reads
-use Rattle.parse.proofs.raise.Reads as raise-reads
-
-element-copy-out-k : tie.Need-element-copy-out-k
-element-copy-out-k c = search needs
-
-slice-aggregate-after : tie.Need-slice-aggregate-after
-slice-aggregate-after c = refl
 
 after-requires : tie.Need-after-requires
 after-requires c κs =
@@ -25,9 +15,6 @@ returns c =
     let k = c .before .before .before .before .if1 .taken in
     ((c .after .ensures .0, λ e. c .after .ensures .1, λ e. absurd (omega (arith, e, k)), λ e. absurd (omega (arith, e, k))), (refl, search needs))
 
-slice-aggregate-after-2 : tie.Need-slice-aggregate-after-2
-slice-aggregate-after-2 c = refl
-
 after-requires-2 : tie.Need-after-requires-2
 after-requires-2 c κs =
     let k = c .before .before .before .if2 .taken in
@@ -38,9 +25,6 @@ returns-2 c =
     let k = c .before .before .before .before .if2 .taken in
     let l = c .before .before .before .before .before .if1 .left in
     ((c .after2 .ensures .0, λ e. absurd (omega (arith, e, l)), λ e. c .after2 .ensures .1, λ e. absurd (omega (arith, e, k))), (refl, search needs))
-
-slice-aggregate-raise : tie.Need-slice-aggregate-raise
-slice-aggregate-raise c = refl
 
 raise-requires : tie.Need-raise-requires
 raise-requires c κs =
@@ -56,13 +40,5 @@ pub follow-spec : {M : Type 1} → statement M
 follow-spec =
     tie.close
     (tie.spec
-    element-copy-out-k
-    slice-aggregate-after
-    after-requires
-    returns
-    slice-aggregate-after-2
-    after-requires-2
-    returns-2
-    slice-aggregate-raise
-    raise-requires
-    returns-3)
+    (λ c. search needs) (λ c. refl) after-requires returns (λ c. refl) after-requires-2 returns-2 (λ c. refl)
+    raise-requires returns-3)

@@ -1,4 +1,4 @@
--- `parse::is_shallow` meets its contract: how deep the rest may go from each place on is how deep the whole may go. Assumes nothing.
+-- `parse::is_shallow` meets its contract: how deep the rest may go from each place on is how deep the whole may go.
 use Prim.Native.Nat.{_-_}
 use native.Mathlib.Omega.{arith}
 use borrow.Author.Needs.{needs}
@@ -6,9 +6,6 @@ use lib.ListN.{length}
 use Rattle.parse.proofs.WeighLaws.{Diving, begin-diving, dive-on, dived-deep, dived-all}
 use Rattle.parse.proofs.is_shallow.Statement.{statement}
 use Rattle.parse.proofs.is_shallow.Tie as tie
-use Rattle.parse.proofs.is_shallow.Reads as reads
-use Rattle.parse.proofs.is_shallow.Lts as lts
-use Rattle.parse.proofs.dive.Reads as dive-reads
 
 abbrev Inv-loop : tie.InvT-loop
 Inv-loop text k left₀ i₀ left i = Diving text k left i
@@ -20,21 +17,12 @@ loop-holds : tie.Need-loop-holds Inv-loop μ-loop
 loop-holds c =
     begin-diving _ _
 
-shared-slice-read-dive : tie.Need-shared-slice-read-dive Inv-loop μ-loop
-shared-slice-read-dive c = search needs
-
 dive-requires : tie.Need-dive-requires Inv-loop μ-loop
 dive-requires c κs =
     let l = c .before .before .loop .inv .low in
     let q = c .before .before .before .before .pre in
     let h = c .before .loop-test .taken in
     search (needs, l, q, h)
-
-enum-known-l : tie.Need-enum-known-l Inv-loop μ-loop
-enum-known-l c = search needs
-
-enum-told : tie.Need-enum-told Inv-loop μ-loop
-enum-told c = search needs
 
 returns : tie.Need-returns Inv-loop μ-loop
 returns c =
@@ -43,9 +31,6 @@ returns c =
     let l = c .before .before .before .before .before .loop in
     let deep = rw (c .enum-told .given .1) at (c .before .before .dive .ensures) in
     dived-deep s (a .k) (l .left) (l .i) (c .before .before .before .before .loop-test .taken) (l .inv) deep
-
-add-i : tie.Need-add-i Inv-loop μ-loop
-add-i c = search needs
 
 loop-less : tie.Need-loop-less Inv-loop μ-loop
 loop-less c =
@@ -71,15 +56,5 @@ pub is-shallow-spec : {M : Type 1} → statement M
 is-shallow-spec =
     tie.close
     (tie.spec
-    Inv-loop
-    μ-loop
-    loop-holds
-    shared-slice-read-dive
-    dive-requires
-    enum-known-l
-    enum-told
-    returns
-    add-i
-    loop-less
-    loop-again
-    returns-2)
+    Inv-loop μ-loop loop-holds (λ c. search needs) dive-requires (λ c. search needs) (λ c. search needs) returns (λ c. search needs) loop-less
+    loop-again returns-2)

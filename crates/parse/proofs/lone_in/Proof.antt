@@ -1,9 +1,7 @@
--- `parse::lone_in` meets its contract. Assumes nothing.
+-- `parse::lone_in` meets its contract.
 use Rattle.parse.proofs.TurnLaws.{lone-not, lone-bare, lone-any}
 use Rattle.parse.proofs.lone_in.Statement.{statement}
 use Rattle.parse.proofs.lone_in.Tie as tie
-use Rattle.parse.proofs.lone_in.Reads as reads
-use Rattle.parse.proofs.lone_in.Lts as lts
 
 returns : tie.Need-returns
 returns c = let a = c .before .before .args in λ i w st g. lone-not (a .k) i (a .m) w st g (c .before .if1 .taken) (c .if2 .taken)

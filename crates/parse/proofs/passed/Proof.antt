@@ -1,20 +1,16 @@
 -- `parse::passed` meets its contract: what is passed from each place on is what is passed of the whole group; the area is not touched before
--- its end. Assumes nothing.
+-- its end.
 use Prim.Native.Nat.{_-_}
 use mathlib.Core.Path.{refl, subst}
 use Rattle.paper.specs.Table.{encode}
 use Rattle.paper_text.specs.Levels.{standIn}
-use Rattle.area.specs.Written.{Written}
+use Rattle.parse.specs.Written.{Written}
 use native.Mathlib.Omega.{arith}
 use borrow.Author.Needs.{needs}
 use lib.ListN.{length}
-use Rattle.parse.proofs.SkimLaws.{Passing, Kept, begin-passing, pass-on, passed-out, never-closed}
+use Rattle.parse.proofs.SkimLaws.{Kept, begin-passing, pass-on, passed-out, never-closed}
 use Rattle.parse.proofs.passed.Statement.{statement}
 use Rattle.parse.proofs.passed.Tie as tie
-use Rattle.parse.proofs.passed.Reads as reads
-use Rattle.parse.proofs.passed.Lts as lts
-use Rattle.parse.proofs.put_stand_in.Reads as put-stand-in-reads
-use Rattle.parse.proofs.step.Reads as step-reads
 
 abbrev Inv-loop : tie.InvT-loop
 Inv-loop text at out₀ d k₀ deep₀ e₀ out k deep e = Kept text at out₀ out k deep e
@@ -22,29 +18,14 @@ Inv-loop text at out₀ d k₀ deep₀ e₀ out k deep e = Kept text at out₀ o
 abbrev μ-loop : tie.MeasureT-loop
 μ-loop text at out₀ d k₀ deep₀ e₀ out k deep e = length text - e
 
-add-e : tie.Need-add-e Inv-loop μ-loop
-add-e c = search needs
-
 loop-holds : tie.Need-loop-holds Inv-loop μ-loop
 loop-holds c = record { passing = begin-passing _ _ (c .before .before .pre .0); same = refl }
-
-shared-slice-read-step : tie.Need-shared-slice-read-step Inv-loop μ-loop
-shared-slice-read-step c = search needs
 
 step-requires : tie.Need-step-requires Inv-loop μ-loop
 step-requires c κs = let p = c .before .before .loop .inv .passing in let x = p .shallow in let y = p .low in (search (needs, x), y)
 
-enum-known-d1 : tie.Need-enum-known-d1 Inv-loop μ-loop
-enum-known-d1 c = search needs
-
-enum-told : tie.Need-enum-told Inv-loop μ-loop
-enum-told c = search needs
-
 put-stand-in-requires : tie.Need-put-stand-in-requires Inv-loop μ-loop
 put-stand-in-requires c κs = c .before .before .before .before .before .before .loop .inv .passing .low
-
-add-t18 : tie.Need-add-t18 Inv-loop μ-loop
-add-t18 c = search needs
 
 add-t19 : tie.Need-add-t19 Inv-loop μ-loop
 add-t19 c =
@@ -53,9 +34,6 @@ add-t19 c =
     let x = p .from in
     let y = p .within in
     search (needs, low, x, y)
-
-same-length : tie.Need-same-length Inv-loop μ-loop
-same-length c = search needs
 
 returns : tie.Need-returns Inv-loop μ-loop
 returns c =
@@ -67,12 +45,6 @@ returns c =
     passed-out (a .text .now) (a .at) (l .k) (l .deep) (l .e) inside (l .inv .passing) out
     (subst (λ old. Written (encode (standIn (l .k))) old (a .d) (put .last .0)) (l .inv .same) (put .ensures))
 
-add-e-2 : tie.Need-add-e-2 Inv-loop μ-loop
-add-e-2 c = search needs
-
-loop-less : tie.Need-loop-less Inv-loop μ-loop
-loop-less c = omega arith
-
 loop-again : tie.Need-loop-again Inv-loop μ-loop
 loop-again c =
     let a = c .before .before .before .before .before .before .before .before .before .args in
@@ -82,9 +54,6 @@ loop-again c =
       passing = pass-on (a .text .now) (a .at) (l .k) (l .deep) (l .e) _ _ (c .before .before .before .before .before .loop-test .taken) (l .inv .passing) goes;
       same = l .inv .same;
     }
-
-same-length-2 : tie.Need-same-length-2 Inv-loop μ-loop
-same-length-2 c = search needs
 
 returns-2 : tie.Need-returns-2 Inv-loop μ-loop
 returns-2 c =
@@ -96,21 +65,5 @@ pub passed-spec : {M : Type 1} → statement M
 passed-spec =
     tie.close
     (tie.spec
-    Inv-loop
-    μ-loop
-    add-e
-    loop-holds
-    shared-slice-read-step
-    step-requires
-    enum-known-d1
-    enum-told
-    put-stand-in-requires
-    add-t18
-    add-t19
-    same-length
-    returns
-    add-e-2
-    loop-less
-    loop-again
-    same-length-2
-    returns-2)
+    Inv-loop μ-loop (λ c. search needs) loop-holds (λ c. search needs) step-requires (λ c. search needs) (λ c. search needs) put-stand-in-requires
+    (λ c. search needs) add-t19 (λ c. search needs) returns (λ c. search needs) (λ c. omega arith) loop-again (λ c. search needs) returns-2)

@@ -1,7 +1,7 @@
--- `parse::raise` meets its contract: a group is closed and may be raised, a power with no group that is read is read flat. Assumes nothing.
-use Prim.Native.Nat.{ℕ, _+_, _-_, _*_, _^_, _≤_, _<_}
+-- `parse::raise` meets its contract: a group is closed and may be raised, a power with no group that is read is read flat.
+use Prim.Native.Nat.{ℕ, _+_, _-_, _^_, _≤_, _<_}
 use mathlib.Core.List.{List}
-use mathlib.Core.Path.{_≡_, refl, sym, ap, _∙_, subst}
+use mathlib.Core.Path.{refl, sym, ap, _∙_}
 use native.Mathlib.Omega.{arith}
 use lib.ListN.{length, drop, getD, set}
 use Rattle.paper.specs.Tree.{Tree}
@@ -9,19 +9,13 @@ use Rattle.paper_text.specs.Text.{closes, Reading, then, begins, closed}
 use Rattle.paper_text.proofs.PlaceLaws.{sign-inside}
 use Rattle.parse.specs.declared.Item.the-variants.{Not, Grouped}
 use Rattle.parse.specs.Parsed.{Laid, ItemIs, raising}
-use Rattle.parse.specs.Joined.{Read, Inside, placeIn, recordIn, weightIn, firstOf}
+use Rattle.parse.specs.Joined.{Inside, placeIn, recordIn, weightIn, firstOf}
 use Rattle.parse.proofs.ItemLaws.{sized}
 use Rattle.parse.proofs.TurnLaws.{no-sign, a-sign, in-cells, takes, levelled, read-as}
 use Rattle.parse.proofs.GroupLaws.{no-content, unclosed, group-is, inside-moved}
 use borrow.Author.Needs.{needs}
 use Rattle.parse.proofs.raise.Statement.{statement}
 use Rattle.parse.proofs.raise.Tie as tie
-use Rattle.parse.proofs.raise.Reads as reads
-use Rattle.parse.proofs.raise.Lts as lts
-use Rattle.parse.proofs.flat.Reads as flat-reads
-use Rattle.parse.proofs.raised.Reads as raised-reads
-use Rattle.parse.proofs.sign_at.Reads as sign-at-reads
-use Rattle.parse.proofs.taken.Reads as taken-reads
 
 -- places on the way through the code: the entry, the level written, and a group that is closed
 abbrev entry-of : tie.After-st → tie.Start
@@ -35,7 +29,8 @@ abbrev now : tie.After-st → List ℕ
 now c = let st = entry-of c .args .st .now in set st 3 (getD st 3 0 + 1)
 
 -- the content, in these cells
-here : (c : tie.After-st) (at : ℕ) (o : Reading Tree) (old : List ℕ) → let a = entry-of c .args in Inside (a .text .now) at o old (a .out .now) (a .st .now) (a .w) (a .m)
+here : (c : tie.After-st) (at : ℕ) (o : Reading Tree) (old : List ℕ)
+    → let a = entry-of c .args in Inside (a .text .now) at o old (a .out .now) (a .st .now) (a .w) (a .m)
     → Inside (a .text .now) at o old (a .out .now) (now c) (a .w) (a .m)
 here c at o old h =
     let a = entry-of c .args in
@@ -49,24 +44,17 @@ group : (c : tie.Else3) (at : ℕ) (o : Reading Tree) (old : List ℕ) → let a
 group c at o old h =
     let a = entry-of (level-of c) .args in
     let i = here (level-of c) at o old h .read in
-    group-is (a .text .now) at o old (firstOf (now (level-of c))) (a .out .now) (i .item) (a .m) (a .w) (now (level-of c)) (i .given) (c .before .before .before .if2 .left)
+    group-is (a .text .now) at o old (firstOf (now (level-of c))) (a .out .now) (i .item) (a .m) (a .w) (now (level-of c)) (i .given)
+    (c .before .before .before .if2 .left)
     (a-sign _ _ (c .before .sign-at .ensures) (c .if3 .left)) (i .is)
 
 -- what was asked for
-content : (c : tie.After-st) → let a = entry-of c .args in (at : ℕ) × (o : Reading Tree) × (old : List ℕ) × Inside (a .text .now) at o old (a .out .now) (a .st .now) (a .w) (a .m)
+content : (c : tie.After-st) → let a = entry-of c .args in (at : ℕ) × (o : Reading Tree) × (old : List ℕ)
+    × Inside (a .text .now) at o old (a .out .now) (a .st .now) (a .w) (a .m)
 content c = entry-of c .pre .2 (c .before .if1 .left) .1
 
 short : (c : tie.Start) → length (c .args .text .now) < 2 ^ 63
 short c = let g = c .good .0 .1 in omega (arith, g)
-
-element-copy-out-v : tie.Need-element-copy-out-v
-element-copy-out-v c = search needs
-
-element-copy-out-flat : tie.Need-element-copy-out-flat
-element-copy-out-flat c = search needs
-
-element-copy-out-flat-2 : tie.Need-element-copy-out-flat-2
-element-copy-out-flat-2 c = search needs
 
 flat-requires : tie.Need-flat-requires
 flat-requires c κs = c .before .before .before .before .before .before .before .pre .1 (c .before .before .before .before .if1 .taken) .0
@@ -78,11 +66,9 @@ taken-requires c κs =
     let a = entry .args in
     let low = entry .pre .1 (flat .before .before .before .before .before .if1 .taken) in (
       entry .pre .0,
-      takes (a .text .now) (placeIn (a .st .now)) _ (a .out .now) _ (recordIn (a .st .now)) (low .0) (flat .flat .result) (weightIn (a .st .now)) (flat .flat .ensures) (low .1) (short entry),
+      takes (a .text .now) (placeIn (a .st .now)) _ (a .out .now) _ (recordIn (a .st .now)) (low .0) (flat .flat .result) (weightIn (a .st .now))
+          (flat .flat .ensures) (low .1) (short entry),
     )
-
-same-length : tie.Need-same-length
-same-length c = search needs
 
 returns : tie.Need-returns
 returns c =
@@ -96,14 +82,8 @@ returns c =
       ),
     )
 
-element-copy-out-st : tie.Need-element-copy-out-st
-element-copy-out-st c = search needs
-
 add-st : tie.Need-add-st
 add-st c = let h = entry-of c .pre .2 (c .before .if1 .left) .0 in record { fits = omega (arith, h) }
-
-element-write-st : tie.Need-element-write-st
-element-write-st c = search needs
 
 returns-2 : tie.Need-returns-2
 returns-2 c =
@@ -120,17 +100,13 @@ returns-2 c =
           λ at o old i. record {
             item = Not;
             given = refl;
-            is = no-content (a .text .now) at o old (firstOf (a .st .now)) (a .out .now) (i .read .item) (a .m) (a .w) (a .st .now) (i .read .given) (c .if2 .taken) (i .read .is);
+            is =
+                no-content (a .text .now) at o old (firstOf (a .st .now)) (a .out .now) (i .read .item) (a .m) (a .w) (a .st .now) (i .read .given)
+                (c .if2 .taken) (i .read .is);
           },
         ),
       ),
     )
-
-element-copy-out-sign-at : tie.Need-element-copy-out-sign-at
-element-copy-out-sign-at c = search needs
-
-sign-at-requires : tie.Need-sign-at-requires
-sign-at-requires c κs = search needs
 
 returns-3 : tie.Need-returns-3
 returns-3 c =
@@ -149,15 +125,14 @@ returns-3 c =
           λ at o old i. record {
             item = Not;
             given = refl;
-            is = unclosed (a .text .now) at o old (firstOf (a .st .now)) (a .out .now) (i .read .item) (a .m) (a .w) (a .st .now) (i .read .given) (sign .before .before .if2 .left)
+            is =
+                unclosed (a .text .now) at o old (firstOf (a .st .now)) (a .out .now) (i .read .item) (a .m) (a .w) (a .st .now) (i .read .given)
+                (sign .before .before .if2 .left)
                 none-there (i .read .is);
           },
         ),
       ),
     )
-
-element-copy-out-t23 : tie.Need-element-copy-out-t23
-element-copy-out-t23 c = search needs
 
 add-t24 : tie.Need-add-t24
 add-t24 c =
@@ -166,9 +141,6 @@ add-t24 c =
     let h = sign-inside (entry .args .text .now) (placeIn (now (level-of closing))) 41 (a-sign _ _ (closing .before .sign-at .ensures) (closing .if3 .left)) in
     let g = short entry in
     record { fits = omega (arith, h, g) }
-
-element-copy-out-t35 : tie.Need-element-copy-out-t35
-element-copy-out-t35 c = search needs
 
 sub-t36 : tie.Need-sub-t36
 sub-t36 c =
@@ -180,12 +152,6 @@ sub-t36 c =
     let y = levelled (a .st .now) (entry-of at-level .pre .0) .3 in
     let z : a .w ≤ weightIn (now at-level) = omega (arith, x, y) in
     search (needs, z)
-
-element-copy-out-t39 : tie.Need-element-copy-out-t39
-element-copy-out-t39 c = search needs
-
-element-copy-out-raised : tie.Need-element-copy-out-raised
-element-copy-out-raised c = search needs
 
 raised-requires : tie.Need-raised-requires
 raised-requires c κs =
@@ -210,9 +176,6 @@ taken-requires-2 c κs =
           (up .raised .ensures (g .0) (then (g .1) closed) (g .2) (group closing (g .0) (g .1) (g .2) (g .3))) (i .light) (short entry),
     )
 
-same-length-2 : tie.Need-same-length-2
-same-length-2 c = search needs
-
 returns-4 : tie.Need-returns-4
 returns-4 c =
     let up = c .before .before .before .before in
@@ -230,7 +193,8 @@ returns-4 c =
           told .1 ∙ l .4,
           λ at o old i.
               read-as (a .text .now) at at (then (then o closed) raising) _ old (firstOf (now at-level)) (firstOf (a .st .now)) _ (a .w) (a .w) _ _
-              (record { item = up .raised .result; given = told .2; is = up .raised .ensures at (then o closed) old (group closing at o old i) }) refl refl (l .5) refl,
+              (record { item = up .raised .result; given = told .2; is = up .raised .ensures at (then o closed) old (group closing at o old i) }) refl refl
+              (l .5) refl,
         ),
       ),
     )
@@ -239,27 +203,6 @@ pub raise-spec : {M : Type 1} → statement M
 raise-spec =
     tie.close
     (tie.spec
-    element-copy-out-v
-    element-copy-out-flat
-    element-copy-out-flat-2
-    flat-requires
-    taken-requires
-    same-length
-    returns
-    element-copy-out-st
-    add-st
-    element-write-st
-    returns-2
-    element-copy-out-sign-at
-    sign-at-requires
-    returns-3
-    element-copy-out-t23
-    add-t24
-    element-copy-out-t35
-    sub-t36
-    element-copy-out-t39
-    element-copy-out-raised
-    raised-requires
-    taken-requires-2
-    same-length-2
-    returns-4)
+    (λ c. search needs) (λ c. search needs) (λ c. search needs) flat-requires taken-requires (λ c. search needs) returns (λ c. search needs) add-st
+    (λ c. search needs) returns-2 (λ c. search needs) (λ c κs. search needs) returns-3 (λ c. search needs) add-t24 (λ c. search needs) sub-t36
+    (λ c. search needs) (λ c. search needs) raised-requires taken-requires-2 (λ c. search needs) returns-4)

@@ -1,5 +1,5 @@
 -- `parse::raised` meets its contract: without a `^` the item stays; with one it has to fit as a base, and a number from 1 on to follow; then the
--- base is shifted one record on, the exponent written behind it and the power's record before it. Assumes nothing.
+-- base is shifted one record on, the exponent written behind it and the power's record before it.
 use Prim.Native.Nat.{ℕ, _+_, _*_, _≤_}
 use mathlib.Core.Bool.{true}
 use mathlib.Core.List.{List}
@@ -18,14 +18,6 @@ use Rattle.parse.proofs.LaidLaws.{power-laid}
 use borrow.Author.Needs.{needs}
 use Rattle.parse.proofs.raised.Statement.{statement}
 use Rattle.parse.proofs.raised.Tie as tie
-use Rattle.parse.proofs.raised.Reads as reads
-use Rattle.parse.proofs.raised.Lts as lts
-use Rattle.area.proofs.make_room.Reads as make-room-reads
-use Rattle.area.proofs.put_record.Reads as put-record-reads
-use Rattle.decimal.proofs.read_number.Reads as read-number-reads
-use Rattle.parse.proofs.fit.Reads as fit-reads
-use Rattle.parse.proofs.next.Reads as next-reads
-use Rattle.parse.proofs.sign_at.Reads as sign-at-reads
 
 -- places on the way through the code, and from each the one before it: the entry, after the item was asked for as a base, where it is one, and
 -- where a number follows the `^`
@@ -91,27 +83,12 @@ sign-there c =
     let s = entry-of (asked-of c) .args .text .now in
     ap (λ (x : ℕ). begins 94 (drop x s)) (lies c .0) ∙ raises (asked-of c)
 
-next-requires : tie.Need-next-requires
-next-requires c κs = search needs
-
-sign-at-requires : tie.Need-sign-at-requires
-sign-at-requires c κs = search needs
-
 returns : tie.Need-returns
 returns c =
     let a = c .before .before .before .before .before .args in
     let s = a .text .now in
     let no-sign = after-no s (a .i) _ 94 _ (c .before .before .next .ensures) (c .before .sign-at .ensures) (c .if1 .taken) in
     λ at o old h. not-raised s at o (Laid old (a .d) (a .out .now)) (a .i) h no-sign
-
-fit-requires : tie.Need-fit-requires
-fit-requires c κs = search needs
-
-enum-known-e : tie.Need-enum-known-e
-enum-known-e c = search needs
-
-enum-told : tie.Need-enum-told
-enum-told c = search needs
 
 returns-2 : tie.Need-returns-2
 returns-2 c =
@@ -123,15 +100,6 @@ add-read-number c =
     let base = c .before in
     let i = sign-inside (entry-of (asked-of base) .args .text .now) (base .e .given .0 .0) 94 (sign-there base) in
     search (needs, i)
-
-read-number-requires : tie.Need-read-number-requires
-read-number-requires c κs = search needs
-
-enum-known-v : tie.Need-enum-known-v
-enum-known-v c = search needs
-
-enum-told-2 : tie.Need-enum-told-2
-enum-told-2 c = search needs
 
 returns-3 : tie.Need-returns-3
 returns-3 c =
@@ -157,12 +125,6 @@ add-put-record c =
     let y = m .4 in
     search (needs, x, y)
 
-put-record-requires : tie.Need-put-record-requires
-put-record-requires c κs = search needs
-
-put-record-requires-2 : tie.Need-put-record-requires-2
-put-record-requires-2 c κs = search needs
-
 add-t11 : tie.Need-add-t11
 add-t11 c =
     let base = base-of (c .before .before .before .before .before .before .before .before .before .before .before .before .before .before) in
@@ -178,9 +140,6 @@ add-t22 c =
     let y = m .4 in
     let g = entry-of (asked-of base) .good .0 .1 in
     record { fits = omega (arith, x, y, g) }
-
-same-length : tie.Need-same-length
-same-length c = search needs
 
 returns-5 : tie.Need-returns-5
 returns-5 c =
@@ -198,24 +157,6 @@ pub raised-spec : {M : Type 1} → statement M
 raised-spec =
     tie.close
     (tie.spec
-    next-requires
-    sign-at-requires
-    returns
-    fit-requires
-    enum-known-e
-    enum-told
-    returns-2
-    add-read-number
-    read-number-requires
-    enum-known-v
-    enum-told-2
-    returns-3
-    returns-4
-    make-room-requires
-    add-put-record
-    put-record-requires
-    put-record-requires-2
-    add-t11
-    add-t22
-    same-length
-    returns-5)
+    (λ c κs. search needs) (λ c κs. search needs) returns (λ c κs. search needs) (λ c. search needs) (λ c. search needs) returns-2 add-read-number
+    (λ c κs. search needs) (λ c. search needs) (λ c. search needs) returns-3 returns-4 make-room-requires add-put-record (λ c κs. search needs)
+    (λ c κs. search needs) add-t11 add-t22 (λ c. search needs) returns-5)

@@ -1,14 +1,8 @@
--- `parse::step` meets its contract: one law a kind of character. Assumes nothing.
+-- `parse::step` meets its contract: one law a kind of character.
 use Rattle.parse.proofs.SkimLaws.{opened, ends, closes-one, deeper, raises, stays}
 use borrow.Author.Needs.{needs}
 use Rattle.parse.proofs.step.Statement.{statement}
 use Rattle.parse.proofs.step.Tie as tie
-use Rattle.parse.proofs.step.Reads as reads
-use Rattle.parse.proofs.step.Lts as lts
-use Rattle.parse.proofs.sign_rank.Reads as sign-rank-reads
-
-add-t6 : tie.Need-add-t6
-add-t6 c = search needs
 
 returns : tie.Need-returns
 returns c = let a = c .before .args in opened (a .c) (a .d) (a .k) (c .if1 .taken) (c .before .pre .1)
@@ -28,9 +22,6 @@ returns-4 c =
     let a = entry .args in
     deeper (a .c) (a .d) (a .k) (c .before .before .if1 .left) (c .before .if2 .left) (c .if4 .taken) (entry .pre .1)
 
-sign-rank-requires : tie.Need-sign-rank-requires
-sign-rank-requires c κs = search needs
-
 returns-5 : tie.Need-returns-5
 returns-5 c =
     let a = c .before .before .before .before .before .args in
@@ -49,4 +40,4 @@ returns-6 c =
 pub step-spec : {M : Type 1} → statement M
 step-spec =
     tie.close
-    (tie.spec add-t6 returns returns-2 returns-3 returns-4 sign-rank-requires returns-5 returns-6)
+    (tie.spec (λ c. search needs) returns returns-2 returns-3 returns-4 (λ c κs. search needs) returns-5 returns-6)

@@ -1,4 +1,4 @@
--- `parse::taken` meets its contract: three cells are written. Assumes nothing.
+-- `parse::taken` meets its contract: three cells are written.
 use mathlib.Core.Path.{refl, sym, subst}
 use native.Mathlib.Omega.{arith}
 use Rattle.parse.specs.Joined.{Gives}
@@ -6,44 +6,15 @@ use Rattle.parse.proofs.TurnLaws.{filled, given-as}
 use borrow.Author.Needs.{needs}
 use Rattle.parse.proofs.taken.Statement.{statement}
 use Rattle.parse.proofs.taken.Tie as tie
-use Rattle.parse.proofs.taken.Reads as reads
-use Rattle.parse.proofs.taken.Lts as lts
-
-enum-told : tie.Need-enum-told
-enum-told c = search needs
-
-enum-known-i : tie.Need-enum-known-i
-enum-known-i c = search needs
-
-element-write-st : tie.Need-element-write-st
-element-write-st c = search needs
-
-element-write-st-2 : tie.Need-element-write-st-2
-element-write-st-2 c = search needs
 
 add-st : tie.Need-add-st
 add-st c = let t = rw (c .before .i .given .1) at (c .before .before .before .pre .1) in let x = t .1 in record { fits = omega (arith, x) }
 
-element-write-st-3 : tie.Need-element-write-st-3
-element-write-st-3 c = search needs
-
 add-result : tie.Need-add-result
 add-result c = let t = rw (c .before .i .given .1) at (c .before .before .before .pre .1) in let x = t .0 in record { fits = omega (arith, x) }
 
-enum-known-i-2 : tie.Need-enum-known-i-2
-enum-known-i-2 c = search needs
-
-element-write-st-4 : tie.Need-element-write-st-4
-element-write-st-4 c = search needs
-
-element-write-st-5 : tie.Need-element-write-st-5
-element-write-st-5 c = search needs
-
 add-st-2 : tie.Need-add-st-2
 add-st-2 c = let t = rw (c .before .i2 .given .1) at (c .before .before .before .pre .1) in let x = t .1 in record { fits = omega (arith, x) }
-
-element-write-st-6 : tie.Need-element-write-st-6
-element-write-st-6 c = search needs
 
 add-result-2 : tie.Need-add-result-2
 add-result-2 c = let t = rw (c .before .i2 .given .1) at (c .before .before .before .pre .1) in let x = t .0 in record { fits = omega (arith, x) }
@@ -71,19 +42,5 @@ pub taken-spec : {M : Type 1} → statement M
 taken-spec =
     tie.close
     (tie.spec
-    enum-told
-    enum-known-i
-    element-write-st
-    element-write-st-2
-    add-st
-    element-write-st-3
-    add-result
-    enum-known-i-2
-    element-write-st-4
-    element-write-st-5
-    add-st-2
-    element-write-st-6
-    add-result-2
-    returns
-    returns-2
-    returns-3)
+    (λ c. search needs) (λ c. search needs) (λ c. search needs) (λ c. search needs) add-st (λ c. search needs) add-result (λ c. search needs)
+    (λ c. search needs) (λ c. search needs) add-st-2 (λ c. search needs) add-result-2 returns returns-2 returns-3)

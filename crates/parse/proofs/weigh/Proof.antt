@@ -1,27 +1,13 @@
--- `parse::weigh` meets its contract: a text deeper than half the limit has a tree over it, or none (`nested-weighs`). Assumes nothing.
+-- `parse::weigh` meets its contract: a text deeper than half the limit has a tree over it, or none (`nested-weighs`).
 use mathlib.Core.Path.{sym, _∙_}
 use native.Mathlib.Omega.{arith}
 use Rattle.parse.proofs.WeighLaws.{too-heavy, no-text}
 use borrow.Author.Needs.{needs}
 use Rattle.parse.proofs.weigh.Statement.{statement}
 use Rattle.parse.proofs.weigh.Tie as tie
-use Rattle.parse.proofs.weigh.Reads as reads
-use Rattle.parse.proofs.weigh.Lts as lts
-use Rattle.parse.proofs.is_form.Reads as is-form-reads
-use Rattle.parse.proofs.is_shallow.Reads as is-shallow-reads
-use Rattle.parse.proofs.weigh_shallow.Reads as weigh-shallow-reads
-
-is-shallow-requires : tie.Need-is-shallow-requires
-is-shallow-requires c κs = search needs
 
 weigh-shallow-requires : tie.Need-weigh-shallow-requires
 weigh-shallow-requires c κs = sym (c .before .is-shallow .ensures) ∙ c .if1 .taken
-
-returns : tie.Need-returns
-returns c = search needs
-
-is-form-requires : tie.Need-is-form-requires
-is-form-requires c κs = search needs
 
 returns-2 : tie.Need-returns-2
 returns-2 c =
@@ -41,9 +27,4 @@ pub weigh-spec : {M : Type 1} → statement M
 weigh-spec =
     tie.close
     (tie.spec
-    is-shallow-requires
-    weigh-shallow-requires
-    returns
-    is-form-requires
-    returns-2
-    returns-3)
+    (λ c κs. search needs) weigh-shallow-requires (λ c. search needs) (λ c κs. search needs) returns-2 returns-3)

@@ -1,8 +1,7 @@
 -- `part::add_term` meets its contract: the later coefficient is in range, and the sum is made and judged; or it is not, and neither is the
--- sum. Each return is the law of its case. Assumes nothing.
-use mathlib.Core.Path.{_≡_, sym, _∙_}
+-- sum. Each return is the law of its case.
+use mathlib.Core.Path.{sym, _∙_}
 use borrow.Author.Needs.{needs}
-use Rattle.paper.specs.Tree.{Tree}
 use Rattle.note.specs.Note.{note}
 use Rattle.part.proofs.PartLaws.{coefficient-is, coefficient-out, later-over, term-into, term-over}
 use Rattle.part.proofs.add_term.Statement.{statement}
@@ -24,24 +23,6 @@ read-of c = c .before .before
 
 abbrev later-of : Added → Later
 later-of c = c .before .before
-
-coefficient-requires : tie.Need-coefficient-requires
-coefficient-requires c κs = search needs
-
-enum-known-later : tie.Need-enum-known-later
-enum-known-later c = search needs
-
-add-requires : tie.Need-add-requires
-add-requires c κs = search needs
-
-enum-known-sum : tie.Need-enum-known-sum
-enum-known-sum c = search needs
-
-enum-told : tie.Need-enum-told
-enum-told c = search needs
-
-enum-told-2 : tie.Need-enum-told-2
-enum-told-2 c = search needs
 
 returns : tie.Need-returns
 returns c =
@@ -74,12 +55,5 @@ pub add-term-spec : {M : Type 1} → statement M
 add-term-spec =
     tie.close
     (tie.spec
-    coefficient-requires
-    enum-known-later
-    add-requires
-    enum-known-sum
-    enum-told
-    enum-told-2
-    returns
-    returns-2
+    (λ c κs. search needs) (λ c. search needs) (λ c κs. search needs) (λ c. search needs) (λ c. search needs) (λ c. search needs) returns returns-2
     returns-3)

@@ -1,5 +1,5 @@
 -- `part::merge` meets its contract: the part is a term, a wide one, a power or a number, and what the function for that form promises is what is to be
--- shown of it. The part shows a factor or a term by its form (`of-term`, `of-wide`, `of-power`, `of-number`). Assumes nothing.
+-- shown of it. The part shows a factor or a term by its form (`of-term`, `of-wide`, `of-power`, `of-number`).
 use mathlib.Core.Path.{subst}
 use borrow.Author.Needs.{needs}
 use Rattle.note.specs.Note.{note}
@@ -52,9 +52,6 @@ power-entry c = c .before .before .before .before
 abbrev power-of : Merged-power → Power
 power-of c = c .before .before .before
 
-enum-known-c : tie.Need-enum-known-c
-enum-known-c c = search needs
-
 merge-term-requires : tie.Need-merge-term-requires
 merge-term-requires c κs =
     let term = c .before .before in
@@ -63,9 +60,6 @@ merge-term-requires c κs =
     let shown = subst (λ k. Shows (q .flag) (entry .args .s .now) k (q .current)) (term .c .given .1) (q .shown) in
     let one = term-stands _ _ _ (q .flag) (q .current) shown in
     record { how = note; one = one .0; other = q .later; one-there = one .1; other-there = q .there; enough = q .enough }
-
-enum-known-c-2 : tie.Need-enum-known-c-2
-enum-known-c-2 c = search needs
 
 merge-wide-requires : tie.Need-merge-wide-requires
 merge-wide-requires c κs =
@@ -76,9 +70,6 @@ merge-wide-requires c κs =
     let one = wide-stands _ _ (q .flag) (q .current) shown in
     record { how = note; one = one .0; other = q .later; one-there = one .1; other-there = q .there; enough = q .enough }
 
-enum-known-c-3 : tie.Need-enum-known-c-3
-enum-known-c-3 c = search needs
-
 merge-power-requires : tie.Need-merge-power-requires
 merge-power-requires c κs =
     let power = c .before .before in
@@ -87,15 +78,6 @@ merge-power-requires c κs =
     let shown = subst (λ k. Shows (q .flag) (entry .args .s .now) k (q .current)) (power .c3 .given .1) (q .shown) in
     let one = power-stands _ _ _ _ _ (q .flag) (q .current) shown in
     record { how = note; one = one .0; other = q .later; one-there = one .1; other-there = q .there; enough = q .enough }
-
-enum-known-c-4 : tie.Need-enum-known-c-4
-enum-known-c-4 c = search needs
-
-merge-number-requires : tie.Need-merge-number-requires
-merge-number-requires c κs = search needs
-
-same-length : tie.Need-same-length
-same-length c = search needs
 
 returns : tie.Need-returns
 returns c =
@@ -106,9 +88,6 @@ returns c =
       λ p h. says .ensures .1 p (rw is at h),
     )
 
-same-length-2 : tie.Need-same-length-2
-same-length-2 c = search needs
-
 returns-2 : tie.Need-returns-2
 returns-2 c =
     let merged = c .before .before in
@@ -117,9 +96,6 @@ returns-2 c =
       λ b x t h there. of-wide _ t (says .result) _ (λ y k. says .ensures .0 y t k there) b x (rw is at h),
       λ p h. says .ensures .1 p,
     )
-
-same-length-3 : tie.Need-same-length-3
-same-length-3 c = search needs
 
 returns-3 : tie.Need-returns-3
 returns-3 c =
@@ -143,18 +119,5 @@ pub merge-spec : {M : Type 1} → statement M
 merge-spec =
     tie.close
     (tie.spec
-    enum-known-c
-    merge-term-requires
-    enum-known-c-2
-    merge-wide-requires
-    enum-known-c-3
-    merge-power-requires
-    enum-known-c-4
-    merge-number-requires
-    same-length
-    returns
-    same-length-2
-    returns-2
-    same-length-3
-    returns-3
-    returns-4)
+    (λ c. search needs) merge-term-requires (λ c. search needs) merge-wide-requires (λ c. search needs) merge-power-requires (λ c. search needs)
+    (λ c κs. search needs) (λ c. search needs) returns (λ c. search needs) returns-2 (λ c. search needs) returns-3 returns-4)

@@ -1,7 +1,7 @@
 -- `part::merge_number` meets its contract. Where the later member's base is no integer the two stay apart, since an integer base is like
 -- integers only. Where it is one, its bits and the exponent that was read show the later member as a number (`later`), and the tests
 -- decide as the paper's rule does: equal exponents multiply the bases; else equal bases add the exponents; else the two stay apart. Each
--- return is the law of its case. Assumes nothing.
+-- return is the law of its case.
 use mathlib.Core.Path.{refl, sym, _∙_}
 use native.Mathlib.Omega.{arith}
 use borrow.Author.Needs.{needs}
@@ -68,9 +68,6 @@ later c t there =
     number-part _ _ _ (found .base .result) _ _ _ t there base (omega (arith, known .kind .ensures, integer)) (c .before .bits .ensures) refl refl
     (exponent .0) (exponent .1)
 
-base-requires : tie.Need-base-requires
-base-requires c κs = search needs
-
 kind-requires : tie.Need-kind-requires
 kind-requires c κs =
     let q = entry-of c .pre in
@@ -92,18 +89,6 @@ bits-requires c κs =
     let q = entry-of found .pre in
     record-within (found .base .ensures .0 (q .how) (q .tree) (q .there))
 
-exponent-requires : tie.Need-exponent-requires
-exponent-requires c κs = search needs
-
-mul-requires : tie.Need-mul-requires
-mul-requires c κs = search needs
-
-enum-known-product : tie.Need-enum-known-product
-enum-known-product c = search needs
-
-enum-told : tie.Need-enum-told
-enum-told c = search needs
-
 returns-2 : tie.Need-returns-2
 returns-2 c =
     let multiplied = c .before .before .before in
@@ -122,15 +107,6 @@ returns-3 c =
 
 returns-4 : tie.Need-returns-4
 returns-4 c = (λ x t h there. number-other h (later (c .before .before) t there) (c .before .if2 .left) (c .if3 .taken), λ p. tt)
-
-add-requires : tie.Need-add-requires
-add-requires c κs = search needs
-
-enum-known-sum : tie.Need-enum-known-sum
-enum-known-sum c = search needs
-
-enum-told-2 : tie.Need-enum-told-2
-enum-told-2 c = search needs
 
 returns-5 : tie.Need-returns-5
 returns-5 c =
@@ -154,19 +130,5 @@ pub merge-number-spec : {M : Type 1} → statement M
 merge-number-spec =
     tie.close
     (tie.spec
-    base-requires
-    kind-requires
-    returns
-    bits-requires
-    exponent-requires
-    mul-requires
-    enum-known-product
-    enum-told
-    returns-2
-    returns-3
-    returns-4
-    add-requires
-    enum-known-sum
-    enum-told-2
-    returns-5
-    returns-6)
+    (λ c κs. search needs) kind-requires returns bits-requires (λ c κs. search needs) (λ c κs. search needs) (λ c. search needs) (λ c. search needs)
+    returns-2 returns-3 returns-4 (λ c κs. search needs) (λ c. search needs) (λ c. search needs) returns-5 returns-6)

@@ -1,6 +1,6 @@
 -- `part::merge_power` meets its contract. A base that is no integer is like an equal base only, so the comparison of the two bases decides:
 -- where they differ the two stay apart (`bases-differ`), where they are equal (`bases-equal`) the sum of the exponents is made and judged.
--- Each return is the law of its case. Assumes nothing.
+-- Each return is the law of its case.
 use mathlib.Core.Path.{_≡_, sym, _∙_}
 use mathlib.Core.Bool.{true, false}
 use native.Mathlib.Omega.{arith}
@@ -73,9 +73,6 @@ module _ (x : Factor) (t : Tree) where
       let read = c .exponent .ensures note t (m .1) in
       raised-later t (read .0) (read .1)
 
-base-requires : tie.Need-base-requires
-base-requires c κs = search needs
-
 same-requires : tie.Need-same-requires
 same-requires c κs =
     let found = c .before in
@@ -89,32 +86,8 @@ same-requires c κs =
       enough = omega (arith, q .enough, base-size (q .other));
     }
 
-enum-told : tie.Need-enum-told
-enum-told c = search needs
-
-enum-told-2 : tie.Need-enum-told-2
-enum-told-2 c = search needs
-
-exponent-requires : tie.Need-exponent-requires
-exponent-requires c κs = search needs
-
-add-requires : tie.Need-add-requires
-add-requires c κs = search needs
-
-enum-known-sum : tie.Need-enum-known-sum
-enum-known-sum c = search needs
-
-enum-told-3 : tie.Need-enum-told-3
-enum-told-3 c = search needs
-
-same-length : tie.Need-same-length
-same-length c = search needs
-
 returns : tie.Need-returns
 returns c = (λ x t h there. power-apart h _ (bases-differ x t c (h, there)), λ p h. tt)
-
-same-length-2 : tie.Need-same-length-2
-same-length-2 c = search needs
 
 returns-2 : tie.Need-returns-2
 returns-2 c =
@@ -125,9 +98,6 @@ returns-2 c =
           (sym (added .add .ensures) ∙ c .before .sum .given .1),
       λ p h. h,
     )
-
-same-length-3 : tie.Need-same-length-3
-same-length-3 c = search needs
 
 returns-3 : tie.Need-returns-3
 returns-3 c =
@@ -143,17 +113,5 @@ pub merge-power-spec : {M : Type 1} → statement M
 merge-power-spec =
     tie.close
     (tie.spec
-    base-requires
-    same-requires
-    enum-told
-    enum-told-2
-    exponent-requires
-    add-requires
-    enum-known-sum
-    enum-told-3
-    same-length
-    returns
-    same-length-2
-    returns-2
-    same-length-3
-    returns-3)
+    (λ c κs. search needs) same-requires (λ c. search needs) (λ c. search needs) (λ c κs. search needs) (λ c κs. search needs) (λ c. search needs)
+    (λ c. search needs) (λ c. search needs) returns (λ c. search needs) returns-2 (λ c. search needs) returns-3)

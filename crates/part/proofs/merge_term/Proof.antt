@@ -1,5 +1,5 @@
 -- `part::merge_term` meets its contract. Terms are like where their rests are equal, so the rests decide: where they are seen to differ
--- (HeadLaws), or the comparison says so, the two stay apart; where they are equal the coefficients are added. Assumes nothing.
+-- (HeadLaws), or the comparison says so, the two stay apart; where they are equal the coefficients are added.
 use mathlib.Core.Path.{sym, ap, _∙_}
 use borrow.Author.Needs.{needs}
 use Rattle.paper.specs.Equal.{equal}
@@ -23,15 +23,6 @@ returns c =
       λ p h. tt,
     )
 
-same-rest-requires : tie.Need-same-rest-requires
-same-rest-requires c κs = search needs
-
-add-term-requires : tie.Need-add-term-requires
-add-term-requires c κs = search needs
-
-same-length : tie.Need-same-length
-same-length c = search needs
-
 returns-2 : tie.Need-returns-2
 returns-2 c =
     let alike = c .before in
@@ -42,9 +33,6 @@ returns-2 c =
           (ap (λ r. equal r (termOf t .rest)) (h .rest) ∙ sym (same .ensures note (h .member) t (h .there) there) ∙ alike .if2 .taken),
       says .1,
     )
-
-same-length-2 : tie.Need-same-length-2
-same-length-2 c = search needs
 
 returns-3 : tie.Need-returns-3
 returns-3 c =
@@ -59,11 +47,4 @@ pub merge-term-spec : {M : Type 1} → statement M
 merge-term-spec =
     tie.close
     (tie.spec
-    rests-differ-requires
-    returns
-    same-rest-requires
-    add-term-requires
-    same-length
-    returns-2
-    same-length-2
-    returns-3)
+    rests-differ-requires returns (λ c κs. search needs) (λ c κs. search needs) (λ c. search needs) returns-2 (λ c. search needs) returns-3)

@@ -9,12 +9,6 @@ use Rattle.part.proofs.PartLaws.{term-apart, wide-over}
 use Rattle.part.proofs.merge_wide.Statement.{statement}
 use Rattle.part.proofs.merge_wide.Tie as tie
 
-same-rest-requires : tie.Need-same-rest-requires
-same-rest-requires c κs = search needs
-
-same-length : tie.Need-same-length
-same-length c = search needs
-
 returns : tie.Need-returns
 returns c =
     let same = c .before .before .before .same-rest in (
@@ -23,9 +17,6 @@ returns c =
           (ap (λ r. equal r (termOf t .rest)) (h .rest) ∙ sym (same .ensures note (h .member) t (h .there) there) ∙ c .if1 .taken) (h .wide),
       λ p. tt,
     )
-
-same-length-2 : tie.Need-same-length-2
-same-length-2 c = search needs
 
 returns-2 : tie.Need-returns-2
 returns-2 c =
@@ -38,4 +29,4 @@ returns-2 c =
 
 pub merge-wide-spec : {M : Type 1} → statement M
 merge-wide-spec =
-    tie.close (tie.spec same-rest-requires same-length returns same-length-2 returns-2)
+    tie.close (tie.spec (λ c κs. search needs) (λ c. search needs) returns (λ c. search needs) returns-2)

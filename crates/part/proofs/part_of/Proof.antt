@@ -1,6 +1,6 @@
 -- `part::part_of` meets its contract. Of a sum's member the term is read. Of a product's member the exponent, the record of the
--- base and the mark: where an integer stands there its bits and its mark are read; else the base is the record after a power's own, with two records fewer, or the
--- member itself. In each case what was read shows the member's part. Assumes nothing.
+-- base and the mark: where an integer stands there its bits and its mark are read; else the base is the record after a power's own,
+-- with two records fewer, or the member itself. In each case what was read shows the member's part.
 use mathlib.Core.Path.{_≡_, sym, _∙_}
 use mathlib.Core.Option.{none}
 use native.Mathlib.Omega.{arith}
@@ -143,7 +143,8 @@ returns-4 c =
       λ t h.
           let e = read .exponent .ensures note t (h .there) in
           let other = no-integer (c .before) t (h .there) in
-          rw (read .before .if1 .left) (base-part _ _ _ _ t h other (e .0) (e .1) (marked .mark .ensures .0) (λ k. c .if3 .left (c .before .kind2 .ensures ∙ k))),
+          rw (read .before .if1 .left)
+          (base-part _ _ _ _ t h other (e .0) (e .1) (marked .mark .ensures .0) (λ k. c .if3 .left (c .before .kind2 .ensures ∙ k))),
       λ p h. h,
     )
 
@@ -151,17 +152,5 @@ pub part-of-spec : {M : Type 1} → statement M
 part-of-spec =
     tie.close
     (tie.spec
-    term-of-requires
-    returns
-    exponent-requires
-    base-requires
-    mark-requires
-    kind-requires
-    bits-requires
-    mark-requires-2
-    returns-2
-    kind-requires-2
-    add-t12
-    sub-t13
-    returns-3
-    returns-4)
+    term-of-requires returns exponent-requires base-requires mark-requires kind-requires bits-requires mark-requires-2 returns-2 kind-requires-2
+    add-t12 sub-t13 returns-3 returns-4)

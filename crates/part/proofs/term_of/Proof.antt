@@ -1,5 +1,5 @@
 -- `part::term_of` meets its contract: the coefficient of a tree that is its own rest is 1, and that of an integer itself; that of a product is in
--- range, or it is not, and the term is shown so. Assumes nothing.
+-- range, or it is not, and the term is shown so.
 use mathlib.Core.Path.{sym, ap, _∙_}
 use native.Mathlib.Omega.{arith}
 use borrow.Author.Needs.{needs}
@@ -11,9 +11,6 @@ use Rattle.equal.proofs.HeadLaws.{whole-coefficient}
 use Rattle.part.proofs.PartLaws.{term-part, wide-part}
 use Rattle.part.proofs.term_of.Statement.{statement}
 use Rattle.part.proofs.term_of.Tie as tie
-
-is-whole-requires : tie.Need-is-whole-requires
-is-whole-requires c κs = search needs
 
 returns : tie.Need-returns
 returns c =
@@ -32,15 +29,6 @@ returns-2 c =
     let is = c .before .if2 .taken in
     (λ t h. term-part _ _ t h (ap Is (c .bits .ensures) ∙ term-integer t h (omega arith) .0), λ p h. h)
 
-coefficient-requires : tie.Need-coefficient-requires
-coefficient-requires c κs = search needs
-
-enum-known-n : tie.Need-enum-known-n
-enum-known-n c = search needs
-
-enum-told : tie.Need-enum-told
-enum-told c = search needs
-
 returns-3 : tie.Need-returns-3
 returns-3 c =
     let read = c .before .before .before .coefficient in
@@ -53,13 +41,5 @@ returns-4 c =
 
 pub term-of-spec : {M : Type 1} → statement M
 term-of-spec = tie.close (tie.spec
-    is-whole-requires
-    returns
-    kind-requires
-    bits-requires
-    returns-2
-    coefficient-requires
-    enum-known-n
-    enum-told
-    returns-3
+    (λ c κs. search needs) returns kind-requires bits-requires returns-2 (λ c κs. search needs) (λ c. search needs) (λ c. search needs) returns-3
     returns-4)

@@ -1,4 +1,4 @@
--- `receiver::after_piece` meets its contract: a chain of tests, each with the paper's law of its answer, and one copy. Assumes nothing.
+-- `receiver::after_piece` meets its contract: a chain of tests, each with the paper's law of its answer, and one copy.
 use Prim.Native.Nat.{_≤_}
 use mathlib.Core.Path.{_≡_, sym, ap, _∙_}
 use mathlib.Core.Bool.{true, false}
@@ -44,9 +44,6 @@ within c = sym (c .before .is-past .ensures) ∙ c .if3 .left
 within-count : (c : Within) → start-of c .args .r .count ≤ maxBytes (start-of c .args .limit)
 within-count c = open-count (maxBytes (start-of c .args .limit)) (says (start-of c .args .r)) (within c) .1
 
-is-limit-requires : tie.Need-is-limit-requires
-is-limit-requires c κs = search needs
-
 returns : tie.Need-returns
 returns c =
     let a = entry-of (c .before) .args in
@@ -59,9 +56,6 @@ returns-2 : tie.Need-returns-2
 returns-2 c =
     let a = entry-of (c .before .before) .args in
     sym (short-receives (a .limit) (held (a .r) (a .area .now)) (a .piece .now) (known (c .before)) (is-short (a .limit) (a .area .now) (c .if2 .taken)))
-
-is-past-requires : tie.Need-is-past-requires
-is-past-requires c κs = search needs
 
 returns-3 : tie.Need-returns-3
 returns-3 c =
@@ -78,9 +72,6 @@ sub-room c = within-count c
 copy-bytes-requires : tie.Need-copy-bytes-requires
 copy-bytes-requires c κs = let h = within-count (c .before .before) in (omega arith, omega arith)
 
-same-length : tie.Need-same-length
-same-length c = search needs
-
 returns-4 : tie.Need-returns-4
 returns-4 c =
     let copied = c .before .before in
@@ -92,12 +83,6 @@ returns-4 c =
 
 copy-bytes-requires-2 : tie.Need-copy-bytes-requires-2
 copy-bytes-requires-2 c κs = let h = within-count (c .before .before) in (omega arith, omega arith)
-
-add-t11 : tie.Need-add-t11
-add-t11 c = search needs
-
-same-length-2 : tie.Need-same-length-2
-same-length-2 c = search needs
 
 returns-5 : tie.Need-returns-5
 returns-5 c =
@@ -112,17 +97,5 @@ pub after-piece-spec : {M : Type 1} → statement M
 after-piece-spec =
     tie.close
     (tie.spec
-    is-limit-requires
-    returns
-    mul-most
-    returns-2
-    is-past-requires
-    returns-3
-    sub-room
-    copy-bytes-requires
-    same-length
-    returns-4
-    copy-bytes-requires-2
-    add-t11
-    same-length-2
-    returns-5)
+    (λ c κs. search needs) returns mul-most returns-2 (λ c κs. search needs) returns-3 sub-room copy-bytes-requires (λ c. search needs) returns-4
+    copy-bytes-requires-2 (λ c. search needs) (λ c. search needs) returns-5)

@@ -1,5 +1,5 @@
 -- `receiver::at_finish` meets its contract: a chain of tests, each with the paper's law of its answer, and the checker's answer on what was
--- kept. Assumes nothing.
+-- kept.
 use Prim.Native.Nat.{_≤_}
 use mathlib.Core.Path.{_≡_, sym, _∙_}
 use mathlib.Core.Bool.{true, false}
@@ -45,37 +45,22 @@ within c = sym (c .before .is-past .ensures) ∙ c .if3 .left
 within-count : (c : Within) → start-of c .args .r .count ≤ maxBytes (start-of c .args .limit)
 within-count c = open-count (maxBytes (start-of c .args .limit)) (says (start-of c .args .r)) (within c) .1
 
-is-limit-requires : tie.Need-is-limit-requires
-is-limit-requires c κs = search needs
-
-refused-requires : tie.Need-refused-requires
-refused-requires c κs = search needs
-
 returns : tie.Need-returns
 returns c =
     let asked = c .before .before in
     let a = entry-of asked .args in
     let q = unknown-finish (a .limit) (held (a .r) (a .area .now)) (sym (asked .is-limit .ensures) ∙ not-true _ (c .before .if1 .taken)) in
-    (c .refused .ensures ∙ sym (q .0), sym (q .1))
+    (c .refusal .ensures ∙ sym (q .0), sym (q .1))
 
 mul-most : tie.Need-mul-most
 mul-most c = omega (arith, limit-small (entry-of (c .before) .args .limit) (known c))
-
-refused-requires-2 : tie.Need-refused-requires-2
-refused-requires-2 c κs = search needs
 
 returns-2 : tie.Need-returns-2
 returns-2 c =
     let limited = c .before .before in
     let a = entry-of (limited .before) .args in
     let q = short-finish (a .limit) (held (a .r) (a .area .now)) (known limited) (is-short (a .limit) (a .area .now) (c .before .if2 .taken)) in
-    (c .refused2 .ensures ∙ sym (q .0), sym (q .1))
-
-is-past-requires : tie.Need-is-past-requires
-is-past-requires c κs = search needs
-
-refused-requires-3 : tie.Need-refused-requires-3
-refused-requires-3 c κs = search needs
+    (c .refusal2 .ensures ∙ sym (q .0), sym (q .1))
 
 returns-3 : tie.Need-returns-3
 returns-3 c =
@@ -85,22 +70,10 @@ returns-3 c =
     let q =
     past-finish (a .limit) (held (a .r) (a .area .now)) (known (long .before)) (is-long (a .limit) (a .area .now) (long .if2 .left))
     (sym (asked .is-past .ensures) ∙ c .before .if3 .taken) in
-    (c .refused3 .ensures ∙ sym (q .0), sym (q .1))
-
-sub-check : tie.Need-sub-check
-sub-check c = search needs
-
-part-check-start : tie.Need-part-check-start
-part-check-start c = search needs
+    (c .refusal3 .ensures ∙ sym (q .0), sym (q .1))
 
 part-check-end : tie.Need-part-check-end
 part-check-end c = let h = within-count c in omega arith
-
-check-requires : tie.Need-check-requires
-check-requires c κs = search needs
-
-fault-of-requires : tie.Need-fault-of-requires
-fault-of-requires c κs = search needs
 
 returns-4 : tie.Need-returns-4
 returns-4 c =
@@ -116,18 +89,5 @@ pub at-finish-spec : {M : Type 1} → statement M
 at-finish-spec =
     tie.close
     (tie.spec
-    is-limit-requires
-    refused-requires
-    returns
-    mul-most
-    refused-requires-2
-    returns-2
-    is-past-requires
-    refused-requires-3
-    returns-3
-    sub-check
-    part-check-start
-    part-check-end
-    check-requires
-    fault-of-requires
-    returns-4)
+    (λ c κs. search needs) (λ c κs. search needs) returns mul-most (λ c κs. search needs) returns-2 (λ c κs. search needs) (λ c κs. search needs)
+    returns-3 (λ c. search needs) (λ c. search needs) part-check-end (λ c κs. search needs) (λ c κs. search needs) returns-4)

@@ -1,4 +1,4 @@
--- `receiver::is_past` meets its contract: by the mark, and then by the count. Assumes nothing.
+-- `receiver::is_past` meets its contract: by the mark, and then by the count.
 use mathlib.Core.Path.{sym}
 use native.Mathlib.Omega.{arith}
 use Rattle.paper_receiver.proofs.PieceLaws.{past-by-mark, past-by-count}

@@ -1,4 +1,4 @@
--- `record::arity` meets its contract: each return is one case of the definition, by the tests before it. Assumes nothing.
+-- `record::arity` meets its contract: each return is one case of the definition, by the tests before it.
 use mathlib.Core.Path.{sym}
 use native.Mathlib.Omega.{arith}
 use borrow.Author.Needs.{needs}
@@ -6,9 +6,6 @@ use borrow.Author.Tests.{eq-eqb, ne-eqb, lt-ltb, le-ltb}
 use Rattle.paper.specs.Record.{arity}
 use Rattle.record.proofs.arity.Statement.{statement}
 use Rattle.record.proofs.arity.Tie as tie
-
-kind-requires : tie.Need-kind-requires
-kind-requires c κs = search needs
 
 returns : tie.Need-returns
 unfolding arity
@@ -19,9 +16,6 @@ unfolding arity
 returns-2 c =
     (simp (sym (c .before .before .kind .ensures), le-ltb _ _ (c .before .if1 .left), eq-eqb _ _ (c .if2 .taken)), omega arith)
 
-count-requires : tie.Need-count-requires
-count-requires c κs = search needs
-
 returns-3 : tie.Need-returns-3
 unfolding arity
 returns-3 c =
@@ -31,4 +25,4 @@ returns-3 c =
     )
 
 pub arity-spec : {M : Type 1} → statement M
-arity-spec = tie.close (tie.spec kind-requires returns returns-2 count-requires returns-3)
+arity-spec = tie.close (tie.spec (λ c κs. search needs) returns returns-2 (λ c κs. search needs) returns-3)

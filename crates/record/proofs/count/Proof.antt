@@ -1,21 +1,12 @@
--- `record::count` meets its contract: the number in bytes 2 and 3 is what `read2` reads there. Assumes nothing.
+-- `record::count` meets its contract: the number in bytes 2 and 3 is what `read2` reads there.
 use borrow.Author.Needs.{needs}
 use Rattle.paper.specs.Record.{countIn}
 use Rattle.record.proofs.count.Statement.{statement}
 use Rattle.record.proofs.count.Tie as tie
-
-mul-read2 : tie.Need-mul-read2
-mul-read2 c = search needs
-
-add-read2 : tie.Need-add-read2
-add-read2 c = search needs
-
-read2-requires : tie.Need-read2-requires
-read2-requires c κs = search needs
 
 returns : tie.Need-returns
 unfolding countIn
 returns c = c .read2 .ensures
 
 pub count-spec : {M : Type 1} → statement M
-count-spec = tie.close (tie.spec mul-read2 add-read2 read2-requires returns)
+count-spec = tie.close (tie.spec (λ c. search needs) (λ c. search needs) (λ c κs. search needs) returns)

@@ -1,12 +1,9 @@
--- `record::first_of` meets its contract: by what `is_flawed` says of the first. Assumes nothing.
+-- `record::first_of` meets its contract: by what `is_flawed` says of the first.
 use borrow.Author.Needs.{needs}
 use mathlib.Core.Path.{sym}
 use Rattle.record.specs.Flaw.{firstOf}
 use Rattle.record.proofs.first_of.Statement.{statement}
 use Rattle.record.proofs.first_of.Tie as tie
-
-is-flawed-requires : tie.Need-is-flawed-requires
-is-flawed-requires c κs = search needs
 
 returns : tie.Need-returns
 unfolding firstOf
@@ -17,4 +14,4 @@ unfolding firstOf
 returns-2 c = simp (sym (c .before .is-flawed .ensures), c .if1 .left)
 
 pub first-of-spec : {M : Type 1} → statement M
-first-of-spec = tie.close (tie.spec is-flawed-requires returns returns-2)
+first-of-spec = tie.close (tie.spec (λ c κs. search needs) returns returns-2)

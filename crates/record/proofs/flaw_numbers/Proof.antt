@@ -1,4 +1,4 @@
--- `record::flaw_numbers` meets its contract: each arm gives the two numbers of its case. Assumes nothing.
+-- `record::flaw_numbers` meets its contract: each arm gives the two numbers of its case.
 use mathlib.Core.Path.{sym, ap}
 use borrow.Author.Needs.{needs}
 use Rattle.paper.specs.Record.{flawNumbers}
@@ -6,18 +6,6 @@ use Rattle.record.specs.Flaw.{flawOf}
 use Rattle.record.specs.declared.Flaw.{Flaw}
 use Rattle.record.proofs.flaw_numbers.Statement.{statement}
 use Rattle.record.proofs.flaw_numbers.Tie as tie
-
-enum-told : tie.Need-enum-told
-enum-told c = search needs
-
-enum-told-2 : tie.Need-enum-told-2
-enum-told-2 c = search needs
-
-enum-known-f : tie.Need-enum-known-f
-enum-known-f c = search needs
-
-enum-told-3 : tie.Need-enum-told-3
-enum-told-3 c = search needs
 
 returns : tie.Need-returns
 unfolding flawNumbers
@@ -38,4 +26,4 @@ returns-4 c = sym (ap (λ (f : Flaw). flawNumbers (flawOf f)) (c .enum-told3 .gi
 pub flaw-numbers-spec : {M : Type 1} → statement M
 flaw-numbers-spec =
     tie.close
-    (tie.spec enum-told enum-told-2 enum-known-f enum-told-3 returns returns-2 returns-3 returns-4)
+    (tie.spec (λ c. search needs) (λ c. search needs) (λ c. search needs) (λ c. search needs) returns returns-2 returns-3 returns-4)

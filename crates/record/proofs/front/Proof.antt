@@ -1,4 +1,4 @@
--- `record::front` meets its contract: only kinds 2 and 3 have a count, by the tests before each return. Assumes nothing.
+-- `record::front` meets its contract: only kinds 2 and 3 have a count, by the tests before each return.
 use mathlib.Core.Path.{sym}
 use native.Mathlib.Omega.{arith}
 use borrow.Author.Needs.{needs}
@@ -7,37 +7,13 @@ use Rattle.record.proofs.KindLaws.{leaf-no-node, power-no-node, between
 use Rattle.record.proofs.front.Statement.{statement}
 use Rattle.record.proofs.front.Tie as tie
 
-mark-requires : tie.Need-mark-requires
-mark-requires c κs = search needs
-
-mul-m : tie.Need-mul-m
-mul-m c = search needs
-
-add-result : tie.Need-add-result
-add-result c = search needs
-
 returns : tie.Need-returns
 unfolding front
 returns c = simp (leaf-no-node _ (c .if1 .taken), sym (c .before .mark .ensures .0))
 
-add-result-2 : tie.Need-add-result-2
-add-result-2 c = search needs
-
 returns-2 : tie.Need-returns-2
 unfolding front
 returns-2 c = simp (power-no-node _ (c .if2 .taken), sym (c .before .before .mark .ensures .0))
-
-count-requires : tie.Need-count-requires
-count-requires c κs = search needs
-
-mul-result : tie.Need-mul-result
-mul-result c = search needs
-
-add-result-3 : tie.Need-add-result-3
-add-result-3 c = search needs
-
-add-result-4 : tie.Need-add-result-4
-add-result-4 c = search needs
 
 returns-3 : tie.Need-returns-3
 unfolding front
@@ -50,14 +26,5 @@ pub front-spec : {M : Type 1} → statement M
 front-spec =
     tie.close
     (tie.spec
-    mark-requires
-    mul-m
-    add-result
-    returns
-    add-result-2
-    returns-2
-    count-requires
-    mul-result
-    add-result-3
-    add-result-4
-    returns-3)
+    (λ c κs. search needs) (λ c. search needs) (λ c. search needs) returns (λ c. search needs) returns-2 (λ c κs. search needs) (λ c. search needs)
+    (λ c. search needs) (λ c. search needs) returns-3)

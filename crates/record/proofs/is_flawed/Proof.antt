@@ -1,4 +1,4 @@
--- `record::is_flawed` meets its contract: each arm gives the value of its case. Assumes nothing.
+-- `record::is_flawed` meets its contract: each arm gives the value of its case.
 use mathlib.Core.Path.{sym, ap}
 use borrow.Author.Needs.{needs}
 use Rattle.record.specs.Flaw.{flawOf}
@@ -6,18 +6,6 @@ use Rattle.record.specs.declared.Flaw.{Flaw}
 use Rattle.paper.specs.Record.{isFlawed}
 use Rattle.record.proofs.is_flawed.Statement.{statement}
 use Rattle.record.proofs.is_flawed.Tie as tie
-
-enum-told : tie.Need-enum-told
-enum-told c = search needs
-
-enum-told-2 : tie.Need-enum-told-2
-enum-told-2 c = search needs
-
-enum-told-3 : tie.Need-enum-told-3
-enum-told-3 c = search needs
-
-enum-told-4 : tie.Need-enum-told-4
-enum-told-4 c = search needs
 
 returns : tie.Need-returns
 unfolding isFlawed
@@ -38,4 +26,4 @@ returns-4 c = sym (ap (λ (f : Flaw). isFlawed (flawOf f)) (c .enum-told4 .given
 pub is-flawed-spec : {M : Type 1} → statement M
 is-flawed-spec =
     tie.close
-    (tie.spec enum-told enum-told-2 enum-told-3 enum-told-4 returns returns-2 returns-3 returns-4)
+    (tie.spec (λ c. search needs) (λ c. search needs) (λ c. search needs) (λ c. search needs) returns returns-2 returns-3 returns-4)

@@ -1,4 +1,4 @@
--- `record::is_positive` meets its contract: each return is one case of the definition's three tests. Assumes nothing.
+-- `record::is_positive` meets its contract: each return is one case of the definition's three tests.
 use mathlib.Core.Path.{sym}
 use native.Mathlib.Omega.{arith}
 use borrow.Author.Needs.{needs}
@@ -7,17 +7,11 @@ use Rattle.paper.specs.Verdict.{isPositive}
 use Rattle.record.proofs.is_positive.Statement.{statement}
 use Rattle.record.proofs.is_positive.Tie as tie
 
-kind-requires : tie.Need-kind-requires
-kind-requires c κs = search needs
-
 returns : tie.Need-returns
 unfolding isPositive
 returns c =
     let k = c .before .kind in
     simp (sym (k .ensures), ne-eqb (k .result) 0 (λ e. omega arith))
-
-bits-requires : tie.Need-bits-requires
-bits-requires c κs = search needs
 
 returns-2 : tie.Need-returns-2
 unfolding isPositive
@@ -34,4 +28,4 @@ returns-3 c =
     simp (sym (k .ensures), eq-eqb (k .result) 0 (omega arith), sym (v .ensures), lt-ltb 0 (v .result) (omega arith))
 
 pub is-positive-spec : {M : Type 1} → statement M
-is-positive-spec = tie.close (tie.spec kind-requires returns bits-requires returns-2 returns-3)
+is-positive-spec = tie.close (tie.spec (λ c κs. search needs) returns (λ c κs. search needs) returns-2 returns-3)

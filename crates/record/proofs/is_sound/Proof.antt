@@ -1,5 +1,5 @@
 -- `record::is_sound` meets its contract: each return is one case of the paper's tests, of the kind, the bytes and the count; where no byte is
--- stray, only the count is left (FlawLaws). Assumes nothing.
+-- stray, only the count is left (FlawLaws).
 use mathlib.Core.Path.{sym}
 use borrow.Author.Needs.{needs}
 use borrow.Author.Tests.{lt-ltb, le-ltb}
@@ -10,18 +10,9 @@ use Rattle.record.proofs.KindLaws.{leaf-no-node, power-no-node, between
 use Rattle.record.proofs.is_sound.Statement.{statement}
 use Rattle.record.proofs.is_sound.Tie as tie
 
-kind-requires : tie.Need-kind-requires
-kind-requires c κs = search needs
-
-cast-k : tie.Need-cast-k
-cast-k c = search needs
-
 returns : tie.Need-returns
 unfolding flaw isFlawed
 returns c = simp (sym (c .before .kind .ensures), lt-ltb _ _ (c .if1 .taken))
-
-stray-requires : tie.Need-stray-requires
-stray-requires c κs = search needs
 
 returns-2 : tie.Need-returns-2
 unfolding flaw isFlawed
@@ -43,9 +34,6 @@ returns-4 c =
     let only = flaw-unstray _ _ _ _ (at .before .before .kind .ensures) (at .before .if1 .left) (at .stray .ensures) (c .before .before .if2 .left) in
     simp (only, power-no-node _ (c .if4 .taken))
 
-count-requires : tie.Need-count-requires
-count-requires c κs = search needs
-
 returns-5 : tie.Need-returns-5
 unfolding countFlaw
 returns-5 c =
@@ -56,4 +44,5 @@ returns-5 c =
     simp (only, node, sym (c .count .ensures .0)) (count-good (c .count .result))
 
 pub is-sound-spec : {M : Type 1} → statement M
-is-sound-spec = tie.close (tie.spec kind-requires cast-k returns stray-requires returns-2 returns-3 returns-4 count-requires returns-5)
+is-sound-spec = tie.close (tie.spec
+    (λ c κs. search needs) returns (λ c κs. search needs) returns-2 returns-3 returns-4 (λ c κs. search needs) returns-5)

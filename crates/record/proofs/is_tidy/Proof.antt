@@ -1,21 +1,12 @@
 -- `record::is_tidy` meets its contract: the halves that are read are those of the definition, and each return is one case of it, by the
--- tests before it. Assumes nothing.
-use mathlib.Core.Path.{_≡_, sym, _∙_}
+-- tests before it.
+use mathlib.Core.Path.{_≡_, sym}
 use native.Mathlib.Omega.{arith}
 use borrow.Author.Needs.{needs}
 use borrow.Author.Tests.{eq-eqb, ne-eqb}
 use Rattle.record.specs.Tidy.{isTidy}
 use Rattle.record.proofs.is_tidy.Statement.{statement}
 use Rattle.record.proofs.is_tidy.Tie as tie
-
-mul-read8 : tie.Need-mul-read8
-mul-read8 c = search needs
-
-read8-requires : tie.Need-read8-requires
-read8-requires c κs = search needs
-
-front-requires : tie.Need-front-requires
-front-requires c κs = search needs
 
 returns : tie.Need-returns
 unfolding isTidy
@@ -32,9 +23,6 @@ returns-2 c =
     let integer : c .before .before .before .before .before .args .k ≡ 0 = omega (arith, c .if2 .taken) in
     simp (sym one, sym two, eq-eqb _ _ (c .before .if1 .left), eq-eqb _ 0 integer)
 
-bits-requires : tie.Need-bits-requires
-bits-requires c κs = search needs
-
 returns-3 : tie.Need-returns-3
 unfolding isTidy
 returns-3 c =
@@ -44,9 +32,6 @@ returns-3 c =
     let other : k ≡ 0 → ⊥ = λ e. omega (arith, c .before .before .if2 .left) in
     let symbol : k ≡ 1 = omega (arith, c .before .before .if2 .left, c .before .if3 .taken) in
     simp (sym one, sym two, eq-eqb _ _ (c .before .before .before .if1 .left), ne-eqb k 0 other, eq-eqb k 1 symbol, sym (c .bits .ensures))
-
-bits-requires-2 : tie.Need-bits-requires-2
-bits-requires-2 c κs = search needs
 
 returns-4 : tie.Need-returns-4
 unfolding isTidy
@@ -61,4 +46,6 @@ returns-4 c =
 pub is-tidy-spec : {M : Type 1} → statement M
 is-tidy-spec =
     tie.close
-    (tie.spec mul-read8 read8-requires front-requires returns returns-2 bits-requires returns-3 bits-requires-2 returns-4)
+    (tie.spec
+    (λ c. search needs) (λ c κs. search needs) (λ c κs. search needs) returns returns-2 (λ c κs. search needs) returns-3 (λ c κs. search needs)
+    returns-4)

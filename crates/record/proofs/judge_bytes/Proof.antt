@@ -1,13 +1,10 @@
--- `record::judge_bytes` meets its contract: the lowest stray byte, where there is one. Assumes nothing.
+-- `record::judge_bytes` meets its contract: the lowest stray byte, where there is one.
 use borrow.Author.Needs.{needs}
 use borrow.Author.Tests.{lt-ltb, le-ltb}
 use mathlib.Core.Path.{sym}
 use Rattle.record.specs.Flaw.{byteFlaw}
 use Rattle.record.proofs.judge_bytes.Statement.{statement}
 use Rattle.record.proofs.judge_bytes.Tie as tie
-
-stray-requires : tie.Need-stray-requires
-stray-requires c κs = search needs
 
 returns : tie.Need-returns
 unfolding byteFlaw
@@ -18,4 +15,4 @@ unfolding byteFlaw
 returns-2 c = simp (sym (c .before .stray .ensures), le-ltb _ _ (c .if1 .left))
 
 pub judge-bytes-spec : {M : Type 1} → statement M
-judge-bytes-spec = tie.close (tie.spec stray-requires returns returns-2)
+judge-bytes-spec = tie.close (tie.spec (λ c κs. search needs) returns returns-2)

@@ -1,4 +1,4 @@
--- `record::judge_count` meets its contract: by the kind there is no count, or it is read and tested. Assumes nothing.
+-- `record::judge_count` meets its contract: by the kind there is no count, or it is read and tested.
 use native.Mathlib.Omega.{arith}
 use borrow.Author.Needs.{needs}
 use borrow.Author.Tests.{lt-ltb, le-ltb}
@@ -16,9 +16,6 @@ returns-2 : tie.Need-returns-2
 unfolding countFlaw
 returns-2 c = simp (power-no-node _ (c .if2 .taken))
 
-count-requires : tie.Need-count-requires
-count-requires c κs = search needs
-
 returns-3 : tie.Need-returns-3
 unfolding countFlaw
 returns-3 c =
@@ -32,4 +29,4 @@ returns-4 c =
     simp (node, sym (c .before .count .ensures .0), le-ltb _ _ (c .if3 .left))
 
 pub judge-count-spec : {M : Type 1} → statement M
-judge-count-spec = tie.close (tie.spec returns returns-2 count-requires returns-3 returns-4)
+judge-count-spec = tie.close (tie.spec returns returns-2 (λ c κs. search needs) returns-3 returns-4)

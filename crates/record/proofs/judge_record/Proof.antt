@@ -1,5 +1,4 @@
 -- `record::judge_record` meets its contract: a kind over 4 is told at once; of any other the bytes are judged before the count (FlawLaws).
--- Assumes nothing.
 use mathlib.Core.Path.{sym, _∙_}
 use borrow.Author.Needs.{needs}
 use borrow.Author.Tests.{lt-ltb}
@@ -8,24 +7,9 @@ use Rattle.record.proofs.FlawLaws.{flaw-known}
 use Rattle.record.proofs.judge_record.Statement.{statement}
 use Rattle.record.proofs.judge_record.Tie as tie
 
-kind-requires : tie.Need-kind-requires
-kind-requires c κs = search needs
-
-cast-k : tie.Need-cast-k
-cast-k c = search needs
-
 returns : tie.Need-returns
 unfolding flaw
 returns c = simp (sym (c .before .kind .ensures), lt-ltb _ _ (c .if1 .taken))
-
-judge-bytes-requires : tie.Need-judge-bytes-requires
-judge-bytes-requires c κs = search needs
-
-judge-count-requires : tie.Need-judge-count-requires
-judge-count-requires c κs = search needs
-
-first-of-requires : tie.Need-first-of-requires
-first-of-requires c κs = search needs
 
 returns-2 : tie.Need-returns-2
 returns-2 c =
@@ -40,10 +24,4 @@ pub judge-record-spec : {M : Type 1} → statement M
 judge-record-spec =
     tie.close
     (tie.spec
-    kind-requires
-    cast-k
-    returns
-    judge-bytes-requires
-    judge-count-requires
-    first-of-requires
-    returns-2)
+    (λ c κs. search needs) returns (λ c κs. search needs) (λ c κs. search needs) (λ c κs. search needs) returns-2)

@@ -1,5 +1,5 @@
 -- `record::stray` meets its contract: a tidy record has no stray byte (TidyLaws). The loop's invariant: what is left to search from byte
--- j on gives what the whole search gives. Assumes nothing.
+-- j on gives what the whole search gives.
 use Prim.Native.Nat.{_-_, _≤_}
 use mathlib.Core.Path.{_≡_, refl, sym, _∙_}
 use mathlib.Core.Logic.{⊎-elim}
@@ -17,9 +17,6 @@ Inv-loop s i k j₀ j = (j ≤ 16) × (stray s i k 0 16 ≡ stray s i k j (16 - 
 abbrev μ-loop : tie.MeasureT-loop
 μ-loop s i k j₀ j = 16 - j
 
-is-tidy-requires : tie.Need-is-tidy-requires Inv-loop μ-loop
-is-tidy-requires c κs = search needs
-
 returns : tie.Need-returns Inv-loop μ-loop
 returns c =
     let start = c .before .before .before in
@@ -27,24 +24,6 @@ returns c =
 
 loop-holds : tie.Need-loop-holds Inv-loop μ-loop
 loop-holds c = (omega arith, refl)
-
-mul-if2 : tie.Need-mul-if2 Inv-loop μ-loop
-mul-if2 c = search needs
-
-add-if2 : tie.Need-add-if2 Inv-loop μ-loop
-add-if2 c = search needs
-
-shared-slice-read-if2 : tie.Need-shared-slice-read-if2 Inv-loop μ-loop
-shared-slice-read-if2 c = search needs
-
-mul-if3 : tie.Need-mul-if3 Inv-loop μ-loop
-mul-if3 c = search needs
-
-index-1-if3 : tie.Need-index-1-if3 Inv-loop μ-loop
-index-1-if3 c = search needs
-
-index-2-if3 : tie.Need-index-2-if3 Inv-loop μ-loop
-index-2-if3 c = search needs
 
 -- Here, and in `loop-again`, MAY meets `mayTable`: the test of MAY[k][j] is handed to a law about `mayBe k j`, which is admitted
 -- because the two tables are the same numbers.
@@ -55,12 +34,6 @@ returns-2 c =
     let a = at .before .before .before .before .args in
     let test = c .before .before .before .before .loop-test .taken in
     sym (at .loop .inv .1 ∙ stray-here (a .s .now) (a .i) (a .k) (at .loop .j) test (c .before .before .if2 .taken) (c .if3 .taken))
-
-add-j : tie.Need-add-j Inv-loop μ-loop
-add-j c = search needs
-
-loop-less : tie.Need-loop-less Inv-loop μ-loop
-loop-less c = search needs
 
 loop-again : tie.Need-loop-again Inv-loop μ-loop
 unfolding mayBe mayTable
@@ -87,19 +60,5 @@ pub stray-spec : {M : Type 1} → statement M
 stray-spec =
     tie.close
     (tie.spec
-    Inv-loop
-    μ-loop
-    is-tidy-requires
-    returns
-    loop-holds
-    mul-if2
-    add-if2
-    shared-slice-read-if2
-    mul-if3
-    index-1-if3
-    index-2-if3
-    returns-2
-    add-j
-    loop-less
-    loop-again
-    returns-3)
+    Inv-loop μ-loop (λ c κs. search needs) returns loop-holds (λ c. search needs) (λ c. search needs) (λ c. search needs) (λ c. search needs)
+    (λ c. search needs) (λ c. search needs) returns-2 (λ c. search needs) (λ c. search needs) loop-again returns-3)

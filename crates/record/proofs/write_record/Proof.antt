@@ -1,5 +1,5 @@
 -- `record::write_record` meets its contract: the sixteen bytes are the record's by computation, once the eight bytes of the number
--- are those that `bytes8` gave, and one copy puts them in. Assumes nothing.
+-- are those that `bytes8` gave, and one copy puts them in.
 use Prim.Native.Nat.{ℕ, _*_, _/_, _%_}
 use mathlib.Core.Path.{ap, _∙_}
 use mathlib.Core.List.{List, [], _∷_}
@@ -10,61 +10,6 @@ use Rattle.paper.specs.Table.{recordOf}
 use Rattle.stretch.specs.Put.{part, put}
 use Rattle.record.proofs.write_record.Statement.{statement}
 use Rattle.record.proofs.write_record.Tie as tie
-use Rattle.record.proofs.write_record.Reads as reads
-use Rattle.record.proofs.write_record.Lts as lts
-use Rattle.number.proofs.bytes8.Reads as bytes8-reads
-use Rattle.stretch.proofs.copy_bytes.Reads as copy-bytes-reads
-
-cast-lo : tie.Need-cast-lo
-cast-lo c = search needs
-
-cast-hi : tie.Need-cast-hi
-cast-hi c = search needs
-
-cast-mark-lo : tie.Need-cast-mark-lo
-cast-mark-lo c = search needs
-
-cast-mark-hi : tie.Need-cast-mark-hi
-cast-mark-hi c = search needs
-
-bytes8-requires : tie.Need-bytes8-requires
-bytes8-requires c κs = search needs
-
-array-read-t18 : tie.Need-array-read-t18
-array-read-t18 c = search needs
-
-array-read-t21 : tie.Need-array-read-t21
-array-read-t21 c = search needs
-
-array-read-t24 : tie.Need-array-read-t24
-array-read-t24 c = search needs
-
-array-read-t27 : tie.Need-array-read-t27
-array-read-t27 c = search needs
-
-array-read-t30 : tie.Need-array-read-t30
-array-read-t30 c = search needs
-
-array-read-t33 : tie.Need-array-read-t33
-array-read-t33 c = search needs
-
-array-read-t36 : tie.Need-array-read-t36
-array-read-t36 c = search needs
-
-array-read-t39 : tie.Need-array-read-t39
-array-read-t39 c = search needs
-
-mul-copy-bytes : tie.Need-mul-copy-bytes
-mul-copy-bytes c = search needs
-
-slice-aggregate-copy-bytes : tie.Need-slice-aggregate-copy-bytes
-slice-aggregate-copy-bytes c = search needs
-
-copy-bytes-requires : tie.Need-copy-bytes-requires
-copy-bytes-requires c κs = search needs
-
-same-length : tie.Need-same-length
-same-length c = search needs
 
 returns : tie.Need-returns
 unfolding part recordOf bytes
@@ -79,21 +24,6 @@ pub write-record-spec : {M : Type 1} → statement M
 write-record-spec =
     tie.close
     (tie.spec
-    cast-lo
-    cast-hi
-    cast-mark-lo
-    cast-mark-hi
-    bytes8-requires
-    array-read-t18
-    array-read-t21
-    array-read-t24
-    array-read-t27
-    array-read-t30
-    array-read-t33
-    array-read-t36
-    array-read-t39
-    mul-copy-bytes
-    slice-aggregate-copy-bytes
-    copy-bytes-requires
-    same-length
-    returns)
+    (λ c. search needs) (λ c. search needs) (λ c. search needs) (λ c. search needs) (λ c κs. search needs) (λ c. search needs) (λ c. search needs)
+    (λ c. search needs) (λ c. search needs) (λ c. search needs) (λ c. search needs) (λ c. search needs) (λ c. search needs) (λ c. search needs)
+    (λ c. search needs) (λ c κs. search needs) (λ c. search needs) returns)

@@ -1,7 +1,7 @@
 -- `rules::ask` meets its contract. Only the rules for the tree's kind are tried, for no other can apply to it. The loop's invariant:
 -- asking all the rules is asking those from the i-th on, and all is ready for them (`Going`); so it is at the first for that kind. A rule
 -- that stays idle goes on to the next; the first that does not answers; when those for that kind are done, no rule applies (AskLaws). The
--- measure is how many of them are left. Assumes nothing.
+-- measure is how many of them are left.
 use Prim.Native.Nat.{ℕ, _-_, _<_, _≤_}
 use mathlib.Core.Path.{_≡_, refl, ap, _∙_, subst}
 use mathlib.Core.List.{List}
@@ -117,12 +117,6 @@ long c =
 kind-requires : tie.Need-kind-requires Inv-loop μ-loop
 kind-requires c κs = record-within (ready-tree (c .before .before .before .pre .2))
 
-first-for-requires : tie.Need-first-for-requires Inv-loop μ-loop
-first-for-requires c κs = search needs
-
-end-for-requires : tie.Need-end-for-requires Inv-loop μ-loop
-end-for-requires c κs = search needs
-
 loop-holds : tie.Need-loop-holds Inv-loop μ-loop
 loop-holds c = (ordered c .0, refl, refl, λ t rest h. begins h (first-of c))
 
@@ -134,12 +128,6 @@ try-step-requires c κs =
     let head = c .before .before .before in
     let q = entry-of head .pre in
     (q .0, q .1, going head (q .2) .ready)
-
-enum-told : tie.Need-enum-told Inv-loop μ-loop
-enum-told c = search needs
-
-enum-known-tried : tie.Need-enum-known-tried Inv-loop μ-loop
-enum-known-tried c = search needs
 
 same-length : tie.Need-same-length Inv-loop μ-loop
 same-length c = long (asked-of (c .before .before .before)) .0
@@ -154,9 +142,6 @@ returns c =
     let is = c .before .tried .given in
     λ t rest h. steps (going (left .before) h) (within left) _ _ (is .0 .0) (says asked h _ (is .1))
 
-enum-told-2 : tie.Need-enum-told-2 Inv-loop μ-loop
-enum-told-2 c = search needs
-
 same-length-3 : tie.Need-same-length-3 Inv-loop μ-loop
 same-length-3 c = long (asked-of (c .before .before)) .0
 
@@ -168,12 +153,6 @@ returns-2 c =
     let asked = asked-of (c .before .before) in
     let left = left-of asked in
     λ t rest h. leaves (going (left .before) h) (within left) (says asked h _ (c .enum-told2 .given .1))
-
-add-i : tie.Need-add-i Inv-loop μ-loop
-add-i c = search needs
-
-loop-less : tie.Need-loop-less Inv-loop μ-loop
-loop-less c = search needs
 
 loop-again : tie.Need-loop-again Inv-loop μ-loop
 loop-again c =
@@ -201,26 +180,6 @@ pub ask-spec : {M : Type 1} → statement M
 ask-spec =
     tie.close
     (tie.spec
-    Inv-loop
-    μ-loop
-    kind-requires
-    first-for-requires
-    end-for-requires
-    loop-holds
-    array-read-step
-    try-step-requires
-    enum-told
-    enum-known-tried
-    same-length
-    same-length-2
-    returns
-    enum-told-2
-    same-length-3
-    same-length-4
-    returns-2
-    add-i
-    loop-less
-    loop-again
-    same-length-5
-    same-length-6
-    returns-3)
+    Inv-loop μ-loop kind-requires (λ c κs. search needs) (λ c κs. search needs) loop-holds array-read-step try-step-requires (λ c. search needs)
+    (λ c. search needs) same-length same-length-2 returns (λ c. search needs) same-length-3 same-length-4 returns-2 (λ c. search needs)
+    (λ c. search needs) loop-again same-length-5 same-length-6 returns-3)

@@ -1,5 +1,5 @@
 -- `rules::combine_gathered` meets its contract: at a leaf, at a power, and where a member is one that an earlier rule looks for, nothing is said, and
--- what is pending and done is as it was; else the node's like members are combined. Assumes nothing.
+-- what is pending and done is as it was; else the node's like members are combined.
 use Prim.Native.Nat.{ℕ}
 use mathlib.Core.Path.{_≡_, refl, sym, ap, _∙_}
 use mathlib.Core.List.{List}
@@ -58,14 +58,8 @@ node c h = is-node h _ (kinded c)
 kind-requires : tie.Need-kind-requires
 kind-requires c κs = record-within (ready-tree (c .before .before .before .pre .2))
 
-same-length : tie.Need-same-length
-same-length c = search needs
-
 returns : tie.Need-returns
 returns c = λ t rest h. (h .stands, refl)
-
-same-length-2 : tie.Need-same-length-2
-same-length-2 c = search needs
 
 returns-2 : tie.Need-returns-2
 returns-2 c = λ t rest h. (h .stands, refl)
@@ -73,20 +67,11 @@ returns-2 c = λ t rest h. (h .stands, refl)
 any-earlier-requires : tie.Need-any-earlier-requires
 any-earlier-requires c κs = let at = c .before in (_, held-members (node at (entry-of (kind-of at) .pre .2) .held))
 
-same-length-3 : tie.Need-same-length-3
-same-length-3 c = search needs
-
 returns-3 : tie.Need-returns-3
 returns-3 c = λ t rest h. (h .stands, refl)
 
 combine-members-requires : tie.Need-combine-members-requires
 combine-members-requires c κs = let at = one-of (c .before .before) in (entry-of (kind-of at) .pre, kinded at)
-
-same-length-4 : tie.Need-same-length-4
-same-length-4 c = search needs
-
-same-length-5 : tie.Need-same-length-5
-same-length-5 c = search needs
 
 returns-4 : tie.Need-returns-4
 returns-4 c =
@@ -103,15 +88,5 @@ pub combine-gathered-spec : {M : Type 1} → statement M
 combine-gathered-spec =
     tie.close
     (tie.spec
-    kind-requires
-    same-length
-    returns
-    same-length-2
-    returns-2
-    any-earlier-requires
-    same-length-3
-    returns-3
-    combine-members-requires
-    same-length-4
-    same-length-5
-    returns-4)
+    kind-requires (λ c. search needs) returns (λ c. search needs) returns-2 any-earlier-requires (λ c. search needs) returns-3
+    combine-members-requires (λ c. search needs) (λ c. search needs) returns-4)

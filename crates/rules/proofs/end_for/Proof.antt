@@ -1,4 +1,4 @@
--- `rules::end_for` meets its contract: each return is one case of the definition, by the tests before it. Assumes nothing.
+-- `rules::end_for` meets its contract: each return is one case of the definition, by the tests before it.
 use borrow.Author.Tests.{eq-eqb, ne-eqb}
 use Rattle.rules.proofs.end_for.Statement.{statement}
 use Rattle.rules.proofs.end_for.Tie as tie

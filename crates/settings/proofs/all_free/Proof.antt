@@ -1,4 +1,4 @@
--- `settings::all_free` meets its contract. The loop's invariant: what is left to look at from slot i on gives what the whole gives. Assumes nothing.
+-- `settings::all_free` meets its contract. The loop's invariant: what is left to look at from slot i on gives what the whole gives.
 use Prim.Native.Nat.{_-_}
 use mathlib.Core.Path.{_≡_, refl, sym, _∙_}
 use Rattle.paper_settings.specs.Settings.{allFree}
@@ -16,15 +16,6 @@ abbrev μ-loop : tie.MeasureT-loop
 
 loop-holds : tie.Need-loop-holds Inv-loop μ-loop
 loop-holds c = refl
-
-is-free-requires : tie.Need-is-free-requires Inv-loop μ-loop
-is-free-requires c κs = search needs
-
-add-i : tie.Need-add-i Inv-loop μ-loop
-add-i c = search needs
-
-loop-less : tie.Need-loop-less Inv-loop μ-loop
-loop-less c = search needs
 
 loop-again : tie.Need-loop-again Inv-loop μ-loop
 loop-again c =
@@ -51,12 +42,4 @@ pub all-free-spec : {M : Type 1} → statement M
 all-free-spec =
     tie.close
     (tie.spec
-    Inv-loop
-    μ-loop
-    loop-holds
-    is-free-requires
-    add-i
-    loop-less
-    loop-again
-    returns
-    returns-2)
+    Inv-loop μ-loop loop-holds (λ c κs. search needs) (λ c. search needs) (λ c. search needs) loop-again returns returns-2)

@@ -1,6 +1,6 @@
--- `settings::any_newer` meets its contract. The loop's invariant: what is left to search from slot i on gives what the whole gives. Assumes nothing.
+-- `settings::any_newer` meets its contract. The loop's invariant: what is left to search from slot i on gives what the whole gives.
 use Prim.Native.Nat.{_-_, _≤_}
-use mathlib.Core.Path.{_≡_, refl, sym, ap, _∙_}
+use mathlib.Core.Path.{_≡_, sym, ap, _∙_}
 use native.Mathlib.Omega.{arith}
 use Rattle.paper_settings.specs.Settings.{slotsOf, anyNewer}
 use Rattle.settings.specs.Slots.{rest}
@@ -18,9 +18,6 @@ abbrev μ-loop : tie.MeasureT-loop
 loop-holds : tie.Need-loop-holds Inv-loop μ-loop
 loop-holds c = (omega arith, ap (anyNewer _) (rest-all _))
 
-version-of-requires : tie.Need-version-of-requires Inv-loop μ-loop
-version-of-requires c κs = search needs
-
 returns : tie.Need-returns Inv-loop μ-loop
 returns c =
     let at = c .before .before .before in
@@ -28,12 +25,6 @@ returns c =
     let i = at .loop .i in
     let test = c .before .before .loop-test .taken in
     sym (at .loop .inv .1 ∙ newer-here (a .area .now) i (a .newest) test (omega (arith, c .if1 .taken, c .before .version-of .ensures)))
-
-add-i : tie.Need-add-i Inv-loop μ-loop
-add-i c = search needs
-
-loop-less : tie.Need-loop-less Inv-loop μ-loop
-loop-less c = search needs
 
 loop-again : tie.Need-loop-again Inv-loop μ-loop
 loop-again c =
@@ -52,12 +43,4 @@ pub any-newer-spec : {M : Type 1} → statement M
 any-newer-spec =
     tie.close
     (tie.spec
-    Inv-loop
-    μ-loop
-    loop-holds
-    version-of-requires
-    returns
-    add-i
-    loop-less
-    loop-again
-    returns-2)
+    Inv-loop μ-loop loop-holds (λ c κs. search needs) returns (λ c. search needs) (λ c. search needs) loop-again returns-2)

@@ -1,5 +1,5 @@
 -- `settings::any_twice` meets its contract. The loop's invariant: a key that is there twice is of this part or a later one; after the last
--- part there is none. Assumes nothing.
+-- part there is none.
 use Prim.Native.Nat.{_-_}
 use mathlib.Core.Path.{_≡_, refl, sym, _∙_}
 use native.Mathlib.Omega.{arith}
@@ -17,26 +17,14 @@ Inv-loop area n part₀ part = twice (partFrom 0) (keysIn (slotsOf area)) ≡ tw
 abbrev μ-loop : tie.MeasureT-loop
 μ-loop area n part₀ part = n - part
 
-parts-requires : tie.Need-parts-requires Inv-loop μ-loop
-parts-requires c κs = search needs
-
 loop-holds : tie.Need-loop-holds Inv-loop μ-loop
 loop-holds c = refl
-
-twice-in-requires : tie.Need-twice-in-requires Inv-loop μ-loop
-twice-in-requires c κs = search needs
 
 returns : tie.Need-returns Inv-loop μ-loop
 returns c =
     let at = c .before .before .before in
     let ks = keysIn (slotsOf (at .before .before .before .args .area .now)) in
     sym (at .loop .inv ∙ parts-split (at .loop .part) ks ∙ rw (sym (c .before .twice-in .ensures) ∙ c .if1 .taken))
-
-add-part : tie.Need-add-part Inv-loop μ-loop
-add-part c = search needs
-
-loop-less : tie.Need-loop-less Inv-loop μ-loop
-loop-less c = search needs
 
 loop-again : tie.Need-loop-again Inv-loop μ-loop
 loop-again c =
@@ -54,13 +42,4 @@ pub any-twice-spec : {M : Type 1} → statement M
 any-twice-spec =
     tie.close
     (tie.spec
-    Inv-loop
-    μ-loop
-    parts-requires
-    loop-holds
-    twice-in-requires
-    returns
-    add-part
-    loop-less
-    loop-again
-    returns-2)
+    Inv-loop μ-loop (λ c κs. search needs) loop-holds (λ c κs. search needs) returns (λ c. search needs) (λ c. search needs) loop-again returns-2)

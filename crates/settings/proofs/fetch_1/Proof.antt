@@ -1,4 +1,4 @@
--- `settings::fetch_1` meets its contract: as `fetch`, by the old release's verdict, and without the unit. Assumes nothing.
+-- `settings::fetch_1` meets its contract: as `fetch`, by the old release's verdict, and without the unit.
 use Prim.Native.Nat.{_+_, _*_}
 use mathlib.Core.Path.{refl}
 use Rattle.paper.specs.Bytes.{le2}
@@ -7,26 +7,11 @@ use borrow.Author.Needs.{needs}
 use Rattle.settings.proofs.fetch_1.Statement.{statement}
 use Rattle.settings.proofs.fetch_1.Tie as tie
 
-judge-requires : tie.Need-judge-requires
-judge-requires c κs = search needs
-
 returns : tie.Need-returns
 returns c =
     let g = c .before .before .before .args in
     let v = c .before .judge .result in
     old-answer (g .key) (g .area .now) v 0 0 (fetch-refused 1 (g .key) (g .area .now) v (c .before .judge .ensures) (c .if1 .taken))
-
-find-requires : tie.Need-find-requires
-find-requires c κs = search needs
-
-mul-read8 : tie.Need-mul-read8
-mul-read8 c = search needs
-
-add-read8 : tie.Need-add-read8
-add-read8 c = search needs
-
-read8-requires : tie.Need-read8-requires
-read8-requires c κs = search needs
 
 returns-2 : tie.Need-returns-2
 returns-2 c =
@@ -51,11 +36,4 @@ pub fetch-1-spec : {M : Type 1} → statement M
 fetch-1-spec =
     tie.close
     (tie.spec
-    judge-requires
-    returns
-    find-requires
-    mul-read8
-    add-read8
-    read8-requires
-    returns-2
-    returns-3)
+    (λ c κs. search needs) returns (λ c κs. search needs) (λ c. search needs) (λ c. search needs) (λ c κs. search needs) returns-2 returns-3)

@@ -1,4 +1,4 @@
--- `settings::in_order` meets its contract: an area that is in place is in order exactly where no key is there twice. Assumes nothing.
+-- `settings::in_order` meets its contract: an area that is in place is in order exactly where no key is there twice.
 use mathlib.Core.Path.{sym, ap, _∙_}
 use mathlib.Core.Bool.{not}
 use Rattle.paper_settings.specs.Settings.{slotsOf}
@@ -6,12 +6,6 @@ use Rattle.settings.proofs.KeyLaws.{order-placed, order-displaced}
 use borrow.Author.Needs.{needs}
 use Rattle.settings.proofs.in_order.Statement.{statement}
 use Rattle.settings.proofs.in_order.Tie as tie
-
-in-place-requires : tie.Need-in-place-requires
-in-place-requires c κs = search needs
-
-any-twice-requires : tie.Need-any-twice-requires
-any-twice-requires c κs = search needs
 
 returns : tie.Need-returns
 returns c =
@@ -26,4 +20,4 @@ returns-2 c =
     sym (order-displaced (slotsOf a) (sym (at .in-place .ensures) ∙ c .if1 .left))
 
 pub in-order-spec : {M : Type 1} → statement M
-in-order-spec = tie.close (tie.spec in-place-requires any-twice-requires returns returns-2)
+in-order-spec = tie.close (tie.spec (λ c κs. search needs) (λ c κs. search needs) returns returns-2)

@@ -1,5 +1,5 @@
 -- `settings::in_place` meets its contract. The loop's invariant: the slots before i are records, and sound, so that the slots from i on
--- tell. Assumes nothing.
+-- tell.
 use Prim.Native.Nat.{_-_, _≤_}
 use mathlib.Core.Path.{_≡_, sym, ap, _∙_}
 use native.Mathlib.Omega.{arith}
@@ -20,24 +20,12 @@ abbrev μ-loop : tie.MeasureT-loop
 loop-holds : tie.Need-loop-holds Inv-loop μ-loop
 loop-holds c = (omega arith, ap inPlace (rest-all _))
 
-is-free-requires : tie.Need-is-free-requires Inv-loop μ-loop
-is-free-requires c κs = search needs
-
-add-all-free : tie.Need-add-all-free Inv-loop μ-loop
-add-all-free c = search needs
-
-all-free-requires : tie.Need-all-free-requires Inv-loop μ-loop
-all-free-requires c κs = search needs
-
 returns : tie.Need-returns Inv-loop μ-loop
 returns c =
     let at = c .before .before .before .before in
     let a = at .before .before .args .area .now in
     let free = sym (c .before .before .is-free .ensures) ∙ c .before .if1 .taken in
     c .all-free .ensures ∙ sym (at .loop .inv .1 ∙ place-free a (at .loop .i) (c .before .before .before .loop-test .taken) free)
-
-is-malformed-requires : tie.Need-is-malformed-requires Inv-loop μ-loop
-is-malformed-requires c κs = search needs
 
 returns-2 : tie.Need-returns-2 Inv-loop μ-loop
 returns-2 c =
@@ -46,12 +34,6 @@ returns-2 c =
     let used = sym (c .before .before .before .is-free .ensures) ∙ c .before .before .if1 .left in
     let bad = sym (c .before .is-malformed .ensures) ∙ c .if2 .taken in
     sym (at .loop .inv .1 ∙ place-bad a (at .loop .i) (c .before .before .before .before .loop-test .taken) used bad)
-
-add-i : tie.Need-add-i Inv-loop μ-loop
-add-i c = search needs
-
-loop-less : tie.Need-loop-less Inv-loop μ-loop
-loop-less c = search needs
 
 loop-again : tie.Need-loop-again Inv-loop μ-loop
 loop-again c =
@@ -70,16 +52,5 @@ pub in-place-spec : {M : Type 1} → statement M
 in-place-spec =
     tie.close
     (tie.spec
-    Inv-loop
-    μ-loop
-    loop-holds
-    is-free-requires
-    add-all-free
-    all-free-requires
-    returns
-    is-malformed-requires
-    returns-2
-    add-i
-    loop-less
-    loop-again
-    returns-3)
+    Inv-loop μ-loop loop-holds (λ c κs. search needs) (λ c. search needs) (λ c κs. search needs) returns (λ c κs. search needs) returns-2
+    (λ c. search needs) (λ c. search needs) loop-again returns-3)

@@ -1,4 +1,4 @@
--- `settings::is_malformed` meets its contract. A version over 2 is malformed by its byte 0. The loop's invariant: no byte before this one is stray. Assumes nothing.
+-- `settings::is_malformed` meets its contract. A version over 2 is malformed by its byte 0. The loop's invariant: no byte before this one is stray.
 use Prim.Native.Nat.{_-_, _≤_}
 use mathlib.Core.Path.{_≡_, sym, _∙_}
 use mathlib.Core.Logic.{⊎-elim}
@@ -16,37 +16,16 @@ Inv-loop area i v may byte₀ byte = (byte ≤ 32) × (isMalformed (slotAt area 
 abbrev μ-loop : tie.MeasureT-loop
 μ-loop area i v may byte₀ byte = 32 - byte
 
-version-of-requires : tie.Need-version-of-requires Inv-loop μ-loop
-version-of-requires c κs = search needs
-
-cast-v : tie.Need-cast-v Inv-loop μ-loop
-cast-v c = search needs
-
 returns : tie.Need-returns Inv-loop μ-loop
 returns c =
     let a = c .before .before .before .args in
     sym (over-malformed (a .area .now) (a .i) (omega (arith, c .before .version-of .ensures)))
-
-mul-may : tie.Need-mul-may Inv-loop μ-loop
-mul-may c = search needs
-
-array-copy-out-may : tie.Need-array-copy-out-may Inv-loop μ-loop
-array-copy-out-may c = search needs
 
 loop-holds : tie.Need-loop-holds Inv-loop μ-loop
 loop-holds c =
     let a = c .before .before .before .before .args in
     let version = c .before .before .version-of in
     (omega arith, strays-start (a .area .now) (a .i) (version .result) (version .ensures))
-
-mul-if2 : tie.Need-mul-if2 Inv-loop μ-loop
-mul-if2 c = search needs
-
-add-if2 : tie.Need-add-if2 Inv-loop μ-loop
-add-if2 c = search needs
-
-shared-slice-read-if2 : tie.Need-shared-slice-read-if2 Inv-loop μ-loop
-shared-slice-read-if2 c = search needs
 
 returns-2 : tie.Need-returns-2 Inv-loop μ-loop
 returns-2 c =
@@ -57,9 +36,6 @@ returns-2 c =
     sym (at .loop .inv .1
     ∙ strays-here (a .area .now) (a .i) v (at .loop .byte) test (c .before .if2 .taken) (high-zero v (at .loop .byte) (c .if3 .taken)))
 
-array-read-if4 : tie.Need-array-read-if4 Inv-loop μ-loop
-array-read-if4 c = search needs
-
 returns-3 : tie.Need-returns-3 Inv-loop μ-loop
 unfolding mayBe mayTable
 returns-3 c =
@@ -69,12 +45,6 @@ returns-3 c =
     let test = c .before .before .before .before .loop-test .taken in
     sym (at .loop .inv .1
     ∙ strays-here (a .area .now) (a .i) v (at .loop .byte) test (c .before .before .if2 .taken) (c .if4 .taken))
-
-add-byte : tie.Need-add-byte Inv-loop μ-loop
-add-byte c = search needs
-
-loop-less : tie.Need-loop-less Inv-loop μ-loop
-loop-less c = search needs
 
 loop-again : tie.Need-loop-again Inv-loop μ-loop
 unfolding mayBe mayTable
@@ -101,21 +71,5 @@ pub is-malformed-spec : {M : Type 1} → statement M
 is-malformed-spec =
     tie.close
     (tie.spec
-    Inv-loop
-    μ-loop
-    version-of-requires
-    cast-v
-    returns
-    mul-may
-    array-copy-out-may
-    loop-holds
-    mul-if2
-    add-if2
-    shared-slice-read-if2
-    returns-2
-    array-read-if4
-    returns-3
-    add-byte
-    loop-less
-    loop-again
-    returns-4)
+    Inv-loop μ-loop (λ c κs. search needs) (λ c. search needs) returns (λ c. search needs) (λ c. search needs) loop-holds (λ c. search needs)
+    (λ c. search needs) (λ c. search needs) returns-2 (λ c. search needs) returns-3 (λ c. search needs) (λ c. search needs) loop-again returns-4)

@@ -1,12 +1,9 @@
--- `settings::judge` meets its contract: the tests are the definition's, in its order. Assumes nothing.
+-- `settings::judge` meets its contract: the tests are the definition's, in its order.
 use mathlib.Core.Path.{sym, _∙_}
 use Rattle.settings.proofs.CallLaws.{judged-newer, judged-length, judged-order, judged-fine}
 use borrow.Author.Needs.{needs}
 use Rattle.settings.proofs.judge.Statement.{statement}
 use Rattle.settings.proofs.judge.Tie as tie
-
-any-newer-requires : tie.Need-any-newer-requires
-any-newer-requires c κs = search needs
 
 returns : tie.Need-returns
 returns c =
@@ -17,9 +14,6 @@ returns-2 : tie.Need-returns-2
 returns-2 c =
     let g = c .before .before .before .before .args in
     judged-length (g .newest) (g .area .now) (sym (c .before .before .any-newer .ensures) ∙ c .before .if1 .left) (c .if2 .taken)
-
-in-order-requires : tie.Need-in-order-requires
-in-order-requires c κs = search needs
 
 returns-3 : tie.Need-returns-3
 returns-3 c =
@@ -37,4 +31,4 @@ returns-4 c =
 
 pub judge-spec : {M : Type 1} → statement M
 judge-spec =
-    tie.close (tie.spec any-newer-requires returns returns-2 in-order-requires returns-3 returns-4)
+    tie.close (tie.spec (λ c κs. search needs) returns returns-2 (λ c κs. search needs) returns-3 returns-4)

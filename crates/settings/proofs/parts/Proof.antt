@@ -1,5 +1,5 @@
 -- `settings::parts` meets its contract. The loop's invariant: the parts of the keys from slot i on, counted from those that were found, are
--- the parts of all. Assumes nothing.
+-- the parts of all.
 use Prim.Native.Nat.{_+_, _-_, _≤_}
 use mathlib.Core.Path.{_≡_, sym, ap, _∙_}
 use mathlib.Core.List.{_∷_}
@@ -23,9 +23,6 @@ abbrev μ-loop : tie.MeasureT-loop
 loop-holds : tie.Need-loop-holds Inv-loop μ-loop
 loop-holds c = (omega arith, ap (λ xs. partsOf 0 (keysIn xs)) (rest-all _))
 
-is-free-requires : tie.Need-is-free-requires Inv-loop μ-loop
-is-free-requires c κs = search needs
-
 returns : tie.Need-returns Inv-loop μ-loop
 unfolding partsOf
 returns c =
@@ -33,18 +30,6 @@ returns c =
     let a = at .before .before .args .area .now in
     let free = sym (c .before .is-free .ensures) ∙ c .if1 .taken in
     sym (at .loop .inv .1 ∙ ap (partsOf (at .loop .most)) (keys-free a (at .loop .i) (c .before .before .loop-test .taken) free))
-
-key-of-requires : tie.Need-key-of-requires Inv-loop μ-loop
-key-of-requires c κs = search needs
-
-add-most : tie.Need-add-most Inv-loop μ-loop
-add-most c = search needs
-
-add-i : tie.Need-add-i Inv-loop μ-loop
-add-i c = search needs
-
-loop-less : tie.Need-loop-less Inv-loop μ-loop
-loop-less c = search needs
 
 loop-again : tie.Need-loop-again Inv-loop μ-loop
 loop-again c =
@@ -73,14 +58,5 @@ pub parts-spec : {M : Type 1} → statement M
 parts-spec =
     tie.close
     (tie.spec
-    Inv-loop
-    μ-loop
-    loop-holds
-    is-free-requires
-    returns
-    key-of-requires
-    add-most
-    add-i
-    loop-less
-    loop-again
-    returns-2)
+    Inv-loop μ-loop loop-holds (λ c κs. search needs) returns (λ c κs. search needs) (λ c. search needs) (λ c. search needs) (λ c. search needs)
+    loop-again returns-2)

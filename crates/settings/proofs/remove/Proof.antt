@@ -1,29 +1,14 @@
--- `settings::remove` meets its contract: the verdict, then the search, then the one write. Assumes nothing.
+-- `settings::remove` meets its contract: the verdict, then the search, then the one write.
 use Rattle.paper_settings.specs.Settings.{to-remove}
 use Rattle.settings.proofs.CallLaws.{call-refused, remove-done, remove-absent}
 use borrow.Author.Needs.{needs}
 use Rattle.settings.proofs.remove.Statement.{statement}
 use Rattle.settings.proofs.remove.Tie as tie
 
-judge-requires : tie.Need-judge-requires
-judge-requires c κs = search needs
-
-same-length : tie.Need-same-length
-same-length c = search needs
-
 returns : tie.Need-returns
 returns c =
     let g = c .before .before .before .before .args in
     call-refused (g .area .now) (c .before .judge .result) (c .before .judge .ensures) (to-remove (g .key)) (c .if1 .taken)
-
-find-requires : tie.Need-find-requires
-find-requires c κs = search needs
-
-close-up-requires : tie.Need-close-up-requires
-close-up-requires c κs = search needs
-
-same-length-2 : tie.Need-same-length-2
-same-length-2 c = search needs
 
 returns-2 : tie.Need-returns-2
 returns-2 c =
@@ -33,9 +18,6 @@ returns-2 c =
     let closed = c .before .before .close-up in
     remove-done (g .area .now) (judged .result) (judged .ensures) (g .key) (at .before .before .if1 .left) (at .find .result) (at .find .ensures .0)
     (c .before .before .before .before .if2 .taken) (closed .last .0) (closed .ensures)
-
-same-length-3 : tie.Need-same-length-3
-same-length-3 c = search needs
 
 returns-3 : tie.Need-returns-3
 returns-3 c =
@@ -49,12 +31,5 @@ pub remove-spec : {M : Type 1} → statement M
 remove-spec =
     tie.close
     (tie.spec
-    judge-requires
-    same-length
-    returns
-    find-requires
-    close-up-requires
-    same-length-2
-    returns-2
-    same-length-3
+    (λ c κs. search needs) (λ c. search needs) returns (λ c κs. search needs) (λ c κs. search needs) (λ c. search needs) returns-2 (λ c. search needs)
     returns-3)

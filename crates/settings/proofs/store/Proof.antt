@@ -1,29 +1,14 @@
--- `settings::store` meets its contract: the verdict, then the search, then the one write. Assumes nothing.
+-- `settings::store` meets its contract: the verdict, then the search, then the one write.
 use Rattle.paper_settings.specs.Settings.{to-store}
 use Rattle.settings.proofs.CallLaws.{call-refused, store-done, store-full}
 use borrow.Author.Needs.{needs}
 use Rattle.settings.proofs.store.Statement.{statement}
 use Rattle.settings.proofs.store.Tie as tie
 
-judge-requires : tie.Need-judge-requires
-judge-requires c κs = search needs
-
-same-length : tie.Need-same-length
-same-length c = search needs
-
 returns : tie.Need-returns
 returns c =
     let g = c .before .before .before .before .args in
     call-refused (g .area .now) (c .before .judge .result) (c .before .judge .ensures) (to-store (g .key) (g .setting) (g .unit)) (c .if1 .taken)
-
-room-for-requires : tie.Need-room-for-requires
-room-for-requires c κs = search needs
-
-write-slot-requires : tie.Need-write-slot-requires
-write-slot-requires c κs = search needs
-
-same-length-2 : tie.Need-same-length-2
-same-length-2 c = search needs
 
 returns-2 : tie.Need-returns-2
 returns-2 c =
@@ -33,9 +18,6 @@ returns-2 c =
     let wrote = c .before .before .write-slot in
     store-done (g .area .now) (judged .result) (judged .ensures) (g .key) (at .before .before .if1 .left) (g .setting) (g .unit)
     (at .room-for .result) (at .room-for .ensures .0) (c .before .before .before .before .if2 .taken) (wrote .last .0) (wrote .ensures)
-
-same-length-3 : tie.Need-same-length-3
-same-length-3 c = search needs
 
 returns-3 : tie.Need-returns-3
 returns-3 c =
@@ -49,12 +31,5 @@ pub store-spec : {M : Type 1} → statement M
 store-spec =
     tie.close
     (tie.spec
-    judge-requires
-    same-length
-    returns
-    room-for-requires
-    write-slot-requires
-    same-length-2
-    returns-2
-    same-length-3
+    (λ c κs. search needs) (λ c. search needs) returns (λ c κs. search needs) (λ c κs. search needs) (λ c. search needs) returns-2 (λ c. search needs)
     returns-3)

@@ -1,5 +1,5 @@
 -- `settings::twice_in` meets its contract. The loop's invariant: a key of the part is there twice where one from slot i on has its bit set or
--- is there again (`again`); each way through a turn is one law of it. Assumes nothing.
+-- is there again (`again`); each way through a turn is one law of it.
 use Prim.Native.Nat.{ℕ, _+_, _-_, _≤_}
 use mathlib.Core.Path.{_≡_, sym, ap, _∙_}
 use mathlib.Core.List.{_∷_}
@@ -32,9 +32,6 @@ loop-holds c =
       ap (λ xs. twice (inPart (a .part)) (keysIn xs)) (rest-all (a .area .now)) ∙ again-start (a .part) (keysIn (rest (a .area .now) 0)),
     )
 
-is-free-requires : tie.Need-is-free-requires Inv-loop μ-loop
-is-free-requires c κs = search needs
-
 returns : tie.Need-returns Inv-loop μ-loop
 unfolding again
 returns c =
@@ -42,12 +39,6 @@ returns c =
     let a = at .before .before .args in
     let free = sym (c .before .is-free .ensures) ∙ c .if1 .taken in
     sym (at .loop .inv .2 ∙ ap (again (at .loop .seen) (a .part)) (keys-free (a .area .now) (at .loop .i) (c .before .before .loop-test .taken) free))
-
-key-of-requires : tie.Need-key-of-requires Inv-loop μ-loop
-key-of-requires c κs = search needs
-
-is-seen-requires : tie.Need-is-seen-requires Inv-loop μ-loop
-is-seen-requires c κs = search needs
 
 returns-2 : tie.Need-returns-2 Inv-loop μ-loop
 returns-2 c =
@@ -63,15 +54,6 @@ returns-2 c =
     sym (at .loop .inv .2
     ∙ ap (again (at .loop .seen) (a .part)) (keys ∙ ap (λ j. j ∷ ks) (sym (asked .before .before .before .key-of .ensures)))
     ∙ again-seen (at .loop .seen) (a .part) k ks (asked .before .before .if2 .taken) (sym (asked .is-seen .ensures) ∙ c .if3 .taken))
-
-see-requires : tie.Need-see-requires Inv-loop μ-loop
-see-requires c κs = search needs
-
-add-i : tie.Need-add-i Inv-loop μ-loop
-add-i c = search needs
-
-loop-less : tie.Need-loop-less Inv-loop μ-loop
-loop-less c = search needs
 
 -- by the way that the turn went: a key of the part that was not seen (its test w .0, the answer w .2 and its test w .3, the bit set w .5 and
 -- w .6); or one of another part (the test w .0, the bits as they were w .1)
@@ -108,16 +90,5 @@ pub twice-in-spec : {M : Type 1} → statement M
 twice-in-spec =
     tie.close
     (tie.spec
-    Inv-loop
-    μ-loop
-    loop-holds
-    is-free-requires
-    returns
-    key-of-requires
-    is-seen-requires
-    returns-2
-    see-requires
-    add-i
-    loop-less
-    loop-again
-    returns-3)
+    Inv-loop μ-loop loop-holds (λ c κs. search needs) returns (λ c κs. search needs) (λ c κs. search needs) returns-2 (λ c κs. search needs)
+    (λ c. search needs) (λ c. search needs) loop-again returns-3)

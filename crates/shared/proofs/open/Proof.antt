@@ -1,5 +1,5 @@
--- `shared::open` meets its contract: a refusal is the plan's, or 6; without one the opened table is written, and nothing else. Assumes nothing.
-use Prim.Native.Nat.{ℕ, _*_, _≤_}
+-- `shared::open` meets its contract: a refusal is the plan's, or 6; without one the opened table is written, and nothing else.
+use Prim.Native.Nat.{ℕ, _≤_}
 use mathlib.Core.Path.{_≡_}
 use mathlib.Core.Bool.{true}
 use mathlib.Core.List.{List}
@@ -11,8 +11,8 @@ use Rattle.record.specs.Flaw.{flawOf}
 use Rattle.paper.specs.Limits.{isLimit}
 use Rattle.paper.proofs.LimitLaws.{limit-small}
 use Rattle.paper_shared.specs.Answers.{Handed, treeIn, definitionsOf}
-use Rattle.opening.specs.Index.{Openable}
-use Rattle.opening.specs.Planned.{handed}
+use Rattle.replace.specs.Index.{Openable}
+use Rattle.replace.specs.Planned.{handed}
 use Rattle.shared.proofs.Laws.{Opens, opens-as, turned-as, limit-known, open-refused, open-tight, open-done}
 use Rattle.shared.proofs.open.Statement.{statement}
 use Rattle.shared.proofs.open.Tie as tie
@@ -59,12 +59,6 @@ openable c =
     let e = o .ready .weighs in
     o .ready .openable (area (planned (c .before))) (omega arith)
 
-prepare-requires : tie.Need-prepare-requires
-prepare-requires c κs = search needs
-
-turned-away-requires : tie.Need-turned-away-requires
-turned-away-requires c κs = search needs
-
 returns : tie.Need-returns
 returns c =
     let at = c .before .before .before in
@@ -74,9 +68,6 @@ returns c =
 
 mul-if2 : tie.Need-mul-if2
 mul-if2 c = let l = small c in omega arith
-
-turned-away-requires-2 : tie.Need-turned-away-requires-2
-turned-away-requires-2 c κs = search needs
 
 returns-2 : tie.Need-returns-2
 returns-2 c =
@@ -94,9 +85,6 @@ open-records-requires c κs =
     let h = asked (planned (e2 .before)) in
     (definitionsOf h, length (h .symbols), treeIn (h .table), opens-at (e2 .before) .tree, openable e2)
 
-same-length : tie.Need-same-length
-same-length c = search needs
-
 returns-3 : tie.Need-returns-3
 returns-3 c =
     let r = c .before .before .open-records in
@@ -110,12 +98,5 @@ pub open-spec : {M : Type 1} → statement M
 open-spec =
     tie.close
     (tie.spec
-    prepare-requires
-    turned-away-requires
-    returns
-    mul-if2
-    turned-away-requires-2
-    returns-2
-    open-records-requires
-    same-length
+    (λ c κs. search needs) (λ c κs. search needs) returns mul-if2 (λ c κs. search needs) returns-2 open-records-requires (λ c. search needs)
     returns-3)

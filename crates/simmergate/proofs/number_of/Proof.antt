@@ -1,4 +1,4 @@
--- `simmergate::number_of` meets its contract, by cases. Assumes nothing.
+-- `simmergate::number_of` meets its contract, by cases.
 use mathlib.Core.Path.{sym, ap}
 use Rattle.paper.specs.Equal.{one}
 use Rattle.simmergate.proofs.number_of.Statement.{statement}

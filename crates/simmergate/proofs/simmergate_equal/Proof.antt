@@ -1,72 +1,43 @@
--- `simmergate::simmergate_equal` meets its contract: the numbers are those that `equal` tells, and those of what is wrong. Assumes nothing.
+-- `simmergate::simmergate_equal` meets its contract: the numbers are those that `equal` tells, and those of what is wrong.
+use mathlib.Core.Path.{sym}
 use mathlib.Core.List.{[], _∷_}
 use native.Mathlib.Omega.{arith}
 use lib.ListN.{drop}
-use Rattle.paper.specs.Equal.{one}
-use Rattle.paper.specs.Answers.{compared}
-use Rattle.paper.specs.Calls.{comparedNumbers, equalReturns, equalAnswers}
-use Rattle.equal.specs.Compared.{says}
-use Rattle.simmergate.proofs.NumbersLaws.{compared-count, no-room, room, with-flaw}
 use borrow.Author.Needs.{needs}
+use Rattle.paper.specs.Equal.{one}
+use Rattle.paper.specs.Answers.{Compared}
+use Rattle.paper.specs.Calls.{comparedNumbers}
+use Rattle.paper.proofs.Slices.{slices}
+use Rattle.simmergate.proofs.NumbersLaws.{tells, with-flaw}
 use Rattle.simmergate.proofs.simmergate_equal.Statement.{statement}
 use Rattle.simmergate.proofs.simmergate_equal.Tie as tie
 
 returns : tie.Need-returns
-unfolding equalReturns equalAnswers comparedNumbers
 returns c =
     let g = c .before .before .before .before .args in
-    let v = compared (g .limit) (g .a .now) (g .b .now) in
-    no-room (comparedNumbers v) (g .answer .now) (v .number) 6 (compared-count v) (c .if1 .taken)
-
-equal-requires : tie.Need-equal-requires
-equal-requires c κs = search needs
-
-number-of-requires : tie.Need-number-of-requires
-number-of-requires c κs = search needs
-
-flaw-numbers-requires : tie.Need-flaw-numbers-requires
-flaw-numbers-requires c κs = search needs
-
-cast-t12 : tie.Need-cast-t12
-cast-t12 c = search needs
-
-cast-t14 : tie.Need-cast-t14
-cast-t14 c = search needs
-
-slice-aggregate-write-numbers : tie.Need-slice-aggregate-write-numbers
-slice-aggregate-write-numbers c = search needs
-
-write-numbers-requires : tie.Need-write-numbers-requires
-write-numbers-requires c κs = search needs
-
-same-length : tie.Need-same-length
-same-length c = search needs
+    let q = slices .equal (g .limit) (g .a .now) (g .b .now) (g .answer .now) .0 (c .if1 .taken) in
+    record { returns = sym (q .0); answers = sym (q .1) }
 
 returns-2 : tie.Need-returns-2
-unfolding equalReturns equalAnswers comparedNumbers
+unfolding comparedNumbers
 returns-2 c =
-    let g = c .before .before .before .before .before .before .before .before .before .before .before .before .before .before .args in
-    let compared = c .before .before .before .before .before .before .before .before .before .equal in
-    let yes = c .before .before .before .before .before .before .before .before .number-of in
-    let wrong = c .before .before .before .before .before .before .before .flaw-numbers in
-    let r = compared .result in
-    let written = c .before .before .write-numbers in
+    let written = c .before .before in
+    let wrong = written .before .before .before .before .before in
+    let yes = wrong .before in
+    let compared = yes .before in
+    let g = compared .before .before .before .before .before .args in
+    let r = compared .equal .result in
     let before = r .number ∷ r .place ∷ r .which ∷ one (r .yes) ∷ [] in
-    let after = with-flaw before (drop 48 (g .answer .now)) (wrong .ensures) (rw (yes .ensures) at (written .ensures)) in
-    rw (← (compared .ensures))
-    (room (comparedNumbers (says r)) (g .answer .now) (r .number) 6 (compared-count (says r)) (omega arith) (written .last .0) after)
+    let numbers = rw (yes .number-of .ensures) at (written .write-numbers .ensures) in
+    let rest = drop 48 (g .answer .now) in
+    let after = with-flaw before rest (wrong .flaw-numbers .ensures) numbers in
+    let by = slices .equal (g .limit) (g .a .now) (g .b .now) (g .answer .now) .1 (omega arith) in
+    let q = tells (compared .equal .ensures) (λ (x : Compared). x .number) comparedNumbers rest after by in
+    record { returns = q .0; answers = q .1 }
 
 pub simmergate-equal-spec : {M : Type 1} → statement M
 simmergate-equal-spec =
     tie.close
     (tie.spec
-    returns
-    equal-requires
-    number-of-requires
-    flaw-numbers-requires
-    cast-t12
-    cast-t14
-    slice-aggregate-write-numbers
-    write-numbers-requires
-    same-length
-    returns-2)
+    returns (λ c κs. search needs) (λ c κs. search needs) (λ c κs. search needs) (λ c. search needs) (λ c. search needs) (λ c. search needs)
+    (λ c κs. search needs) (λ c. search needs) returns-2)

@@ -1,61 +1,40 @@
--- `simmergate::simmergate_weight` meets its contract: the numbers are those that `weight` tells, and those of what is wrong. Assumes nothing.
+-- `simmergate::simmergate_weight` meets its contract: the numbers are those that `weight` tells, and those of what is wrong.
+use mathlib.Core.Path.{sym}
 use mathlib.Core.List.{[], _∷_}
 use native.Mathlib.Omega.{arith}
 use lib.ListN.{drop}
-use Rattle.paper.specs.Answers.{weighed}
-use Rattle.paper.specs.Calls.{measuredNumbers, weightReturns, weightAnswers}
-use Rattle.table.specs.Measured.{says}
-use Rattle.simmergate.proofs.NumbersLaws.{measured-count, no-room, room, with-flaw}
 use borrow.Author.Needs.{needs}
+use Rattle.paper.specs.Answers.{Measured}
+use Rattle.paper.specs.Calls.{measuredNumbers}
+use Rattle.paper.proofs.Slices.{slices}
+use Rattle.simmergate.proofs.NumbersLaws.{tells, with-flaw}
 use Rattle.simmergate.proofs.simmergate_weight.Statement.{statement}
 use Rattle.simmergate.proofs.simmergate_weight.Tie as tie
 
 returns : tie.Need-returns
-unfolding weightReturns weightAnswers measuredNumbers
 returns c =
     let a = c .before .before .before .args in
-    let w = weighed (a .limit) (a .table .now) in
-    no-room (measuredNumbers w) (a .answer .now) (w .number) 5 (measured-count w) (c .if1 .taken)
-
-weight-requires : tie.Need-weight-requires
-weight-requires c κs = search needs
-
-flaw-numbers-requires : tie.Need-flaw-numbers-requires
-flaw-numbers-requires c κs = search needs
-
-cast-t10 : tie.Need-cast-t10
-cast-t10 c = search needs
-
-slice-aggregate-write-numbers : tie.Need-slice-aggregate-write-numbers
-slice-aggregate-write-numbers c = search needs
-
-write-numbers-requires : tie.Need-write-numbers-requires
-write-numbers-requires c κs = search needs
-
-same-length : tie.Need-same-length
-same-length c = search needs
+    let q = slices .weight (a .limit) (a .table .now) (a .answer .now) .0 (c .if1 .taken) in
+    record { returns = sym (q .0); answers = sym (q .1) }
 
 returns-2 : tie.Need-returns-2
-unfolding weightReturns weightAnswers measuredNumbers
+unfolding measuredNumbers
 returns-2 c =
-    let a = c .before .before .before .before .before .before .before .before .before .before .before .args in
-    let measured = c .before .before .before .before .before .before .before .weight in
-    let wrong = c .before .before .before .before .before .before .flaw-numbers in
-    let r = measured .result in
-    let written = c .before .before .write-numbers in
-    let after = with-flaw (r .number ∷ r .place ∷ r .result ∷ []) (drop 40 (a .answer .now)) (wrong .ensures) (written .ensures) in
-    rw (← (measured .ensures))
-    (room (measuredNumbers (says r)) (a .answer .now) (r .number) 5 (measured-count (says r)) (omega arith) (written .last .0) after)
+    let written = c .before .before in
+    let wrong = written .before .before .before .before in
+    let measured = wrong .before in
+    let a = measured .before .before .before .before .args in
+    let r = measured .weight .result in
+    let before = r .number ∷ r .place ∷ r .result ∷ [] in
+    let rest = drop 40 (a .answer .now) in
+    let after = with-flaw before rest (wrong .flaw-numbers .ensures) (written .write-numbers .ensures) in
+    let by = slices .weight (a .limit) (a .table .now) (a .answer .now) .1 (omega arith) in
+    let q = tells (measured .weight .ensures) (λ (m : Measured). m .number) measuredNumbers rest after by in
+    record { returns = q .0; answers = q .1 }
 
 pub simmergate-weight-spec : {M : Type 1} → statement M
 simmergate-weight-spec =
     tie.close
     (tie.spec
-    returns
-    weight-requires
-    flaw-numbers-requires
-    cast-t10
-    slice-aggregate-write-numbers
-    write-numbers-requires
-    same-length
+    returns (λ c κs. search needs) (λ c κs. search needs) (λ c. search needs) (λ c. search needs) (λ c κs. search needs) (λ c. search needs)
     returns-2)

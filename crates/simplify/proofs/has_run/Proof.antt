@@ -1,4 +1,4 @@
--- `simplify::has_run` meets its contract: the two tests are those of the definition. Assumes nothing.
+-- `simplify::has_run` meets its contract: the two tests are those of the definition.
 use borrow.Author.Tests.{eq-eqb, ne-eqb}
 use Rattle.simplify.specs.Answer.{hasRun}
 use Rattle.simplify.proofs.has_run.Statement.{statement}

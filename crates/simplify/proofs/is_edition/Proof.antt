@@ -1,4 +1,4 @@
--- `simplify::is_edition` meets its contract: the two tests are those of the definition. Assumes nothing.
+-- `simplify::is_edition` meets its contract: the two tests are those of the definition.
 use borrow.Author.Tests.{eq-eqb, ne-eqb}
 use Rattle.paper.specs.Rules.{isEdition}
 use Rattle.simplify.proofs.is_edition.Statement.{statement}

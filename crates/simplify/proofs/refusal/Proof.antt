@@ -1,4 +1,4 @@
--- `simplify::refusal` meets its contract: by computation. Assumes nothing.
+-- `simplify::refusal` meets its contract: by computation.
 use mathlib.Core.Path.{refl}
 use Rattle.paper.specs.Answers.{refusedBy}
 use Rattle.simplify.proofs.refusal.Statement.{statement}

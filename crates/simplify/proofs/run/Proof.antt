@@ -1,5 +1,5 @@
 -- `simplify::run` meets its contract: each need is one law of Running, for the tree that the table holds. That places fit where the run
--- is done follows from `done-bounds`. Assumes nothing.
+-- is done follows from `done-bounds`.
 use Prim.Native.Nat.{_-_, _*_, _/_, _%_, _<_, _≤_}
 use mathlib.Core.Path.{refl, ap, _∙_}
 use mathlib.Core.List.{[], _∷_}
@@ -50,7 +50,7 @@ abbrev called-of : Finished → Called
 called-of c = c .before .before .before .before .before .before .before
 
 abbrev finished-of : Stripped → Finished
-finished-of c = c .before .before .before .before
+finished-of c = c .before .before .before .before .before
 
 -- the table's tree stands where the driver takes it, with its notes
 set : (c : Made)
@@ -77,7 +77,8 @@ accepted : (c : Made) → Accepted (this c)
 accepted c = called-on (entry-of (moved-of c) .args .edition) (set c)
 
 -- what the driver's answer says
-result : (c : Called) → let r = c .drive in DrivenTo (this (made-of c)) (r .last .0) (r .last .1 .0) (r .last .1 .1 .0) (standOf (r .last .1 .1 .1 .0)) (r .result)
+result : (c : Called)
+    → let r = c .drive in DrivenTo (this (made-of c)) (r .last .0) (r .last .1 .0) (r .last .1 .1 .0) (standOf (r .last .1 .1 .1 .0)) (r .result)
 result c = c .drive .ensures .1 _ [] (accepted (made-of c))
 
 reached : (c : Finished)
@@ -95,7 +96,8 @@ done-bounds c =
     let made = made-of called in
     let moved = moved-of made in
     let k = called .drive .kept in
-    done-fits (entry-of moved .pre .1) (entry-of moved .args .edition) (reached c .drove) (k .0) (k .1 .1 .0) (k .1 .0 ∙ made .note-all .kept .0 ∙ moved .copy-bytes .kept .0)
+    done-fits (entry-of moved .pre .1) (entry-of moved .args .edition) (reached c .drove) (k .0) (k .1 .1 .0)
+    (k .1 .0 ∙ made .note-all .kept .0 ∙ moved .copy-bytes .kept .0)
 
 -- the notes are taken out
 result-whole : (c : Finished) → let r = called-of c .drive in Whole note (r .last .0) 0 (r .result) (reached c .drove .to)
@@ -104,15 +106,13 @@ result-whole c =
     let made = made-of called in
     let moved = moved-of made in
     let k = called .drive .kept in
-    whole-result (entry-of moved .pre .1) (entry-of moved .args .edition) (reached c .drove) (k .0) (k .1 .1 .0) (k .1 .0 ∙ made .note-all .kept .0 ∙ moved .copy-bytes .kept .0)
+    whole-result (entry-of moved .pre .1) (entry-of moved .args .edition) (reached c .drove) (k .0) (k .1 .1 .0)
+    (k .1 .0 ∙ made .note-all .kept .0 ∙ moved .copy-bytes .kept .0)
 
 sub-p : tie.Need-sub-p
 sub-p c =
     let entry = c .before .before .before .before in
     table-fits (entry .pre .1) .0
-
-mul-copy-bytes : tie.Need-mul-copy-bytes
-mul-copy-bytes c = search needs
 
 copy-bytes-requires : tie.Need-copy-bytes-requires
 copy-bytes-requires c κs =
@@ -127,34 +127,10 @@ note-all-requires c κs =
     let m = moved .copy-bytes in
     (_, whole-table h (m .ensures) (m .kept .0))
 
-array-write-st : tie.Need-array-write-st
-array-write-st c = search needs
-
-array-write-st-2 : tie.Need-array-write-st-2
-array-write-st-2 c = search needs
-
 drive-requires : tie.Need-drive-requires
 drive-requires c κs =
     let made = c .before .before .before .before .before .before in
     (refl, (entry-of (moved-of made) .pre .0, [], accepted made))
-
-array-read-n : tie.Need-array-read-n
-array-read-n c = search needs
-
-clear-requires : tie.Need-clear-requires
-clear-requires c κs = search needs
-
-clear-requires-2 : tie.Need-clear-requires-2
-clear-requires-2 c κs = search needs
-
-refusal-requires : tie.Need-refusal-requires
-refusal-requires c κs = search needs
-
-same-length : tie.Need-same-length
-same-length c = search needs
-
-same-length-2 : tie.Need-same-length-2
-same-length-2 c = search needs
 
 same-length-3 : tie.Need-same-length-3
 same-length-3 c =
@@ -182,47 +158,35 @@ note-at-requires c κs =
 
 strip-requires : tie.Need-strip-requires
 strip-requires c κs =
-    (_, result-whole (c .before .before .before))
+    (_, result-whole (c .before .before .before .before))
 
 mul-clear : tie.Need-mul-clear
 mul-clear c =
-    omega (arith, done-bounds (c .before .before .before .before .before .before .before))
+    omega (arith, done-bounds (finished-of (c .before .before .before)))
 
 mul-clear-2 : tie.Need-mul-clear-2
 mul-clear-2 c =
-    omega (arith, done-bounds (c .before .before .before .before .before .before .before))
+    omega (arith, done-bounds (finished-of (c .before .before .before)))
 
 sub-clear : tie.Need-sub-clear
 sub-clear c =
-    omega (arith, done-bounds (c .before .before .before .before .before .before .before), c .before .before .before .strip .kept .0)
+    omega (arith, done-bounds (finished-of (c .before .before .before)), c .before .before .before .strip .kept .0)
 
 clear-requires-3 : tie.Need-clear-requires-3
 clear-requires-3 c κs =
-    omega (arith, done-bounds (c .before .before .before .before .before .before .before), c .before .before .before .strip .kept .0)
+    omega (arith, done-bounds (finished-of (c .before .before .before)), c .before .before .before .strip .kept .0)
 
 sub-clear-2 : tie.Need-sub-clear-2
 sub-clear-2 c =
-    omega (arith, done-bounds (c .before .before .before .before .before .before .before .before .before .before .before))
+    omega (arith, done-bounds (finished-of (c .before .before .before .before .before .before .before)))
 
 clear-requires-4 : tie.Need-clear-requires-4
 clear-requires-4 c κs =
-    omega (arith, done-bounds (c .before .before .before .before .before .before .before .before .before .before .before))
-
-array-read-t13 : tie.Need-array-read-t13
-array-read-t13 c = search needs
-
-array-read-t14 : tie.Need-array-read-t14
-array-read-t14 c = search needs
-
-same-length-4 : tie.Need-same-length-4
-same-length-4 c = search needs
-
-same-length-5 : tie.Need-same-length-5
-same-length-5 c = search needs
+    omega (arith, done-bounds (finished-of (c .before .before .before .before .before .before .before)))
 
 same-length-6 : tie.Need-same-length-6
 same-length-6 c =
-    let called = c .before .before .before .before .before .before .before .before .before .before .before .before .before .before .before .before .before .before .before .before .before in
+    let called = called-of (finished-of (c .before .before .before .before .before .before .before .before .before .before)) in
     let made = made-of called in
     called .drive .kept .1 .0 ∙ made .note-all .kept .0 ∙ moved-of made .copy-bytes .kept .0
 
@@ -241,8 +205,9 @@ returns-2 c =
     let st = r .last .1 .1 .1 .0 in
     let out = c .before .before .before .before .before .before .clear3 in
     let steps = c .before .before .clear4 in
-    let noted = stripped .before .before .note-at in
-    let x = noted .result / 65536 % 65536 in
+    let weighed = stripped .before .before .weight-of in
+    let noted = stripped .before .before .before .note-at in
+    let x = weighed .result in
     for-every (entry .pre .1)
     (λ u. Leaves (drives (entry .args .edition) u) (g .w)
     (record {
@@ -259,38 +224,14 @@ returns-2 c =
     (g .out .now) (out .last .0) (g .steps .now) (steps .last .0))
     (left-done (entry .pre .1) (entry .args .edition) (done .drove) (r .kept .0) (r .kept .1 .1 .0) long
     (stripped .strip .ensures _ (result-whole finished)) (stripped .strip .kept .0) (out .last .0) (steps .last .0) x (getD st 3 0) (getD st 4 0)
-    (out .ensures) (steps .ensures) (ap (λ v. v / 65536 % 65536) (noted .ensures _ (result-whole finished .there))) (done .openings-are) (done .tries-are))
+    (out .ensures) (steps .ensures) (weighed .ensures ∙ ap (λ v. v / 65536 % 65536) (noted .ensures _ (result-whole finished .there)))
+    (done .openings-are) (done .tries-are))
 
 pub run-spec : {M : Type 1} → statement M
 run-spec =
     tie.close
     (tie.spec
-    sub-p
-    mul-copy-bytes
-    copy-bytes-requires
-    note-all-requires
-    array-write-st
-    array-write-st-2
-    drive-requires
-    array-read-n
-    clear-requires
-    clear-requires-2
-    refusal-requires
-    same-length
-    same-length-2
-    same-length-3
-    returns
-    note-at-requires
-    strip-requires
-    mul-clear
-    mul-clear-2
-    sub-clear
-    clear-requires-3
-    sub-clear-2
-    clear-requires-4
-    array-read-t13
-    array-read-t14
-    same-length-4
-    same-length-5
-    same-length-6
-    returns-2)
+    sub-p (λ c. search needs) copy-bytes-requires note-all-requires (λ c. search needs) (λ c. search needs) drive-requires (λ c. search needs)
+    (λ c κs. search needs) (λ c κs. search needs) (λ c κs. search needs) (λ c. search needs) (λ c. search needs) same-length-3 returns
+    note-at-requires (λ c κs. search needs) strip-requires mul-clear mul-clear-2 sub-clear clear-requires-3 sub-clear-2 clear-requires-4 (λ c. search needs)
+    (λ c. search needs) (λ c. search needs) (λ c. search needs) same-length-6 returns-2)

@@ -1,6 +1,5 @@
--- `simplify::simplify` meets its contract: `simplify_in` leaves all as it shall be but for the clearing of `work` after a run. Assumes nothing.
-use mathlib.Core.Path.{_≡_, sym, ap, _∙_}
-use mathlib.Core.Bool.{true}
+-- `simplify::simplify` meets its contract: `simplify_in` leaves all as it shall be but for the clearing of `work` after a run.
+use mathlib.Core.Path.{sym, ap, _∙_}
 use mathlib.Core.List.{List}
 use Prim.Native.Nat.{ℕ, _≤_}
 use native.Mathlib.Omega.{arith}
@@ -9,7 +8,7 @@ use borrow.Author.Needs.{needs}
 use Rattle.paper.specs.Limits.{workBytes}
 use Rattle.paper.specs.Answers.{Given}
 use Rattle.paper.proofs.BytesLaws.{are-bytes}
-use Rattle.simplify.specs.Answer.{gives, hasRun}
+use Rattle.simplify.specs.Answer.{gives}
 use Rattle.simplify.proofs.Calling.{run-room, cleared, uncleared}
 use Rattle.simplify.proofs.simplify.Statement.{statement}
 use Rattle.simplify.proofs.simplify.Tie as tie
@@ -30,15 +29,6 @@ known-of c = c .before .before .before .before .before .before .before
 abbrev called-of : Told → Called
 called-of c = c .before .before .before .before .before .before .before
 
-simplify-in-requires : tie.Need-simplify-in-requires
-simplify-in-requires c κs = search needs
-
-has-run-requires : tie.Need-has-run-requires
-has-run-requires c κs = search needs
-
-work-bytes-requires : tie.Need-work-bytes-requires
-work-bytes-requires c κs = search needs
-
 clear-requires : tie.Need-clear-requires
 clear-requires c κs =
     let told = c .before .before .before in
@@ -52,15 +42,6 @@ clear-requires c κs =
     (ap (λ (x : Given). x .answer) (run .ensures)) (sym (told .has-run .ensures) ∙ c .before .before .if1 .taken) in
     omega (arith, room, c .work-bytes .ensures, run .kept)
 
-same-length : tie.Need-same-length
-same-length c = search needs
-
-same-length-2 : tie.Need-same-length-2
-same-length-2 c = search needs
-
-same-length-3 : tie.Need-same-length-3
-same-length-3 c = search needs
-
 returns : tie.Need-returns
 returns c =
     let told = c .before .before .before .before .before .before in
@@ -72,15 +53,6 @@ returns c =
     (cleared (g .limit) (run .result .number) (c .before .before .before .work-bytes .result) (run .last .1 .1 .1 .1 .1 .0) (now .last .0)
     (sym (told .has-run .ensures) ∙ c .before .before .before .before .before .if1 .taken) (c .before .before .before .work-bytes .ensures) (now .ensures))
     ∙ run .ensures
-
-same-length-4 : tie.Need-same-length-4
-same-length-4 c = search needs
-
-same-length-5 : tie.Need-same-length-5
-same-length-5 c = search needs
-
-same-length-6 : tie.Need-same-length-6
-same-length-6 c = search needs
 
 returns-2 : tie.Need-returns-2
 returns-2 c =
@@ -96,15 +68,5 @@ pub simplify-spec : {M : Type 1} → statement M
 simplify-spec =
     tie.close
     (tie.spec
-    simplify-in-requires
-    has-run-requires
-    work-bytes-requires
-    clear-requires
-    same-length
-    same-length-2
-    same-length-3
-    returns
-    same-length-4
-    same-length-5
-    same-length-6
-    returns-2)
+    (λ c κs. search needs) (λ c κs. search needs) (λ c κs. search needs) clear-requires (λ c. search needs) (λ c. search needs) (λ c. search needs)
+    returns (λ c. search needs) (λ c. search needs) (λ c. search needs) returns-2)

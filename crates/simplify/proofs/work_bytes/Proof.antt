@@ -1,4 +1,4 @@
--- `simplify::work_bytes` meets its contract: the test is that of the definition. Assumes nothing.
+-- `simplify::work_bytes` meets its contract: the test is that of the definition.
 use borrow.Author.Tests.{eq-eqb, ne-eqb}
 use Rattle.paper.specs.Limits.{workBytes}
 use Rattle.simplify.proofs.work_bytes.Statement.{statement}

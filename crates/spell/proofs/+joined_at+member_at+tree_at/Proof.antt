@@ -1,6 +1,6 @@
 -- `spell::tree_at`, `member_at` and `joined_at`, which call each other, meet their contracts. They end because the records left fall: a
 -- node's members begin behind it. A tree's text is put by the law of its kind; the loop keeps that what is put, with the signs and
--- members left, is the text of all. Assumes nothing.
+-- members left, is the text of all.
 use Prim.Native.Nat.{ℕ, _+_, _-_, _*_, _^_, _≤_, _<_}
 use mathlib.Core.Path.{_≡_, refl, sym, subst, _∙_}
 use native.Mathlib.Omega.{arith}
@@ -13,7 +13,8 @@ use Rattle.paper.specs.Standing.{SomeTree, SomeTrees}
 use Rattle.paper_text.specs.Text.{in-sum, in-product, as-base}
 use Rattle.spell.specs.Spelt.{leastRank, nextIn, endIn, spelt}
 use Rattle.spell.proofs.CellLaws.{end-set, next-set, both-set, TreePut, room-as, put-as, tree-as, member-as, joined-as, spelt-as}
-use Rattle.spell.proofs.MemberLaws.{Joining, MemberPut, first-there, others-there, first-ahead, first-room, joined-put, begins, member-there, goes-on, ends}
+use Rattle.spell.proofs.MemberLaws.{Joining, MemberPut, first-there, others-there, first-ahead}
+use Rattle.spell.proofs.MemberLaws.{first-room, joined-put, begins, member-there, goes-on, ends}
 use Rattle.spell.proofs.LongLaws.{closing-room}
 use Rattle.spell.proofs.RankLaws.{bare-there, grouped-there}
 use Rattle.spell.proofs.TreeLaws.{inside, last-kind, behind, sum-there, sum-put, product-there, product-put}
@@ -127,17 +128,8 @@ joined-at-loop-holds t c =
     let first = c .member-at .ensures in
     (first .0 .0, begins (first-room (p .2) (first .0 .1) (p .1) (p .3) (p .4)), refl)
 
-joined-at-slice-aggregate-put-sign : (t : ℕ) → joined-at-lts.Need-slice-aggregate-put-sign (joined-rs t) (joined-here t) joined-at.Post joined-inv joined-left
-joined-at-slice-aggregate-put-sign t c = refl
-
-joined-at-element-copy-out-put-sign : (t : ℕ) → joined-at-lts.Need-element-copy-out-put-sign (joined-rs t) (joined-here t) joined-at.Post joined-inv joined-left
-joined-at-element-copy-out-put-sign t c = search needs
-
 joined-at-put-sign-requires : (t : ℕ) → joined-at-lts.Need-put-sign-requires (joined-rs t) (joined-here t) joined-at.Post joined-inv joined-left
 joined-at-put-sign-requires t c κs = let f = c .before .before .before .loop .inv .1 .roomy .fits in omega (arith, f)
-
-joined-at-element-write-st : (t : ℕ) → joined-at-lts.Need-element-write-st (joined-rs t) (joined-here t) joined-at.Post joined-inv joined-left
-joined-at-element-write-st t c = search needs
 
 joined-at-member-at-requires-2 : (t : ℕ) → joined-at-lts.Need-member-at-requires-2 (joined-rs t) (joined-here t) joined-at.Post joined-inv joined-left
 joined-at-member-at-requires-2 t c κs =
@@ -164,12 +156,6 @@ joined-at-member-at-requires-2 t c κs =
       ),
     )
 
-joined-at-sub-left-2 : (t : ℕ) → joined-at-lts.Need-sub-left-2 (joined-rs t) (joined-here t) joined-at.Post joined-inv joined-left
-joined-at-sub-left-2 t c = omega arith
-
-joined-at-loop-less : (t : ℕ) → joined-at-lts.Need-loop-less (joined-rs t) (joined-here t) joined-at.Post joined-inv joined-left
-joined-at-loop-less t c = omega arith
-
 joined-at-loop-again : (t : ℕ) → joined-at-lts.Need-loop-again (joined-rs t) (joined-here t) joined-at.Post joined-inv joined-left
 joined-at-loop-again t c =
     let turn = c .before .before .before .before .before .before .before in
@@ -180,7 +166,8 @@ joined-at-loop-again t c =
     let long = member .ensures .1 .1 in
     let place = joined-entry-of turn .pre .1 .3 in (
       member .ensures .0 .0,
-      goes-on (l .inv .1) (c .before .before .before .before .before .before .loop-test .taken) (sign .ensures) (spelt (member .last .1 .1 .0)) (member-as (e .1) (e .2) (member .ensures .0 .1))
+      goes-on (l .inv .1) (c .before .before .before .before .before .before .loop-test .taken) (sign .ensures) (spelt (member .last .1 .1 .0))
+          (member-as (e .1) (e .2) (member .ensures .0 .1))
           (joined-others turn) place (search (needs, long)),
       member .ensures .1 .0 ∙ l .inv .2,
     )
@@ -196,9 +183,6 @@ joined-at-returns t c =
     )
 
 -- ---- member_at
-member-at-element-copy-out-rank-at : (t : ℕ) → member-at-lts.Need-element-copy-out-rank-at (member-rs t) (member-here t) member-at.Post
-member-at-element-copy-out-rank-at t c = search needs
-
 member-at-rank-at-requires : (t : ℕ) → member-at-lts.Need-rank-at-requires (member-rs t) (member-here t) member-at.Post
 member-at-rank-at-requires t c κs = c .before .before .pre .1 .1
 
@@ -218,17 +202,8 @@ member-at-returns t c =
     let told = c .tree-at .ensures in
     ((told .0 .0, λ p t e h. bare-put p t (bare-there p t (rank .result) (a .least) (rank .ensures t h) e low) (told .0 .1 t h)), told .1)
 
-member-at-slice-aggregate-put-sign : (t : ℕ) → member-at-lts.Need-slice-aggregate-put-sign (member-rs t) (member-here t) member-at.Post
-member-at-slice-aggregate-put-sign t c = refl
-
-member-at-element-copy-out-put-sign : (t : ℕ) → member-at-lts.Need-element-copy-out-put-sign (member-rs t) (member-here t) member-at.Post
-member-at-element-copy-out-put-sign t c = search needs
-
 member-at-put-sign-requires : (t : ℕ) → member-at-lts.Need-put-sign-requires (member-rs t) (member-here t) member-at.Post
 member-at-put-sign-requires t c κs = let f = c .before .before .before .before .before .before .pre .1 .3 .fits in omega (arith, f)
-
-member-at-element-write-st : (t : ℕ) → member-at-lts.Need-element-write-st (member-rs t) (member-here t) member-at.Post
-member-at-element-write-st t c = search needs
 
 member-at-tree-at-requires-2 : (t : ℕ) → member-at-lts.Need-tree-at-requires-2 (member-rs t) (member-here t) member-at.Post
 member-at-tree-at-requires-2 t c κs =
@@ -253,17 +228,12 @@ member-entry-of c = c .before .before .before .before .before .before .before .b
 -- its text, from behind the opening parenthesis
 member-inner : {t : ℕ} (c : member-Inner t)
     → let a = member-entry-of c .args in
-    TreePut (a .s .now .now) (nextIn (a .st .now)) (c .before .before .before .put-sign .last .1 .0) (c .before .before .before .put-sign .result) (c .tree-at2 .last .1 .0 .now) (spelt (c .tree-at2 .last .1 .1 .0))
+    TreePut (a .s .now .now) (nextIn (a .st .now)) (c .before .before .before .put-sign .last .1 .0) (c .before .before .before .put-sign .result)
+    (c .tree-at2 .last .1 .0 .now) (spelt (c .tree-at2 .last .1 .1 .0))
 member-inner c =
     let entry = member-entry-of c in
     let e = end-set (entry .args .st .now) (c .before .before .before .put-sign .result) (entry .pre .1 .0 .0) in
     tree-as (e .1) (e .2) (c .tree-at2 .ensures .0 .1)
-
-member-at-slice-aggregate-put-sign-2 : (t : ℕ) → member-at-lts.Need-slice-aggregate-put-sign-2 (member-rs t) (member-here t) member-at.Post
-member-at-slice-aggregate-put-sign-2 t c = refl
-
-member-at-element-copy-out-put-sign-2 : (t : ℕ) → member-at-lts.Need-element-copy-out-put-sign-2 (member-rs t) (member-here t) member-at.Post
-member-at-element-copy-out-put-sign-2 t c = search needs
 
 member-at-put-sign-requires-2 : (t : ℕ) → member-at-lts.Need-put-sign-requires-2 (member-rs t) (member-here t) member-at.Post
 member-at-put-sign-requires-2 t c κs =
@@ -273,9 +243,6 @@ member-at-put-sign-requires-2 t c κs =
     let t = p .1 in
     closing-room (sign .result) (endIn (inner .tree-at2 .last .1 .1 .0)) (t .tree) (t .there) (p .3) (sign .ensures .end)
     (member-inner inner (t .tree) (t .there) .text-put .end)
-
-member-at-element-write-st-2 : (t : ℕ) → member-at-lts.Need-element-write-st-2 (member-rs t) (member-here t) member-at.Post
-member-at-element-write-st-2 t c = search needs
 
 member-at-returns-2 : (t : ℕ) → member-at-lts.Need-returns-2 (member-rs t) (member-here t) member-at.Post
 member-at-returns-2 t c =
@@ -289,15 +256,13 @@ member-at-returns-2 t c =
       (
         f .0,
         λ p t d h. spelt-as (f .3)
-            (grouped-put p t (grouped-there p t (rank .result) (a .least) (rank .ensures t h) d high) (c .before .before .before .before .before .before .put-sign .ensures) (member-inner inner t h) (c .put-sign2 .ensures)),
+            (grouped-put p t (grouped-there p t (rank .result) (a .least) (rank .ensures t h) d high)
+            (c .before .before .before .before .before .before .put-sign .ensures) (member-inner inner t h) (c .put-sign2 .ensures)),
       ),
       (told .ensures .1 .0, search (needs, long)),
     )
 
 -- ---- tree_at
-tree-at-element-copy-out-i : (t : ℕ) → tree-at-lts.Need-element-copy-out-i (tree-rs t) (tree-here t) tree-at.Post
-tree-at-element-copy-out-i t c = search needs
-
 tree-at-kind-requires : (t : ℕ) → tree-at-lts.Need-kind-requires (tree-rs t) (tree-here t) tree-at.Post
 tree-at-kind-requires t c κs = inside (c .before .before .pre .1 .1)
 
@@ -308,15 +273,6 @@ tree-at-add-st t c =
     let l = p .0 .1 in
     record { fits = omega (arith, w, l) }
 
-tree-at-element-write-st : (t : ℕ) → tree-at-lts.Need-element-write-st (tree-rs t) (tree-here t) tree-at.Post
-tree-at-element-write-st t c = search needs
-
-tree-at-slice-aggregate-put-leaf : (t : ℕ) → tree-at-lts.Need-slice-aggregate-put-leaf (tree-rs t) (tree-here t) tree-at.Post
-tree-at-slice-aggregate-put-leaf t c = refl
-
-tree-at-element-copy-out-put-leaf : (t : ℕ) → tree-at-lts.Need-element-copy-out-put-leaf (tree-rs t) (tree-here t) tree-at.Post
-tree-at-element-copy-out-put-leaf t c = search needs
-
 tree-at-put-leaf-requires : (t : ℕ) → tree-at-lts.Need-put-leaf-requires (tree-rs t) (tree-here t) tree-at.Post
 tree-at-put-leaf-requires t c κs =
     let entry = c .before .before .before .before .before .before .before in
@@ -326,17 +282,16 @@ tree-at-put-leaf-requires t c κs =
     let f = p .2 .fits in
     (p .1, omega (arith, e), record { fits = omega (arith, f, n) })
 
-tree-at-element-write-st-2 : (t : ℕ) → tree-at-lts.Need-element-write-st-2 (tree-rs t) (tree-here t) tree-at.Post
-tree-at-element-write-st-2 t c = search needs
-
 tree-at-returns : (t : ℕ) → tree-at-lts.Need-returns (tree-rs t) (tree-here t) tree-at.Post
 tree-at-returns t c =
     let entry = c .before .before .before .before .before .before .before .before in
     let st = entry .args .st .now in
     let l = entry .pre .1 .0 .0 in
     let n = next-set st (nextIn st + 1) l in
-    let b = both-set st (nextIn st + 1) (c .put-leaf .result) l in
-    ((b .0, λ t h. spelt-as (b .1) (let r = c .put-leaf .ensures t h in record { next = r .next; text-put = put-as (n .2) (r .text-put) })), (refl, search needs))
+    let b = both-set st (nextIn st + 1) (c .put-leaf .result) l in (
+      (b .0, λ t h. spelt-as (b .1) (let r = c .put-leaf .ensures t h in record { next = r .next; text-put = put-as (n .2) (r .text-put) })),
+      (refl, search needs),
+    )
 
 tree-at-count-requires : (t : ℕ) → tree-at-lts.Need-count-requires (tree-rs t) (tree-here t) tree-at.Post
 tree-at-count-requires t c κs = inside (c .before .before .before .before .before .before .before .before .pre .1 .1)
@@ -464,9 +419,6 @@ tree-sign-room c =
 tree-exponent : {t : ℕ} (c : tree-Base t) → nextIn (tree-cells c) * 16 + 16 ≤ length (tree-entry-of c .args .s .now .now)
 tree-exponent c = exponent-inside (tree-power c) (tree-base c) (tree-entry-of c .pre .1 .1)
 
-tree-at-element-copy-out-e : (t : ℕ) → tree-at-lts.Need-element-copy-out-e (tree-rs t) (tree-here t) tree-at.Post
-tree-at-element-copy-out-e t c = search needs
-
 tree-at-add-st-2 : (t : ℕ) → tree-at-lts.Need-add-st-2 (tree-rs t) (tree-here t) tree-at.Post
 tree-at-add-st-2 t c =
     let base = c .before in
@@ -474,24 +426,12 @@ tree-at-add-st-2 t c =
     let l = tree-entry-of base .pre .1 .0 .1 in
     record { fits = omega (arith, w, l) }
 
-tree-at-element-write-st-3 : (t : ℕ) → tree-at-lts.Need-element-write-st-3 (tree-rs t) (tree-here t) tree-at.Post
-tree-at-element-write-st-3 t c = search needs
-
-tree-at-slice-aggregate-put-exponent : (t : ℕ) → tree-at-lts.Need-slice-aggregate-put-exponent (tree-rs t) (tree-here t) tree-at.Post
-tree-at-slice-aggregate-put-exponent t c = refl
-
-tree-at-element-copy-out-put-exponent : (t : ℕ) → tree-at-lts.Need-element-copy-out-put-exponent (tree-rs t) (tree-here t) tree-at.Post
-tree-at-element-copy-out-put-exponent t c = search needs
-
 tree-at-put-exponent-requires : (t : ℕ) → tree-at-lts.Need-put-exponent-requires (tree-rs t) (tree-here t) tree-at.Post
 tree-at-put-exponent-requires t c κs =
     let base = c .before .before .before .before in
     let r = tree-sign-room base in
     let n = next-set (tree-cells base) (nextIn (tree-cells base) + 1) (base .member-at .ensures .0 .0) .2 in
     (tree-exponent base, omega (arith, r, n))
-
-tree-at-element-write-st-4 : (t : ℕ) → tree-at-lts.Need-element-write-st-4 (tree-rs t) (tree-here t) tree-at.Post
-tree-at-element-write-st-4 t c = search needs
 
 tree-at-returns-4 : (t : ℕ) → tree-at-lts.Need-returns-4 (tree-rs t) (tree-here t) tree-at.Post
 tree-at-returns-4 t c =
@@ -508,56 +448,15 @@ tree-at-returns-4 t c =
 pub +joined-at+member-at+tree-at-spec : {M : Type 1} → statement M
 +joined-at+member-at+tree-at-spec =
     close μ-joined-at μ-member-at μ-tree-at
-    (λ t. joined-at-lts.spec (joined-rs t) (joined-here t) joined-at.Post joined-inv joined-left
-    (joined-at-member-at-requires t)
-    (joined-at-sub-left t)
-    (joined-at-loop-holds t)
-    (joined-at-slice-aggregate-put-sign t)
-    (joined-at-element-copy-out-put-sign t)
-    (joined-at-put-sign-requires t)
-    (joined-at-element-write-st t)
-    (joined-at-member-at-requires-2 t)
-    (joined-at-sub-left-2 t)
-    (joined-at-loop-less t)
-    (joined-at-loop-again t)
-    (joined-at-returns t))
-    (λ t. member-at-lts.spec (member-rs t) (member-here t) member-at.Post
-    (member-at-element-copy-out-rank-at t)
-    (member-at-rank-at-requires t)
-    (member-at-tree-at-requires t)
-    (member-at-returns t)
-    (member-at-slice-aggregate-put-sign t)
-    (member-at-element-copy-out-put-sign t)
-    (member-at-put-sign-requires t)
-    (member-at-element-write-st t)
-    (member-at-tree-at-requires-2 t)
-    (member-at-slice-aggregate-put-sign-2 t)
-    (member-at-element-copy-out-put-sign-2 t)
-    (member-at-put-sign-requires-2 t)
-    (member-at-element-write-st-2 t)
-    (member-at-returns-2 t))
-    λ t. tree-at-lts.spec (tree-rs t) (tree-here t) tree-at.Post
-    (tree-at-element-copy-out-i t)
-    (tree-at-kind-requires t)
-    (tree-at-add-st t)
-    (tree-at-element-write-st t)
-    (tree-at-slice-aggregate-put-leaf t)
-    (tree-at-element-copy-out-put-leaf t)
-    (tree-at-put-leaf-requires t)
-    (tree-at-element-write-st-2 t)
-    (tree-at-returns t)
-    (tree-at-count-requires t)
-    (tree-at-joined-at-requires t)
-    (tree-at-returns-2 t)
-    (tree-at-count-requires-2 t)
-    (tree-at-joined-at-requires-2 t)
-    (tree-at-returns-3 t)
-    (tree-at-member-at-requires t)
-    (tree-at-element-copy-out-e t)
-    (tree-at-add-st-2 t)
-    (tree-at-element-write-st-3 t)
-    (tree-at-slice-aggregate-put-exponent t)
-    (tree-at-element-copy-out-put-exponent t)
-    (tree-at-put-exponent-requires t)
-    (tree-at-element-write-st-4 t)
-    (tree-at-returns-4 t)
+    (λ t. joined-at-lts.spec (joined-rs t) (joined-here t) joined-at.Post joined-inv joined-left (joined-at-member-at-requires t)
+    (joined-at-sub-left t) (joined-at-loop-holds t) (λ c. refl) (λ c. search needs) (joined-at-put-sign-requires t)
+    (λ c. search needs) (joined-at-member-at-requires-2 t) (λ c. omega arith) (λ c. omega arith) (joined-at-loop-again t) (joined-at-returns t))
+    (λ t. member-at-lts.spec (member-rs t) (member-here t) member-at.Post (λ c. search needs) (member-at-rank-at-requires t)
+    (member-at-tree-at-requires t) (member-at-returns t) (λ c. refl) (λ c. search needs) (member-at-put-sign-requires t)
+    (λ c. search needs) (member-at-tree-at-requires-2 t) (λ c. refl) (λ c. search needs)
+    (member-at-put-sign-requires-2 t) (λ c. search needs) (member-at-returns-2 t))
+    (λ t. tree-at-lts.spec (tree-rs t) (tree-here t) tree-at.Post (λ c. search needs) (tree-at-kind-requires t) (tree-at-add-st t) (λ c. search needs)
+    (λ c. refl) (λ c. search needs) (tree-at-put-leaf-requires t) (λ c. search needs) (tree-at-returns t)
+    (tree-at-count-requires t) (tree-at-joined-at-requires t) (tree-at-returns-2 t) (tree-at-count-requires-2 t) (tree-at-joined-at-requires-2 t)
+    (tree-at-returns-3 t) (tree-at-member-at-requires t) (λ c. search needs) (tree-at-add-st-2 t) (λ c. search needs)
+    (λ c. refl) (λ c. search needs) (tree-at-put-exponent-requires t) (λ c. search needs) (tree-at-returns-4 t))

@@ -1,4 +1,4 @@
--- `spell::enter` meets its contract: the area is put behind a reference and handed back. Assumes nothing.
+-- `spell::enter` meets its contract: the area is put behind a reference and handed back.
 use native.Mathlib.Omega.{arith}
 use Rattle.spell.proofs.enter.Statement.{statement}
 use Rattle.spell.proofs.enter.Tie as tie

@@ -1,4 +1,4 @@
--- `spell::put_exponent` meets its contract: the sign, and the digits behind it. Assumes nothing.
+-- `spell::put_exponent` meets its contract: the sign, and the digits behind it.
 use native.Mathlib.Omega.{arith}
 use borrow.Author.Needs.{needs}
 use Rattle.spell.proofs.PutLaws.{exponent-put}
@@ -17,11 +17,10 @@ spell-number-requires c κs =
     let r = c .before .before .before .before .before .before .before .before .pre .1 in
     omega (arith, m, r)
 
-same-length : tie.Need-same-length
-same-length c = search needs
-
 returns : tie.Need-returns
-returns c = exponent-put (c .before .before .before .before .bits .ensures) (c .before .before .before .before .before .before .before .put-sign .ensures) (c .before .before .spell-number .ensures)
+returns c =
+    exponent-put (c .before .before .before .before .bits .ensures) (c .before .before .before .before .before .before .before .put-sign .ensures)
+    (c .before .before .spell-number .ensures)
 
 pub put-exponent-spec : {M : Type 1} → statement M
-put-exponent-spec = tie.close (tie.spec put-sign-requires bits-requires spell-number-requires same-length returns)
+put-exponent-spec = tie.close (tie.spec put-sign-requires bits-requires spell-number-requires (λ c. search needs) returns)

@@ -1,4 +1,4 @@
--- `spell::put_leaf` meets its contract: the kind tells an integer from a symbol. Assumes nothing.
+-- `spell::put_leaf` meets its contract: the kind tells an integer from a symbol.
 use mathlib.Core.Path.{_≡_}
 use native.Mathlib.Omega.{arith}
 use borrow.Author.Needs.{needs}
@@ -16,9 +16,6 @@ bits-requires c κs = inside (c .before .before .before .before .pre .0)
 put-integer-requires : tie.Need-put-integer-requires
 put-integer-requires c κs = let f = c .before .before .before .before .before .before .pre .2 .fits in omega (arith, f)
 
-same-length : tie.Need-same-length
-same-length c = search needs
-
 returns : tie.Need-returns
 returns c =
     let a = c .before .before .before .before .before .before .before .before .before .args in
@@ -32,17 +29,11 @@ put-sign-requires c κs = let f = c .before .before .before .before .before .pre
 symbol-requires : tie.Need-symbol-requires
 symbol-requires c κs = inside (c .before .before .before .before .before .before .before .before .pre .0)
 
-cast-spell-number : tie.Need-cast-spell-number
-cast-spell-number c = search needs
-
 spell-number-requires : tie.Need-spell-number-requires
 spell-number-requires c κs =
     let e = c .before .before .before .before .put-sign .ensures .end in
     let f = c .before .before .before .before .before .before .before .before .before .before .pre .2 .fits in
     omega (arith, e, f)
-
-same-length-2 : tie.Need-same-length-2
-same-length-2 c = search needs
 
 returns-2 : tie.Need-returns-2
 returns-2 c =
@@ -51,20 +42,12 @@ returns-2 c =
     let e = c .before .before .before .before .before .before .before .before .before .before .kind .ensures in
     let l = entry .pre .1 in
     let k : kind (a .s .now) (a .i) ≡ 1 = omega (arith, e, l) in
-    λ t h. symbol-put t h k (c .before .before .before .before .symbol .ensures) (c .before .before .before .before .before .before .before .put-sign .ensures) (c .before .before .spell-number .ensures)
+    λ t h. symbol-put t h k (c .before .before .before .before .symbol .ensures)
+    (c .before .before .before .before .before .before .before .put-sign .ensures) (c .before .before .spell-number .ensures)
 
 pub put-leaf-spec : {M : Type 1} → statement M
 put-leaf-spec =
     tie.close
     (tie.spec
-    kind-requires
-    bits-requires
-    put-integer-requires
-    same-length
-    returns
-    put-sign-requires
-    symbol-requires
-    cast-spell-number
-    spell-number-requires
-    same-length-2
-    returns-2)
+    kind-requires bits-requires put-integer-requires (λ c. search needs) returns put-sign-requires symbol-requires (λ c. search needs)
+    spell-number-requires (λ c. search needs) returns-2)

@@ -1,4 +1,4 @@
--- `spell::spell` meets its contract: what the cycle leaves in the cells is the answer, and the area it hands back is the one lent. Assumes nothing.
+-- `spell::spell` meets its contract: what the cycle leaves in the cells is the answer, and the area it hands back is the one lent.
 use mathlib.Core.Path.{refl, sym}
 use borrow.Author.Needs.{needs}
 use Rattle.spell.proofs.spell.Statement.{statement}
@@ -7,19 +7,10 @@ use Rattle.spell.proofs.spell.Tie as tie
 enter-requires : tie.Need-enter-requires
 enter-requires c κs = let p = c .before .before .before .before .pre in (refl, p .0, p .1)
 
-array-read-t12 : tie.Need-array-read-t12
-array-read-t12 c = search needs
-
-array-read-t15 : tie.Need-array-read-t15
-array-read-t15 c = search needs
-
-same-length : tie.Need-same-length
-same-length c = search needs
-
 returns : tie.Need-returns
 returns c =
     let told = c .before .before .enter .ensures in
     rw (c .before .out .given .1 .0 (sym (told .0))) (told .3)
 
 pub spell-spec : {M : Type 1} → statement M
-spell-spec = tie.close (tie.spec enter-requires array-read-t12 array-read-t15 same-length returns)
+spell-spec = tie.close (tie.spec enter-requires (λ c. search needs) (λ c. search needs) (λ c. search needs) returns)

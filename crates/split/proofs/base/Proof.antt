@@ -1,5 +1,4 @@
 -- `split::base` meets its contract: the record's kind tells whether the tree is a power, whose base stands one record later.
--- Assumes nothing.
 use mathlib.Core.Path.{sym, _∙_}
 use native.Mathlib.Omega.{arith}
 use Rattle.note.proofs.ToldLaws.{record-within}

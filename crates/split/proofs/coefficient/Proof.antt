@@ -1,4 +1,4 @@
--- `split::coefficient` meets its contract: each return is one case of the split, by the record's kind. Assumes nothing.
+-- `split::coefficient` meets its contract: each return is one case of the split, by the record's kind.
 use mathlib.Core.Path.{sym, ap, _∙_}
 use native.Mathlib.Omega.{arith}
 use Rattle.paper.specs.Bytes.{word}
@@ -40,9 +40,4 @@ pub coefficient-spec : {M : Type 1} → statement M
 coefficient-spec =
     tie.close
     (tie.spec
-    kind-requires
-    bits-requires
-    returns
-    returns-2
-    product-coefficient-requires
-    returns-3)
+    kind-requires bits-requires returns returns-2 product-coefficient-requires returns-3)

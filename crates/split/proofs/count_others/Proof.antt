@@ -1,5 +1,5 @@
 -- `split::count_others` meets its contract. The loop's invariant: the others met so far and those among the members that are left are the
--- product's. Assumes nothing.
+-- product's.
 use Prim.Native.Nat.{ℕ, _+_, _≤_}
 use mathlib.Core.Logic.{⊎-elim}
 use native.Mathlib.Omega.{arith}
@@ -73,15 +73,4 @@ pub count-others-spec : {M : Type 1} → statement M
 count-others-spec =
     tie.close
     (tie.spec
-    Inv-loop
-    μ-loop
-    add-at
-    count-requires
-    loop-holds
-    kind-requires
-    add-many
-    skip-tree-requires
-    sub-left
-    loop-less
-    loop-again
-    returns)
+    Inv-loop μ-loop add-at count-requires loop-holds kind-requires add-many skip-tree-requires sub-left loop-less loop-again returns)

@@ -1,4 +1,4 @@
--- `split::exponent` meets its contract: where the record is a power's, the exponent stands after the base. Assumes nothing.
+-- `split::exponent` meets its contract: where the record is a power's, the exponent stands after the base.
 use mathlib.Core.Path.{_≡_, sym, _∙_}
 use native.Mathlib.Omega.{arith}
 use lib.Dec.{lit<}

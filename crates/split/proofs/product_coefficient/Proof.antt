@@ -1,5 +1,5 @@
 -- `split::product_coefficient` meets its contract. The loop's invariant: the product so far is in range, and with the integers among the
--- members that are left it makes the product of all. Assumes nothing.
+-- members that are left it makes the product of all.
 use Prim.Native.Nat.{ℕ}
 use mathlib.Core.Path.{sym, ap, _∙_}
 use mathlib.Core.Logic.{⊎-elim}
@@ -40,15 +40,6 @@ bits-requires c κs =
     let left = c .before .before in
     let some = left .before .before .before .before .pre in
     record-within (multiplying-tree (left .before .loop .inv (some .how) (some .mark) (some .members) (some .there)) (left .loop-test .taken) .there)
-
-mul-requires : tie.Need-mul-requires Inv-loop μ-loop
-mul-requires c κs = search needs
-
-enum-known-product : tie.Need-enum-known-product Inv-loop μ-loop
-enum-known-product c = search needs
-
-enum-told : tie.Need-enum-told Inv-loop μ-loop
-enum-told c = search needs
 
 returns : tie.Need-returns Inv-loop μ-loop
 returns c = λ how μ f h.
@@ -95,19 +86,5 @@ pub product-coefficient-spec : {M : Type 1} → statement M
 product-coefficient-spec =
     tie.close
     (tie.spec
-    Inv-loop
-    μ-loop
-    add-at
-    count-requires
-    loop-holds
-    kind-requires
-    bits-requires
-    mul-requires
-    enum-known-product
-    enum-told
-    returns
-    skip-tree-requires
-    sub-left
-    loop-less
-    loop-again
-    returns-2)
+    Inv-loop μ-loop add-at count-requires loop-holds kind-requires bits-requires (λ c κs. search needs) (λ c. search needs) (λ c. search needs)
+    returns skip-tree-requires sub-left loop-less loop-again returns-2)

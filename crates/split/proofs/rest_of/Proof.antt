@@ -1,5 +1,5 @@
 -- `split::rest_of` meets its contract: each return is one case of the split, by the record's kind and, for a product, by the number of its
--- members that are no integers. Assumes nothing.
+-- members that are no integers.
 use mathlib.Core.Path.{refl, sym, _∙_}
 use native.Mathlib.Omega.{arith}
 use Rattle.note.proofs.ToldLaws.{record-within}
@@ -73,12 +73,4 @@ pub rest-of-spec : {M : Type 1} → statement M
 rest-of-spec =
     tie.close
     (tie.spec
-    kind-requires
-    returns
-    returns-2
-    count-others-requires
-    count-requires
-    returns-3
-    returns-4
-    returns-5
-    returns-6)
+    kind-requires returns returns-2 count-others-requires count-requires returns-3 returns-4 returns-5 returns-6)

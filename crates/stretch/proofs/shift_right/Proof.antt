@@ -1,5 +1,5 @@
 -- `stretch::shift_right` meets its contract: at j the part's bytes from j on, as they were at entry, are put; the byte that a turn
--- reads lies before them, so it is still the entry's. Assumes nothing.
+-- reads lies before them, so it is still the entry's.
 use mathlib.Core.Path.{_≡_, refl, sym}
 use Prim.Native.Nat.{_+_, _-_, _≤_}
 use native.Mathlib.Nat.{add-zero, sub-zero}
@@ -22,24 +22,6 @@ loop-holds c =
     let z : c .args .n - c .args .n ≡ 0 = omega arith in
     (search needs, refl, sym (rw (z, part-none) (put-none _ _)))
 
-sub-j : tie.Need-sub-j Inv-loop μ-loop
-sub-j c = omega arith
-
-add-d : tie.Need-add-d Inv-loop μ-loop
-add-d c = omega arith
-
-slice-read-d : tie.Need-slice-read-d Inv-loop μ-loop
-slice-read-d c = omega arith
-
-add-d-2 : tie.Need-add-d-2 Inv-loop μ-loop
-add-d-2 c = omega arith
-
-slice-write-d : tie.Need-slice-write-d Inv-loop μ-loop
-slice-write-d c = omega arith
-
-loop-less : tie.Need-loop-less Inv-loop μ-loop
-loop-less c = omega arith
-
 loop-again : tie.Need-loop-again Inv-loop μ-loop
 loop-again c = (
   search needs,
@@ -59,15 +41,5 @@ pub shift-right-spec : {M : Type 1} → statement M
 shift-right-spec =
     tie.close
     (tie.spec
-    Inv-loop
-    μ-loop
-    loop-holds
-    sub-j
-    add-d
-    slice-read-d
-    add-d-2
-    slice-write-d
-    loop-less
-    loop-again
-    same-length
-    returns)
+    Inv-loop μ-loop loop-holds (λ c. omega arith) (λ c. omega arith) (λ c. omega arith) (λ c. omega arith) (λ c. omega arith) (λ c. omega arith)
+    loop-again same-length returns)

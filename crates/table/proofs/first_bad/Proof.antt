@@ -1,5 +1,5 @@
 -- `table::first_bad` meets its contract. The loop's invariant: what the trees that are owed and the records that are left tell of bad
--- exponents is what the whole table tells (`Owing`); each way through a turn is one law of it. Assumes nothing.
+-- exponents is what the whole table tells (`Owing`); each way through a turn is one law of it.
 use Prim.Native.Nat.{ℕ, _+_, _-_, _*_, _<_, _≤_}
 use mathlib.Core.Path.{sym, _∙_}
 use mathlib.Core.Logic.{⊎-elim}
@@ -91,16 +91,5 @@ pub first-bad-spec : {M : Type 1} → statement M
 first-bad-spec =
     tie.close
     (tie.spec
-    Inv-loop
-    μ-loop
-    loop-holds
-    sub-owed
-    is-due-requires
-    is-positive-requires
-    returns
-    turn-requires
-    owe-members-requires
-    add-i
-    loop-less
-    loop-again
+    Inv-loop μ-loop loop-holds sub-owed is-due-requires is-positive-requires returns turn-requires owe-members-requires add-i loop-less loop-again
     returns-2)

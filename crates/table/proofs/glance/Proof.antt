@@ -1,5 +1,5 @@
 -- `table::glance` meets its contract: each answer but the flawed ones is one form of a record by its halves, and where a record is said to be
--- flawed its halves have none of the forms, by the tests before (SeenLaws). Assumes nothing.
+-- flawed its halves have none of the forms, by the tests before (SeenLaws).
 use Prim.Native.Nat.{_≤_}
 use mathlib.Core.Path.{_≡_}
 use mathlib.Core.Bool.{true}
@@ -28,15 +28,6 @@ flawed c f =
     let a = entry-of c .args in
     formless (a .s .now) (a .i) (bytes c) (c .before .read8 .result) (c .bits .result) (c .before .read8 .ensures) (c .bits .ensures) f
 
-mul-read8 : tie.Need-mul-read8
-mul-read8 c = search needs
-
-read8-requires : tie.Need-read8-requires
-read8-requires c κs = search needs
-
-bits-requires : tie.Need-bits-requires
-bits-requires c κs = search needs
-
 returns : tie.Need-returns
 returns c = flawed (c .before) (omega (arith, c .if1 .taken))
 
@@ -63,9 +54,6 @@ returns-5 : tie.Need-returns-5
 returns-5 c =
     flawed (c .before .before .before .before)
     (omega (arith, c .if5 .taken, c .before .if3 .left, c .before .before .if2 .left, c .before .before .before .if1 .left))
-
-mul-if6 : tie.Need-mul-if6
-mul-if6 c = search needs
 
 returns-6 : tie.Need-returns-6
 returns-6 c =
@@ -101,17 +89,5 @@ pub glance-spec : {M : Type 1} → statement M
 glance-spec =
     tie.close
     (tie.spec
-    mul-read8
-    read8-requires
-    bits-requires
-    returns
-    returns-2
-    returns-3
-    returns-4
-    returns-5
-    mul-if6
-    returns-6
-    returns-7
-    returns-8
-    returns-9
-    returns-10)
+    (λ c. search needs) (λ c κs. search needs) (λ c κs. search needs) returns returns-2 returns-3 returns-4 returns-5 (λ c. search needs) returns-6
+    returns-7 returns-8 returns-9 returns-10)

@@ -1,22 +1,13 @@
--- `table::is_due` meets its contract: the shift and the remainder are the definition's. Assumes nothing.
+-- `table::is_due` meets its contract: the shift and the remainder are the definition's.
 use mathlib.Core.Path.{refl}
 use borrow.Author.Needs.{needs}
 use Rattle.table.specs.Due.{dueAt}
 use Rattle.table.proofs.is_due.Statement.{statement}
 use Rattle.table.proofs.is_due.Tie as tie
 
-mul-result : tie.Need-mul-result
-mul-result c = search needs
-
-element-copy-out-result : tie.Need-element-copy-out-result
-element-copy-out-result c = search needs
-
-shr-result : tie.Need-shr-result
-shr-result c = search needs
-
 returns : tie.Need-returns
 unfolding dueAt
 returns c = refl
 
 pub is-due-spec : {M : Type 1} → statement M
-is-due-spec = tie.close (tie.spec mul-result element-copy-out-result shr-result returns)
+is-due-spec = tie.close (tie.spec (λ c. search needs) (λ c. search needs) (λ c. search needs) returns)

@@ -1,4 +1,4 @@
--- `table::is_limit` meets its contract: the two tests are those of the definition. Assumes nothing.
+-- `table::is_limit` meets its contract: the two tests are those of the definition.
 use borrow.Author.Tests.{eq-eqb, ne-eqb}
 use Rattle.paper.specs.Limits.{isLimit}
 use Rattle.table.proofs.is_limit.Statement.{statement}

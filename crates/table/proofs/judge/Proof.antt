@@ -1,5 +1,5 @@
 -- `table::judge` meets its contract: refusal 19 by the test of the limit, refusal 1 by one law for each test of the length, and past them
--- the records are judged. Assumes nothing.
+-- the records are judged.
 use mathlib.Core.Path.{_≡_, refl, sym, _∙_, subst}
 use mathlib.Core.Bool.{true}
 use native.Mathlib.Omega.{arith}
@@ -27,12 +27,6 @@ entry-of c = c .before .before
 known : (c : Limited) → isLimit (entry-of (c .before) .args .limit) ≡ true
 known c = sym (c .before .is-limit .ensures) ∙ not-false _ (c .if1 .left)
 
-is-limit-requires : tie.Need-is-limit-requires
-is-limit-requires c κs = search needs
-
-refused-requires : tie.Need-refused-requires
-refused-requires c κs = search needs
-
 returns : tie.Need-returns
 unfolding isAccepted
 returns c =
@@ -41,18 +35,12 @@ returns c =
     let told = limit-unknown (a .limit) (a .s .now) (sym (at .before .is-limit .ensures) ∙ not-true _ (at .if1 .taken)) in
     finds-refused _ _ Limit (c .refused .result) (c .refused .ensures) (sym told) refl
 
-refused-requires-2 : tie.Need-refused-requires-2
-refused-requires-2 c κs = search needs
-
 returns-2 : tie.Need-returns-2
 unfolding isAccepted
 returns-2 c =
     let at = c .before in
     let a = entry-of (at .before .before) .args in
     finds-refused _ _ Length (c .refused2 .result) (c .refused2 .ensures) (sym (length-zero (a .limit) (known (at .before)) (a .s .now) (at .if2 .taken))) refl
-
-refused-requires-3 : tie.Need-refused-requires-3
-refused-requires-3 c κs = search needs
 
 returns-3 : tie.Need-returns-3
 unfolding isAccepted
@@ -67,9 +55,6 @@ mul-if4 : tie.Need-mul-if4
 mul-if4 c =
     let limited = c .before .before in
     omega (arith, limit-small (entry-of (limited .before) .args .limit) (known limited))
-
-refused-requires-4 : tie.Need-refused-requires-4
-refused-requires-4 c κs = search needs
 
 returns-4 : tie.Need-returns-4
 unfolding isAccepted
@@ -98,15 +83,5 @@ pub judge-spec : {M : Type 1} → statement M
 judge-spec =
     tie.close
     (tie.spec
-    is-limit-requires
-    refused-requires
-    returns
-    refused-requires-2
-    returns-2
-    refused-requires-3
-    returns-3
-    mul-if4
-    refused-requires-4
-    returns-4
-    judge-records-requires
-    returns-5)
+    (λ c κs. search needs) (λ c κs. search needs) returns (λ c κs. search needs) returns-2 (λ c κs. search needs) returns-3 mul-if4
+    (λ c κs. search needs) returns-4 judge-records-requires returns-5)

@@ -1,5 +1,5 @@
 -- `table::judge_odd` meets its contract: each return is one case of the definition, by what was found before it; where no record is flawed the
--- tree does not end with the records, as is required, so it ends before or after. Assumes nothing.
+-- tree does not end with the records, as is required, so it ends before or after.
 use Prim.Native.Nat.{_≤_, min}
 use mathlib.Core.Path.{_≡_, refl, sym, ap, _∙_}
 use native.Mathlib.Omega.{arith}
@@ -80,11 +80,4 @@ pub judge-odd-spec : {M : Type 1} → statement M
 judge-odd-spec =
     tie.close
     (tie.spec
-    first-flawed-requires
-    judge-record-requires
-    returns
-    weight-of-requires
-    returns-2
-    tree-end-requires
-    returns-3
-    returns-4)
+    first-flawed-requires judge-record-requires returns weight-of-requires returns-2 tree-end-requires returns-3 returns-4)

@@ -1,5 +1,5 @@
 -- `table::judge_records` meets its contract: a look that finds all records whole decides all but the limit and the exponents, and where there is no
--- power there is no bad exponent; else the odd records are judged. Assumes nothing.
+-- power there is no bad exponent; else the odd records are judged.
 use mathlib.Core.Path.{_≡_, refl, sym, ap, _∙_}
 use native.Mathlib.Omega.{arith}
 use borrow.Author.Needs.{needs}
@@ -31,27 +31,15 @@ weighs c = let entry = entry-of c in whole c .2 ∙ ap (weightFrom (entry .args 
 look-requires : tie.Need-look-requires
 look-requires c κs = let a = c .before in (records-within (a .args .s .now) (a .args .n) (a .pre .0), a .pre .1)
 
-enum-known-w : tie.Need-enum-known-w
-enum-known-w c = search needs
-
-enum-told : tie.Need-enum-told
-enum-told c = search needs
-
 judge-odd-requires : tie.Need-judge-odd-requires
 judge-odd-requires c κs =
     let a = c .before .before .before .before in
     (a .pre .0, a .pre .1, rw (c .enum-told .given .1) at (c .before .before .look .ensures))
 
-refused-requires : tie.Need-refused-requires
-refused-requires c κs = search needs
-
 returns : tie.Need-returns
 returns c =
     let odd = c .before .judge-odd in
     finds-refused _ _ (odd .result) (c .refused .result) (c .refused .ensures) (odd .ensures .0) (odd .ensures .1)
-
-refused-requires-2 : tie.Need-refused-requires-2
-refused-requires-2 c κs = search needs
 
 returns-2 : tie.Need-returns-2
 unfolding isAccepted
@@ -67,9 +55,6 @@ first-bad-requires c κs =
     let known = c .before .before in
     let a = entry-of known in
     (records-within (a .args .s .now) (a .args .n) (a .pre .0), a .pre .1, whole known .1)
-
-refused-requires-3 : tie.Need-refused-requires-3
-refused-requires-3 c κs = search needs
 
 returns-3 : tie.Need-returns-3
 unfolding isAccepted
@@ -107,16 +92,5 @@ pub judge-records-spec : {M : Type 1} → statement M
 judge-records-spec =
     tie.close
     (tie.spec
-    look-requires
-    enum-known-w
-    enum-told
-    judge-odd-requires
-    refused-requires
-    returns
-    refused-requires-2
-    returns-2
-    first-bad-requires
-    refused-requires-3
-    returns-3
-    returns-4
-    returns-5)
+    look-requires (λ c. search needs) (λ c. search needs) judge-odd-requires (λ c κs. search needs) returns (λ c κs. search needs) returns-2
+    first-bad-requires (λ c κs. search needs) returns-3 returns-4 returns-5)

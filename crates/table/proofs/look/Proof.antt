@@ -1,10 +1,11 @@
 -- `table::look` meets its contract. The loop's invariant: what was counted up to record i and what is left to count is what the definitions say of
--- all records (LookLaws). Assumes nothing.
+-- all records (LookLaws).
 use Prim.Native.Nat.{_-_}
 use mathlib.Core.Logic.{⊎-elim}
 use native.Mathlib.Omega.{arith}
 use borrow.Author.Needs.{needs}
-use Rattle.table.proofs.LookLaws.{Looking, begin-looking, ended-early, found-flawed, passed-integer, passed-symbol, passed-members, passed-power, ended-late, looked}
+use Rattle.table.proofs.LookLaws.{Looking, begin-looking, ended-early, found-flawed, ended-late, looked}
+use Rattle.table.proofs.LookLaws.{passed-integer, passed-symbol, passed-members, passed-power}
 use Rattle.table.proofs.look.Statement.{statement}
 use Rattle.table.proofs.look.Tie as tie
 
@@ -28,9 +29,6 @@ glance-requires c κs =
     let l = c .before .before .loop .inv .within in
     omega (arith, l, c .before .loop-test .taken, c .before .before .before .before .pre .0)
 
-enum-told : tie.Need-enum-told Inv-loop μ-loop
-enum-told c = search needs
-
 returns-2 : tie.Need-returns-2 Inv-loop μ-loop
 returns-2 c =
     let at = c .before .before .before .before .before in
@@ -39,20 +37,11 @@ returns-2 c =
     found-flawed (a .s .now) (a .n) (l .i) (l .owed) (l .w) (l .power) (l .inv) (c .before .before .before .before .loop-test .taken)
     (rw (c .enum-told .given .1) at (c .before .before .glance .ensures))
 
-enum-told-2 : tie.Need-enum-told-2 Inv-loop μ-loop
-enum-told-2 c = search needs
-
-enum-told-3 : tie.Need-enum-told-3 Inv-loop μ-loop
-enum-told-3 c = search needs
-
 add-w : tie.Need-add-w Inv-loop μ-loop
 add-w c =
     let at = c .before .before .before .before .before in
     let l = at .loop .inv in
     omega (arith, l .light, l .within, at .before .before .pre .1)
-
-enum-known-c : tie.Need-enum-known-c Inv-loop μ-loop
-enum-known-c c = search needs
 
 add-owed : tie.Need-add-owed Inv-loop μ-loop
 add-owed c =
@@ -60,9 +49,6 @@ add-owed c =
     let l = at .loop .inv in
     let seen = rw (c .before .c .given .1) at (c .before .before .before .glance .ensures) in
     omega (arith, l .few, l .within, seen .4, at .before .before .pre .1)
-
-enum-told-4 : tie.Need-enum-told-4 Inv-loop μ-loop
-enum-told-4 c = search needs
 
 add-owed-2 : tie.Need-add-owed-2 Inv-loop μ-loop
 add-owed-2 c =
@@ -92,7 +78,8 @@ loop-again c =
     (⊎-elim
     (λ w. rw (w .2, w .3, w .4) (passed-symbol (a .s .now) (a .n) (l .i) (l .owed) (l .w) (l .power) (l .inv) more some (rw (w .1 .given .1) at seen)))
     (⊎-elim
-    (λ w. rw (w .3, w .4, w .5) (passed-members (a .s .now) (a .n) (l .i) (l .owed) (l .w) (l .power) (l .inv) more some (w .1 .given .0 .0) (rw (w .1 .given .1) at seen)))
+    (λ w. rw (w .3, w .4, w .5)
+    (passed-members (a .s .now) (a .n) (l .i) (l .owed) (l .w) (l .power) (l .inv) more some (w .1 .given .0 .0) (rw (w .1 .given .1) at seen)))
     (λ w. rw (w .2, w .3, w .4) (passed-power (a .s .now) (a .n) (l .i) (l .owed) (l .w) (l .power) (l .inv) more some (rw (w .1 .given .1) at seen)))))
     (c .match .came)
 
@@ -112,22 +99,5 @@ pub look-spec : {M : Type 1} → statement M
 look-spec =
     tie.close
     (tie.spec
-    Inv-loop
-    μ-loop
-    loop-holds
-    returns
-    glance-requires
-    enum-told
-    returns-2
-    enum-told-2
-    enum-told-3
-    add-w
-    enum-known-c
-    add-owed
-    enum-told-4
-    add-owed-2
-    add-i
-    loop-less
-    loop-again
-    returns-3
-    returns-4)
+    Inv-loop μ-loop loop-holds returns glance-requires (λ c. search needs) returns-2 (λ c. search needs) (λ c. search needs) add-w (λ c. search needs)
+    add-owed (λ c. search needs) add-owed-2 add-i loop-less loop-again returns-3 returns-4)

@@ -1,5 +1,4 @@
 -- `table::owe_members` meets its contract: a power has two members, so that the second one from the top is where record i was.
--- Assumes nothing.
 use Prim.Native.Nat.{_+_, _-_}
 use mathlib.Core.Path.{_≡_, refl, sym, ap, _∙_}
 use native.Mathlib.Omega.{arith}
@@ -10,15 +9,6 @@ use Rattle.table.specs.Due.{turned, owing}
 use Rattle.table.proofs.OwedLaws.{arity-power}
 use Rattle.table.proofs.owe_members.Statement.{statement}
 use Rattle.table.proofs.owe_members.Tie as tie
-
-arity-requires : tie.Need-arity-requires
-arity-requires c κs = search needs
-
-add-owed : tie.Need-add-owed
-add-owed c = search needs
-
-kind-requires : tie.Need-kind-requires
-kind-requires c κs = search needs
 
 -- where record i is a power: the test, and its two members
 power : (c : tie.Then1) → let a = c .before .before .before .before .args in kind (a .s .now) (a .i) ≡ 4
@@ -53,4 +43,4 @@ returns-2 c =
     (ap (_+_ (a .k)) (c .before .before .arity .ensures .0), rw other refl)
 
 pub owe-members-spec : {M : Type 1} → statement M
-owe-members-spec = tie.close (tie.spec arity-requires add-owed kind-requires sub-turn turn-requires returns returns-2)
+owe-members-spec = tie.close (tie.spec (λ c κs. search needs) (λ c. search needs) (λ c κs. search needs) sub-turn turn-requires returns returns-2)

@@ -1,5 +1,5 @@
 -- `table::tree_end` meets its contract. The loop's invariant: skipping what is owed from record i on ends where the whole tree
--- ends. Assumes nothing.
+-- ends.
 use Prim.Native.Nat.{_+_, _-_, _*_, _<_, _≤_}
 use mathlib.Core.Path.{_≡_, refl, sym, _∙_}
 use native.Mathlib.Omega.{arith}
@@ -24,18 +24,6 @@ returns c =
     let none : l .owed ≡ 0 = omega arith in
     sym (l .inv .2 ∙ rw none (skip-none (a .s .now) (a .n) (a .n - l .i) (l .i)))
 
-arity-requires : tie.Need-arity-requires Inv-loop μ-loop
-arity-requires c κs = omega arith
-
-add-owed : tie.Need-add-owed Inv-loop μ-loop
-add-owed c = omega arith
-
-add-i : tie.Need-add-i Inv-loop μ-loop
-add-i c = omega arith
-
-loop-less : tie.Need-loop-less Inv-loop μ-loop
-loop-less c = omega arith
-
 loop-again : tie.Need-loop-again Inv-loop μ-loop
 loop-again c =
     let a = c .before .before .before .before .before .args in
@@ -56,9 +44,6 @@ returns-2 c =
     let last : l .i ≡ a .n = omega arith in
     sym (l .inv .2 ∙ rw none (skip-none (a .s .now) (a .n) (a .n - l .i) (l .i)) ∙ last)
 
-add-result : tie.Need-add-result Inv-loop μ-loop
-add-result c = omega arith
-
 returns-3 : tie.Need-returns-3 Inv-loop μ-loop
 returns-3 c =
     let a = c .before .before .before .before .args in
@@ -69,15 +54,5 @@ pub tree-end-spec : {M : Type 1} → statement M
 tree-end-spec =
     tie.close
     (tie.spec
-    Inv-loop
-    μ-loop
-    loop-holds
-    returns
-    arity-requires
-    add-owed
-    add-i
-    loop-less
-    loop-again
-    returns-2
-    add-result
-    returns-3)
+    Inv-loop μ-loop loop-holds returns (λ c κs. omega arith) (λ c. omega arith) (λ c. omega arith) (λ c. omega arith) loop-again returns-2
+    (λ c. omega arith) returns-3)

@@ -1,5 +1,5 @@
 -- `table::weight_of` meets its contract. The loop's invariant: what is weighed, and the weight of the records left, are together
--- the whole weight. Assumes nothing.
+-- the whole weight.
 use Prim.Native.Nat.{_+_, _-_, _*_, _≤_}
 use mathlib.Core.Path.{_≡_, sym, _∙_}
 use mathlib.Core.Logic.{⊎-elim}
@@ -18,21 +18,6 @@ abbrev μ-loop : tie.MeasureT-loop
 
 loop-holds : tie.Need-loop-holds Inv-loop μ-loop
 loop-holds c = (omega arith, omega arith, simp (zero-add, sub-zero))
-
-kind-requires : tie.Need-kind-requires Inv-loop μ-loop
-kind-requires c κs = omega arith
-
-add-w : tie.Need-add-w Inv-loop μ-loop
-add-w c = omega arith
-
-add-w-2 : tie.Need-add-w-2 Inv-loop μ-loop
-add-w-2 c = omega arith
-
-add-i : tie.Need-add-i Inv-loop μ-loop
-add-i c = omega arith
-
-loop-less : tie.Need-loop-less Inv-loop μ-loop
-loop-less c = omega arith
 
 loop-again : tie.Need-loop-again Inv-loop μ-loop
 loop-again c =
@@ -54,13 +39,4 @@ pub weight-of-spec : {M : Type 1} → statement M
 weight-of-spec =
     tie.close
     (tie.spec
-    Inv-loop
-    μ-loop
-    loop-holds
-    kind-requires
-    add-w
-    add-w-2
-    add-i
-    loop-less
-    loop-again
-    returns)
+    Inv-loop μ-loop loop-holds (λ c κs. omega arith) (λ c. omega arith) (λ c. omega arith) (λ c. omega arith) (λ c. omega arith) loop-again returns)

@@ -1,7 +1,5 @@
 -- `text::read` meets its contract: another limit is 19; the verdict on the text tells 14 and 3 and the records of its tree; where these fit, the second
--- reading lays them from record 0 on. Assumes nothing.
-use mathlib.Core.Path.{sym, _∙_}
-use mathlib.Core.Bool.{true, false}
+-- reading lays them from record 0 on.
 use native.Mathlib.Omega.{arith}
 use borrow.Author.Needs.{needs}
 use Rattle.paper.proofs.EncodeLaws.{encode-length}
@@ -10,9 +8,6 @@ use Rattle.paper_text.specs.Text.{readText}
 use Rattle.text.proofs.ReadLaws.{limit-known, limit-unknown, is-none, is-heavy, is-light, no-limit, no-form, heavy, no-records, records-written}
 use Rattle.text.proofs.read.Statement.{statement}
 use Rattle.text.proofs.read.Tie as tie
-
-is-limit-requires : tie.Need-is-limit-requires
-is-limit-requires c κs = search needs
 
 returns : tie.Need-returns
 returns c =
@@ -25,27 +20,16 @@ weigh-requires c κs =
     let h = limit-small (a .limit) (limit-known (a .limit) (c .before .is-limit .ensures) (c .if1 .left)) in
     omega (arith, h)
 
-enum-told : tie.Need-enum-told
-enum-told c = search needs
-
-enum-told-2 : tie.Need-enum-told-2
-enum-told-2 c = search needs
-
-enum-known-n : tie.Need-enum-known-n
-enum-known-n c = search needs
-
 returns-2 : tie.Need-returns-2
 returns-2 c =
     let a = c .before .before .before .before .before .before .before .before .before .args in
     let s = a .text .now in
-    let known = limit-known (a .limit) (c .before .before .before .before .before .before .is-limit .ensures) (c .before .before .before .before .before .if1 .left) in
+    let known = limit-known (a .limit) (c .before .before .before .before .before .before .is-limit .ensures)
+    (c .before .before .before .before .before .if1 .left) in
     let h = is-light (a .limit) _ (readText s) (rw (c .before .before .n .given .1) at (c .before .before .before .before .weigh .ensures)) in
     let n = h .counted in
     let short = c .if2 .taken in
     no-records (a .limit) known s (a .table .now) (h .tree) (h .read) (h .light) (omega (arith, n, short))
-
-write-requires : tie.Need-write-requires
-write-requires c κs = search needs
 
 returns-3 : tie.Need-returns-3
 returns-3 c =
@@ -62,15 +46,15 @@ returns-4 c =
     let h = is-heavy (a .limit) (readText s) (rw (c .enum-told2 .given .1) at (c .before .before .weigh .ensures)) in
     heavy (a .limit) known s (a .table .now) (h .tree) (h .read) (h .over)
 
-same-length : tie.Need-same-length
-same-length c = search needs
-
 returns-5 : tie.Need-returns-5
 returns-5 c =
     let a = c .before .before .before .before .before .before .before .before .before .before .before .before .before .args in
     let s = a .text .now in
-    let known = limit-known (a .limit) (c .before .before .before .before .before .before .before .before .before .before .is-limit .ensures) (c .before .before .before .before .before .before .before .before .before .if1 .left) in
-    let h = is-light (a .limit) _ (readText s) (rw (c .before .before .before .before .before .before .n .given .1) at (c .before .before .before .before .before .before .before .before .weigh .ensures)) in
+    let known = limit-known (a .limit) (c .before .before .before .before .before .before .before .before .before .before .is-limit .ensures)
+    (c .before .before .before .before .before .before .before .before .before .if1 .left) in
+    let h = is-light (a .limit) _ (readText s)
+    (rw (c .before .before .before .before .before .before .n .given .1) at
+    (c .before .before .before .before .before .before .before .before .weigh .ensures)) in
     let n = h .counted in
     let room = c .before .before .before .before .if2 .left in
     let long = encode-length (h .tree) in
@@ -81,15 +65,5 @@ pub read-spec : {M : Type 1} → statement M
 read-spec =
     tie.close
     (tie.spec
-    is-limit-requires
-    returns
-    weigh-requires
-    enum-told
-    enum-told-2
-    enum-known-n
-    returns-2
-    write-requires
-    returns-3
-    returns-4
-    same-length
-    returns-5)
+    (λ c κs. search needs) returns weigh-requires (λ c. search needs) (λ c. search needs) (λ c. search needs) returns-2 (λ c κs. search needs)
+    returns-3 returns-4 (λ c. search needs) returns-5)

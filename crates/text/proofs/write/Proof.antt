@@ -1,7 +1,6 @@
 -- `text::write` meets its contract: the refusals are the checker's, and 6 where the text, measured first, is longer than the area; the tree
--- that an accepted table holds stands at its record 0, and its text is put at place 0, where it fits. Assumes nothing.
-use mathlib.Core.Path.{_∙_, ap}
-use Prim.Native.Nat.{_≤_}
+-- that an accepted table holds stands at its record 0, and its text is put at place 0, where it fits.
+use mathlib.Core.Path.{_∙_}
 use native.Mathlib.Omega.{arith}
 use borrow.Author.Needs.{needs}
 use Rattle.paper.proofs.AcceptedLaws.{accepted-holds, holds-tree}
@@ -10,12 +9,6 @@ use Rattle.paper.proofs.CallLaws.{told-accepted}
 use Rattle.text.proofs.WriteLaws.{refused-table, no-room, text-written, tree-there, roomy}
 use Rattle.text.proofs.write.Statement.{statement}
 use Rattle.text.proofs.write.Tie as tie
-
-check-requires : tie.Need-check-requires
-check-requires c κs = search needs
-
-fault-of-requires : tie.Need-fault-of-requires
-fault-of-requires c κs = search needs
 
 returns : tie.Need-returns
 returns c =
@@ -58,9 +51,6 @@ spell-requires c κs =
     let h = accepted-holds lim s (are-bytes s (known .shared-slice-known .given)) fine in
     (tree-there lim s h, roomy lim s h)
 
-same-length : tie.Need-same-length
-same-length c = search needs
-
 returns-3 : tie.Need-returns-3
 returns-3 c =
     let fault = c .before .before .before .before .before .before .before .before .fault-of in
@@ -78,11 +68,4 @@ pub write-spec : {M : Type 1} → statement M
 write-spec =
     tie.close
     (tie.spec
-    check-requires
-    fault-of-requires
-    returns
-    measure-requires
-    returns-2
-    spell-requires
-    same-length
-    returns-3)
+    (λ c κs. search needs) (λ c κs. search needs) returns measure-requires returns-2 spell-requires (λ c. search needs) returns-3)

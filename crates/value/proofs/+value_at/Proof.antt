@@ -1,6 +1,6 @@
 -- `value::value_at`, which calls itself, meets its contract. It ends because the records left fall: a node's members begin behind it. A
 -- tree's value is told by the law of its kind; the loop keeps that what is gathered, joined with what the members left give, is what all
--- of them give. Assumes nothing.
+-- of them give.
 use Prim.Native.Nat.{ℕ, _+_, _-_, _*_, _%_, _^_, _<_, _≤_}
 use mathlib.Core.Path.{_≡_, refl, ap, _∙_}
 use mathlib.Core.List.{List, [], _∷_}
@@ -76,17 +76,11 @@ written [] v h = absurd (omega arith)
 written (x ∷ []) v h = refl
 written (x ∷ y ∷ at) v h = absurd (omega arith)
 
-element-copy-out-i : (t : ℕ) → lts.Need-element-copy-out-i (rs t) (here t) value-at.Post Inv μ
-element-copy-out-i t c = search needs
-
 kind-requires : (t : ℕ) → lts.Need-kind-requires (rs t) (here t) value-at.Post Inv μ
 kind-requires t c κs = inside (c .before .before .pre .1 .1)
 
 add-at : (t : ℕ) → lts.Need-add-at (rs t) (here t) value-at.Post Inv μ
 add-at t c = omega (arith, inside (c .before .before .before .pre .1 .1), c .before .before .before .pre .1 .2)
-
-element-write-at : (t : ℕ) → lts.Need-element-write-at (rs t) (here t) value-at.Post Inv μ
-element-write-at t c = search needs
 
 bits-requires : (t : ℕ) → lts.Need-bits-requires (rs t) (here t) value-at.Post Inv μ
 bits-requires t c κs = inside (c .before .before .before .before .before .pre .1 .1)
@@ -101,9 +95,6 @@ returns t c =
 symbol-requires : (t : ℕ) → lts.Need-symbol-requires (rs t) (here t) value-at.Post Inv μ
 symbol-requires t c κs = inside (c .before .before .before .before .before .before .pre .1 .1)
 
-register-of-requires : (t : ℕ) → lts.Need-register-of-requires (rs t) (here t) value-at.Post Inv μ
-register-of-requires t c κs = search needs
-
 returns-2 : (t : ℕ) → lts.Need-returns-2 (rs t) (here t) value-at.Post Inv μ
 returns-2 t c =
     let a = c .before .before .before .before .before .before .before .before in
@@ -115,9 +106,6 @@ returns-2 t c =
 
 parts-requires : (t : ℕ) → lts.Need-parts-requires (rs t) (here t) value-at.Post Inv μ
 parts-requires t c κs = inside (c .before .before .before .before .before .before .pre .1 .1)
-
-neutral-requires : (t : ℕ) → lts.Need-neutral-requires (rs t) (here t) value-at.Post Inv μ
-neutral-requires t c κs = search needs
 
 loop-holds : (t : ℕ) → lts.Need-loop-holds (rs t) (here t) value-at.Post Inv μ
 loop-holds t c =
@@ -140,15 +128,6 @@ value-at-requires t c κs =
     let there = member-there (gathers (held (a .args .regs .now)) (kind s i)) l members (c .before .loop-test .taken) in
     (omega (arith, l .ahead, inside (a .pre .1 .1)), (ap length (l .cell), there, a .pre .1 .2))
 
-joined-requires : (t : ℕ) → lts.Need-joined-requires (rs t) (here t) value-at.Post Inv μ
-joined-requires t c κs = search needs
-
-sub-left : (t : ℕ) → lts.Need-sub-left (rs t) (here t) value-at.Post Inv μ
-sub-left t c = omega arith
-
-loop-less : (t : ℕ) → lts.Need-loop-less (rs t) (here t) value-at.Post Inv μ
-loop-less t c = omega arith
-
 loop-again : (t : ℕ) → lts.Need-loop-again (rs t) (here t) value-at.Post Inv μ
 loop-again t c =
     let a = c .before .before .before .before .before .before .before .before .before .before .before .before .before in
@@ -170,7 +149,8 @@ abbrev entry-of : (t : ℕ) → Gathered t → lts.Start (rs t) (here t) value-a
 entry-of t c = c .before .before .before .before .before .before .before .before .before .before
 
 all : (t : ℕ) (c : Gathered t) → let a = entry-of t c .args in let s = a .s .now .now in let i = place (a .at .now) in (f : Forest)
-    → TreesIn s (i + 1) (parts s i) f → Evaluated (i + 1) (recordses f) (gathered (held (a .regs .now)) (kind s i) f) (c .before .loop .total) (c .before .loop .at)
+    → TreesIn s (i + 1) (parts s i) f
+    → Evaluated (i + 1) (recordses f) (gathered (held (a .regs .now)) (kind s i) f) (c .before .loop .total) (c .before .loop .at)
 all t c =
     let a = entry-of t c .args in
     ends (gathers (held (a .regs .now)) (kind (a .s .now .now) (place (a .at .now)))) (c .before .loop .inv) (c .loop-test .left)
@@ -197,20 +177,11 @@ returns-3 t c =
     let members : kind (a .args .s .now .now) i < 4 = omega (arith, k .ensures) in
     λ t′ h. members-value (held (a .args .regs .now)) (l .total) (l .at) (all t (c .before)) t′ h node members
 
-element-copy-out-e : (t : ℕ) → lts.Need-element-copy-out-e (rs t) (here t) value-at.Post Inv μ
-element-copy-out-e t c = search needs
-
 add-at-2 : (t : ℕ) → lts.Need-add-at-2 (rs t) (here t) value-at.Post Inv μ
 add-at-2 t c = omega (arith, exponent t (c .before), entry-of t (c .before .before) .pre .1 .2)
 
-element-write-at-2 : (t : ℕ) → lts.Need-element-write-at-2 (rs t) (here t) value-at.Post Inv μ
-element-write-at-2 t c = search needs
-
 bits-requires-2 : (t : ℕ) → lts.Need-bits-requires-2 (rs t) (here t) value-at.Post Inv μ
 bits-requires-2 t c κs = exponent t (c .before .before)
-
-wrapping-pow-requires : (t : ℕ) → lts.Need-wrapping-pow-requires (rs t) (here t) value-at.Post Inv μ
-wrapping-pow-requires t c κs = search needs
 
 returns-4 : (t : ℕ) → lts.Need-returns-4 (rs t) (here t) value-at.Post Inv μ
 returns-4 t c =
@@ -224,27 +195,27 @@ returns-4 t c =
 
 pub +value-at-spec : {M : Type 1} → statement M
 +value-at-spec = close μ-value-at λ t. lts.spec (rs t) (here t) value-at.Post Inv μ
-    (element-copy-out-i t)
+    (λ c. search needs)
     (kind-requires t)
     (add-at t)
-    (element-write-at t)
+    (λ c. search needs)
     (bits-requires t)
     (returns t)
     (symbol-requires t)
-    (register-of-requires t)
+    (λ c κs. search needs)
     (returns-2 t)
     (parts-requires t)
-    (neutral-requires t)
+    (λ c κs. search needs)
     (loop-holds t)
     (value-at-requires t)
-    (joined-requires t)
-    (sub-left t)
-    (loop-less t)
+    (λ c κs. search needs)
+    (λ c. omega arith)
+    (λ c. omega arith)
     (loop-again t)
     (returns-3 t)
-    (element-copy-out-e t)
+    (λ c. search needs)
     (add-at-2 t)
-    (element-write-at-2 t)
+    (λ c. search needs)
     (bits-requires-2 t)
-    (wrapping-pow-requires t)
+    (λ c κs. search needs)
     (returns-4 t)

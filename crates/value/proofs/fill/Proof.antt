@@ -1,5 +1,5 @@
 -- `value::fill` meets its contract. The loop's invariant: the array keeps its length, and each of its elements below i is the
--- register of that symbol. The measure is what is left of 256. Assumes nothing.
+-- register of that symbol. The measure is what is left of 256.
 use Prim.Native.Nat.{ℕ, _-_, _<_, _≤_}
 use mathlib.Core.Path.{_≡_, refl, _∙_}
 use native.Mathlib.Omega.{arith}
@@ -21,24 +21,6 @@ loop-holds c = (omega arith, refl, λ k h. absurd (none h))
   where
     none : {k : ℕ} → k < 0 → ⊥
     none h = omega arith
-
-mul-read8 : tie.Need-mul-read8 Inv-loop μ-loop
-mul-read8 c = omega arith
-
-read8-requires : tie.Need-read8-requires Inv-loop μ-loop
-read8-requires c κs = omega arith
-
-mul-r : tie.Need-mul-r Inv-loop μ-loop
-mul-r c = omega arith
-
-array-write-r : tie.Need-array-write-r Inv-loop μ-loop
-array-write-r c = omega arith
-
-add-i : tie.Need-add-i Inv-loop μ-loop
-add-i c = omega arith
-
-loop-less : tie.Need-loop-less Inv-loop μ-loop
-loop-less c = omega arith
 
 loop-again : tie.Need-loop-again Inv-loop μ-loop
 unfolding register
@@ -62,14 +44,5 @@ pub fill-spec : {M : Type 1} → statement M
 fill-spec =
     tie.close
     (tie.spec
-    Inv-loop
-    μ-loop
-    loop-holds
-    mul-read8
-    read8-requires
-    mul-r
-    array-write-r
-    add-i
-    loop-less
-    loop-again
-    returns)
+    Inv-loop μ-loop loop-holds (λ c. omega arith) (λ c κs. omega arith) (λ c. omega arith) (λ c. omega arith) (λ c. omega arith) (λ c. omega arith)
+    loop-again returns)

@@ -1,4 +1,4 @@
--- `value::neutral` meets its contract: by the test of the kind, which is the definition's. Assumes nothing.
+-- `value::neutral` meets its contract: by the test of the kind, which is the definition's.
 use borrow.Author.Tests.{lt-ltb, le-ltb}
 use Rattle.value.specs.Evaluated.{neutral}
 use Rattle.value.proofs.neutral.Statement.{statement}

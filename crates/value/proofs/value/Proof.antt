@@ -1,10 +1,13 @@
 -- `value::value` meets its contract: the refusals are the checker's, and 6; the tree that an accepted table holds stands at its
--- record 0, so that what is returned is that tree's value, the array being the registers. Assumes nothing.
-use mathlib.Core.Path.{refl, _∙_}
+-- record 0, so that what is returned is that tree's value, the array being the registers.
+use mathlib.Core.Path.{_≡_, refl, ap, _∙_}
 use native.Mathlib.Omega.{arith}
 use borrow.Author.Needs.{needs}
 use Rattle.paper.specs.Answers.{register}
-use Rattle.paper.proofs.AcceptedLaws.{accepted-holds, holds-tree}
+use Rattle.paper.specs.Verdict.{Verdict, accepted, verdict}
+use Rattle.paper.proofs.AcceptedLaws.{Holds, accepted-holds, holds-tree}
+use Rattle.table.specs.Judged.{verdictOf}
+use Rattle.table.specs.Measured.{withResult}
 use Rattle.value.specs.Evaluated.{held}
 use Rattle.value.proofs.AnswerLaws.{same-value, refused-table, refused-registers, value-told}
 use Rattle.paper.proofs.BytesLaws.{are-bytes}
@@ -12,64 +15,68 @@ use Rattle.paper.proofs.CallLaws.{told-accepted}
 use Rattle.value.proofs.value.Statement.{statement}
 use Rattle.value.proofs.value.Tie as tie
 
-check-requires : tie.Need-check-requires
-check-requires c κs = search needs
+-- places on the way through the code: after the table was judged, and where it is accepted
+abbrev Judged : Type 0
+Judged = tie.After-fault-of
 
-fault-of-requires : tie.Need-fault-of-requires
-fault-of-requires c κs = search needs
+abbrev Fine : Type 0
+Fine = tie.Else1
+
+abbrev judged-of : Fine → Judged
+judged-of c = c .before .before
+
+abbrev known-of : Judged → tie.After-shared-slice-known
+known-of c = c .before .before .before
+
+judges : (c : Judged) → let a = known-of c .before .args in verdictOf (c .fault-of .result) ≡ verdict (a .limit) (a .s .now)
+judges c = c .fault-of .ensures ∙ c .before .check .ensures
+
+fine : (c : Fine) → let a = known-of (judged-of c) .before .args in verdict (a .limit) (a .s .now) ≡ accepted
+fine c =
+    let a = known-of (judged-of c) .before .args in
+    told-accepted (a .limit) (a .s .now) _ _ _ (judges (judged-of c)) (omega (arith, c .if1 .left))
+
+holds : (c : Fine) → let a = known-of (judged-of c) .before .args in Holds (a .limit) (a .s .now)
+holds c =
+    let known = known-of (judged-of c) in
+    let a = known .before .args in
+    accepted-holds (a .limit) (a .s .now) (are-bytes (a .s .now) (known .shared-slice-known .given)) (fine c)
 
 returns : tie.Need-returns
 returns c =
-    let fault = c .before .before .fault-of in
-    let a = c .before .before .before .before .before .before .args in
-    let told = fault .ensures ∙ c .before .before .before .check .ensures in
-    refused-table (a .limit) (a .s .now) (a .registers .now) (fault .result .number) (fault .result .place) _ told (omega arith)
+    let judged = c .before .before .before in
+    let a = known-of judged .before .args in
+    c .with-result .ensures ∙ refused-table (a .limit) (a .s .now) (a .registers .now) _ _ _ (judges judged) (omega (arith, c .before .if1 .taken))
 
 returns-2 : tie.Need-returns-2
 returns-2 c =
-    let fault = c .before .before .before .fault-of in
-    let a = c .before .before .before .before .before .before .before .args in
-    let told = fault .ensures ∙ c .before .before .before .before .check .ensures in
-    let fine = told-accepted (a .limit) (a .s .now) (fault .result .number) (fault .result .place) _ told (omega arith) in
-    refused-registers (a .limit) (a .s .now) (a .registers .now) fine (c .if2 .taken)
-
-fill-requires : tie.Need-fill-requires
-fill-requires c κs = search needs
+    let short = c .before .before in
+    let a = known-of (judged-of (short .before)) .before .args in
+    c .with-result2 .ensures ∙ ap (λ (v : Verdict). withResult v 0) (c .before .refusal .ensures)
+    ∙ refused-registers (a .limit) (a .s .now) (a .registers .now) (fine (short .before)) (short .if2 .taken)
 
 value-at-requires : tie.Need-value-at-requires
 value-at-requires c κs =
-    let fault = c .before .before .before .before .before .before .before .fault-of in
-    let known = c .before .before .before .before .before .before .before .before .before .before in
-    let limit = known .before .args .limit in
-    let s = known .before .args .s .now in
-    let told = fault .ensures ∙ c .before .before .before .before .before .before .before .before .check .ensures in
-    let fine = told-accepted limit s (fault .result .number) (fault .result .place) _ told (omega arith) in
-    let h = accepted-holds limit s (are-bytes s (known .shared-slice-known .given)) fine in
-    (refl, record { tree = h .tree; there = holds-tree limit s h }, omega arith)
+    let there = c .before .before .before .before .before in
+    let a = known-of (judged-of there) .before .args in
+    let h = holds there in
+    (refl, record { tree = h .tree; there = holds-tree (a .limit) (a .s .now) h }, omega arith)
 
 returns-3 : tie.Need-returns-3
 returns-3 c =
-    let fault = c .before .before .before .before .before .before .before .before .fault-of in
-    let known = c .before .before .before .before .before .before .before .before .before .before .before in
-    let limit = known .before .args .limit in
-    let s = known .before .args .s .now in
-    let registers = known .before .args .registers .now in
-    let told = fault .ensures ∙ c .before .before .before .before .before .before .before .before .before .check .ensures in
-    let fine = told-accepted limit s (fault .result .number) (fault .result .place) _ told (omega arith) in
-    let h = accepted-holds limit s (are-bytes s (known .shared-slice-known .given)) fine in
-    let v = c .value-at .ensures (h .tree) (holds-tree limit s h) .value in
-    let regs = c .before .before .before .before .fill in
-    let told-value = v ∙ same-value (held (regs .result)) (register registers) (regs .ensures) (h .tree) (h .wf) in
-    value-told limit s registers h fine (c .before .before .before .before .before .if2 .left) (c .value-at .result) told-value
+    let valued = c .before .before in
+    let filled = valued .before .before .before .before in
+    let there = filled .before .before in
+    let a = known-of (judged-of there) .before .args in
+    let h = holds there in
+    let v = valued .value-at .ensures (h .tree) (holds-tree (a .limit) (a .s .now) h) .value in
+    let told = v ∙ same-value (held (filled .fill .result)) (register (a .registers .now)) (filled .fill .ensures) (h .tree) (h .wf) in
+    c .with-result3 .ensures ∙ ap (λ (w : Verdict). withResult w (valued .value-at .result)) (c .before .refusal2 .ensures)
+    ∙ value-told (a .limit) (a .s .now) (a .registers .now) h (fine there) (filled .before .if2 .left) (valued .value-at .result) told
 
 pub value-spec : {M : Type 1} → statement M
 value-spec =
     tie.close
     (tie.spec
-    check-requires
-    fault-of-requires
-    returns
-    returns-2
-    fill-requires
-    value-at-requires
-    returns-3)
+    (λ c κs. search needs) (λ c κs. search needs) (λ c κs. search needs) returns (λ c κs. search needs) (λ c κs. search needs) returns-2
+    (λ c κs. search needs) value-at-requires (λ c κs. search needs) (λ c κs. search needs) returns-3)

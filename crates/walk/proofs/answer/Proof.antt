@@ -1,4 +1,4 @@
--- `walk::answer` meets its contract: each return is one case of the answer, by the code's tests. Assumes nothing.
+-- `walk::answer` meets its contract: each return is one case of the answer, by the code's tests.
 use mathlib.Core.Path.{refl}
 use borrow.Author.Tests.{le-leb, lt-leb, eq-eqb, ne-eqb}
 use Rattle.walk.specs.Walked.{answerOf}

@@ -1,5 +1,5 @@
 -- `walk::current` meets its contract: the member stands where its entry's start says (`entry-there`), with as many records as
--- skipping it over tells, and its part there is what was asked for. Assumes nothing.
+-- skipping it over tells, and its part there is what was asked for.
 use Prim.Native.Nat.{_+_, _-_}
 use native.Mathlib.Omega.{arith}
 use borrow.Author.Needs.{needs}
@@ -38,12 +38,6 @@ member c t h =
     let there = entry-there h _ (start-of c .read2 .ensures .0) in
     record { there = there; size = omega (arith, c .skip-tree .ensures note t there) }
 
-mul-read2 : tie.Need-mul-read2
-mul-read2 c = search needs
-
-read2-requires : tie.Need-read2-requires
-read2-requires c κs = search needs
-
 add-start : tie.Need-add-start
 add-start c = record { fits = omega (arith, record-within (entry-of c .pre .1 .there), c .read2 .ensures .0) }
 
@@ -69,10 +63,4 @@ pub current-spec : {M : Type 1} → statement M
 current-spec =
     tie.close
     (tie.spec
-    mul-read2
-    read2-requires
-    add-start
-    skip-tree-requires
-    sub-part-of
-    part-of-requires
-    returns)
+    (λ c. search needs) (λ c κs. search needs) add-start skip-tree-requires sub-part-of part-of-requires returns)

@@ -1,7 +1,7 @@
 -- `walk::finish` meets its contract. A member that comes out as it stands is what its part becomes (`stays-itself`), so there is room for it
--- and it is kept; of any other the writer's answer is the answer. Assumes nothing.
-use Prim.Native.Nat.{ℕ, _+_, _*_, _<_}
-use mathlib.Core.Path.{_≡_, refl, sym, ap, _∙_, subst}
+-- and it is kept; of any other the writer's answer is the answer.
+use Prim.Native.Nat.{_*_}
+use mathlib.Core.Path.{_≡_, sym, ap, _∙_, subst}
 use mathlib.Core.Bool.{Bool, true, false, _&&_}
 use native.Mathlib.Omega.{arith}
 use borrow.Author.Needs.{needs}
@@ -11,9 +11,9 @@ use Rattle.note.specs.Note.{note}
 use Rattle.note.specs.Noted.{encodeBy}
 use Rattle.stretch.specs.Put.{put}
 use Rattle.part.specs.Like.{Like, join}
-use Rattle.write.specs.Written.{WrittenIs, Fitting}
-use Rattle.write.specs.declared.Written.{Written as Answer}
-use Rattle.write.specs.declared.Written.the-variants.{To, Over}
+use Rattle.rebuilt.specs.Written.{WrittenIs, Fitting}
+use Rattle.rebuilt.specs.declared.Written.{Written as Answer}
+use Rattle.rebuilt.specs.declared.Written.the-variants.{To, Over}
 use Rattle.walk.specs.Stays.{stays}
 use Rattle.walk.specs.Walked.{Turned, KeptIs}
 use Rattle.walk.proofs.StaysLaws.{stays-itself}
@@ -66,16 +66,13 @@ keep-requires c κs =
       room = λ k. omega (arith, f .fitting .room, ap (λ (y : Tree × Bool). records (y .0)) (itself start (f .turned) k));
     }
 
-same-length : tie.Need-same-length
-same-length c = search needs
-
 returns : tie.Need-returns
 returns c x t h =
     let kept = c .before .before .before in
-    let k = kept-where (entry-of kept .args .alone && stays (entry-of kept .args .terms) t) t _ _ (entry-of kept .args .e) _ (answered kept h) (c .if1 .taken) in
+    let g = entry-of kept .args in
+    let k = kept-where (g .alone && stays (g .terms) t) t _ _ (g .e) _ (answered kept h) (c .if1 .taken) in
     let is = itself (entry-of kept) h (k .0) in
-    let tree = ap (λ (y : Tree × Bool). y .0) is in
-    let g = entry-of kept .args in (
+    let tree = ap (λ (y : Tree × Bool). y .0) is in (
       k .0,
       tree,
       (
@@ -90,14 +87,9 @@ write-part-requires c κs =
     let kept = c .before .before .before .before in
     let start = entry-of kept in
     let f = start .pre in
-    let n = new-where (start .args .alone && stays (start .args .terms) (f .member)) (f .member) _ _ (start .args .e) _ (answered kept (f .turned)) (c .before .if1 .left) in
-    (start .args .terms, f .current, f .turned .shown, subst (λ o. Fitting (join (start .args .terms) (f .current)) o (start .args .e)) (sym (n .1)) (f .fitting))
-
-enum-known-w : tie.Need-enum-known-w
-enum-known-w c = search needs
-
-enum-told : tie.Need-enum-told
-enum-told c = search needs
+    let g = start .args in
+    let n = new-where (g .alone && stays (g .terms) (f .member)) (f .member) _ _ (g .e) _ (answered kept (f .turned)) (c .before .if1 .left) in
+    (g .terms, f .current, f .turned .shown, subst (λ o. Fitting (join (g .terms) (f .current)) o (g .e)) (sym (n .1)) (f .fitting))
 
 -- ---- it was not kept
 module _ (c : Wrote) {x : Like (entry-of (kept-of c) .args .terms)} {t : Tree} (h : Turns (entry-of (kept-of c)) x t) where
@@ -112,17 +104,11 @@ module _ (c : Wrote) {x : Like (entry-of (kept-of c) .args .terms)} {t : Tree} (
       subst (λ o. WrittenIs (join (g .terms) x) o (c .write-part .last .0) (g .e) r) (new .1)
       (subst (WrittenIs (join (g .terms) x) (kept-of c .keep .last .0) (c .write-part .last .0) (g .e)) is (c .write-part .ensures (g .terms) x (h .shown)))
 
-same-length-2 : tie.Need-same-length-2
-same-length-2 c = search needs
-
 returns-2 : tie.Need-returns-2
 returns-2 c x t h =
     let wrote = c .before .before .before .before .before in
     let answer = c .before .w .given in
     (new wrote h .0, told wrote h (To (answer .0 .0)) (answer .1))
-
-same-length-3 : tie.Need-same-length-3
-same-length-3 c = search needs
 
 returns-3 : tie.Need-returns-3
 returns-3 c x t h =
@@ -133,13 +119,5 @@ pub finish-spec : {M : Type 1} → statement M
 finish-spec =
     tie.close
     (tie.spec
-    keep-requires
-    same-length
-    returns
-    write-part-requires
-    enum-known-w
-    enum-told
-    same-length-2
-    returns-2
-    same-length-3
-    returns-3)
+    keep-requires (λ c. search needs) returns write-part-requires (λ c. search needs) (λ c. search needs) (λ c. search needs) returns-2
+    (λ c. search needs) returns-3)

@@ -1,5 +1,5 @@
 -- `walk::is_coefficient` meets its contract: another tree than an integer tells so by its kind, and of an integer the number and the mark are
--- read (`coefficient-at`). Assumes nothing.
+-- read (`coefficient-at`).
 use mathlib.Core.Path.{sym, ap, _∙_}
 use mathlib.Core.Bool.{not, _&&_}
 use native.Mathlib.Omega.{arith}

@@ -1,4 +1,4 @@
--- `walk::is_kept` meets its contract: where it took up no other, the member at the entry's start is looked at (`entry-there`). Assumes nothing.
+-- `walk::is_kept` meets its contract: where it took up no other, the member at the entry's start is looked at (`entry-there`).
 use mathlib.Core.Path.{sym, ap, _∙_}
 use mathlib.Core.Bool.{_&&_}
 use native.Mathlib.Omega.{arith}
@@ -17,12 +17,6 @@ Read = tie.After-read2
 abbrev entry-of : Read → tie.Start
 entry-of c = c .before .before .before
 
-mul-read2 : tie.Need-mul-read2
-mul-read2 c = search needs
-
-read2-requires : tie.Need-read2-requires
-read2-requires c κs = search needs
-
 add-start : tie.Need-add-start
 add-start c = record { fits = omega (arith, record-within (entry-there (entry-of c .pre .1) _ (c .read2 .ensures .0))) }
 
@@ -40,4 +34,4 @@ returns-2 c t h = ap (λ b. b && stays (c .before .before .args .terms) t) (sym 
 
 pub is-kept-spec : {M : Type 1} → statement M
 is-kept-spec =
-    tie.close (tie.spec mul-read2 read2-requires add-start stays-requires returns returns-2)
+    tie.close (tie.spec (λ c. search needs) (λ c κs. search needs) add-start stays-requires returns returns-2)

@@ -1,7 +1,7 @@
--- `walk::keep` meets its contract: a member that comes out as it stands is copied whole, and of any other nothing is written. Assumes nothing.
+-- `walk::keep` meets its contract: a member that comes out as it stands is copied whole, and of any other nothing is written.
 use Prim.Native.Nat.{ℕ, _+_, _-_, _*_, _≤_}
 use mathlib.Core.Path.{_≡_, refl, sym, _∙_, subst}
-use mathlib.Core.Bool.{true, false, _&&_}
+use mathlib.Core.Bool.{true, _&&_}
 use native.Mathlib.Omega.{arith}
 use borrow.Author.Needs.{needs}
 use lib.ListN.{length}
@@ -11,7 +11,7 @@ use Rattle.note.specs.Noted.{encodeBy}
 use Rattle.note.proofs.NotedLaws.{encodeBy-length}
 use Rattle.note.proofs.ToldLaws.{record-within, tree-within, some-told}
 use Rattle.split.specs.Standing.{Told}
-use Rattle.write.proofs.Encoded.{copied}
+use Rattle.rebuilt.proofs.Encoded.{copied}
 use Rattle.walk.specs.Listed.{Entry as EntryOf}
 use Rattle.walk.specs.Stays.{stays}
 use Rattle.walk.specs.Walked.{KeptIs}
@@ -74,15 +74,6 @@ module _ (c : Skipped) where
   room : let g = start-of c .args in (g .e + k) * 16 ≤ length (g .out .now)
   room = omega (arith, size its, start-of c .pre .room (kept (read-of c) its))
 
-is-kept-requires : tie.Need-is-kept-requires
-is-kept-requires c κs = search needs
-
-mul-read2 : tie.Need-mul-read2
-mul-read2 c = search needs
-
-read2-requires : tie.Need-read2-requires
-read2-requires c κs = search needs
-
 add-start : tie.Need-add-start
 add-start c = record { fits = omega (arith, record-within (there c (entry-of (asked-of c) .pre .entry))) }
 
@@ -109,9 +100,6 @@ copy-bytes-requires c κs =
 add-result : tie.Need-add-result
 add-result c = record { fits = omega (arith, room (c .before .before .before .before)) }
 
-same-length : tie.Need-same-length
-same-length c = search needs
-
 returns : tie.Need-returns
 returns c t h =
     let skipped = c .before .before .before .before in
@@ -133,17 +121,5 @@ pub keep-spec : {M : Type 1} → statement M
 keep-spec =
     tie.close
     (tie.spec
-    is-kept-requires
-    mul-read2
-    read2-requires
-    add-start
-    skip-tree-requires
-    sub-k
-    mul-copy-bytes
-    mul-copy-bytes-2
-    mul-copy-bytes-3
-    copy-bytes-requires
-    add-result
-    same-length
-    returns
-    returns-2)
+    (λ c κs. search needs) (λ c. search needs) (λ c κs. search needs) add-start skip-tree-requires sub-k mul-copy-bytes mul-copy-bytes-2
+    mul-copy-bytes-3 copy-bytes-requires add-result (λ c. search needs) returns returns-2)

@@ -1,14 +1,11 @@
--- `walk::keep_lone` meets its contract: of a member that is not alone with its key nothing is kept. Assumes nothing.
-use mathlib.Core.Path.{_≡_, refl, sym, ap, _∙_, subst}
-use mathlib.Core.Bool.{Bool, true, false, _&&_}
+-- `walk::keep_lone` meets its contract: of a member that is not alone with its key nothing is kept.
+use mathlib.Core.Path.{refl, sym, ap, _∙_, subst}
+use mathlib.Core.Bool.{_&&_}
 use borrow.Author.Needs.{needs}
 use Rattle.walk.specs.Stays.{stays}
-use Rattle.walk.specs.Walked.{Keepable, KeptIs}
+use Rattle.walk.specs.Walked.{KeptIs}
 use Rattle.walk.proofs.keep_lone.Statement.{statement}
 use Rattle.walk.proofs.keep_lone.Tie as tie
-
-is-lone-requires : tie.Need-is-lone-requires
-is-lone-requires c κs = search needs
 
 keep-requires : tie.Need-keep-requires
 keep-requires c κs =
@@ -21,9 +18,6 @@ keep-requires c κs =
       low = k .low;
       room = λ q. k .room (ap (λ b. b && stays (asked .before .before .before .args .terms) (k .member)) is ∙ q);
     }
-
-same-length : tie.Need-same-length
-same-length c = search needs
 
 returns : tie.Need-returns
 returns c t h =
@@ -41,4 +35,4 @@ returns-2 c t h =
     subst (λ b. KeptIs (b && stays (g .terms) t) t (g .out .now) (g .out .now) (g .e) 0) (sym is) (refl, refl)
 
 pub keep-lone-spec : {M : Type 1} → statement M
-keep-lone-spec = tie.close (tie.spec is-lone-requires keep-requires same-length returns returns-2)
+keep-lone-spec = tie.close (tie.spec (λ c κs. search needs) keep-requires (λ c. search needs) returns returns-2)

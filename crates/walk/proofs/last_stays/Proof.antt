@@ -1,5 +1,5 @@
 -- `walk::last_stays` meets its contract. At the head of the loop a member or more is left, and what is told of those that are left is told of the
--- product's (Seeking): an integer before the last one ends the search, and the last one is judged by its record. The measure is how many are left. Assumes nothing.
+-- product's (Seeking): an integer before the last one ends the search, and the last one is judged by its record. The measure is how many are left.
 use Prim.Native.Nat.{ℕ, _≤_, _<_}
 use mathlib.Core.Path.{_≡_, sym, ap, _∙_}
 use mathlib.Core.Bool.{true, cond, _&&_}
@@ -169,20 +169,5 @@ pub last-stays-spec : {M : Type 1} → statement M
 last-stays-spec =
     tie.close
     (tie.spec
-    Inv-loop
-    μ-loop
-    count-requires
-    add-at
-    loop-holds
-    kind-requires
-    returns
-    skip-tree-requires
-    sub-left
-    loop-less
-    loop-again
-    kind-requires-2
-    returns-2
-    returns-3
-    mark-requires
-    is-coefficient-requires
-    returns-4)
+    Inv-loop μ-loop count-requires add-at loop-holds kind-requires returns skip-tree-requires sub-left loop-less loop-again kind-requires-2 returns-2
+    returns-3 mark-requires is-coefficient-requires returns-4)

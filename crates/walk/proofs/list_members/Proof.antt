@@ -1,7 +1,7 @@
--- `walk::list_members` meets its contract. At the head of the loop the entries of the members that were passed are written, and the others
--- stand where the loop is (Listing): a turn reads one member's note and the key of its part, and writes its entry, and where none is left all are listed. There is
--- room for the entries before the node's record (`bounds`). The measure is how many members are left. Assumes nothing.
-use Prim.Native.Nat.{ℕ, _+_, _-_, _*_, _/_, _%_, _≤_}
+-- `walk::list_members` meets its contract. At the head of the loop the entries of the members that were passed are written, and the
+-- others stand where the loop is (Listing): a turn reads one member's note and the key of its part, and writes its entry, and where none
+-- is left all are listed. There is room for the entries before the node's record (`bounds`). The measure is how many members are left.
+use Prim.Native.Nat.{ℕ, _+_, _-_, _*_, _%_, _≤_}
 use mathlib.Core.Path.{_≡_, refl, ap, _∙_}
 use mathlib.Core.Bool.{Bool}
 use mathlib.Core.List.{List}
@@ -31,7 +31,8 @@ abbrev μ-loop : tie.MeasureT-loop
 μ-loop work₀ p terms n at₀ k₀ work at k = n - k
 
 -- places on the way through the code, and from each the one before it: the entry, after the members were counted, the head of the loop,
--- where a member is left, after its note was read, its kind, and the key of its part, and after its entry was written
+-- where a member is left, after its note was read, its kind, the key of its part, and the upper half of that, after its entry was written, and
+-- after its records were counted
 abbrev Entry : Type 0
 Entry = tie.Start Inv-loop μ-loop
 
@@ -53,8 +54,14 @@ Kinded = tie.After-kind Inv-loop μ-loop
 abbrev Keyed : Type 0
 Keyed = tie.After-part-key Inv-loop μ-loop
 
+abbrev Halved : Type 0
+Halved = tie.After-key-of Inv-loop μ-loop
+
 abbrev Wrote : Type 0
 Wrote = tie.After-write-entry Inv-loop μ-loop
+
+abbrev Measured : Type 0
+Measured = tie.After-records-of Inv-loop μ-loop
 
 abbrev entry-of : Counted → Entry
 entry-of c = c .before .before .before
@@ -71,8 +78,14 @@ noted-of c = c .before .before
 abbrev kinded-of : Keyed → Kinded
 kinded-of c = c .before
 
-abbrev keyed-of : Wrote → Keyed
+abbrev keyed-of : Halved → Keyed
 keyed-of c = c .before .before
+
+abbrev halved-of : Wrote → Halved
+halved-of c = c .before
+
+abbrev wrote-of : Measured → Wrote
+wrote-of c = c .before .before .before
 
 -- the member that a turn is for, seen from where its key is known
 abbrev around : Keyed → Passing
@@ -128,11 +141,15 @@ known c h =
     }
 
 -- and the 15 bits of its part's key
-key-is : (c : Keyed) {f : Forest} (h : Members (around c) f)
-    → let terms = entry-of (counted-of (around c .before)) .args .terms in
-    c .part-key .result / 4294967296 % 32768 ≡ shortKey (partKey terms (next (around c) h .tree))
+key-is : (c : Halved) {f : Forest}
+    → let keyed = keyed-of c in
+    let passing = around keyed in
+    let terms = entry-of (counted-of (passing .before)) .args .terms in
+    (h : Members passing f) → c .key-of .result % 32768 ≡ shortKey (partKey terms (next passing h .tree))
 unfolding shortKey
-key-is c h = ap shortKey (c .part-key .ensures (next (around c) h .tree) (known (kinded-of c) h))
+key-is c h =
+    let keyed = keyed-of c in
+    ap (λ x. x % 32768) (c .key-of .ensures) ∙ ap shortKey (keyed .part-key .ensures (next (around keyed) h .tree) (known (kinded-of keyed) h))
 
 -- the members that are listed on entry
 members : (c : Passing) → Members c (entry-of (counted-of (c .before)) .pre .0)
@@ -176,23 +193,21 @@ sub-write-entry c =
     omega (arith, state passing (members passing) .past)
 
 write-entry-requires : tie.Need-write-entry-requires Inv-loop μ-loop
-write-entry-requires c κs = room (around (c .before))
+write-entry-requires c κs = room (around (keyed-of c))
 
 add-at-2 : tie.Need-add-at-2 Inv-loop μ-loop
 add-at-2 c =
-    let passing = around (keyed-of (c .before .before)) in
-    record { fits = omega (arith, record-within (next passing (members passing) .there)) }
+    let passing = around (keyed-of (halved-of (wrote-of c))) in
+    record { fits = omega (arith, record-within (next passing (members passing) .there), c .records-of .ensures) }
 
 add-k : tie.Need-add-k Inv-loop μ-loop
-add-k c = record { fits = omega (arith, room (around (keyed-of (c .before .before)))) }
-
-loop-less : tie.Need-loop-less Inv-loop μ-loop
-loop-less c = search needs
+add-k c = record { fits = omega (arith, room (around (keyed-of (halved-of (wrote-of c))))) }
 
 loop-again : tie.Need-loop-again Inv-loop μ-loop
 loop-again c =
-    let wrote = c .before .before in
-    let keyed = keyed-of wrote in
+    let wrote = wrote-of c in
+    let halved = halved-of wrote in
+    let keyed = keyed-of halved in
     let noted = noted-of (kinded-of keyed) in
     let passing = around keyed in
     let u = passing .before .loop .inv in
@@ -204,12 +219,10 @@ loop-again c =
           let t = next passing h in
           let b = bounds (passing .before) h in
           let note-is = noted .note-at .ensures (t .tree) (there passing h) in
-          listing-more (state passing h) less _ _ _ (omega (arith, note-is, note-size (t .tree) (t .there .few))) (key-is keyed h) (h .stand .few)
-          (b .low) (b .within) (u .long) (wrote .write-entry .ensures);
+          listing-more (state passing h) less _ _ _ (omega (arith, c .records-of .ensures, note-is, note-size (t .tree) (t .there .few)))
+          (key-is halved h) (h .stand .few)
+          (b .low) (b .within) (wrote .write-entry .ensures);
     }
-
-same-length : tie.Need-same-length Inv-loop μ-loop
-same-length c = search needs
 
 returns : tie.Need-returns Inv-loop μ-loop
 returns c =
@@ -223,19 +236,5 @@ pub list-members-spec : {M : Type 1} → statement M
 list-members-spec =
     tie.close
     (tie.spec
-    Inv-loop
-    μ-loop
-    count-requires
-    add-at
-    loop-holds
-    note-at-requires
-    kind-requires
-    part-key-requires
-    sub-write-entry
-    write-entry-requires
-    add-at-2
-    add-k
-    loop-less
-    loop-again
-    same-length
-    returns)
+    Inv-loop μ-loop count-requires add-at loop-holds note-at-requires kind-requires part-key-requires sub-write-entry (λ c κs. search needs)
+    write-entry-requires (λ c κs. search needs) add-at-2 add-k (λ c. search needs) loop-again (λ c. search needs) returns)

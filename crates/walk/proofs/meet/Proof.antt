@@ -1,6 +1,6 @@
 -- `walk::meet` meets its contract: where the entry's 15 bits are others than those of the current part's key, the part does not take up the
 -- member's (`apart-by-key`); else the member stands where its entry's start says (`entry-there`), and merging with it there is what was
--- asked for. Assumes nothing.
+-- asked for.
 use Prim.Native.Nat.{_%_}
 use mathlib.Core.Path.{sym, ap, _∙_}
 use native.Mathlib.Omega.{arith}
@@ -34,25 +34,10 @@ keyed-of c = c .before .before
 abbrev read-of : Merged → Read
 read-of c = c .before .before
 
-mul-read2 : tie.Need-mul-read2
-mul-read2 c = search needs
-
-add-read2 : tie.Need-add-read2
-add-read2 c = search needs
-
-read2-requires : tie.Need-read2-requires
-read2-requires c κs = search needs
-
 returns : tie.Need-returns
 returns c =
     let key = c .before .read2 in
     (λ b x t h keyed entry. apart-by-key b x t (λ e. c .if1 .taken (ap (λ x. x % 32768) (key .ensures .0) ∙ entry .key ∙ e ∙ sym keyed)), λ h. tt)
-
-mul-read2-2 : tie.Need-mul-read2-2
-mul-read2-2 c = search needs
-
-read2-requires-2 : tie.Need-read2-requires-2
-read2-requires-2 c κs = search needs
 
 add-start : tie.Need-add-start
 add-start c = record { fits = omega (arith, record-within (entry-of (keyed-of c) .pre .entry .there), c .read22 .ensures .0) }
@@ -70,9 +55,6 @@ merge-requires c κs =
       enough = q .enough;
     }
 
-same-length : tie.Need-same-length
-same-length c = search needs
-
 returns-2 : tie.Need-returns-2
 returns-2 c =
     let merged = c .before .before in
@@ -84,13 +66,5 @@ pub meet-spec : {M : Type 1} → statement M
 meet-spec =
     tie.close
     (tie.spec
-    mul-read2
-    add-read2
-    read2-requires
-    returns
-    mul-read2-2
-    read2-requires-2
-    add-start
-    merge-requires
-    same-length
-    returns-2)
+    (λ c. search needs) (λ c. search needs) (λ c κs. search needs) returns (λ c. search needs) (λ c κs. search needs) add-start merge-requires
+    (λ c. search needs) returns-2)

@@ -1,5 +1,5 @@
 -- `walk::product_stays` meets its contract. Where the first member is no integer the others are looked at in their turn; else the product stays
--- only with one more member, which the record after the integer's tells of (`two-stay`). Assumes nothing.
+-- only with one more member, which the record after the integer's tells of (`two-stay`).
 use Prim.Native.Nat.{ℕ, _+_, _<_}
 use mathlib.Core.Path.{_≡_, sym, ap, _∙_}
 use mathlib.Core.Bool.{Bool, _&&_}
@@ -58,9 +58,6 @@ add-kind c = record { fits = omega (arith, record-within (c .before .pre .there)
 
 kind-requires : tie.Need-kind-requires
 kind-requires c κs = record-within (head (c .before .pre .there) .there)
-
-last-stays-requires : tie.Need-last-stays-requires
-last-stays-requires c κs = search needs
 
 returns : tie.Need-returns
 returns c how μ f h =
@@ -121,17 +118,5 @@ pub product-stays-spec : {M : Type 1} → statement M
 product-stays-spec =
     tie.close
     (tie.spec
-    add-kind
-    kind-requires
-    last-stays-requires
-    returns
-    count-requires
-    returns-2
-    add-kind-2
-    kind-requires-2
-    returns-3
-    returns-4
-    add-is-coefficient
-    mark-requires
-    is-coefficient-requires
-    returns-5)
+    add-kind kind-requires (λ c κs. search needs) returns count-requires returns-2 add-kind-2 kind-requires-2 returns-3 returns-4 add-is-coefficient
+    mark-requires is-coefficient-requires returns-5)

@@ -1,5 +1,5 @@
 -- `walk::stays` meets its contract: of a sum's members only products are looked into, of a product's only powers, by the record of the
--- exponent (`power-stays`). Assumes nothing.
+-- exponent (`power-stays`).
 use Prim.Native.Nat.{ℕ}
 use mathlib.Core.Path.{sym, ap, _∙_, subst}
 use mathlib.Core.Bool.{not, _&&_}
@@ -120,15 +120,5 @@ pub stays-spec : {M : Type 1} → statement M
 stays-spec =
     tie.close
     (tie.spec
-    kind-requires
-    product-stays-requires
-    returns
-    returns-2
-    returns-3
-    add-skip-tree
-    skip-tree-requires
-    bits-requires
-    returns-4
-    mark-requires
-    mark-requires-2
-    returns-5)
+    kind-requires product-stays-requires returns returns-2 returns-3 add-skip-tree skip-tree-requires bits-requires returns-4 mark-requires
+    mark-requires-2 returns-5)

@@ -1,7 +1,7 @@
 -- `walk::walk` meets its contract. At the head of the outer loop the state is one of the walk's between two turns, at the head of the inner
 -- one it is one within a turn; each way through the loops is a step of the paper's walk, so that where the loops are left the whole walk's
 -- outcome is known. The invariants, the measures and the bounds stand in Places, and each need of the code is answered in the module of
--- its part of the code, below this one. Assumes nothing.
+-- its part of the code, below this one.
 mod Places
 mod InnerLoop
 mod OuterLoop
@@ -17,10 +17,7 @@ pub walk-spec : {M : Type 1} → statement M
 walk-spec =
     tie.close
     (tie.spec
-    Inv-loop
-    μ-loop
-    Inv-walk
-    μ-walk
+    Inv-loop μ-loop Inv-walk μ-walk
     Outer.tell-lone-requires
     Outer.add-e
     Outer.walk-holds

@@ -1,5 +1,5 @@
 -- Why the cycle of calls ends: the measure is the length of the first table from the tree at hand on, with a rank for each function. A tree's
--- members stand behind its record; a tree is handed on, from where it stands, to the lower rank. Assumes nothing.
+-- members stand behind its record; a tree is handed on, from where it stands, to the lower rank.
 use Prim.Native.Nat.{ℕ, _+_, _-_, _*_, _<_}
 use lib.ListN.{length}
 use borrow.Fn.Kinds.{In}

@@ -1,7 +1,7 @@
 -- `equal::match_members` meets its contract. Trees with other numbers of members differ. The loop's invariant, for all trees that stand
 -- there: what is left to match says what all members do (`Matched`), and the ticks in use before are as they were. A turn takes an equal one
 -- away; where there is none to take, the trees differ. All taken, the exponents of powers decide (MemberLaws). Either way the cells are set
--- back. The loop's measure is the number of members left. Assumes nothing.
+-- back. The loop's measure is the number of members left.
 use Prim.Native.Nat.{ℕ, _+_, _-_, _*_, _≤_, _<_}
 use mathlib.Core.Path.{_≡_, refl, sym, ap, _∙_, subst}
 use mathlib.Core.List.{List}

@@ -1,7 +1,7 @@
 -- `equal::take_equal` meets its contract. The loop's invariant, for all trees that stand there: of the trees passed over none could be
 -- taken, and the ticks of all are as they were (`Looked`); the cells are as at the entry. The next tree, where it is unticked, is compared with its
 -- tick set: equal, it is the one that is taken; else its tick is cleared again, and it is passed over like one that was ticked before. The
--- loop's measure is the number of trees left. Assumes nothing.
+-- loop's measure is the number of trees left.
 use Prim.Native.Nat.{ℕ, _+_, _-_, _≤_, _<_}
 use mathlib.Core.Path.{_≡_, refl, sym, ap, _∙_, subst}
 use mathlib.Core.Logic.{⊎-elim}

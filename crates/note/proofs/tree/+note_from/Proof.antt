@@ -1,5 +1,5 @@
 -- `note::tree::note_from` meets its contract. It ends because the records left fall: what stands behind a node's record begins there. The
--- loop's invariant: what is added and what the trees still to come add make what they add all together. Assumes nothing.
+-- loop's invariant: what is added and what the trees still to come add make what they add all together.
 use Prim.Native.Nat.{ℕ, _+_, _-_, _%_, _<_}
 use mathlib.Core.Path.{ap, _∙_}
 use native.Mathlib.Omega.{arith}
@@ -16,6 +16,7 @@ use Rattle.note.proofs.tree.+note_from.Lts-note_from as lts
 use Rattle.note.proofs.added.Reads as added-reads
 use Rattle.note.proofs.added_exponent.Reads as added-exponent-reads
 use Rattle.note.proofs.leaf_note.Reads as leaf-note-reads
+use Rattle.note.proofs.records_of.Reads as records-of-reads
 use Rattle.note.proofs.tree.parts.Reads as parts-reads
 use Rattle.record.proofs.bits.Reads as bits-reads
 use Rattle.record.proofs.kind.Reads as kind-reads
@@ -49,6 +50,8 @@ rs t = (
   added-reads.Learnt,
   wrapping-add-u64-reads.Asked,
   wrapping-add-u64-reads.Learnt,
+  records-of-reads.Asked,
+  records-of-reads.Learnt,
   added-exponent-reads.Asked,
   added-exponent-reads.Learnt,
 )
@@ -65,23 +68,11 @@ kind-requires t c κs = inside (c .before .pre .1 .0)
 bits-requires : (t : ℕ) → lts.Need-bits-requires (rs t) (here t) note-from.Post Inv-loop μ-loop
 bits-requires t c κs = inside (c .before .before .before .before .pre .1 .0)
 
-leaf-note-requires : (t : ℕ) → lts.Need-leaf-note-requires (rs t) (here t) note-from.Post Inv-loop μ-loop
-leaf-note-requires t c κs = omega arith
-
 returns : (t : ℕ) → lts.Need-returns (rs t) (here t) note-from.Post Inv-loop μ-loop
 returns t c =
     let kind = c .before .before .before .before .kind in
     let told = c .leaf-note .ensures in
     λ u h w. told ∙ leaf-told (plain-by h w) (kind .result) (c .before .bits .result) (kind .ensures) (c .before .bits .ensures) (omega arith)
-
-cast-sum : (t : ℕ) → lts.Need-cast-sum (rs t) (here t) note-from.Post Inv-loop μ-loop
-cast-sum t c = search needs
-
-mul-sum : (t : ℕ) → lts.Need-mul-sum (rs t) (here t) note-from.Post Inv-loop μ-loop
-mul-sum t c = search needs
-
-add-sum : (t : ℕ) → lts.Need-add-sum (rs t) (here t) note-from.Post Inv-loop μ-loop
-add-sum t c = search needs
 
 add-at : (t : ℕ) → lts.Need-add-at (rs t) (here t) note-from.Post Inv-loop μ-loop
 add-at t c = let p = c .before .before .before .pre .1 in omega (arith, inside (p .0), p .1)
@@ -120,41 +111,27 @@ kind-requires-2 t c κs = inside (turn-given t (c .before .before))
 added-requires : (t : ℕ) → lts.Need-added-requires (rs t) (here t) note-from.Post Inv-loop μ-loop
 added-requires t c κs = omega (arith, c .kind2 .ensures, given-kind (turn-given t (c .before .before .before)))
 
-wrapping-add-u64-requires : (t : ℕ) → lts.Need-wrapping-add-u64-requires (rs t) (here t) note-from.Post Inv-loop μ-loop
-wrapping-add-u64-requires t c κs = search needs
-
 add-at-2 : (t : ℕ) → lts.Need-add-at-2 (rs t) (here t) note-from.Post Inv-loop μ-loop
 add-at-2 t c =
-    let turn = c .before .before .before .before .before in
+    let turn = c .before .before .before .before .before .before in
     omega (arith, inside (turn-given t turn), entry-of t turn .pre .1 .1)
-
-sub-left : (t : ℕ) → lts.Need-sub-left (rs t) (here t) note-from.Post Inv-loop μ-loop
-sub-left t c = omega arith
-
-loop-less : (t : ℕ) → lts.Need-loop-less (rs t) (here t) note-from.Post Inv-loop μ-loop
-loop-less t c = omega arith
 
 loop-again : (t : ℕ) → lts.Need-loop-again (rs t) (here t) note-from.Post Inv-loop μ-loop
 loop-again t c =
-    let turn = c .before .before .before .before .before in
+    let turn = c .before .before .before .before .before .before in
     let at = turn .before .loop in
-    let kind = c .before .before .kind2 in
-    let part = c .before .before .before .before .note-from in
-    let next = c .wrapping-add-u64 in
-    summed-step (at .inv) (turn .loop-test .taken) (kind .result) (part .result) (kind .ensures) (part .ensures) (next .result)
-    (next .ensures ∙ ap (λ x. (at .sum + x) % modulus) (c .before .added .ensures))
+    let kind = c .before .before .before .kind2 in
+    let part = c .before .before .before .before .before .note-from in
+    let next = c .before .wrapping-add-u64 in
+    rw (c .records-of .ensures)
+    (summed-step (at .inv) (turn .loop-test .taken) (kind .result) (part .result) (kind .ensures) (part .ensures) (next .result)
+    (next .ensures ∙ ap (λ x. (at .sum + x) % modulus) (c .before .before .added .ensures)))
 
 bits-requires-2 : (t : ℕ) → lts.Need-bits-requires-2 (rs t) (here t) note-from.Post Inv-loop μ-loop
 bits-requires-2 t c κs =
     let kind = c .before .before .before .before .before .before .before .kind in
     exponent-inside (c .before .before .before .loop .inv) (omega arith) (kind .result) (kind .ensures) (omega arith)
     (c .before .before .before .before .before .before .before .before .before .pre .1 .0)
-
-added-exponent-requires : (t : ℕ) → lts.Need-added-exponent-requires (rs t) (here t) note-from.Post Inv-loop μ-loop
-added-exponent-requires t c κs = search needs
-
-wrapping-add-u64-requires-2 : (t : ℕ) → lts.Need-wrapping-add-u64-requires-2 (rs t) (here t) note-from.Post Inv-loop μ-loop
-wrapping-add-u64-requires-2 t c κs = search needs
 
 returns-2 : (t : ℕ) → lts.Need-returns-2 (rs t) (here t) note-from.Post Inv-loop μ-loop
 returns-2 t c =
@@ -178,24 +155,25 @@ pub +note-from-spec : {M : Type 1} → statement M
     μ-loop
     (kind-requires t)
     (bits-requires t)
-    (leaf-note-requires t)
+    (λ c κs. omega arith)
     (returns t)
-    (cast-sum t)
-    (mul-sum t)
-    (add-sum t)
+    (λ c. search needs)
+    (λ c. search needs)
+    (λ c. search needs)
     (add-at t)
     (parts-requires t)
     (loop-holds t)
     (note-from-requires t)
     (kind-requires-2 t)
     (added-requires t)
-    (wrapping-add-u64-requires t)
+    (λ c κs. search needs)
+    (λ c κs. search needs)
     (add-at-2 t)
-    (sub-left t)
-    (loop-less t)
+    (λ c. omega arith)
+    (λ c. omega arith)
     (loop-again t)
     (bits-requires-2 t)
-    (added-exponent-requires t)
-    (wrapping-add-u64-requires-2 t)
+    (λ c κs. search needs)
+    (λ c κs. search needs)
     (returns-2 t)
     (returns-3 t)

@@ -1,4 +1,4 @@
--- `note::tree::parts` meets its contract: by the kind, the record's count or one. Assumes nothing.
+-- `note::tree::parts` meets its contract: by the kind, the record's count or one.
 use mathlib.Core.Path.{refl}
 use native.Mathlib.Omega.{arith}
 use borrow.Author.Needs.{needs}
@@ -6,9 +6,6 @@ use borrow.Author.Tests.{lt-ltb, le-ltb}
 use Rattle.note.specs.Plain.{partsIn}
 use Rattle.note.proofs.tree.parts.Statement.{statement}
 use Rattle.note.proofs.tree.parts.Tie as tie
-
-count-requires : tie.Need-count-requires
-count-requires c κs = search needs
 
 returns : tie.Need-returns
 unfolding partsIn
@@ -19,4 +16,4 @@ unfolding partsIn
 returns-2 c = let k = c .before .before .args .k in rw (le-ltb k 4 (omega arith)) refl
 
 pub parts-spec : {M : Type 1} → statement M
-parts-spec = tie.close (tie.spec count-requires returns returns-2)
+parts-spec = tie.close (tie.spec (λ c κs. search needs) returns returns-2)

@@ -1,4 +1,4 @@
--- `note::tree::tree_note` meets its contract: the recursion over the table behind a reference. Assumes nothing.
+-- `note::tree::tree_note` meets its contract: the recursion over the table behind a reference.
 use native.Mathlib.Omega.{arith}
 use Rattle.note.proofs.tree.tree_note.Statement.{statement}
 use Rattle.note.proofs.tree.tree_note.Tie as tie

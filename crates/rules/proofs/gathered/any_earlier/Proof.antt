@@ -1,4 +1,4 @@
--- `rules::gathered::any_earlier` meets its contract: a member that is 0 is looked for, and in a product one that is 1. Assumes nothing.
+-- `rules::gathered::any_earlier` meets its contract: a member that is 0 is looked for, and in a product one that is 1.
 use mathlib.Core.Path.{_≡_, sym, ap, _∙_}
 use mathlib.Core.Bool.{Bool, true, false, _||_}
 use mathlib.Core.List.{List}
@@ -21,9 +21,6 @@ in-sum b l s e = sym (ap (λ c. anyEarlier c l) s ∙ e)
 in-product : (b : Bool) (l : List Tree) → b ≡ false → anyOf (isThe (pos 0)) l ≡ false → anyOf (isThe (pos 1)) l ≡ anyEarlier b l
 in-product b l s e = sym (ap (λ c. anyEarlier c l) s ∙ ap (λ c. c || anyOf (isThe (pos 1)) l) e)
 
-any-member-requires : tie.Need-any-member-requires
-any-member-requires c κs = search needs
-
 returns : tie.Need-returns
 returns c = λ f h. found (c .before .before .before .args .terms) _ (sym (c .before .any-member .ensures f h) ∙ c .if1 .taken)
 
@@ -32,14 +29,13 @@ returns-2 c =
     let zero = c .before in
     λ f h. in-sum (zero .before .before .before .args .terms) _ (c .if2 .taken) (sym (zero .before .any-member .ensures f h) ∙ zero .if1 .left)
 
-any-member-requires-2 : tie.Need-any-member-requires-2
-any-member-requires-2 c κs = search needs
-
 returns-3 : tie.Need-returns-3
 returns-3 c =
     let product = c .before in
     let zero = product .before in
-    λ f h. c .any-member2 .ensures f h ∙ in-product (zero .before .before .before .args .terms) _ (product .if2 .left) (sym (zero .before .any-member .ensures f h) ∙ zero .if1 .left)
+    λ f h.
+    let none = sym (zero .before .any-member .ensures f h) ∙ zero .if1 .left in
+    c .any-member2 .ensures f h ∙ in-product (zero .before .before .before .args .terms) _ (product .if2 .left) none
 
 pub any-earlier-spec : {M : Type 1} → statement M
-any-earlier-spec = tie.close (tie.spec any-member-requires returns returns-2 any-member-requires-2 returns-3)
+any-earlier-spec = tie.close (tie.spec (λ c κs. search needs) returns returns-2 (λ c κs. search needs) returns-3)

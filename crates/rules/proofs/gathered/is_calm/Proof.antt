@@ -1,5 +1,5 @@
 -- `rules::gathered::is_calm` meets its contract: where the tree ends tells how many records it has, and its own record how many members; then the test
--- by keys is made. Assumes nothing.
+-- by keys is made.
 use Prim.Native.Nat.{_+_}
 use mathlib.Core.Path.{_≡_, refl, _∙_}
 use native.Mathlib.Omega.{arith}
@@ -50,9 +50,6 @@ returns c = (
 still-requires : tie.Need-still-requires
 still-requires c κs = let q = entry-of (c .before .before) .pre in (q .0, q .1, omega (arith, q .2))
 
-same-length : tie.Need-same-length
-same-length c = search needs
-
 returns-2 : tie.Need-returns-2
 returns-2 c =
     let tested = c .before .before in
@@ -65,11 +62,4 @@ pub is-calm-spec : {M : Type 1} → statement M
 is-calm-spec =
     tie.close
     (tie.spec
-    skip-tree-requires
-    arity-requires
-    add-if1
-    add-if1-2
-    returns
-    still-requires
-    same-length
-    returns-2)
+    skip-tree-requires arity-requires add-if1 add-if1-2 returns still-requires (λ c. search needs) returns-2)

@@ -1,5 +1,4 @@
 -- `rules::gathered::is_quiet` meets its contract: the tests are made one after the other, each in scratch that lies before record `end` (Emerging).
--- Assumes nothing.
 use Prim.Native.Nat.{ℕ}
 use mathlib.Core.Path.{_≡_, refl, sym, _∙_}
 use native.Mathlib.Omega.{arith}
@@ -66,9 +65,6 @@ still-requires c κs =
     let q = entry-of (kinds-of (differ-of calmed)) .pre in
     (q .1, q .3 .node, omega (arith, q .3 .node-small, q .3 .within, calmed .is-calm .kept))
 
-same-length : tie.Need-same-length
-same-length c = search needs
-
 returns-2 : tie.Need-returns-2
 returns-2 c =
     let tested = c .before .before in
@@ -84,9 +80,6 @@ returns-2 c =
           ∙ past-scratch (calmed .is-calm .ensures .1 x (h .new)) end (h .new-small),
     )
 
-same-length-2 : tie.Need-same-length-2
-same-length-2 c = search needs
-
 returns-3 : tie.Need-returns-3
 returns-3 c =
     let calmed = c .before .before .before in (
@@ -98,12 +91,4 @@ pub is-quiet-spec : {M : Type 1} → statement M
 is-quiet-spec =
     tie.close
     (tie.spec
-    kind-requires
-    kind-requires-2
-    returns
-    is-calm-requires
-    still-requires
-    same-length
-    returns-2
-    same-length-2
-    returns-3)
+    kind-requires kind-requires-2 returns is-calm-requires still-requires (λ c. search needs) returns-2 (λ c. search needs) returns-3)

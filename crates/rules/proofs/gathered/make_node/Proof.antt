@@ -1,5 +1,5 @@
 -- `rules::gathered::make_node` meets its contract: the node is made (`Collapsed`); with fewer than two members, or where no new member is named, it is
--- put back; else it is looked at, and stays or is put back (Emerging). Assumes nothing.
+-- put back; else it is looked at, and stays or is put back (Emerging).
 use Prim.Native.Nat.{ℕ, _≤_, _<_}
 use mathlib.Core.Path.{refl, sym, _∙_}
 use mathlib.Core.List.{List}
@@ -39,27 +39,26 @@ named-of c = c .before .before .before
 
 -- the members m came out of l
 abbrev Came : Entry → (l m : List Tree) (rest : List ℕ) → Type 0
-Came c l m rest = let g = c .args in Emerged (g .terms) (g .mark) l m rest (g .out .now) (g .work .now) (g .d) (g .e) (g .f) (g .end) (g .count)
+Came c l m rest =
+    let g = c .args in
+    Emerged (g .terms) (g .mark) l m rest (g .out .now) (g .work .now) (g .d) (g .came .end) (g .came .new) (g .end) (g .came .count)
 
 -- the node of them is made
 made : (c : Made) {l m : List Tree} {rest : List ℕ} → Came (entry-of c) l m rest
     → let g = entry-of c .args in
     let r = c .collapse in
-    Collapsed (g .terms) (g .mark) m (g .out .now) (r .last .0) (g .d) (g .e) (r .result)
-made c {l} {m} h = c .collapse .ensures (entry-of c .args .e) m (h .built) (h .many) (h .light)
+    Collapsed (g .terms) (g .mark) m (g .out .now) (r .last .0) (g .d) (g .came .end) (r .result)
+made c {l} {m} h = c .collapse .ensures (entry-of c .args .came .end) m (h .built) (h .many) (h .light)
 
 -- there are two or more, and a new one
 two : (c : Named) {l m : List Tree} {rest : List ℕ} → Came (entry-of (made-of c)) l m rest → 2 ≤ length m
 two c h = omega (arith, c .before .if1 .left, h .many)
 
-new : (c : Named) → 0 < entry-of (made-of c) .args .f
+new : (c : Named) → 0 < entry-of (made-of c) .args .came .new
 new c = omega (arith, c .if2 .left)
 
 collapse-requires : tie.Need-collapse-requires
 collapse-requires c κs = let q = c .before .before .before .pre in (_, q .1, q .3 .built, q .3 .many, q .3 .light)
-
-step-of-requires : tie.Need-step-of-requires
-step-of-requires c κs = search needs
 
 copy-back-requires : tie.Need-copy-back-requires
 copy-back-requires c κs =
@@ -67,12 +66,6 @@ copy-back-requires c κs =
     let h = entry-of at .pre .3 in
     let q = back-fits h (made at h) in
     (q .0, q .1, omega (arith, q .2, at .collapse .kept .0), q .3)
-
-same-length : tie.Need-same-length
-same-length c = search needs
-
-same-length-2 : tie.Need-same-length-2
-same-length-2 c = search needs
 
 returns : tie.Need-returns
 returns c =
@@ -87,12 +80,6 @@ copy-back-requires-2 c κs =
     let q = back-fits h (made at h) in
     (q .0, q .1, omega (arith, q .2, at .collapse .kept .0), q .3)
 
-same-length-3 : tie.Need-same-length-3
-same-length-3 c = search needs
-
-same-length-4 : tie.Need-same-length-4
-same-length-4 c = search needs
-
 returns-2 : tie.Need-returns-2
 returns-2 c =
     let back = c .before .before .copy-back2 .ensures in
@@ -105,17 +92,11 @@ is-quiet-requires c κs =
     let h = entry-of (made-of at) .pre .3 in
     (_, _, _, looked h (made (made-of at) h) (two at h) (new at))
 
-same-length-5 : tie.Need-same-length-5
-same-length-5 c = search needs
-
-same-length-6 : tie.Need-same-length-6
-same-length-6 c = search needs
-
 -- the trees that were looked at
 seen : (c : Tested) {l m : List Tree} {rest : List ℕ} (h : Came (entry-of (made-of (named-of c))) l m rest)
     → let at = named-of c in
     let g = entry-of (made-of at) .args in
-    Looked (made-of at .collapse .last .0) (g .work .now) (g .d) (g .f) (g .end) (nodeOf (g .terms) (g .mark) m) (h .named (new at) .new)
+    Looked (made-of at .collapse .last .0) (g .work .now) (g .d) (g .came .new) (g .end) (nodeOf (g .terms) (g .mark) m) (h .named (new at) .new)
 seen c h = let at = named-of c in looked h (made (made-of at) h) (two at h) (new at)
 
 returns-3 : tie.Need-returns-3
@@ -126,7 +107,8 @@ returns-3 c =
     λ l m rest h.
     let v = seen tested h in
     let q = sym (tested .is-quiet .ensures .0 _ _ _ v) ∙ c .if3 .taken in
-    stays h (made (made-of at) h) (two at h) (new at) (g .edition) _ _ q (tested .is-quiet .ensures .1 _ _ _ v) (c .before .before .before .before .before .before .before .before .step-of .ensures)
+    stays h (made (made-of at) h) (two at h) (new at) (g .edition) _ _ q (tested .is-quiet .ensures .1 _ _ _ v)
+    (c .before .before .before .before .before .before .before .before .step-of .ensures)
 
 copy-back-requires-3 : tie.Need-copy-back-requires-3
 copy-back-requires-3 c κs =
@@ -134,12 +116,6 @@ copy-back-requires-3 c κs =
     let h = entry-of at .pre .3 in
     let q = back-fits h (made at h) in
     (q .0, q .1, omega (arith, q .2, at .collapse .kept .0), omega (arith, q .3, c .before .before .before .before .before .is-quiet .kept))
-
-same-length-7 : tie.Need-same-length-7
-same-length-7 c = search needs
-
-same-length-8 : tie.Need-same-length-8
-same-length-8 c = search needs
 
 returns-4 : tie.Need-returns-4
 returns-4 c =
@@ -154,21 +130,6 @@ pub make-node-spec : {M : Type 1} → statement M
 make-node-spec =
     tie.close
     (tie.spec
-    collapse-requires
-    step-of-requires
-    copy-back-requires
-    same-length
-    same-length-2
-    returns
-    copy-back-requires-2
-    same-length-3
-    same-length-4
-    returns-2
-    is-quiet-requires
-    same-length-5
-    same-length-6
-    returns-3
-    copy-back-requires-3
-    same-length-7
-    same-length-8
-    returns-4)
+    collapse-requires (λ c κs. search needs) copy-back-requires (λ c. search needs) (λ c. search needs) returns copy-back-requires-2
+    (λ c. search needs) (λ c. search needs) returns-2 is-quiet-requires (λ c. search needs) (λ c. search needs) returns-3 copy-back-requires-3
+    (λ c. search needs) (λ c. search needs) returns-4)

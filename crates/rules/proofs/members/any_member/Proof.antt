@@ -1,6 +1,6 @@
 -- `rules::members::any_member` meets its contract. The loop's invariant: some members are left, they stand where the loop is, and one of
 -- all is the integer exactly when one of those left is. A turn asks the first of those left: where it is the integer one of all is, and
--- else the others are left. The measure is how many are left. Assumes nothing.
+-- else the others are left. The measure is how many are left.
 use Prim.Native.Nat.{ℕ, _+_, _-_, _<_, _≤_}
 use mathlib.Core.Path.{_≡_, refl, sym, ap, _∙_}
 use mathlib.Core.Bool.{true, false, _||_}
@@ -109,12 +109,6 @@ returns c =
 skip-tree-requires : tie.Need-skip-tree-requires Inv-loop μ-loop
 skip-tree-requires c κs = stands (some-of (c .before))
 
-sub-left : tie.Need-sub-left Inv-loop μ-loop
-sub-left c = search needs
-
-loop-less : tie.Need-loop-less Inv-loop μ-loop
-loop-less c = search needs
-
 loop-again : tie.Need-loop-again Inv-loop μ-loop
 loop-again c =
     let at = c .before .before in
@@ -131,15 +125,5 @@ pub any-member-spec : {M : Type 1} → statement M
 any-member-spec =
     tie.close
     (tie.spec
-    Inv-loop
-    μ-loop
-    add-at
-    count-requires
-    loop-holds
-    is-the-requires
-    returns
-    skip-tree-requires
-    sub-left
-    loop-less
-    loop-again
+    Inv-loop μ-loop add-at count-requires loop-holds is-the-requires returns skip-tree-requires (λ c. search needs) (λ c. search needs) loop-again
     returns-2)

@@ -1,5 +1,5 @@
 -- `rules::members::collapse` meets its contract: with no member it writes the integer, with one nothing, with more the node's record, which
--- it closes, and so the tree of the members stands. Assumes nothing.
+-- it closes, and so the tree of the members stands.
 use mathlib.Core.Path.{sym}
 use native.Mathlib.Omega.{arith}
 use borrow.Author.Needs.{needs}
@@ -11,38 +11,18 @@ use Rattle.rules.proofs.members.collapse.Tie as tie
 abbrev start-of : tie.After-write-record2 → tie.Start
 start-of c = c .before .before .before .before .before .before
 
-neutral-requires : tie.Need-neutral-requires
-neutral-requires c κs = search needs
-
-write-record-requires : tie.Need-write-record-requires
-write-record-requires c κs = search needs
-
-same-length : tie.Need-same-length
-same-length c = search needs
-
 returns : tie.Need-returns
 returns c =
     let wrote = c .before .before in
     let empty = wrote .before .before .before in
     let g = empty .before .before .args in
-    λ e l b n k. collapse-none (g .sum) (g .mark) l (g .out .now) (g .d) e b _ _ (omega arith) (wrote .before .neutral .ensures .0) (wrote .write-record .ensures)
-
-add-result : tie.Need-add-result
-add-result c = search needs
+    λ e l b n k.
+    collapse-none (g .sum) (g .mark) l (g .out .now) (g .d) e b _ _ (omega arith) (wrote .before .neutral .ensures .0) (wrote .write-record .ensures)
 
 returns-2 : tie.Need-returns-2
 returns-2 c =
     let g = c .before .before .before .args in
     λ e l b n k. collapse-one (g .sum) (g .mark) l (g .out .now) (g .d) e b (omega arith) (omega arith)
-
-node-kind-requires : tie.Need-node-kind-requires
-node-kind-requires c κs = search needs
-
-write-record-requires-2 : tie.Need-write-record-requires-2
-write-record-requires-2 c κs = search needs
-
-same-length-2 : tie.Need-same-length-2
-same-length-2 c = search needs
 
 close-requires : tie.Need-close-requires
 close-requires c κs =
@@ -66,14 +46,5 @@ pub collapse-spec : {M : Type 1} → statement M
 collapse-spec =
     tie.close
     (tie.spec
-    neutral-requires
-    write-record-requires
-    same-length
-    returns
-    add-result
-    returns-2
-    node-kind-requires
-    write-record-requires-2
-    close-requires
-    same-length-2
-    returns-3)
+    (λ c κs. search needs) (λ c κs. search needs) (λ c. search needs) returns (λ c. search needs) returns-2 (λ c κs. search needs)
+    (λ c κs. search needs) close-requires (λ c. search needs) returns-3)

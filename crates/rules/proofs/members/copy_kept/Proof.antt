@@ -1,33 +1,25 @@
 -- `rules::members::copy_kept` meets its contract. The loop's invariant: what is kept of the members passed, and what is kept of those
 -- left, is what is kept of all; the first stands in `out` (`Dropping`). A turn takes the first of those left, copies it where it is to be
 -- kept, and passes on (`keeps`, `passes`); when none is left all that is kept stands in `out` (`ends`), and is put back. The measure is how
--- many are left. Assumes nothing.
+-- many are left.
 use Prim.Native.Nat.{ℕ}
 use mathlib.Core.Path.{_≡_, refl, sym, ap, _∙_}
-use mathlib.Core.Bool.{Bool, true, false, not}
 use mathlib.Core.Logic.{⊎-elim}
 use mathlib.Core.List.{List}
 use native.Mathlib.Omega.{arith}
 use borrow.Author.Needs.{needs}
+use borrow.Author.Tests.{not-true, not-false}
 use lib.ListN.{length}
 use Rattle.paper.specs.Tree.{Forest, toList}
 use Rattle.note.specs.Note.{note}
 use Rattle.split.specs.Standing.{SomeTold}
 use Rattle.part.specs.Like.{nodeOf}
-use Rattle.write.specs.Written.{Light}
+use Rattle.rebuilt.specs.Written.{Light}
 use Rattle.rules.specs.Tried.{Held}
 use Rattle.rules.proofs.Dropping.{dropped-light, held-length, kept, Dropping, Ended, Room, begins, head, some-member, room, passes, keeps, ends}
 use Rattle.rules.proofs.Puts.{put-follows}
 use Rattle.rules.proofs.members.copy_kept.Statement.{statement}
 use Rattle.rules.proofs.members.copy_kept.Tie as tie
-
-was-false : (b : Bool) → not b ≡ true → b ≡ false
-was-false true e = sym e
-was-false false e = refl
-
-was-true : (b : Bool) → not b ≡ false → b ≡ true
-was-true true e = refl
-was-true false e = sym e
 
 abbrev Inv-loop : tie.InvT-loop
 Inv-loop out₀ work d p sum z mark at₀ left₀ e₀ kept₀ out at left e kept =
@@ -157,12 +149,6 @@ add-e-2 c = let r = fits (skipped-of (c .before .before .before)) in record { fi
 add-kept : tie.Need-add-kept Inv-loop μ-loop
 add-kept c = let r = fits (skipped-of (c .before .before .before)) in record { fits = omega (arith, r .few, r .written) }
 
-sub-left : tie.Need-sub-left Inv-loop μ-loop
-sub-left c = search needs
-
-loop-less : tie.Need-loop-less Inv-loop μ-loop
-loop-less c = search needs
-
 loop-again : tie.Need-loop-again Inv-loop μ-loop
 loop-again c =
     let skipped = c .before .before .before in
@@ -178,7 +164,7 @@ loop-again c =
       λ f rest h.
           let v = u .inv .1 f rest h in
           let t = head h v l in
-          let not-it = sym (is .ensures (t .tree) (t .there)) ∙ was-false _ (a .0 .taken) in
+          let not-it = sym (is .ensures (t .tree) (t .there)) ∙ not-true _ (a .0 .taken) in
           rw (a .6, a .7, a .8)
           (keeps h v l (next .result) (next .ensures note (t .tree) (t .there)) long (a .3 .last .0) not-it (a .3 .ensures)),
     ))
@@ -187,7 +173,7 @@ loop-again c =
       λ f rest h.
           let v = u .inv .1 f rest h in
           let t = head h v l in
-          let it = sym (is .ensures (t .tree) (t .there)) ∙ was-true _ (a .0 .left) in
+          let it = sym (is .ensures (t .tree) (t .there)) ∙ not-false _ (a .0 .left) in
           rw (a .1, a .2, a .3) (passes h v l (next .result) (next .ensures note (t .tree) (t .there)) long it),
     ))
     (c .if1 .came)
@@ -198,12 +184,6 @@ put-back-requires c κs =
     let e = ended done (entry-of (done .before) .pre .0 .2) in
     ((_, e .built, e .many, light-of done (entry-of (done .before) .pre .0 .2)), e .short, e .within)
 
-same-length : tie.Need-same-length Inv-loop μ-loop
-same-length c = search needs
-
-same-length-2 : tie.Need-same-length-2 Inv-loop μ-loop
-same-length-2 c = search needs
-
 returns : tie.Need-returns Inv-loop μ-loop
 returns c =
     let put = c .before .before .before .before in
@@ -211,34 +191,14 @@ returns c =
     let g = entry-of (done .before) .args in
     λ f rest h.
     let e = ended done h in
-    put-follows (put .put-back .ensures (kept (g .z) (toList f)) (e .built) (e .many) (light-of done h)) (marked-of (done .before) .mark .ensures .0) (e .follow)
+    put-follows (put .put-back .ensures (kept (g .z) (toList f)) (e .built) (e .many) (light-of done h))
+    (marked-of (done .before) .mark .ensures .0) (e .follow)
     (e .done)
 
 pub copy-kept-spec : {M : Type 1} → statement M
 copy-kept-spec =
     tie.close
     (tie.spec
-    Inv-loop
-    μ-loop
-    mark-requires
-    add-at
-    count-requires
-    add-e
-    loop-holds
-    skip-tree-requires
-    is-the-requires
-    mul-copy-bytes
-    mul-copy-bytes-2
-    sub-copy-bytes
-    mul-copy-bytes-3
-    copy-bytes-requires
-    sub-e
-    add-e-2
-    add-kept
-    sub-left
-    loop-less
-    loop-again
-    put-back-requires
-    same-length
-    same-length-2
-    returns)
+    Inv-loop μ-loop mark-requires add-at count-requires add-e loop-holds skip-tree-requires is-the-requires mul-copy-bytes mul-copy-bytes-2
+    sub-copy-bytes mul-copy-bytes-3 copy-bytes-requires sub-e add-e-2 add-kept (λ c. search needs) (λ c. search needs) loop-again put-back-requires
+    (λ c. search needs) (λ c. search needs) returns)

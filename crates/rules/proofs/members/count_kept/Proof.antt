@@ -1,6 +1,6 @@
 -- `rules::members::count_kept` meets its contract. The loop's invariant: those kept among the members met, and those among the members left,
 -- are all that are kept, and the last of all, kept or dropped, is the last of those left, or else the last that was met (`Counting`). A turn
--- meets the first of those left. The measure is how many are left. Assumes nothing.
+-- meets the first of those left. The measure is how many are left.
 use Prim.Native.Nat.{_+_, _≤_}
 use mathlib.Core.Path.{sym, _∙_}
 use mathlib.Core.Logic.{⊎-elim}
@@ -97,15 +97,4 @@ pub count-kept-spec : {M : Type 1} → statement M
 count-kept-spec =
     tie.close
     (tie.spec
-    Inv-loop
-    μ-loop
-    add-at
-    count-requires
-    loop-holds
-    is-the-requires
-    add-many
-    skip-tree-requires
-    sub-left
-    loop-less
-    loop-again
-    returns)
+    Inv-loop μ-loop add-at count-requires loop-holds is-the-requires add-many skip-tree-requires sub-left loop-less loop-again returns)

@@ -1,6 +1,5 @@
 -- `rules::members::drop_members` meets its contract: where one member alone is kept, the node of it is itself, and it is moved to where the node
 -- ended (`lone-put`); where one member alone is dropped, those before it are moved (`one-put`); else what is kept is copied and put back.
--- Assumes nothing.
 use Prim.Native.Nat.{ℕ, _+_}
 use mathlib.Core.Path.{_≡_, sym, _∙_}
 use mathlib.Core.List.{List}
@@ -76,9 +75,6 @@ move-to-end-requires c κs =
     let e = counted-of one .count-kept .ensures _ (held-members h) in
     ((s .tree, s .there, s .before), omega (arith, held-length h, e .3))
 
-same-length : tie.Need-same-length
-same-length c = search needs
-
 returns : tie.Need-returns
 returns c =
     let moved = c .before .before in
@@ -106,9 +102,6 @@ drop-one-requires c κs =
     let r = dropped less (entry-of (seen-of less) .pre .0 .2) in
     (r .0 .before, r .0 .behind, _, r .1)
 
-same-length-2 : tie.Need-same-length-2
-same-length-2 c = search needs
-
 returns-2 : tie.Need-returns-2
 returns-2 c =
     let put = c .before .before in
@@ -118,32 +111,9 @@ returns-2 c =
     let r = dropped less h in
     one-put (g .sum) _ (r .0) (put .drop-one .ensures (r .0 .before) (r .0 .behind) rest (r .1))
 
-copy-kept-requires : tie.Need-copy-kept-requires
-copy-kept-requires c κs = search needs
-
-same-length-3 : tie.Need-same-length-3
-same-length-3 c = search needs
-
-same-length-4 : tie.Need-same-length-4
-same-length-4 c = search needs
-
-returns-3 : tie.Need-returns-3
-returns-3 c = search needs
-
 pub drop-members-spec : {M : Type 1} → statement M
 drop-members-spec =
     tie.close
     (tie.spec
-    count-kept-requires
-    move-to-end-requires
-    same-length
-    returns
-    add-if2
-    count-requires
-    drop-one-requires
-    same-length-2
-    returns-2
-    copy-kept-requires
-    same-length-3
-    same-length-4
-    returns-3)
+    count-kept-requires move-to-end-requires (λ c. search needs) returns add-if2 count-requires drop-one-requires (λ c. search needs) returns-2
+    (λ c κs. search needs) (λ c. search needs) (λ c. search needs) (λ c. search needs))

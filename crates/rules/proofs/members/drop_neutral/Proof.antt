@@ -1,5 +1,5 @@
 -- `rules::members::drop_neutral` meets its contract: at a tree of another kind neither step applies; at a node of its kind the step applies
--- where a member is the integer that the node can do without, and then all such are dropped. Assumes nothing.
+-- where a member is the integer that the node can do without, and then all such are dropped.
 use Prim.Native.Nat.{ℕ}
 use mathlib.Core.Path.{_≡_, refl, sym, ap, _∙_}
 use mathlib.Core.List.{List}
@@ -54,20 +54,11 @@ searched c h =
 kind-requires : tie.Need-kind-requires
 kind-requires c κs = record-within (ready-tree (c .before .before .before .pre .2))
 
-node-kind-requires : tie.Need-node-kind-requires
-node-kind-requires c κs = search needs
-
-same-length : tie.Need-same-length
-same-length c = search needs
-
 returns : tie.Need-returns
 returns c =
     let kind = c .before .before .kind in
     let g = c .before .before .before .before .before .before .args in
     λ t rest h. (looks-elsewhere h (drops (g .sum)) (λ e. c .if1 .taken (kind .ensures ∙ e ∙ sym (c .before .node-kind .ensures))), refl, refl)
-
-neutral-requires : tie.Need-neutral-requires
-neutral-requires c κs = search needs
 
 any-member-requires : tie.Need-any-member-requires
 any-member-requires c κs =
@@ -80,12 +71,6 @@ drop-members-requires c κs =
     let s = node (kind-of searched) (entry-of (kind-of searched) .pre .2) in
     ((s .members, entry-of (kind-of searched) .pre .1, s .held), searched .before .before .neutral .ensures .1)
 
-same-length-2 : tie.Need-same-length-2
-same-length-2 c = search needs
-
-same-length-3 : tie.Need-same-length-3
-same-length-3 c = search needs
-
 returns-2 : tie.Need-returns-2
 returns-2 c =
     let dropped = c .before .before .before .before in
@@ -97,11 +82,9 @@ returns-2 c =
     let l = toList (s .members) in
     let b = dropped .drop-members .ensures (s .members) rest (s .held) in
     let applies = finds s (drops (g .sum)) (sym (searched at h) ∙ any .if2 .taken) in
-    let same = ap (λ z. paper.applies (nodeOf (g .sum) (markIn (g .work .now) (g .p)) (dropAll (isThe (pos z)) l))) (sym (at .before .before .neutral .ensures .0)) in
+    let same = ap (λ z. paper.applies (nodeOf (g .sum) (markIn (g .work .now) (g .p)) (dropAll (isThe (pos z)) l)))
+    (sym (at .before .before .neutral .ensures .0)) in
     (_, applies ∙ same, b .stands, b .done)
-
-same-length-4 : tie.Need-same-length-4
-same-length-4 c = search needs
 
 returns-3 : tie.Need-returns-3
 returns-3 c =
@@ -113,15 +96,5 @@ pub drop-neutral-spec : {M : Type 1} → statement M
 drop-neutral-spec =
     tie.close
     (tie.spec
-    kind-requires
-    node-kind-requires
-    same-length
-    returns
-    neutral-requires
-    any-member-requires
-    drop-members-requires
-    same-length-2
-    same-length-3
-    returns-2
-    same-length-4
-    returns-3)
+    kind-requires (λ c κs. search needs) (λ c. search needs) returns (λ c κs. search needs) any-member-requires drop-members-requires
+    (λ c. search needs) (λ c. search needs) returns-2 (λ c. search needs) returns-3)

@@ -1,5 +1,5 @@
 -- `rules::members::drop_one` meets its contract: the members before the dropped one are moved over its record, the node's record is written
--- before them with one member less (`around-put`), and closed. Assumes nothing.
+-- before them with one member less (`around-put`), and closed.
 use Prim.Native.Nat.{ℕ, _+_, _-_, _*_, _≤_}
 use mathlib.Core.Path.{_≡_, ap, _∙_}
 use mathlib.Core.List.{List, _++_}
@@ -14,7 +14,7 @@ use Rattle.note.specs.Noted.{Unnoted}
 use Rattle.note.proofs.CloseLaws.{unclosed, closable, closed-pending}
 use Rattle.stretch.specs.Put.{put}
 use Rattle.part.specs.Like.{nodeOf}
-use Rattle.write.specs.Written.{Light}
+use Rattle.rebuilt.specs.Written.{Light}
 use Rattle.rules.specs.Tried.{Around}
 use Rattle.rules.proofs.Nodes.{more-node}
 use Rattle.rules.proofs.Around.{around-long, around-light, around-put}
@@ -92,14 +92,8 @@ add-shift-right c = let s = sizes (entry-of c) in omega (arith, s .0, s .1)
 mul-shift-right : tie.Need-mul-shift-right
 mul-shift-right c = let s = sizes (entry-of c) in omega (arith, s .0, s .1)
 
-add-shift-right-2 : tie.Need-add-shift-right-2
-add-shift-right-2 c = search needs
-
 mul-shift-right-2 : tie.Need-mul-shift-right-2
 mul-shift-right-2 c = let s = sizes (entry-of c) in omega (arith, s .0, s .1)
-
-add-shift-right-3 : tie.Need-add-shift-right-3
-add-shift-right-3 c = search needs
 
 sub-shift-right : tie.Need-sub-shift-right
 sub-shift-right c = sizes (entry-of c) .0
@@ -110,34 +104,16 @@ mul-shift-right-3 c = let s = sizes (entry-of c) in omega (arith, s .0, s .1)
 shift-right-requires : tie.Need-shift-right-requires
 shift-right-requires c κs = let s = sizes (entry-of c) in (omega arith, omega (arith, s .0, s .1))
 
-add-write-record : tie.Need-add-write-record
-add-write-record c = search needs
-
-node-kind-requires : tie.Need-node-kind-requires
-node-kind-requires c κs = search needs
-
-sub-write-record : tie.Need-sub-write-record
-sub-write-record c = search needs
-
 write-record-requires : tie.Need-write-record-requires
 write-record-requires c κs =
     let moved = c .before .before .before .before in
     let s = sizes (entry-of (moved .before)) in
     omega (arith, moved .shift-right .kept .0, s .0, s .1)
 
-add-close : tie.Need-add-close
-add-close c = search needs
-
 close-requires : tie.Need-close-requires
 close-requires c κs =
     let wrote = c .before .before .before in
     (_, can-close wrote (start-of wrote .pre .3))
-
-add-result : tie.Need-add-result
-add-result c = search needs
-
-same-length : tie.Need-same-length
-same-length c = search needs
 
 returns : tie.Need-returns
 returns c =
@@ -151,22 +127,6 @@ pub drop-one-spec : {M : Type 1} → statement M
 drop-one-spec =
     tie.close
     (tie.spec
-    count-requires
-    mark-requires
-    add-shift-right
-    mul-shift-right
-    add-shift-right-2
-    mul-shift-right-2
-    add-shift-right-3
-    sub-shift-right
-    mul-shift-right-3
-    shift-right-requires
-    add-write-record
-    node-kind-requires
-    sub-write-record
-    write-record-requires
-    add-close
-    close-requires
-    add-result
-    same-length
-    returns)
+    count-requires mark-requires add-shift-right mul-shift-right (λ c. search needs) mul-shift-right-2 (λ c. search needs) sub-shift-right
+    mul-shift-right-3 shift-right-requires (λ c. search needs) (λ c κs. search needs) (λ c. search needs) write-record-requires (λ c. search needs)
+    close-requires (λ c. search needs) (λ c. search needs) returns)

@@ -1,5 +1,4 @@
 -- `rules::members::is_the` meets its contract: the tree there is an integer where its record is of kind 0, and which one its bits tell.
--- Assumes nothing.
 use mathlib.Core.Path.{ap, _∙_}
 use native.Mathlib.Omega.{arith}
 use lib.Dec.{eqb}

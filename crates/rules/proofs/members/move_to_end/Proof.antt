@@ -1,5 +1,5 @@
 -- `rules::members::move_to_end` meets its contract: the tree ends at `end`, and stays; or it ends before, and its records are put so that they
--- end there. Assumes nothing.
+-- end there.
 use Prim.Native.Nat.{_+_, _≤_}
 use mathlib.Core.Path.{_≡_, refl}
 use native.Mathlib.Omega.{arith}
@@ -43,9 +43,6 @@ ends c =
 skip-tree-requires : tie.Need-skip-tree-requires
 skip-tree-requires c κs = some-told (c .before .before .pre .0 .1)
 
-same-length : tie.Need-same-length
-same-length c = search needs
-
 returns : tie.Need-returns
 returns c =
     let at = c .before in
@@ -74,9 +71,6 @@ shift-right-requires c κs =
     let e = ends (c .before) in
     (omega arith, omega (arith, entry-of (skipped-of (c .before)) .pre .1))
 
-same-length-2 : tie.Need-same-length-2
-same-length-2 c = search needs
-
 returns-2 : tie.Need-returns-2
 returns-2 c =
     let shifted = c .before .before in
@@ -87,15 +81,5 @@ pub move-to-end-spec : {M : Type 1} → statement M
 move-to-end-spec =
     tie.close
     (tie.spec
-    skip-tree-requires
-    same-length
-    returns
-    sub-q
-    sub-q-2
-    mul-shift-right
-    mul-shift-right-2
-    sub-shift-right
-    mul-shift-right-3
-    shift-right-requires
-    same-length-2
-    returns-2)
+    skip-tree-requires (λ c. search needs) returns sub-q sub-q-2 mul-shift-right mul-shift-right-2 sub-shift-right mul-shift-right-3
+    shift-right-requires (λ c. search needs) returns-2)

@@ -1,5 +1,5 @@
 -- `rules::members::put_back` meets its contract: the tree of the members stands in `out`, from record d or the next up to record e, and is
--- copied to before `end`; there is room for it, since e is at most d + end. Assumes nothing.
+-- copied to before `end`; there is room for it, since e is at most d + end.
 use mathlib.Core.Path.{_≡_}
 use mathlib.Core.List.{List}
 use native.Mathlib.Omega.{arith}
@@ -7,7 +7,7 @@ use borrow.Author.Needs.{needs}
 use lib.ListN.{length}
 use Rattle.paper.specs.Tree.{Tree}
 use Rattle.part.specs.Like.{nodeOf}
-use Rattle.write.specs.Written.{Light}
+use Rattle.rebuilt.specs.Written.{Light}
 use Rattle.rules.specs.Tried.{Built, Collapsed}
 use Rattle.rules.proofs.Puts.{put-back}
 use Rattle.rules.proofs.members.put_back.Statement.{statement}
@@ -31,21 +31,12 @@ made : (c : Made) (l : List Tree) → Built (entry-of c .args .out .now) (entry-
     Collapsed (g .sum) (g .mark) l (g .out .now) (r .last .0) (g .d) (g .e) (r .result)
 made c l b n k = c .collapse .ensures (entry-of c .args .e) l b n k
 
-collapse-requires : tie.Need-collapse-requires
-collapse-requires c κs = search needs
-
 copy-back-requires : tie.Need-copy-back-requires
 copy-back-requires c κs =
     let at = c .before .before .before .before in
     let q = entry-of at .pre in
     let h = made at (q .0 .0) (q .0 .1) (q .0 .2) (q .0 .3) in
     (omega (arith, h .end), omega (arith, h .end, h .low, q .1), omega (arith, q .0 .1 .within, at .collapse .kept .0), q .2)
-
-same-length : tie.Need-same-length
-same-length c = search needs
-
-same-length-2 : tie.Need-same-length-2
-same-length-2 c = search needs
 
 returns : tie.Need-returns
 returns c =
@@ -59,4 +50,4 @@ returns c =
     put-back (g .sum) (g .mark) l (g .out .now) _ (g .work .now) _ (g .d) (g .e) (g .end) _ _ h (r .0) (omega (arith, h .end, h .low, q .1)) (q .2) (r .1)
 
 pub put-back-spec : {M : Type 1} → statement M
-put-back-spec = tie.close (tie.spec collapse-requires copy-back-requires same-length same-length-2 returns)
+put-back-spec = tie.close (tie.spec (λ c κs. search needs) copy-back-requires (λ c. search needs) (λ c. search needs) returns)

@@ -1,5 +1,5 @@
 -- `rules::multiply::multiply_zero` meets its contract: at a tree of another kind the step does not apply; a product with a member 0 is 0, which
--- ends where the product ended. Assumes nothing.
+-- ends where the product ended.
 use Prim.Native.Nat.{ℕ, _+_, _-_, _*_, _<_}
 use mathlib.Core.Path.{_≡_, refl, sym, ap, _∙_}
 use mathlib.Core.Bool.{false}
@@ -72,9 +72,6 @@ end c {t} h =
 kind-requires : tie.Need-kind-requires
 kind-requires c κs = record-within (ready-tree (c .before .before .before .pre .2))
 
-same-length : tie.Need-same-length
-same-length c = search needs
-
 returns : tie.Need-returns
 returns c = λ t rest h. (looks-elsewhere h zeroes (λ e. c .if1 .taken (c .before .kind .ensures ∙ e)), refl, refl)
 
@@ -98,9 +95,6 @@ write-record-requires c κs =
     let e = end (c .before) (entry-of (product-of (searched-of (c .before))) .pre .2) in
     omega (arith, e .some, e .within)
 
-same-length-2 : tie.Need-same-length-2
-same-length-2 c = search needs
-
 returns-2 : tie.Need-returns-2
 returns-2 c =
     let wrote = c .before .before in
@@ -120,9 +114,6 @@ returns-2 c =
       refl,
     )
 
-same-length-3 : tie.Need-same-length-3
-same-length-3 c = search needs
-
 returns-3 : tie.Need-returns-3
 returns-3 c =
     λ t rest h. (finds-none (node (product-of (c .before)) h) zeroes (sym (searched (c .before) h) ∙ c .if2 .left), refl, refl)
@@ -131,15 +122,5 @@ pub multiply-zero-spec : {M : Type 1} → statement M
 multiply-zero-spec =
     tie.close
     (tie.spec
-    kind-requires
-    same-length
-    returns
-    any-member-requires
-    mark-requires
-    skip-tree-requires
-    sub-q
-    write-record-requires
-    same-length-2
-    returns-2
-    same-length-3
-    returns-3)
+    kind-requires (λ c. search needs) returns any-member-requires mark-requires skip-tree-requires sub-q write-record-requires (λ c. search needs)
+    returns-2 (λ c. search needs) returns-3)

@@ -1,7 +1,7 @@
 -- `rules::power::power_constant` meets its contract: at a tree of another kind, and at a power whose base is not the integer 0 or 1, the step
--- does not apply; else that integer is written where the power ended. Assumes nothing.
+-- does not apply; else that integer is written where the power ended.
 use Prim.Native.Nat.{ℕ, _+_, _*_, _≤_}
-use mathlib.Core.Path.{_≡_, refl, sym, ap, _∙_}
+use mathlib.Core.Path.{refl, sym, ap, _∙_}
 use mathlib.Core.List.{List}
 use native.Mathlib.Omega.{arith}
 use borrow.Author.Needs.{needs}
@@ -56,9 +56,6 @@ integer c = omega (arith, c .if2 .left, c .before .kind2 .ensures)
 kind-requires : tie.Need-kind-requires
 kind-requires c κs = record-within (ready-tree (c .before .before .before .pre .2))
 
-same-length : tie.Need-same-length
-same-length c = search needs
-
 returns : tie.Need-returns
 unfolding powerConstant
 returns c = λ t rest h. (on-no-power (ready-seen h) _ (λ e. c .if1 .taken (c .before .kind .ensures ∙ e)), refl, refl)
@@ -68,9 +65,6 @@ add-kind c = let s = power (c .before) (entry-of (c .before) .pre .2) in omega (
 
 kind-requires-2 : tie.Need-kind-requires-2
 kind-requires-2 c κs = record-within (power (c .before) (entry-of (c .before) .pre .2) .there)
-
-same-length-2 : tie.Need-same-length-2
-same-length-2 c = search needs
 
 returns-2 : tie.Need-returns-2
 returns-2 c =
@@ -86,9 +80,6 @@ bits-requires : tie.Need-bits-requires
 bits-requires c κs =
     let at = power-of (c .before) in
     record-within (power at (entry-of at .pre .2) .there)
-
-same-length-3 : tie.Need-same-length-3
-same-length-3 c = search needs
 
 returns-3 : tie.Need-returns-3
 returns-3 c =
@@ -115,9 +106,6 @@ add-t13 c =
     let at = power-of (integer-of (c .before .before .before .before .before .before .before)) in
     omega (arith, power at (entry-of at .pre .2) .long)
 
-same-length-4 : tie.Need-same-length-4
-same-length-4 c = search needs
-
 returns-4 : tie.Need-returns-4
 returns-4 c =
     let wrote = c .before .before in
@@ -142,20 +130,5 @@ pub power-constant-spec : {M : Type 1} → statement M
 power-constant-spec =
     tie.close
     (tie.spec
-    kind-requires
-    same-length
-    returns
-    add-kind
-    kind-requires-2
-    same-length-2
-    returns-2
-    add-bits
-    bits-requires
-    same-length-3
-    returns-3
-    mark-requires
-    add-write-record
-    write-record-requires
-    add-t13
-    same-length-4
-    returns-4)
+    kind-requires (λ c. search needs) returns add-kind kind-requires-2 (λ c. search needs) returns-2 add-bits bits-requires (λ c. search needs)
+    returns-3 mark-requires add-write-record write-record-requires add-t13 (λ c. search needs) returns-4)

@@ -1,5 +1,5 @@
 -- `rules::power::power_one` meets its contract: at a tree of another kind, and at a power whose exponent is not 1, the step does not apply;
--- else the base is moved by one record, so that it ends where the power ended. Assumes nothing.
+-- else the base is moved by one record, so that it ends where the power ended.
 use Prim.Native.Nat.{ℕ, _+_}
 use mathlib.Core.Path.{_≡_, refl, sym, ap, _∙_}
 use mathlib.Core.List.{List}
@@ -7,7 +7,6 @@ use native.Mathlib.Omega.{arith}
 use borrow.Author.Needs.{needs}
 use Rattle.paper.specs.Tree.{Tree, records}
 use Rattle.paper.specs.Record.{bits}
-use Rattle.paper.proofs.EncodeLaws.{records-pos}
 use Rattle.note.proofs.ToldLaws.{record-within, some-told}
 use Rattle.note.specs.Note.{note}
 use Rattle.rules.specs.Asked.{Ready}
@@ -65,9 +64,6 @@ exponent c h =
 kind-requires : tie.Need-kind-requires
 kind-requires c κs = record-within (ready-tree (c .before .before .before .pre .2))
 
-same-length : tie.Need-same-length
-same-length c = search needs
-
 returns : tie.Need-returns
 unfolding powerOne
 returns c = λ t rest h. (on-no-power (ready-seen h) _ (λ e. c .if1 .taken (c .before .kind .ensures ∙ e)), refl, refl)
@@ -84,9 +80,6 @@ bits-requires c κs =
     let at = c .before in
     let h = entry-of (power-of at) .pre .2 in
     omega (arith, place at h, power (power-of at) h .long)
-
-same-length-2 : tie.Need-same-length-2
-same-length-2 c = search needs
 
 returns-2 : tie.Need-returns-2
 returns-2 c =
@@ -147,9 +140,6 @@ add-t12 c =
     let h = entry-of (power-of at) .pre .2 in
     omega (arith, power (power-of at) h .long)
 
-same-length-3 : tie.Need-same-length-3
-same-length-3 c = search needs
-
 returns-3 : tie.Need-returns-3
 returns-3 c =
     let moved = c .before .before in
@@ -164,22 +154,6 @@ pub power-one-spec : {M : Type 1} → statement M
 power-one-spec =
     tie.close
     (tie.spec
-    kind-requires
-    same-length
-    returns
-    add-skip-tree
-    skip-tree-requires
-    bits-requires
-    same-length-2
-    returns-2
-    add-shift-right
-    mul-shift-right
-    add-shift-right-2
-    mul-shift-right-2
-    add-shift-right-3
-    sub-shift-right
-    mul-shift-right-3
-    shift-right-requires
-    add-t12
-    same-length-3
-    returns-3)
+    kind-requires (λ c. search needs) returns add-skip-tree skip-tree-requires bits-requires (λ c. search needs) returns-2 add-shift-right
+    mul-shift-right add-shift-right-2 mul-shift-right-2 add-shift-right-3 sub-shift-right mul-shift-right-3 shift-right-requires add-t12
+    (λ c. search needs) returns-3)

@@ -1,6 +1,6 @@
 -- `rules::power::power_power` meets its contract: at a tree of another kind, and at a power whose base is none, the step does not apply;
 -- else the product of the exponents is in range, and the inner base is moved between a power's record and that product, or it is not. What
--- the step makes is lighter than the tree, so it can be closed. Assumes nothing.
+-- the step makes is lighter than the tree, so it can be closed.
 use Prim.Native.Nat.{ℕ, _+_, _*_, _≤_}
 use mathlib.Core.Path.{_≡_, refl, sym, ap, _∙_}
 use mathlib.Core.List.{List, _++_}
@@ -10,12 +10,11 @@ use lib.ListN.{length, drop}
 use lib.IntN.{_*ℤ_}
 use Rattle.paper.specs.Tree.{Tree, power, records}
 use Rattle.paper.specs.Record.{markIn, bits}
-use Rattle.paper.proofs.EncodeLaws.{records-pos}
 use Rattle.paper.proofs.PowerRules.{power-power-good}
 use Rattle.note.specs.Noted.{Unnoted}
 use Rattle.note.proofs.CloseLaws.{unclosed, closable, closed-pending}
-use Rattle.write.specs.Written.{Light}
-use Rattle.write.proofs.Closing.{power-node}
+use Rattle.rebuilt.specs.Written.{Light}
+use Rattle.rebuilt.proofs.Closing.{power-node}
 use Rattle.note.proofs.ToldLaws.{record-within, some-told}
 use Rattle.note.specs.Note.{note}
 use Rattle.rules.specs.Asked.{Ready}
@@ -146,9 +145,6 @@ module _ (c : tie.After-write-record2) where
 kind-requires : tie.Need-kind-requires
 kind-requires c κs = record-within (ready-tree (c .before .before .before .pre .2))
 
-same-length : tie.Need-same-length
-same-length c = search needs
-
 returns : tie.Need-returns
 unfolding powerPower
 returns c = λ t rest h. (on-no-power (ready-seen h) _ (λ e. c .if1 .taken (c .before .kind .ensures ∙ e)), refl, refl)
@@ -158,9 +154,6 @@ add-kind c = let s = raised (c .before) (entry-of (c .before) .pre .2) in omega 
 
 kind-requires-2 : tie.Need-kind-requires-2
 kind-requires-2 c κs = record-within (raised (c .before) (entry-of (c .before) .pre .2) .there)
-
-same-length-2 : tie.Need-same-length-2
-same-length-2 c = search needs
 
 returns-2 : tie.Need-returns-2
 returns-2 c =
@@ -191,12 +184,6 @@ bits-requires-2 c κs =
     let at = c .before .before .before in
     let h = start-of (tower-of at) .pre .2 in
     omega (arith, place at h, tower (tower-of at) h .long)
-
-mul-requires : tie.Need-mul-requires
-mul-requires c κs = search needs
-
-enum-known-product : tie.Need-enum-known-product
-enum-known-product c = search needs
 
 mark-requires : tie.Need-mark-requires
 mark-requires c κs = record-within (ready-tree (start-of (tower-of (skipped-of (c .before .before .before .before))) .pre .2))
@@ -283,7 +270,8 @@ write-record-requires-2 : tie.Need-write-record-requires-2
 write-record-requires-2 c κs =
     let at = skipped-of (multiplied-of (c .before .before .before .before .before .before .before .before)) in
     let h = start-of (tower-of at) .pre .2 in
-    omega (arith, c .before .before .before .write-record .kept .0, c .before .before .before .before .before .before .before .shift-right .kept .0, tower (tower-of at) h .long)
+    let wrote = c .before .before .before in
+    omega (arith, wrote .write-record .kept .0, wrote .before .before .before .before .shift-right .kept .0, tower (tower-of at) h .long)
 
 add-close : tie.Need-add-close
 add-close c =
@@ -298,12 +286,6 @@ add-t38 c =
     let at = at-of (c .before .before .before .before .before .before) in
     omega (arith, tower (tower-of at) (start-of (tower-of at) .pre .2) .long)
 
-enum-told : tie.Need-enum-told
-enum-told c = search needs
-
-same-length-3 : tie.Need-same-length-3
-same-length-3 c = search needs
-
 returns-3 : tie.Need-returns-3
 returns-3 c =
     let second = c .before .before .before .before .before .before in
@@ -314,9 +296,6 @@ returns-3 c =
     let q = closed-pending u w (power-node _ _ _ _) _ _ rest _ (at .1) (at .0) (c .before .before .close .ensures u (can-close second h)) in
     (u, applies second h, q .0, refl)
 
-same-length-4 : tie.Need-same-length-4
-same-length-4 c = search needs
-
 returns-4 : tie.Need-returns-4
 returns-4 c =
     let mul = c .before .before in
@@ -326,40 +305,8 @@ pub power-power-spec : {M : Type 1} → statement M
 power-power-spec =
     tie.close
     (tie.spec
-    kind-requires
-    same-length
-    returns
-    add-kind
-    kind-requires-2
-    same-length-2
-    returns-2
-    add-skip-tree
-    skip-tree-requires
-    bits-requires
-    add-bits
-    bits-requires-2
-    mul-requires
-    enum-known-product
-    mark-requires
-    add-mark
-    mark-requires-2
-    add-shift-right
-    mul-shift-right
-    add-shift-right-2
-    mul-shift-right-2
-    add-shift-right-3
-    sub-shift-right
-    mul-shift-right-3
-    shift-right-requires
-    add-write-record
-    write-record-requires
-    add-write-record-2
-    write-record-requires-2
-    add-close
-    close-requires
-    add-t38
-    enum-told
-    same-length-3
-    returns-3
-    same-length-4
-    returns-4)
+    kind-requires (λ c. search needs) returns add-kind kind-requires-2 (λ c. search needs) returns-2 add-skip-tree skip-tree-requires bits-requires
+    add-bits bits-requires-2 (λ c κs. search needs) (λ c. search needs) mark-requires add-mark mark-requires-2 add-shift-right mul-shift-right
+    add-shift-right-2 mul-shift-right-2 add-shift-right-3 sub-shift-right mul-shift-right-3 shift-right-requires add-write-record
+    write-record-requires add-write-record-2 write-record-requires-2 add-close close-requires add-t38 (λ c. search needs) (λ c. search needs)
+    returns-3 (λ c. search needs) returns-4)

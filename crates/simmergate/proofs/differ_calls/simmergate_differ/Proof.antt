@@ -1,70 +1,44 @@
 -- `simmergate::simmergate_differ` meets its contract: the numbers are those that `differ` tells, and those of what is wrong; the list is as
--- `differ` leaves it. Assumes nothing.
-use mathlib.Core.List.{[], _∷_}
+-- `differ` leaves it.
+use mathlib.Core.Path.{sym, ap, _∙_}
+use mathlib.Core.List.{List, [], _∷_}
 use native.Mathlib.Omega.{arith}
 use lib.ListN.{drop}
-use Rattle.paper_differ.specs.Calls.{differedNumbers}
-use Rattle.differ.specs.Differed.{says}
-use Rattle.simmergate.proofs.NumbersLaws.{with-flaw}
-use Rattle.simmergate.proofs.DifferNumbers.{differ-no-room, differ-room}
+use Prim.Native.Nat.{ℕ}
 use borrow.Author.Needs.{needs}
+use Rattle.paper_differ.specs.Differ.{Differed, differing}
+use Rattle.paper_differ.specs.Calls.{differedNumbers}
+use Rattle.simmergate.proofs.NumbersLaws.{tells, with-flaw}
+use Rattle.simmergate.proofs.DifferNumbers.{differ-tells, differ-leaves}
 use Rattle.simmergate.proofs.differ_calls.simmergate_differ.Statement.{statement}
 use Rattle.simmergate.proofs.differ_calls.simmergate_differ.Tie as tie
 
 returns : tie.Need-returns
 returns c =
     let g = c .before .before .before .before .before .args in
-    differ-no-room (g .limit) (g .a .now) (g .b .now) (g .list .now) (g .answer .now) (c .if1 .taken)
-
-differ-requires : tie.Need-differ-requires
-differ-requires c κs = search needs
-
-flaw-numbers-requires : tie.Need-flaw-numbers-requires
-flaw-numbers-requires c κs = search needs
-
-cast-t14 : tie.Need-cast-t14
-cast-t14 c = search needs
-
-cast-t16 : tie.Need-cast-t16
-cast-t16 c = search needs
-
-slice-aggregate-write-numbers : tie.Need-slice-aggregate-write-numbers
-slice-aggregate-write-numbers c = search needs
-
-write-numbers-requires : tie.Need-write-numbers-requires
-write-numbers-requires c κs = search needs
-
-same-length : tie.Need-same-length
-same-length c = search needs
-
-same-length-2 : tie.Need-same-length-2
-same-length-2 c = search needs
+    let q = differ-tells (g .limit) (g .a .now) (g .b .now) (g .list .now) (g .answer .now) .0 (c .if1 .taken) in
+    let l = differ-leaves (g .limit) (g .a .now) (g .b .now) (g .list .now) (g .answer .now) .0 (c .if1 .taken) in
+    record { returns = sym (q .0); answers = sym (q .1); leaves = sym l }
 
 returns-2 : tie.Need-returns-2
-unfolding differedNumbers
+unfolding differedNumbers differing
 returns-2 c =
-    let called = c .before .before .before .before .before .before .before .before .before .before in
-    let g = called .before .before .before .before .before .before .before .args in
-    let run = called .differ in
-    let wrong = c .before .before .before .before .before .before .before .flaw-numbers in
-    let r = run .result in
-    let written = c .before .before .write-numbers in
+    let written = c .before .before in
+    let wrong = written .before .before .before .before .before in
+    let run = wrong .before .before .before in
+    let g = run .before .before .before .before .before .before .before .args in
+    let r = run .differ .result in
     let before = r .number ∷ r .place ∷ r .which ∷ r .pairs ∷ [] in
-    let after = with-flaw before (drop 48 (g .answer .now)) (wrong .ensures) (written .ensures) in
-    differ-room (g .limit) (g .a .now) (g .b .now) (g .list .now) (g .answer .now) (says r) (run .last .1 .1 .1 .0) (run .ensures) (omega arith)
-    (written .last .0) after
+    let rest = drop 48 (g .answer .now) in
+    let after = with-flaw before rest (wrong .flaw-numbers .ensures) (written .write-numbers .ensures) in
+    let by = differ-tells (g .limit) (g .a .now) (g .b .now) (g .list .now) (g .answer .now) .1 (omega arith) in
+    let l = differ-leaves (g .limit) (g .a .now) (g .b .now) (g .list .now) (g .answer .now) .1 (omega arith) in
+    let q = tells (ap (λ (x : Differed × List ℕ). x .0) (run .differ .ensures)) (λ (d : Differed). d .number) differedNumbers rest after by in
+    record { returns = q .0; answers = q .1; leaves = ap (λ (x : Differed × List ℕ). x .1) (run .differ .ensures) ∙ sym l }
 
 pub simmergate-differ-spec : {M : Type 1} → statement M
 simmergate-differ-spec =
     tie.close
     (tie.spec
-    returns
-    differ-requires
-    flaw-numbers-requires
-    cast-t14
-    cast-t16
-    slice-aggregate-write-numbers
-    write-numbers-requires
-    same-length
-    same-length-2
-    returns-2)
+    returns (λ c κs. search needs) (λ c κs. search needs) (λ c. search needs) (λ c. search needs) (λ c. search needs) (λ c κs. search needs)
+    (λ c. search needs) (λ c. search needs) returns-2)

@@ -1,4 +1,4 @@
--- `simmergate::receiver_calls::read_receiver` meets its contract: both numbers are read. Assumes nothing.
+-- `simmergate::receiver_calls::read_receiver` meets its contract: both numbers are read.
 use Prim.Native.Nat.{ℕ}
 use mathlib.Core.Path.{ap, _∙_}
 use borrow.Author.Needs.{needs}
@@ -8,12 +8,6 @@ use Rattle.paper_receiver.specs.Calls.{receiverIn}
 use Rattle.simmergate.proofs.receiver_calls.read_receiver.Statement.{statement}
 use Rattle.simmergate.proofs.receiver_calls.read_receiver.Tie as tie
 
-read8-requires : tie.Need-read8-requires
-read8-requires c κs = search needs
-
-read8-requires-2 : tie.Need-read8-requires-2
-read8-requires-2 c κs = search needs
-
 returns : tie.Need-returns
 unfolding receiverIn
 returns c =
@@ -22,4 +16,4 @@ returns c =
     ap (λ (n : ℕ). both n (c .read82 .result)) (c .before .read8 .ensures) ∙ ap (both (le8 s 0)) (c .read82 .ensures)
 
 pub read-receiver-spec : {M : Type 1} → statement M
-read-receiver-spec = tie.close (tie.spec read8-requires read8-requires-2 returns)
+read-receiver-spec = tie.close (tie.spec (λ c κs. search needs) (λ c κs. search needs) returns)

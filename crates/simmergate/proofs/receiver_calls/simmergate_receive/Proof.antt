@@ -1,7 +1,6 @@
 -- `simmergate::receiver_calls::simmergate_receive` meets its contract: the record is read, the receiver tells what a piece makes of it and of
--- the area, and the record is written. Assumes nothing.
+-- the area, and the record is written.
 use mathlib.Core.Path.{ap, _∙_}
-use native.Mathlib.Omega.{arith}
 use borrow.Author.Needs.{needs}
 use Rattle.paper_receiver.specs.Receiver.{Receiver, received}
 use Rattle.paper_receiver.specs.Calls.{heldIn}
@@ -13,22 +12,8 @@ use Rattle.simmergate.proofs.receiver_calls.simmergate_receive.Tie as t
 returns : tie.Need-returns
 returns c =
     let a = c .before .before .before .before .args in
-    receive-no-room (a .limit) (a .state .now) (a .area .now) (a .piece .now) (c .if1 .taken)
-
-read-receiver-requires : tie.Need-read-receiver-requires
-read-receiver-requires c κs = search needs
-
-after-piece-requires : tie.Need-after-piece-requires
-after-piece-requires c κs = search needs
-
-write-receiver-requires : tie.Need-write-receiver-requires
-write-receiver-requires c κs = search needs
-
-same-length : tie.Need-same-length
-same-length c = search needs
-
-same-length-2 : tie.Need-same-length-2
-same-length-2 c = search needs
+    let q = receive-no-room (a .limit) (a .state .now) (a .area .now) (a .piece .now) (c .if1 .taken) in
+    record { returns = q .0; keeps = q .1 .0; leaves = q .1 .1 }
 
 returns-2 : tie.Need-returns-2
 unfolding heldIn
@@ -42,17 +27,13 @@ returns-2 c =
     let after = gives (t .number) (t .state) (taken .after-piece .last .1 .1 .0) in
     let told = taken .after-piece .ensures
     ∙ ap (λ (r : Receiver). received (a .limit) (record { state = r; area = a .area .now }) (a .piece .now)) (read .read-receiver .ensures) in
+    let q =
     receive-room (a .limit) (a .state .now) (a .area .now) (a .piece .now) after told (roomy .if1 .left) (written .write-receiver .last .0)
-    (written .write-receiver .ensures)
+    (written .write-receiver .ensures) in
+    record { returns = q .0; keeps = q .1 .0; leaves = q .1 .1 }
 
 pub simmergate-receive-spec : {M : Type 1} → statement M
 simmergate-receive-spec =
     tie.close
     (tie.spec
-    returns
-    read-receiver-requires
-    after-piece-requires
-    write-receiver-requires
-    same-length
-    same-length-2
-    returns-2)
+    returns (λ c κs. search needs) (λ c κs. search needs) (λ c κs. search needs) (λ c. search needs) (λ c. search needs) returns-2)

@@ -1,8 +1,7 @@
 -- `simmergate::receiver_calls::simmergate_receive_finish` meets its contract: the record is read, the receiver tells the checker's answer, and
--- the record and the answer's numbers are written, each to its own slice. Assumes nothing.
+-- the record and the answer's numbers are written, each to its own slice.
 use mathlib.Core.Path.{ap, _∙_}
 use mathlib.Core.List.{[], _∷_}
-use native.Mathlib.Omega.{arith}
 use lib.ListN.{drop}
 use borrow.Author.Needs.{needs}
 use Rattle.paper.specs.Calls.{verdictNumbers}
@@ -18,39 +17,14 @@ use Rattle.simmergate.proofs.receiver_calls.simmergate_receive_finish.T
 returns : tie.Need-returns
 returns c =
     let a = c .before .before .before .before .args in
-    short-record (a .limit) (a .state .now) (a .area .now) (a .answer .now) (c .if1 .taken)
+    let q = short-record (a .limit) (a .state .now) (a .area .now) (a .answer .now) (c .if1 .taken) in
+    record { returns = q .0; keeps = q .1 .0; answers = q .1 .1 }
 
 returns-2 : tie.Need-returns-2
 returns-2 c =
     let a = c .before .before .before .before .before .args in
-    short-slice (a .limit) (a .state .now) (a .area .now) (a .answer .now) (c .if2 .taken)
-
-read-receiver-requires : tie.Need-read-receiver-requires
-read-receiver-requires c κs = search needs
-
-at-finish-requires : tie.Need-at-finish-requires
-at-finish-requires c κs = search needs
-
-write-receiver-requires : tie.Need-write-receiver-requires
-write-receiver-requires c κs = search needs
-
-flaw-numbers-requires : tie.Need-flaw-numbers-requires
-flaw-numbers-requires c κs = search needs
-
-cast-t19 : tie.Need-cast-t19
-cast-t19 c = search needs
-
-slice-aggregate-write-numbers : tie.Need-slice-aggregate-write-numbers
-slice-aggregate-write-numbers c = search needs
-
-write-numbers-requires : tie.Need-write-numbers-requires
-write-numbers-requires c κs = search needs
-
-same-length : tie.Need-same-length
-same-length c = search needs
-
-same-length-2 : tie.Need-same-length-2
-same-length-2 c = search needs
+    let q = short-slice (a .limit) (a .state .now) (a .area .now) (a .answer .now) (c .if2 .taken) in
+    record { returns = q .0; keeps = q .1 .0; answers = q .1 .1 }
 
 returns-3 : tie.Need-returns-3
 unfolding heldIn verdictNumbers
@@ -63,27 +37,20 @@ returns-3 c =
     let roomy = read .before .before in
     let a = roomy .before .before .before .before .before .args in
     let f = told .at-finish .result in
-    let after = with-flaw (f .end .number ∷ f .end .place ∷ []) (drop 32 (a .answer .now)) (wrong .flaw-numbers .ensures) (numbers .write-numbers .ensures) in
+    let rest = drop 32 (a .answer .now) in
+    let after = with-flaw (f .end .number ∷ f .end .place ∷ []) rest (wrong .flaw-numbers .ensures) (numbers .write-numbers .ensures) in
     let verdict-told = told .at-finish .ensures .0
     ∙ ap (λ (r : Receiver). finishVerdict (a .limit) (record { state = r; area = a .area .now })) (read .read-receiver .ensures) in
     let state-told = told .at-finish .ensures .1
     ∙ ap (λ (r : Receiver). finishState (a .limit) (record { state = r; area = a .area .now })) (read .read-receiver .ensures) in
+    let q =
     finish-room (a .limit) (a .state .now) (a .area .now) (a .answer .now) (verdictOf (f .end)) (says (f .state)) verdict-told state-told
-    (roomy .before .if1 .left) (roomy .if2 .left) (kept .write-receiver .last .0) (numbers .write-numbers .last .0) (kept .write-receiver .ensures) after
+    (roomy .before .if1 .left) (roomy .if2 .left) (kept .write-receiver .last .0) (numbers .write-numbers .last .0) (kept .write-receiver .ensures) after in
+    record { returns = q .0; keeps = q .1 .0; answers = q .1 .1 }
 
 pub simmergate-receive-finish-spec : {M : Type 1} → statement M
 simmergate-receive-finish-spec =
     tie.close
     (tie.spec
-    returns
-    returns-2
-    read-receiver-requires
-    at-finish-requires
-    write-receiver-requires
-    flaw-numbers-requires
-    cast-t19
-    slice-aggregate-write-numbers
-    write-numbers-requires
-    same-length
-    same-length-2
-    returns-3)
+    returns returns-2 (λ c κs. search needs) (λ c κs. search needs) (λ c κs. search needs) (λ c κs. search needs) (λ c. search needs)
+    (λ c. search needs) (λ c κs. search needs) (λ c. search needs) (λ c. search needs) returns-3)

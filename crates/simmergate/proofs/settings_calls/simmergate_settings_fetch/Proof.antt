@@ -1,11 +1,12 @@
--- `simmergate::simmergate_settings_fetch` meets its contract: the numbers are those that `fetch` tells, and place 0. Assumes nothing.
-use mathlib.Core.Path.{refl}
-use mathlib.Core.List.{[], _∷_}
+-- `simmergate::simmergate_settings_fetch` meets its contract: the numbers are those that `fetch` tells, and place 0.
+use mathlib.Core.Path.{refl, sym}
 use native.Mathlib.Omega.{arith}
-use Rattle.paper_settings.specs.Settings.{newRelease, fetched}
-use Rattle.paper_settings.specs.Calls.{replyNumbers, fetchReturns, fetchAnswers}
-use Rattle.simmergate.proofs.NumbersLaws.{no-room, room}
+use lib.ListN.{drop}
 use borrow.Author.Needs.{needs}
+use Rattle.paper.proofs.Slices.{tells-in}
+use Rattle.paper_settings.specs.Settings.{newRelease, Reply, fetched}
+use Rattle.paper_settings.specs.Calls.{replyNumbers, fetchReturns, fetchAnswers}
+use Rattle.simmergate.proofs.NumbersLaws.{tells}
 use Rattle.simmergate.proofs.settings_calls.simmergate_settings_fetch.Statement.{statement}
 use Rattle.simmergate.proofs.settings_calls.simmergate_settings_fetch.Tie as tie
 
@@ -14,45 +15,22 @@ unfolding fetchReturns fetchAnswers replyNumbers
 returns c =
     let a = c .before .before .before .args in
     let v = fetched newRelease (a .key) (a .area .now) in
-    no-room (replyNumbers v) (a .answer .now) (v .number) 4 refl (c .if1 .taken)
-
-fetch-requires : tie.Need-fetch-requires
-fetch-requires c κs = search needs
-
-cast-t8 : tie.Need-cast-t8
-cast-t8 c = search needs
-
-cast-t9 : tie.Need-cast-t9
-cast-t9 c = search needs
-
-slice-aggregate-write-numbers : tie.Need-slice-aggregate-write-numbers
-slice-aggregate-write-numbers c = search needs
-
-write-numbers-requires : tie.Need-write-numbers-requires
-write-numbers-requires c κs = search needs
-
-same-length : tie.Need-same-length
-same-length c = search needs
+    let q = tells-in 32 (v .number) (replyNumbers v) refl (a .answer .now) .0 (c .if1 .taken) in
+    record { returns = sym (q .0); answers = sym (q .1) }
 
 returns-2 : tie.Need-returns-2
 unfolding fetchReturns fetchAnswers replyNumbers
 returns-2 c =
-    let a = c .before .before .before .before .before .before .before .before .before .before .before .args in
-    let told = c .before .before .before .before .before .before .before .fetch in
-    let r = told .result in
-    let written = c .before .before .write-numbers in
-    rw (← told .ensures)
-    (room (r .number ∷ 0 ∷ r .setting ∷ r .unit ∷ []) (a .answer .now) (r .number) 4 refl (omega arith) (written .last .0) (written .ensures))
+    let written = c .before .before in
+    let told = written .before .before .before .before .before in
+    let a = told .before .before .before .before .args in
+    let v = fetched newRelease (a .key) (a .area .now) in
+    let by = tells-in 32 (v .number) (replyNumbers v) refl (a .answer .now) .1 (omega arith) in
+    let q = tells (told .fetch .ensures) (λ (x : Reply). x .number) replyNumbers (drop 32 (a .answer .now)) (written .write-numbers .ensures) by in
+    record { returns = q .0; answers = q .1 }
 
 pub simmergate-settings-fetch-spec : {M : Type 1} → statement M
 simmergate-settings-fetch-spec =
     tie.close
     (tie.spec
-    returns
-    fetch-requires
-    cast-t8
-    cast-t9
-    slice-aggregate-write-numbers
-    write-numbers-requires
-    same-length
-    returns-2)
+    returns (λ c κs. search needs) (λ c. search needs) (λ c. search needs) (λ c. search needs) (λ c κs. search needs) (λ c. search needs) returns-2)

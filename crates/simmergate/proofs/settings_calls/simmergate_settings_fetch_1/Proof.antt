@@ -1,11 +1,12 @@
--- `simmergate::simmergate_settings_fetch_1` meets its contract: the numbers are those that `fetch_1` tells, and place 0. Assumes nothing.
-use mathlib.Core.Path.{refl}
-use mathlib.Core.List.{[], _∷_}
+-- `simmergate::simmergate_settings_fetch_1` meets its contract: the numbers are those that `fetch_1` tells, and place 0.
+use mathlib.Core.Path.{refl, sym}
 use native.Mathlib.Omega.{arith}
-use Rattle.paper_settings.specs.Settings.{fetchedOld}
-use Rattle.paper_settings.specs.Calls.{oldNumbers, oldReturns, oldAnswers}
-use Rattle.simmergate.proofs.NumbersLaws.{no-room, room}
+use lib.ListN.{drop}
 use borrow.Author.Needs.{needs}
+use Rattle.paper.proofs.Slices.{tells-in}
+use Rattle.paper_settings.specs.Settings.{OldReply, fetchedOld}
+use Rattle.paper_settings.specs.Calls.{oldNumbers, oldReturns, oldAnswers}
+use Rattle.simmergate.proofs.NumbersLaws.{tells}
 use Rattle.simmergate.proofs.settings_calls.simmergate_settings_fetch_1.Statement.{statement}
 use Rattle.simmergate.proofs.settings_calls.simmergate_settings_fetch_1.Tie as tie
 
@@ -14,41 +15,22 @@ unfolding oldReturns oldAnswers oldNumbers
 returns c =
     let a = c .before .before .before .args in
     let v = fetchedOld (a .key) (a .area .now) in
-    no-room (oldNumbers v) (a .answer .now) (v .number) 3 refl (c .if1 .taken)
-
-fetch-1-requires : tie.Need-fetch-1-requires
-fetch-1-requires c κs = search needs
-
-cast-t8 : tie.Need-cast-t8
-cast-t8 c = search needs
-
-slice-aggregate-write-numbers : tie.Need-slice-aggregate-write-numbers
-slice-aggregate-write-numbers c = search needs
-
-write-numbers-requires : tie.Need-write-numbers-requires
-write-numbers-requires c κs = search needs
-
-same-length : tie.Need-same-length
-same-length c = search needs
+    let q = tells-in 24 (v .number) (oldNumbers v) refl (a .answer .now) .0 (c .if1 .taken) in
+    record { returns = sym (q .0); answers = sym (q .1) }
 
 returns-2 : tie.Need-returns-2
 unfolding oldReturns oldAnswers oldNumbers
 returns-2 c =
-    let a = c .before .before .before .before .before .before .before .before .before .before .args in
-    let told = c .before .before .before .before .before .before .fetch-1 in
-    let r = told .result in
-    let written = c .before .before .write-numbers in
-    rw (← told .ensures)
-    (room (r .number ∷ 0 ∷ r .setting ∷ []) (a .answer .now) (r .number) 3 refl (omega arith) (written .last .0) (written .ensures))
+    let written = c .before .before in
+    let told = written .before .before .before .before in
+    let a = told .before .before .before .before .args in
+    let v = fetchedOld (a .key) (a .area .now) in
+    let by = tells-in 24 (v .number) (oldNumbers v) refl (a .answer .now) .1 (omega arith) in
+    let q = tells (told .fetch-1 .ensures) (λ (x : OldReply). x .number) oldNumbers (drop 24 (a .answer .now)) (written .write-numbers .ensures) by in
+    record { returns = q .0; answers = q .1 }
 
 pub simmergate-settings-fetch-1-spec : {M : Type 1} → statement M
 simmergate-settings-fetch-1-spec =
     tie.close
     (tie.spec
-    returns
-    fetch-1-requires
-    cast-t8
-    slice-aggregate-write-numbers
-    write-numbers-requires
-    same-length
-    returns-2)
+    returns (λ c κs. search needs) (λ c. search needs) (λ c. search needs) (λ c κs. search needs) (λ c. search needs) returns-2)

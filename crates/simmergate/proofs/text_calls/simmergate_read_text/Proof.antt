@@ -1,58 +1,36 @@
 -- `simmergate::simmergate_read_text` meets its contract: the three numbers are those that `text::read` tells, and the area is as it leaves it.
--- Assumes nothing.
+use mathlib.Core.Path.{sym, ap, _∙_}
 use native.Mathlib.Omega.{arith}
-use Rattle.paper_text.specs.Answers.{takenNumbers}
-use Rattle.text.specs.Gives.{takes}
-use Rattle.simmergate.proofs.TextLaws.{read-text-no-room, read-text-room}
+use lib.ListN.{drop}
 use borrow.Author.Needs.{needs}
+use Rattle.paper_text.specs.Answers.{Filled, Taken, takenNumbers, readGiven}
+use Rattle.paper_text.proofs.Slices.{text-slices}
+use Rattle.simmergate.proofs.NumbersLaws.{tells}
 use Rattle.simmergate.proofs.text_calls.simmergate_read_text.Statement.{statement}
 use Rattle.simmergate.proofs.text_calls.simmergate_read_text.Tie as tie
-use Rattle.simmergate.proofs.text_calls.simmergate_read_text.Reads as reads
-use Rattle.simmergate.proofs.text_calls.simmergate_read_text.Lts as lts
-use Rattle.eights.proofs.write_numbers.Reads as write-numbers-reads
-use Rattle.text.proofs.read.Reads as read-reads
 
 returns : tie.Need-returns
 returns c =
     let a = c .before .before .before .before .args in
-    read-text-no-room (a .limit) (a .text .now) (a .table .now) (a .answer .now) (c .if1 .taken)
-
-read-requires : tie.Need-read-requires
-read-requires c κs = search needs
-
-cast-t11 : tie.Need-cast-t11
-cast-t11 c = search needs
-
-slice-aggregate-write-numbers : tie.Need-slice-aggregate-write-numbers
-slice-aggregate-write-numbers c = search needs
-
-write-numbers-requires : tie.Need-write-numbers-requires
-write-numbers-requires c κs = search needs
-
-same-length : tie.Need-same-length
-same-length c = search needs
-
-same-length-2 : tie.Need-same-length-2
-same-length-2 c = search needs
+    let q = text-slices .reading (a .limit) (a .text .now) (a .table .now) (a .answer .now) .0 (c .if1 .taken) in
+    let l = text-slices .reading-area (a .limit) (a .text .now) (a .table .now) (a .answer .now) .0 (c .if1 .taken) in
+    record { returns = sym (q .0); answers = sym (q .1); leaves = sym l }
 
 returns-2 : tie.Need-returns-2
-unfolding takenNumbers
+unfolding takenNumbers readGiven
 returns-2 c =
-    let a = c .before .before .before .before .before .before .before .before .before .before .before .before .before .before .args in
-    let called = c .before .before .before .before .before .before .before .before .read in
-    let written = c .before .before .write-numbers in
-    read-text-room (a .limit) (a .text .now) (a .table .now) (a .answer .now) (takes (called .result) (called .last .1 .1 .0)) (called .ensures) (omega arith)
-    (written .last .0) (written .ensures)
+    let written = c .before .before in
+    let run = written .before .before .before .before .before .before in
+    let a = run .before .before .before .before .before .before .args in
+    let by = text-slices .reading (a .limit) (a .text .now) (a .table .now) (a .answer .now) .1 (omega arith) in
+    let l = text-slices .reading-area (a .limit) (a .text .now) (a .table .now) (a .answer .now) .1 (omega arith) in
+    let rest = drop 24 (a .answer .now) in
+    let told = ap (λ (x : Filled Taken). x .answer) (run .read .ensures) in
+    let q = tells told (λ (x : Taken). x .number) takenNumbers rest (written .write-numbers .ensures) by in
+    record { returns = q .0; answers = q .1; leaves = ap (λ (x : Filled Taken). x .area) (run .read .ensures) ∙ sym l }
 
 pub simmergate-read-text-spec : {M : Type 1} → statement M
 simmergate-read-text-spec =
     tie.close
     (tie.spec
-    returns
-    read-requires
-    cast-t11
-    slice-aggregate-write-numbers
-    write-numbers-requires
-    same-length
-    same-length-2
-    returns-2)
+    returns (λ c κs. search needs) (λ c. search needs) (λ c. search needs) (λ c κs. search needs) (λ c. search needs) (λ c. search needs) returns-2)

@@ -1,5 +1,5 @@
 -- `walk::lone::count_flags` meets its contract: after k turns the first k entries are counted, and a turn counts the next one (`counted-next`). Its flag lies
--- among the 16 n. Assumes nothing.
+-- among the 16 n.
 use Prim.Native.Nat.{_+_, _-_, _≤_, _<_}
 use mathlib.Core.Path.{_≡_, refl, sym}
 use native.Mathlib.Omega.{arith}
@@ -41,17 +41,8 @@ add-a c =
 slice-read-more : tie.Need-slice-read-more Inv-loop μ-loop
 slice-read-more c = fits (c .before)
 
-more-requires : tie.Need-more-requires Inv-loop μ-loop
-more-requires c κs = search needs
-
 slice-write-out : tie.Need-slice-write-out Inv-loop μ-loop
 slice-write-out c = fits (c .before .before)
-
-add-k : tie.Need-add-k Inv-loop μ-loop
-add-k c = search needs
-
-loop-less : tie.Need-loop-less Inv-loop μ-loop
-loop-less c = search needs
 
 loop-again : tie.Need-loop-again Inv-loop μ-loop
 loop-again c =
@@ -72,16 +63,5 @@ pub count-flags-spec : {M : Type 1} → statement M
 count-flags-spec =
     tie.close
     (tie.spec
-    Inv-loop
-    μ-loop
-    loop-holds
-    flag-of-requires
-    add-a
-    slice-read-more
-    more-requires
-    slice-write-out
-    add-k
-    loop-less
-    loop-again
-    same-length
-    returns)
+    Inv-loop μ-loop loop-holds flag-of-requires add-a slice-read-more (λ c κs. search needs) slice-write-out (λ c. search needs) (λ c. search needs)
+    loop-again same-length returns)

@@ -1,6 +1,6 @@
--- `walk::lone::flag_of` meets its contract: the 15 bits times n stay far below 2^64, and the flag is one of the 16 n (`flag-of-bits`). Assumes nothing.
+-- `walk::lone::flag_of` meets its contract: the 15 bits times n stay far below 2^64, and the flag is one of the 16 n (`flag-of-bits`).
 use Prim.Native.Nat.{ℕ, _*_, _/_, _%_, _≤_}
-use mathlib.Core.Path.{_≡_, ap}
+use mathlib.Core.Path.{ap}
 use native.Mathlib.Nat.{mul-le-mul-right}
 use native.Mathlib.Omega.{arith}
 use borrow.Author.Needs.{needs}
@@ -15,15 +15,6 @@ few x n h =
     let m : x % 32768 * n ≤ 32767 * n = mul-le-mul-right n (omega arith) in
     omega arith
 
-mul-read2 : tie.Need-mul-read2
-mul-read2 c = search needs
-
-add-read2 : tie.Need-add-read2
-add-read2 c = search needs
-
-read2-requires : tie.Need-read2-requires
-read2-requires c κs = search needs
-
 mul-result : tie.Need-mul-result
 mul-result c = let entry = c .before .before in record { fits = omega (arith, few (c .read2 .result) (entry .args .n) (omega (arith, entry .pre .1))) }
 
@@ -34,4 +25,4 @@ returns c =
     (ap (λ x. x % 32768 * entry .args .n / 2048) (c .read2 .ensures .0), flag-of-bits (c .read2 .result % 32768) _ (omega arith) (omega (arith, entry .pre .0)))
 
 pub flag-of-spec : {M : Type 1} → statement M
-flag-of-spec = tie.close (tie.spec mul-read2 add-read2 read2-requires mul-result returns)
+flag-of-spec = tie.close (tie.spec (λ c. search needs) (λ c. search needs) (λ c κs. search needs) mul-result returns)

@@ -1,4 +1,4 @@
--- `walk::lone::is_lone` meets its contract: by its tests. Assumes nothing.
+-- `walk::lone::is_lone` meets its contract: by its tests.
 use mathlib.Core.Path.{sym, ap}
 use mathlib.Core.Bool.{_&&_}
 use lib.Dec.{ltb}

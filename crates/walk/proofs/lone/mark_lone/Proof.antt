@@ -1,5 +1,5 @@
 -- `walk::lone::mark_lone` meets its contract: after k turns the first k entries have their bits, and a turn sets that of the next one (`marked-turn`). Its flag
--- lies among the 16 n. Assumes nothing.
+-- lies among the 16 n.
 use Prim.Native.Nat.{_+_, _-_, _*_, _≤_, _<_}
 use mathlib.Core.Path.{_≡_, refl, sym}
 use native.Mathlib.Omega.{arith}
@@ -60,17 +60,8 @@ slice-read-lone-byte c = fits (c .before) .1
 shared-slice-read-lone-byte : tie.Need-shared-slice-read-lone-byte Inv-loop μ-loop
 shared-slice-read-lone-byte c = fits (c .before .before) .0
 
-lone-byte-requires : tie.Need-lone-byte-requires Inv-loop μ-loop
-lone-byte-requires c κs = search needs
-
 slice-write-work : tie.Need-slice-write-work Inv-loop μ-loop
 slice-write-work c = fits (c .before .before .before) .1
-
-add-k : tie.Need-add-k Inv-loop μ-loop
-add-k c = search needs
-
-loop-less : tie.Need-loop-less Inv-loop μ-loop
-loop-less c = search needs
 
 loop-again : tie.Need-loop-again Inv-loop μ-loop
 loop-again c =
@@ -91,19 +82,5 @@ pub mark-lone-spec : {M : Type 1} → statement M
 mark-lone-spec =
     tie.close
     (tie.spec
-    Inv-loop
-    μ-loop
-    loop-holds
-    flag-of-requires
-    add-a
-    mul-b
-    add-b
-    slice-read-lone-byte
-    shared-slice-read-lone-byte
-    lone-byte-requires
-    slice-write-work
-    add-k
-    loop-less
-    loop-again
-    same-length
-    returns)
+    Inv-loop μ-loop loop-holds flag-of-requires add-a mul-b add-b slice-read-lone-byte shared-slice-read-lone-byte (λ c κs. search needs)
+    slice-write-work (λ c. search needs) (λ c. search needs) loop-again same-length returns)

@@ -1,4 +1,4 @@
--- `walk::lone::more` meets its contract, by the two cases of a count. Assumes nothing.
+-- `walk::lone::more` meets its contract, by the two cases of a count.
 use Rattle.walk.proofs.LoneLaws.{more-first, more-again}
 use Rattle.walk.proofs.lone.more.Statement.{statement}
 use Rattle.walk.proofs.lone.more.Tie as tie

@@ -1,6 +1,6 @@
--- `walk::numbers::place` meets its contract: the upper half of 64 bits times the number of flags fits, and the flag is one of them (`place-lt`). Assumes nothing.
+-- `walk::numbers::place` meets its contract: the upper half of 64 bits times the number of flags fits, and the flag is one of them (`place-lt`).
 use Prim.Native.Nat.{_*_, _/_, _%_}
-use mathlib.Core.Path.{_≡_, ap, _∙_, subst, sym}
+use mathlib.Core.Path.{ap, _∙_, subst, sym}
 use Rattle.paper.specs.Limits.{modulus}
 use Rattle.walk.specs.Numbers.{placeOf}
 use Rattle.walk.proofs.SpreadLaws.{wrapped, scaled}
@@ -9,12 +9,6 @@ use Prim.Native.Nat.{_<_}
 use borrow.Author.Needs.{needs}
 use Rattle.walk.proofs.numbers.place.Statement.{statement}
 use Rattle.walk.proofs.numbers.place.Tie as tie
-
-stirred-requires : tie.Need-stirred-requires
-stirred-requires c κs = search needs
-
-wrapping-mul-requires : tie.Need-wrapping-mul-requires
-wrapping-mul-requires c κs = search needs
 
 mul-result : tie.Need-mul-result
 mul-result c = record { fits = scaled (c .wrapping-mul .result) (wrapped _ _ (c .wrapping-mul .ensures)) _ (c .before .before .pre .1) }
@@ -28,4 +22,4 @@ returns c =
     (is, subst (λ x. x < g .n) (sym is) (place-lt (g .f) (g .n) (g .v) (c .before .before .pre .0)))
 
 pub place-spec : {M : Type 1} → statement M
-place-spec = tie.close (tie.spec stirred-requires wrapping-mul-requires mul-result returns)
+place-spec = tie.close (tie.spec (λ c κs. search needs) (λ c κs. search needs) mul-result returns)

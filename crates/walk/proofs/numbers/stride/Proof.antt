@@ -1,18 +1,12 @@
--- `walk::numbers::stride` meets its contract: by its test. Assumes nothing.
+-- `walk::numbers::stride` meets its contract: by its test.
 use native.Mathlib.Omega.{arith}
 use Rattle.paper.proofs.Tests.{true-not-false}
 use borrow.Author.Needs.{needs}
 use Rattle.walk.proofs.numbers.stride.Statement.{statement}
 use Rattle.walk.proofs.numbers.stride.Tie as tie
 
-returns : tie.Need-returns
-returns c = search needs
-
-add-result : tie.Need-add-result
-add-result c = search needs
-
 returns-2 : tie.Need-returns-2
 returns-2 c = (omega arith, omega (arith, c .before .pre), λ e. absurd (true-not-false e (c .if1 .left)))
 
 pub stride-spec : {M : Type 1} → statement M
-stride-spec = tie.close (tie.spec returns add-result returns-2)
+stride-spec = tie.close (tie.spec (λ c. search needs) (λ c. search needs) returns-2)

@@ -1,4 +1,4 @@
--- `walk::numbers::unmark` meets its contract: nothing is written where the flag held no entry before entry k, else that entry's bit is taken. Assumes nothing.
+-- `walk::numbers::unmark` meets its contract: nothing is written where the flag held no entry before entry k, else that entry's bit is taken.
 use mathlib.Core.Path.{refl}
 use mathlib.Core.Logic.{inl, inr}
 use native.Mathlib.Omega.{arith}
@@ -13,21 +13,6 @@ returns c = unmarked-none _ _ _ (inl (c .if1 .taken))
 returns-2 : tie.Need-returns-2
 returns-2 c = unmarked-none _ _ _ (inr (c .if2 .taken))
 
-mul-b : tie.Need-mul-b
-mul-b c = search needs
-
-sub-b : tie.Need-sub-b
-sub-b c = search needs
-
-slice-read-work : tie.Need-slice-read-work
-slice-read-work c = search needs
-
-slice-write-work : tie.Need-slice-write-work
-slice-write-work c = search needs
-
-same-length : tie.Need-same-length
-same-length c = search needs
-
 returns-3 : tie.Need-returns-3
 returns-3 c =
     unmarked-one _ _ _ _ (omega (arith, c .before .before .if1 .left)) (omega (arith, c .before .if2 .left)) (c .before .before .before .pre) refl
@@ -35,4 +20,4 @@ returns-3 c =
 pub unmark-spec : {M : Type 1} → statement M
 unmark-spec =
     tie.close
-    (tie.spec returns returns-2 mul-b sub-b slice-read-work slice-write-work same-length returns-3)
+    (tie.spec returns returns-2 (λ c. search needs) (λ c. search needs) (λ c. search needs) (λ c. search needs) (λ c. search needs) returns-3)

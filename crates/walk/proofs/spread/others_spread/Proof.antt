@@ -1,7 +1,7 @@
--- `walk::spread::others_spread` meets its contract. The loop's invariant: what is added so far and the spreads of the others among the members that are left are those
--- of the product's others. Assumes nothing.
+-- `walk::spread::others_spread` meets its contract. The loop's invariant: what is added so far and the spreads of the others among the
+-- members that are left are those of the product's others.
 use Prim.Native.Nat.{ℕ}
-use mathlib.Core.Path.{_≡_, sym, ap, _∙_}
+use mathlib.Core.Path.{_∙_}
 use mathlib.Core.Logic.{⊎-elim}
 use native.Mathlib.Omega.{arith}
 use Rattle.paper.specs.Tree.{Tree, Forest, product}
@@ -75,16 +75,5 @@ pub others-spread-spec : {M : Type 1} → statement M
 others-spread-spec =
     tie.close
     (tie.spec
-    Inv-loop
-    μ-loop
-    add-at
-    count-requires
-    loop-holds
-    kind-requires
-    spread-requires
-    wrapping-add-u64-requires
-    skip-tree-requires
-    sub-left
-    loop-less
-    loop-again
-    returns)
+    Inv-loop μ-loop add-at count-requires loop-holds kind-requires spread-requires wrapping-add-u64-requires skip-tree-requires sub-left loop-less
+    loop-again returns)

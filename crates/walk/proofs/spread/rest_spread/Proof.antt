@@ -1,5 +1,5 @@
--- `walk::spread::rest_spread` meets its contract: each return is one case of the split, by the record's kind. Assumes nothing.
-use mathlib.Core.Path.{_≡_, sym, _∙_}
+-- `walk::spread::rest_spread` meets its contract: each return is one case of the split, by the record's kind.
+use mathlib.Core.Path.{sym, _∙_}
 use native.Mathlib.Omega.{arith}
 use Rattle.note.proofs.ToldLaws.{record-within}
 use Rattle.split.proofs.SplitLaws.{some-product}
@@ -21,9 +21,6 @@ returns-2 : tie.Need-returns-2
 returns-2 c = λ how t h.
     rest-product t h (sym (c .before .before .before .kind .ensures) ∙ c .before .if2 .taken) _ (c .others-spread .ensures how)
 
-spread-requires : tie.Need-spread-requires
-spread-requires c κs = search needs
-
 returns-3 : tie.Need-returns-3
 returns-3 c = λ how t h.
     let k = c .before .before .before .kind .ensures in
@@ -32,4 +29,4 @@ returns-3 c = λ how t h.
 pub rest-spread-spec : {M : Type 1} → statement M
 rest-spread-spec =
     tie.close
-    (tie.spec kind-requires returns others-spread-requires returns-2 spread-requires returns-3)
+    (tie.spec kind-requires returns others-spread-requires returns-2 (λ c κs. search needs) returns-3)

@@ -1,5 +1,5 @@
--- `walk::spread::spread` meets its contract: what the records up to record j add is what is added so far, and all of them add the tree's spread (`tree-spread`).
--- Assumes nothing.
+-- `walk::spread::spread` meets its contract: what the records up to record j add is what is added so far, and all of them add the tree's
+-- spread (`tree-spread`).
 use Prim.Native.Nat.{_-_, _%_, _≤_}
 use mathlib.Core.Path.{_≡_, sym, ap, _∙_}
 use native.Mathlib.Omega.{arith}
@@ -40,8 +40,10 @@ wrapping-add-u64-requires c κs = tt
 
 add-j : tie.Need-add-j Inv-loop μ-loop
 add-j c =
-    let some = c .before .before .before .before .before .before .pre in
-    record { fits = omega (arith, tree-within (some .there), c .before .before .before .before .skip-tree .ensures (some .how) (some .tree) (some .there), c .before .before .loop-test .taken) }
+    let begun = c .before .before .before .before in
+    let some = begun .before .before .pre in
+    let end = begun .skip-tree .ensures (some .how) (some .tree) (some .there) in
+    record { fits = omega (arith, tree-within (some .there), end, c .before .before .loop-test .taken) }
 
 loop-less : tie.Need-loop-less Inv-loop μ-loop
 loop-less c = omega (arith, c .before .before .loop-test .taken)
@@ -66,13 +68,4 @@ pub spread-spec : {M : Type 1} → statement M
 spread-spec =
     tie.close
     (tie.spec
-    Inv-loop
-    μ-loop
-    skip-tree-requires
-    loop-holds
-    share-requires
-    wrapping-add-u64-requires
-    add-j
-    loop-less
-    loop-again
-    returns)
+    Inv-loop μ-loop skip-tree-requires loop-holds share-requires wrapping-add-u64-requires add-j loop-less loop-again returns)

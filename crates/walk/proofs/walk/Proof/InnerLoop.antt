@@ -1,7 +1,7 @@
 -- The inner loop of the walk: the current part meets the later members one by one. The later member's entry is read, the comparison's ticks
 -- lie behind what has come out (`ticks-fit`), so that what has come out stays (`ticks-behind`), and the answer of `meet` is the paper's for
 -- the two parts (`told`). Where it says "apart" the member is passed by; where it says "into" the part takes the member up, and the last
--- member moves into its place: both are steps of the walk (Steps). Each turn of the loop leaves one member fewer to meet. Assumes nothing.
+-- member moves into its place: both are steps of the walk (Steps). Each turn of the loop leaves one member fewer to meet.
 use Prim.Native.Nat.{ℕ, _+_, _-_, _*_, _≤_}
 use mathlib.Core.Path.{_≡_, _∙_, subst}
 use mathlib.Core.List.{List}
@@ -167,6 +167,7 @@ loop-again-2 c =
     let less = facing .loop-test .taken in
     let b = bounds (facing .before) in
     let v = facing .before .loop .inv in
+    let g = entry-of (around (facing .before)) .args in
     let answer = removed .before .before .before .met .given in
     record {
       long = ticks-length met ∙ v .long;
@@ -175,7 +176,7 @@ loop-again-2 c =
       calm = v .calm;
       lonely = λ q t.
           lonely-moves _ _ _ _ (omega arith) (omega (arith, b .low, b .high, b .few)) (last-moves-in removed) _ _ (omega (arith, b .low, b .few))
-          (subst (λ m. Lonely (entry-of (around (facing .before)) .args .terms) (facing .before .loop .work) (entry-of (around (facing .before)) .args .p) m) (omega arith) (v .lonely q t));
+          (subst (Lonely (g .terms) (facing .before .loop .work) (g .p)) (omega arith) (v .lonely q t));
       state = λ l o w h.
           let z = v .state l o w h in
           let into = told met z (Into (answer .0 .0)) (answer .1) in

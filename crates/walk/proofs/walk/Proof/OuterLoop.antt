@@ -1,8 +1,8 @@
 -- The outer loop of the walk: a turn for each member that is left. At its head the state is between two turns (Outer). The first member left
 -- is the current one; when it has met all later ones, it is copied or the part that it has become is written, behind what has come out, or is out of range
--- and noted as late: all are steps of the walk (Steps). What is written and not copied is counted as new. Each turn takes one member of the list. Assumes nothing.
+-- and noted as late: all are steps of the walk (Steps). What is written and not copied is counted as new. Each turn takes one member of the list.
 use Prim.Native.Nat.{ℕ, _+_, _*_, _≤_, _<_}
-use mathlib.Core.Path.{_≡_, refl, sym, ap, _∙_, subst}
+use mathlib.Core.Path.{_≡_, refl, ap, _∙_, subst}
 use mathlib.Core.Bool.{true, _&&_}
 use mathlib.Core.List.{List}
 use mathlib.Core.Logic.{⊎-elim}
@@ -15,7 +15,7 @@ use Rattle.paper.specs.Tree.{Tree, weight, records}
 use Rattle.paper.proofs.Value.{total}
 use Rattle.paper.proofs.EncodeLaws.{records-weight}
 use Rattle.part.specs.Like.{join}
-use Rattle.write.specs.Written.{Fitting}
+use Rattle.rebuilt.specs.Written.{Fitting}
 use Rattle.note.specs.Note.{note}
 use Rattle.note.specs.Noted.{encodeBy}
 use Rattle.stretch.specs.Put.{put}
@@ -31,7 +31,9 @@ use Rattle.walk.proofs.StaysLaws.{stays-itself}
 use Rattle.walk.specs.Numbers.{Lonely}
 use Rattle.walk.proofs.KeptLaws.{kept-where, lone-bit}
 use Rattle.walk.proofs.walk.Tie as tie
-use Rattle.walk.proofs.walk.Proof.Places.{Inv-loop, μ-loop, Inv-walk, μ-walk, Turn, Looked, Begun, Turned, Finished, asked, asked-of, told-of, telling-of, entry-of, turn-of, begun-of, keyed-of, looked-of, around-looked, left-one, turned-of, around}
+use Rattle.walk.proofs.walk.Proof.Places.{Inv-loop, μ-loop, Inv-walk, μ-walk, Turn, Looked, Begun, Turned, Finished, asked, asked-of}
+use Rattle.walk.proofs.walk.Proof.Places.{told-of, telling-of, entry-of, turn-of, begun-of, keyed-of, looked-of, around-looked, turned-of}
+use Rattle.walk.proofs.walk.Proof.Places.{left-one, around}
 use Rattle.walk.proofs.walk.Proof.Places.{State, between, carried, within, members, entry-bounds, turn-bounds, bounds}
 
 pub tell-lone-requires : tie.Need-tell-lone-requires Inv-loop μ-loop Inv-walk μ-walk
@@ -132,7 +134,8 @@ walk-again c =
           let k = copied kept (t .tree) (t .entry) (c .if1 .taken) in
           let both = and-both (isLone (high kept) (told-of (around-looked kept) .tell-lone .result)) (stays terms (t .tree)) (k .0) in
           let alone = bit-set kept (both .0) in
-          outer-lone v less _ _ (omega (arith, its-room (around-looked kept) less)) (alone .0) (alone .1) (stays-itself terms (t .tree) (t .entry .there .wf) (both .1)) (k .1) (k .2);
+          outer-lone v less _ _ (omega (arith, its-room (around-looked kept) less)) (alone .0) (alone .1)
+          (stays-itself terms (t .tree) (t .entry .there .wf) (both .1)) (k .1) (k .2);
     }
 
 -- ---- else it is compared with the later ones
@@ -254,7 +257,9 @@ walk-again-2 c =
       wide = v .wide ∙ u .wide;
       few = omega (arith, u .few, v .few);
       calm = v .calm ∙ u .calm;
-      few-new = ⊎-elim (λ a. omega (arith, u .few-new, a .5)) (⊎-elim (λ a. omega (arith, u .few-new, a .5)) (λ a. omega (arith, u .few-new, a .4))) (c .match2 .came);
+      few-new =
+          ⊎-elim (λ a. omega (arith, u .few-new, a .5))
+          (⊎-elim (λ a. omega (arith, u .few-new, a .5)) (λ a. omega (arith, u .few-new, a .4))) (c .match2 .came);
       lonely = λ q. v .lonely (u .lonely q);
       state = λ l o w h.
           let z = carried here l o w (u .state l o w h) in

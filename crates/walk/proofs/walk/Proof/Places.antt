@@ -1,8 +1,8 @@
 -- The two loops of `walk::walk`: what holds at the head of each and how much is left to do there, the places on the way through the code,
 -- and the bounds of the numbers at each head, from which every index and sum of the code is in range. The outer loop stands between two
--- turns of the walk (state Outer), the inner one within a turn (state Inner). Assumes nothing.
+-- turns of the walk (state Outer), the inner one within a turn (state Inner).
 use Prim.Native.Nat.{ℕ, _+_, _-_, _*_, _%_, _≤_, _<_}
-use mathlib.Core.Path.{_≡_, refl, sym, ap, subst}
+use mathlib.Core.Path.{_≡_, sym, ap, subst}
 use mathlib.Core.Bool.{Bool, true, false, _&&_}
 use mathlib.Core.List.{List}
 use native.Mathlib.Omega.{arith}
@@ -20,8 +20,8 @@ use Rattle.walk.specs.Numbers.{Lonely, AfterTelling}
 use Rattle.walk.proofs.Steps.{Outer, Inner, outer-begins, first, inner-begins}
 use Rattle.walk.proofs.walk.Tie as tie
 
--- ---- between two turns, of loops that began with `out₀`, `work₀` and n₀ members: no merge left the range, and whatever state they began in, the walk is there now;
--- and where it is told which members are alone with their keys, they still are
+-- ---- between two turns, of loops that began with `out₀`, `work₀` and n₀ members: no merge left the range, and whatever state they began
+-- in, the walk is there now; and where it is told which members are alone with their keys, they still are
 pub record OuterInv (out₀ work₀ : List ℕ) (d p count : ℕ) (terms told : Bool) (n₀ i₀ e₀ : ℕ) (late₀ : Bool) (new₀ f₀ : ℕ) (out work : List ℕ)
     (n i e : ℕ) (late over : Bool) (new f : ℕ) : Type 0 where
   pub long : length out ≡ length out₀
@@ -60,9 +60,10 @@ Inv-loop out₀ work₀ d p count terms told n₀ i e late over₀ new f high x 
 abbrev pub μ-loop : tie.MeasureT-loop
 μ-loop out₀ work₀ d p count terms told n₀ i e late over₀ new f high x c₀ key had j₀ out work n over c j = n - j
 
--- ---- places on the way through the code, and from each the one before it: the entry; after it was told which members are alone with their keys; the head of the outer loop; after the current
--- member was kept, or not; after its part was taken; after its key was read; the head of the inner loop; where a later member is left to meet; after it was met; after it was removed;
--- where none is left; after its turn was finished; and where the ways out of the walk meet
+-- ---- places on the way through the code, and from each the one before it: the entry; after it was told which members are alone with
+-- their keys; the head of the outer loop; after the current member was kept, or not; after its part was taken; after its key was read;
+-- the head of the inner loop; where a later member is left to meet; after it was met; after it was removed; where none is left; after its
+-- turn was finished; and where the ways out of the walk meet
 abbrev pub Entry : Type 0
 Entry = tie.Start Inv-loop μ-loop Inv-walk μ-walk
 
@@ -145,7 +146,9 @@ around c = turn-of (begun-of (keyed-of c))
 
 -- whether the member t is kept: it is alone with its key, and stays
 abbrev pub asked : Looked → Tree → Bool
-asked c t = isLone (getD (around-looked c .walk .work) (around-looked c .walk .i * 4 + 3) 0) (told-of (around-looked c) .tell-lone .result) && stays (entry-of (around-looked c) .args .terms) t
+asked c t =
+    let turn = around-looked c in
+    isLone (getD (turn .walk .work) (turn .walk .i * 4 + 3) 0) (told-of turn .tell-lone .result) && stays (entry-of turn .args .terms) t
 
 -- where it was not, nothing was written
 pub not-kept : (c : Begun) (t : Tree)
@@ -259,7 +262,10 @@ carried c l o w v =
     let part = begun .current in
     let keyed = ap (λ x. x % 32768) (key .ensures .0) in
     c .loop .inv .state l o w
-    (subst (λ y. Inner (g .terms) l o w (g .d) (g .p) (g .count) y (u .work) (u .n) (u .i) (u .e) (u .late) (u .new) (u .f) (part .result) (key .result % 32768) (u .n) (u .i + 1))
+    (subst
+    (λ y.
+    Inner (g .terms) l o w (g .d) (g .p) (g .count) y (u .work) (u .n) (u .i) (u .e) (u .late) (u .new) (u .f) (part .result)
+    (key .result % 32768) (u .n) (u .i + 1))
     (sym (not-kept begun (t .tree) (t .entry)))
     (inner-begins v less (part .result) (key .result % 32768) (part .ensures .0 (t .tree) (t .entry)) (part .ensures .1) keyed))
 

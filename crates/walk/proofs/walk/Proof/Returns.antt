@@ -1,6 +1,6 @@
 -- The returns of the walk. Its ways out meet behind the outer loop (`left`): either the outer test failed, and the state between two turns
 -- holds with no member left; or the label was left by the break, where a merge left the range, and then the paper's rule leaves it too.
--- After the break the answer is `Over`. Otherwise it is the one that the numbers of the walk's end give, which says what the state says (`says-answer`). Assumes nothing.
+-- After the break the answer is `Over`. Otherwise it is the one that the numbers of the walk's end give, which says what the state says (`says-answer`).
 use Prim.Native.Nat.{ℕ, _*_, _≤_}
 use mathlib.Core.Path.{_≡_, sym, ap, _∙_, subst}
 use mathlib.Core.Bool.{Bool, true, false}
@@ -18,7 +18,8 @@ use Rattle.walk.specs.Walked.{Walkable, Says, WalkedIs, answerOf}
 use Rattle.walk.proofs.States.{common-done}
 use Rattle.walk.proofs.Steps.{Outer, says-over, left-alone, says-answer}
 use Rattle.walk.proofs.walk.Tie as tie
-use Rattle.walk.proofs.walk.Proof.Places.{Inv-loop, μ-loop, Inv-walk, μ-walk, Met, Looked, Begun, Within, Left, told-of, entry-of, facing-of, telling-of, between, within}
+use Rattle.walk.proofs.walk.Proof.Places.{Inv-loop, μ-loop, Inv-walk, μ-walk, Met, Looked, Begun, Within, Left}
+use Rattle.walk.proofs.walk.Proof.Places.{told-of, entry-of, facing-of, telling-of, between, within}
 use Rattle.walk.proofs.walk.Proof.InnerLoop.{ticks-behind, ticks-length, told}
 
 -- ---- what holds where the ways out meet
@@ -56,13 +57,28 @@ left c =
     -- the label's break, behind the comparison that `a` leads to
     (λ a.
     let looked : Looked =
-    record { before = record { before = record { before = record { before = record { before = c .before; walk-test = a .0 }; slice-known5 = a .1 }; keep-lone-arg = a .2 }; keep-lone-arg2 = a .3 }; keep-lone = a .4 } in
+    record {
+      before = record {
+        before = record { before = record { before = record { before = c .before; walk-test = a .0 }; slice-known5 = a .1 }; keep-lone-arg = a .2 };
+        keep-lone-arg2 = a .3;
+      };
+      keep-lone = a .4;
+    } in
     let begun : Begun =
-    record { before = record { before = record { before = record { before = record { before = looked; out2 = a .5 }; slice-known6 = a .6 }; if1 = a .7 }; current-arg = a .8 }; current = a .9 } in
+    record {
+      before = record {
+        before = record { before = record { before = record { before = looked; out2 = a .5 }; slice-known6 = a .6 }; if1 = a .7 };
+        current-arg = a .8;
+      };
+      current = a .9;
+    } in
     let inside : Within =
     record { before = record { before = record { before = begun; read2-arg = a .10 }; read2 = a .11 }; loop = a .12 } in
     let met : Met =
-    record { before = record { before = record { before = record { before = inside; loop-test = a .13 }; meet-arg = a .14 }; meet-arg2 = a .15 }; meet = a .16 } in
+    record {
+      before = record { before = record { before = record { before = inside; loop-test = a .13 }; meet-arg = a .14 }; meet-arg2 = a .15 };
+      meet = a .16;
+    } in
     let facing = facing-of met in
     let w = facing .before .loop .inv in
     let answer-is = a .20 .given .1 in
@@ -77,7 +93,7 @@ left c =
           let bad = told met z merged.Over answer-is in
           let stays = left-alone z _ (ticks-behind met) in
           record {
-            says = says-over z (facing .loop-test .taken) (bad .0) (bad .1) (bad .2);
+            answers = says-over z (facing .loop-test .taken) (bad .0) (bad .1) (bad .2);
             pending = ap (drop (g .p * 16)) work-is ∙ stays .0;
             done = ap (take (g .d * 16)) out-is ∙ stays .1;
           };
@@ -99,7 +115,7 @@ answered c r l h calm is =
     let here = left c in
     let s = here .state calm l h in
     record {
-      says = subst (Says (g .terms) l (g .out .now) (c .walk-test .out) (g .d)) (sym is) (says-answer s (here .ended calm));
+      answers = subst (Says (g .terms) l (g .out .now) (c .walk-test .out) (g .d)) (sym is) (says-answer s (here .ended calm));
       pending = s .common .pending;
       done = common-done (s .common);
     }

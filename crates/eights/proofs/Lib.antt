@@ -1,2 +1,0 @@
-pub mod EightsLaws
-pub mod Unique

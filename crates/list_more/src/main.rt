@@ -1,4 +1,0 @@
-// The listing of the table on standard input; stored here: more bytes than are read.
-fn main() {
-    report::run(1);
-}
