@@ -586,7 +586,7 @@ uint32_t simmergate_write_text(size_t limit, const uint8_t *table, size_t table_
    bytes of each slot, for the greatest key, for keys that are there twice once for every 8,192 keys up to the greatest,
    which is eight times at the most, and in search of the key. The time grows with the number of slots. On x86-64 a
    fetch from 2,000 settings takes some 400,000 to 550,000 instructions, by how far their keys are apart, and one from
-   65,536, where every key is there, some 18 million.
+   65,536, where every key is there, 16 to 17 million.
 
    Settings in flash memory: copy the area to RAM, hand the copy to the call, and after 0 write it back whole. A store
    or a remove changes the lent bytes one after the other; it is not safe against a loss of power, and does not claim
