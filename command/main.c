@@ -49,13 +49,16 @@ static const struct subcommand all[] = {
      "Shortens a whole site, up to 200 items in one call: the files of a folder, a formula each, in\n"
      "the order of their names, or the formulas of a file, one a line. Every item is reported. With\n"
      "--tabs: name, refusal, place, records, steps, openings, weight before and after, tries; the\n"
-     "refusal is - where the item could not be read.",
+     "refusal is - where the item could not be read. With -o the folder is made where it is not\n"
+     "there, and what else stands in it is named: status 1.",
      TAKES_LIMIT | TAKES_EDITION | TAKES_FORM | TAKES_NAMES | TAKES_TABS | TAKES_FOLDER, 1, 1, run_site},
     {"takeover", "takeover [OPTION ..] RESULTS [OTHER]",
      "What the second machine does with the results of `site -o`: each is shortened again and must\n"
      "be the same bytes, with no step and no opening. With OTHER, also whether the other machine's\n"
      "results are the same bytes, name by name. Status 1 where not. With --tabs: name, refusal,\n"
-     "place, same or other, steps, openings, and the same, other or missing of the other machine.",
+     "place, same or other, steps, openings, and of the other machine same, other, missing, not read,\n"
+     "or - where nothing was compared; the refusal is - where the item could not be read. What only\n"
+     "the other machine has is a line with the refusal - and missing in place of same or other.",
      TAKES_LIMIT | TAKES_EDITION | TAKES_TABS | TAKES_OUT, 1, 2, run_takeover},
     {"link", "link [OPTION ..] [FILE]",
      "Receives a table in pieces, as the serial link delivers it, and judges it as if it had come\n"
@@ -63,7 +66,7 @@ static const struct subcommand all[] = {
      TAKES_LIMIT | TAKES_PIECE | TAKES_OUT, 0, 1, run_link},
     {"settings", "settings FILE init SLOTS | store KEY SETTING [UNIT] | fetch [--old] KEY | remove KEY | list",
      "Settings in a file, under a lock. Keys and units are 0 to 65535, settings signed numbers of\n"
-     "64 bits. `init` makes the file, and refuses one that is there.",
+     "64 bits. `init` makes the file, with 1 to 65536 slots, and refuses one that is there.",
      TAKES_OLD, 2, 5, run_settings},
 };
 

@@ -32,9 +32,9 @@
    called, and nothing else.
 
    libsimmergate.a is code for x86-64 as Linux has it: ELF, position-independent, called by the System V ABI (a size_t
-   has 64 bits), for any x86-64 processor: nothing beyond SSE2, and no floating-point number. It throws nothing, raises
-   no signal, and has no data that it writes. Tables, answers and settings are bytes in a stated order: they are the
-   same on every machine.
+   has 64 bits), for any x86-64 processor: nothing beyond SSE2, and no floating-point number; arm/archive makes one for
+   64-bit Arm. It throws nothing, raises no signal, and has no data that it writes. Tables, answers and settings are
+   bytes in a stated order: they are the same on every machine.
 
    ---- What a call costs ----
 
@@ -55,9 +55,9 @@
      simplify_shared                  what opening takes, and simplifying the opened table
      read_text, settings              as told there
 
-   Steps, openings and tries are the paper's numbers, to which both machines of a pair can be held, and no measure of
-   time: the library often finds out for many nodes at once that no step applies, and counts a try for each. How many
-   instructions it comes to: bench/FIGURES.md.
+   Steps, openings and tries are the numbers of the rules as they are written, to which both machines of a pair can be
+   held, and no measure of time: the library often finds out for many nodes at once that no step applies, and counts a
+   try for each. How many instructions it comes to: bench/FIGURES.md.
 
    ---- Tables ----
 
@@ -221,14 +221,16 @@ extern "C" {
      simmergate_settings_remove      1,192        1,192   whatever the area
      simmergate_release                 32           32
 
-   On 64-bit Arm equality, reading and writing a text take up to 96 bytes a level in place of 80, so that the names are
-   larger there (arm/archive, tests/arm); the other calls need what they need here, and at most 300 bytes more.
+   On 64-bit Arm equality, reading and writing a text take up to 96 bytes a level in place of 80, 80 and 64, so that the
+   names are larger there (arm/archive, tests/arm); the other calls need what they need here, and at most 300 bytes
+   more.
 
    SIMMERGATE_STACK bytes, or SIMMERGATE_STACK_16384, are enough for every call.
 
-   A thread may have less than that: musl gives it 131,072 bytes, a controller's operating system often a few thousand;
-   glibc gives what `ulimit -s` says, as a rule 8,388,608. Where that is too little, ask for it when the thread is made
-   (pthread_attr_setstacksize), and for what its own functions need besides. */
+   A thread may have less than that, or no more than that for all of its functions: musl gives it 131,072 bytes, a
+   controller's operating system often a few thousand; glibc gives what `ulimit -s` says, as a rule 8,388,608. Where
+   that is too little, ask for it when the thread is made (pthread_attr_setstacksize), and for what its own functions
+   need besides. */
 #if defined(__aarch64__)
 #define SIMMERGATE_STACK 155648
 #define SIMMERGATE_STACK_16384 819200
@@ -355,8 +357,9 @@ static inline uint64_t simmergate_number(const uint8_t *answer, size_t i) {
 /* Bytes of a record. */
 #define SIMMERGATE_RECORD_BYTES 16
 
-/* Bytes of the longest table that a limit lets pass, and of the `work` that it asks for. Every area `out` or `opened`
-   of SIMMERGATE_TABLE_BYTES(L) bytes and every area `steps` of L bytes is long enough. */
+/* Bytes of the longest table that a limit lets pass, and of the `work` that it asks for. An area `out` or `opened` of
+   SIMMERGATE_TABLE_BYTES(L) bytes and an area `steps` of L bytes are always long enough, but for simmergate_batch,
+   whose items share them. */
 #define SIMMERGATE_TABLE_BYTES(limit) (16 * (limit))
 #define SIMMERGATE_WORK_BYTES(limit) ((limit) == 3072 ? 65536 : 524288)
 
@@ -470,7 +473,8 @@ uint32_t simmergate_batch(size_t limit, size_t edition, const uint8_t *tables, s
    first byte that is not kept, and stays so until the finish: it says that bytes were dropped, and not how many. The
    finish empties the record, so the table's length is to be read before it, as simmergate_number(receiver,
    SIMMERGATE_AT_RECEIVER_KEPT). Zero bytes begin. Any 16 bytes are a record: they are judged at every call and never
-   trusted, so that a record of rubbish costs one refused table, and no byte outside the area.
+   trusted, so that a record of rubbish costs one table, which is refused or is not the one that came, and no byte
+   outside the area.
 
    The area has at least SIMMERGATE_TABLE_BYTES(L) bytes, and the same bytes are handed to every call from the first
    piece to the finish. Nobody else may write its first bytes, as many as the record counts, between the calls: what
@@ -540,13 +544,13 @@ uint32_t simmergate_simplify_shared(size_t limit, size_t edition, const uint8_t 
    A table has exactly one text, and a text that is read exactly one table: writing what was read gives the same
    bytes, and reading what was written gives the same records without their line marks, which text does not carry.
 
-   A text of any length and nesting is judged, within SIMMERGATE_STACK bytes of stack, or SIMMERGATE_STACK_16384.
-   The time grows with its length; besides, where first members or bases stand
-   nested, with their depth, since each such level moves the records inside it on by one; and for a text nested deeper
-   than half the limit with how often that goes into its depth. No text of more than SIMMERGATE_TEXT_BYTES(L) bytes is
-   ever accepted, so a longer one need not be handed in. On x86-64 the slowest known within that length is judged in some
-   14 million instructions at the limit 3,072, and in 110 million at 16,384; beyond it the time of a text of nothing but
-   parentheses grows with the square of its length, and 16 million bytes of them take minutes. */
+   A text of any length and nesting is judged, within SIMMERGATE_STACK bytes of stack, or SIMMERGATE_STACK_16384. The
+   time grows with its length; besides, where first members or bases stand nested, with their depth, since each such
+   level moves the records inside it on by one; and for a text nested deeper than half the limit with how often that
+   goes into its depth. No text of more than SIMMERGATE_TEXT_BYTES(L) bytes is ever accepted, so a longer one need not
+   be handed in. On x86-64 the slowest known within that length is judged in some 14 million instructions at the limit
+   3,072, and in 110 million at 16,384; beyond it the time of a text of nothing but parentheses grows with the square of
+   its length, and 16 million bytes of them take minutes. */
 
 /* Reads a text and writes its records to the front of `table`, all or none; SIMMERGATE_TABLE_BYTES(L) are always
    enough. The answer: refusal number, place (0), records written. */
@@ -582,7 +586,7 @@ uint32_t simmergate_write_text(size_t limit, const uint8_t *table, size_t table_
    bytes of each slot, for the greatest key, for keys that are there twice once for every 8,192 keys up to the greatest,
    which is eight times at the most, and in search of the key. The time grows with the number of slots. On x86-64 a
    fetch from 2,000 settings takes some 400,000 to 550,000 instructions, by how far their keys are apart, and one from
-   65,536, where every key is there, some 18 million.
+   65,536, where every key is there, 16 to 17 million.
 
    Settings in flash memory: copy the area to RAM, hand the copy to the call, and after 0 write it back whole. A store
    or a remove changes the lent bytes one after the other; it is not safe against a loss of power, and does not claim

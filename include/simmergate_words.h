@@ -52,9 +52,10 @@ static inline const char *simmergate_refusal_words(unsigned long refusal) {
     case SIMMERGATE_REFUSED_WEIGHT: return "its weight is over the limit";
     case SIMMERGATE_REFUSED_TREE: return "the records end before the formula does, or the formula before the records";
     case SIMMERGATE_REFUSED_EXPONENT: return "an exponent is no integer of at least 1";
-    case SIMMERGATE_REFUSED_ROOM: return "an area that was lent is too small";
+    case SIMMERGATE_REFUSED_ROOM: return "an area is too small, or the registers are not 2048 bytes";
     case SIMMERGATE_REFUSED_RANGE: return "an integer leaves the signed 64-bit range";
-    case SIMMERGATE_REFUSED_PARTS: return "there are too many parts, or their lengths do not add up";
+    case SIMMERGATE_REFUSED_PARTS:
+        return "there are too many parts or too few places for answers, or the lengths do not add up";
     case SIMMERGATE_REFUSED_EDITION: return "there is no such edition of the rules: it is 1 or 2";
     case SIMMERGATE_REFUSED_NEWER: return "this area was written by a newer release";
     case SIMMERGATE_REFUSED_AREA:
@@ -117,6 +118,7 @@ static inline int simmergate_explain(char *to, size_t room, size_t limit, const 
         if (table == NULL) break;
         if (bytes == 0) return snprintf(to, room, "it is empty");
         if (bytes > most) return snprintf(to, room, "it is longer than %lu bytes", most);
+        if (bytes % SIMMERGATE_RECORD_BYTES == 0) break; /* of a receiver whose record says that more came */
         return snprintf(to, room, "%lu bytes are no whole number of records of 16 bytes", bytes);
     case SIMMERGATE_REFUSED_RECORD:
         if (table == NULL || what_at == 0) break;

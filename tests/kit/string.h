@@ -9,6 +9,7 @@ char *strcpy(char *, const char *);
 size_t strlen(const char *);
 int strcmp(const char *, const char *);
 int strncmp(const char *, const char *, size_t);
+size_t strspn(const char *, const char *);
 char *strchr(const char *, int);
 char *strrchr(const char *, int);
 void *memchr(const void *, int, size_t);

@@ -5,10 +5,10 @@ ghost use lib.ListN.{length, drop};
 ghost use Rattle.paper_text.specs.Text.{digitAhead, readNumber};
 ghost use Rattle.decimal.specs.Digits.{NumberRead, NumberSpelt};
 
-// The number that digits count in, and its greatest digit.
-const TEN: u64 = 10;
+// What a digit counts by, and the greatest digit.
+const BASE: u64 = 10;
 
-const NINE: u64 = 9;
+const GREATEST: u64 = 9;
 
 // The character after the digits.
 const PAST_DIGITS: u8 = b'9' + 1;
@@ -48,14 +48,14 @@ pub fn read_number(text: &[u8], at: usize, bound: u64) -> Digits
             return Digits::No;
         }
     }
-    let most = bound / TEN;
+    let most = bound / BASE;
     let mut v: u64 = 0;
     let mut e = at;
     while digit_at(text, e) {
         if most < v {
             return Digits::No;
         }
-        v = TEN * v + (text[e] - b'0') as u64;
+        v = BASE * v + (text[e] - b'0') as u64;
         e += 1;
     }
     if v < bound {
@@ -72,10 +72,10 @@ pub fn spell_number(v: u64, out: &mut [u8], at: usize) -> usize
     let mut b = [0u8; MOST_DIGITS];
     let mut i: usize = MOST_DIGITS;
     let mut w = v;
-    while NINE < w {
+    while GREATEST < w {
         i -= 1;
-        b[i] = b'0' + (w % TEN) as u8;
-        w /= TEN;
+        b[i] = b'0' + (w % BASE) as u8;
+        w /= BASE;
     }
     i -= 1;
     b[i] = b'0' + w as u8;

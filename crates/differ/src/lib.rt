@@ -59,7 +59,7 @@ fn count_pairs(a: &[u8], b: &[u8]) -> usize
 }
 
 // The bytes of a pair in the list.
-const PAIR: usize = 16;
+pub const PAIR: usize = 16;
 
 // Writes a pair of record numbers to the list as its pair p, eight bytes each; all other bytes stay.
 fn write_pair(list: &mut [u8], p: usize, i: usize, j: usize)
@@ -92,13 +92,6 @@ fn write_pairs(a: &[u8], b: &[u8], list: &mut [u8])
     }
 }
 
-// Which table is refused.
-const NEITHER: u8 = 0;
-
-const FIRST: u8 = 1;
-
-const SECOND: u8 = 2;
-
 // The answer: what is refused, and which table; the number of pairs.
 fn answer(f: Fault, which: u8, pairs: usize) -> Differed
     ensures { λ r. ⌜ says r ≡ answered (verdictOf f) which pairs ⌝ }
@@ -118,20 +111,20 @@ pub fn differ(limit: usize, a: &[u8], b: &[u8], list: &mut [u8]) -> Differed
     ensures { λ r. ⌜ gives r (now (list .exit)) ≡ differing limit (now (a .entry)) (now (b .entry)) (now (list .entry)) ⌝ }
 {
     if !table::is_limit(limit) {
-        return answer(table::refusal(table::LIMIT, 0), NEITHER, 0);
+        return answer(table::refusal(table::LIMIT, 0), table::NEITHER, 0);
     }
     let f = table::fault_of(table::check(limit, a));
     if 0 < f.number {
-        return answer(f, FIRST, 0);
+        return answer(f, table::FIRST, 0);
     }
     let g = table::fault_of(table::check(limit, b));
     if 0 < g.number {
-        return answer(g, SECOND, 0);
+        return answer(g, table::SECOND, 0);
     }
     let pairs = count_pairs(a, b);
     if list.len() / PAIR < pairs {
-        return answer(table::refusal(table::ROOM, 0), NEITHER, 0);
+        return answer(table::refusal(table::ROOM, 0), table::NEITHER, 0);
     }
     write_pairs(a, b, list);
-    answer(table::refusal(0, 0), NEITHER, pairs)
+    answer(table::refusal(0, 0), table::NEITHER, pairs)
 }

@@ -16,13 +16,16 @@ pub enum Num {
 }
 
 // 2^63: the bits of the negative numbers start here, and the largest size of one is this.
-const TOP: u64 = 0x8000_0000_0000_0000;
+pub const TOP: u64 = 0x8000_0000_0000_0000;
 
 // 2^63 - 1: the largest number of the range.
 const MOST: u64 = 0x7fff_ffff_ffff_ffff;
 
 // The bytes of a number.
 pub const SIZE: usize = 8;
+
+// The bits of -1.
+pub const MINUS_ONE: u64 = 0xFFFF_FFFF_FFFF_FFFF;
 
 // How many values a byte has: what byte 1 of a number counts.
 const BYTE: u64 = 0x100;

@@ -1,5 +1,7 @@
 // Reading a text, n levels of parentheses deep: a sum from products, a product from powers, a power from a base that may hold a sum again.
 // A group that lies deeper is passed over and judged by its signs. What is read is written to an area as records, where they lie in it.
+use number::MINUS_ONE;
+use record::SYMBOLS;
 ghost use mathlib.Core.Path.{_≡_};
 ghost use mathlib.Core.Bool.{true};
 ghost use mathlib.Core.List.{List};
@@ -28,15 +30,10 @@ const RANK_PRODUCT: u8 = 2;
 
 const RANK_SUM: u8 = 3;
 
-// Numbers are read below these: symbols, integers and exponents, and what stands behind a `-`.
-const SYMBOLS: u64 = 256;
-
+// Numbers are read below these: integers and exponents, and what stands behind a `-`.
 const INTEGERS: u64 = 0x8000_0000_0000_0000;
 
 const NEGATIVES: u64 = 0x8000_0000_0000_0001;
-
-// The bits of -1.
-const MINUS_ONE: u64 = 0xFFFF_FFFF_FFFF_FFFF;
 
 // What an integer weighs, what a symbol does, and what a power does beside its base.
 const INTEGER_WEIGHT: usize = 1;

@@ -16,7 +16,7 @@ ghost use Rattle.part.specs.Part.{From, MergedIs, IntoFrom, Mergeable};
 use number::Num;
 
 // The records of a power beside its base's: its own and its exponent's.
-const AROUND: usize = 2;
+pub const AROUND: usize = 2;
 
 // A term's coefficient, and the record of the member whose rest and mark are its own; the same of a member whose own coefficient is out
 // of range; a factor's exponent, the record and the size of its base, and its mark; a factor's exponent, the bits and the mark of its

@@ -1,5 +1,6 @@
 // The member that a part becomes when its turn is done, written to a table: a rest with its coefficient, a base with its exponent. Whoever
 // writes a node's record closes it.
+use part::AROUND;
 ghost use mathlib.Core.Path.{_≡_};
 ghost use mathlib.Core.Bool.{Bool};
 ghost use Prim.Native.Nat.{ℕ, _+_, _*_, _≤_, _<_};
@@ -17,14 +18,12 @@ ghost use Rattle.part.specs.Part.{Sized, Shows, ShowsTerm, ShowsPower, ShowsNum
 ghost use Rattle.rebuilt.specs.Written.{WrittenIs, Fitting, Light, paired, lengthened, timed};
 
 // The members of a product of an integer and another tree.
-const PAIR: usize = 2;
+pub const PAIR: usize = 2;
 
 // Where the second member stands, counted from its node's record, where the first is an integer.
-const SECOND: usize = 2;
+pub const SECOND: usize = 2;
 
-// The records of a power beside its base's, and those of a power of an integer.
-const AROUND: usize = 2;
-
+// The records of a power of an integer.
 const NUMBER: usize = 3;
 
 // Where the member that was written ends; or that it is out of range.

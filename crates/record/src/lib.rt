@@ -43,10 +43,10 @@ const COUNTS: u64 = 0x1_0000;
 const MARKS: u64 = 0x1_0000_0000;
 
 // Symbols are below it.
-const SYMBOLS: u64 = 256;
+pub const SYMBOLS: u64 = 256;
 
 // The bits of the negative numbers begin here.
-const NEGATIVE: u64 = 0x8000_0000_0000_0000;
+pub const NEGATIVE: u64 = number::TOP;
 
 // A power has a base and an exponent; a sum or a product has at least two members.
 const PARTS: usize = 2;
@@ -73,11 +73,11 @@ pub enum Flaw {
 // What is wrong with a record, as the first number of an answer.
 const NOTHING: u64 = 0;
 
-const BAD_KIND: u64 = 1;
+pub const BAD_KIND: u64 = 1;
 
-const BAD_BYTE: u64 = 2;
+pub const BAD_BYTE: u64 = 2;
 
-const BAD_COUNT: u64 = 3;
+pub const BAD_COUNT: u64 = 3;
 
 // What is wrong with a record, as the numbers of an answer: which of the above; and which byte, 0 where it is none.
 pub struct FlawNumbers {

@@ -1,6 +1,7 @@
 // Each defined symbol of a formula is replaced by the tree of its definition, again inside the replacement. A symbol has no members, so the
 // opened table is the formula's records in order, each record of a defined symbol replaced by the opened records of its definition.
 use record::Flaw;
+use table::SYMBOL_WEIGHS;
 ghost use mathlib.Core.Path.{_≡_};
 ghost use mathlib.Core.List.{List};
 ghost use mathlib.Core.Bool.{cond};
@@ -26,9 +27,6 @@ const SYMBOLS: usize = 256;
 
 // The bytes of the length of a definition.
 const LENGTH: usize = 8;
-
-// What a symbol weighs that is not defined.
-const SYMBOL_WEIGHS: usize = 3;
 
 // The numbers of the refusals: the lengths miss the bytes, a definition is refused, over sixteen or a symbol twice, no end to replacing, and an
 // opened tree that is too heavy.

@@ -3,6 +3,14 @@
 use libc::STDIN_FILENO;
 use libc::STDOUT_FILENO;
 use record::Flaw;
+use rules::ADD_ZERO;
+use rules::COMBINE_LIKE_FACTORS;
+use rules::COMBINE_LIKE_TERMS;
+use rules::MULTIPLY_ONE;
+use rules::MULTIPLY_ZERO;
+use rules::POWER_CONSTANT;
+use rules::POWER_ONE;
+use rules::POWER_POWER;
 
 // The limit that the small programs keep, and the bytes of the largest table, of the shortest area over it, and of `work`, by it.
 pub const LIMIT: usize = 3072;
@@ -12,23 +20,6 @@ pub const TABLE: usize = 49152;
 pub const OVER_TABLE: usize = 49168;
 
 pub const WORK: usize = 65536;
-
-// The steps of the rules, as the simplifier notes them.
-const ADD_ZERO: u8 = 1;
-
-const LIKE_TERMS: u8 = 2;
-
-const MULTIPLY_ZERO: u8 = 3;
-
-const MULTIPLY_ONE: u8 = 4;
-
-const LIKE_FACTORS: u8 = 6;
-
-const POWER_ONE: u8 = 7;
-
-const POWER_CONSTANT: u8 = 8;
-
-const POWER_POWER: u8 = 9;
 
 // Tells that output was lost, and why.
 pub fn lost() {
@@ -49,10 +40,10 @@ fn say(word: &[u8], number: usize) -> bool {
 fn name(step: u8) -> bool {
     match step {
         ADD_ZERO => put(b"add-zero\n"),
-        LIKE_TERMS => put(b"like-terms\n"),
+        COMBINE_LIKE_TERMS => put(b"like-terms\n"),
         MULTIPLY_ZERO => put(b"multiply-zero\n"),
         MULTIPLY_ONE => put(b"multiply-one\n"),
-        LIKE_FACTORS => put(b"like-factors\n"),
+        COMBINE_LIKE_FACTORS => put(b"like-factors\n"),
         POWER_ONE => put(b"power-one\n"),
         POWER_CONSTANT => put(b"power-constant\n"),
         POWER_POWER => put(b"power-power\n"),

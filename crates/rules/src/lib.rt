@@ -40,21 +40,21 @@ pub enum Combined {
 }
 
 // The steps, by their numbers in the paper.
-const ADD_ZERO: u8 = 1;
+pub const ADD_ZERO: u8 = 1;
 
-const COMBINE_LIKE_TERMS: u8 = 2;
+pub const COMBINE_LIKE_TERMS: u8 = 2;
 
-const MULTIPLY_ZERO: u8 = 3;
+pub const MULTIPLY_ZERO: u8 = 3;
 
-const MULTIPLY_ONE: u8 = 4;
+pub const MULTIPLY_ONE: u8 = 4;
 
-const COMBINE_LIKE_FACTORS: u8 = 6;
+pub const COMBINE_LIKE_FACTORS: u8 = 6;
 
-const POWER_ONE: u8 = 7;
+pub const POWER_ONE: u8 = 7;
 
-const POWER_CONSTANT: u8 = 8;
+pub const POWER_CONSTANT: u8 = 8;
 
-const POWER_POWER: u8 = 9;
+pub const POWER_POWER: u8 = 9;
 
 // Where in STEPS those for a product, and those for a power begin, and where these end.
 const FOR_PRODUCT: usize = 2;

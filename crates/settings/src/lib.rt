@@ -1,5 +1,6 @@
 // Settings that survive an upgrade: an area of slots of 32 bytes, judged whole at every call; store, fetch and remove of the new release,
 // and the reader of the old one.
+use table::WORD;
 ghost use mathlib.Core.Path.{_≡_};
 ghost use Prim.Native.Nat.{_+_, _*_, _/_, _<_, _≤_};
 ghost use lib.Dec.{eqb};
@@ -53,8 +54,6 @@ const LAST: usize = 15;
 
 // A part of the keys is so many that come one after the other; a pass over the records has a bit for each of them, in words.
 const PART: usize = 8192;
-
-const WORD: usize = 64;
 
 const WORDS: usize = 128;
 

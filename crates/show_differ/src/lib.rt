@@ -2,11 +2,19 @@
 // of that goes to standard output; standard error tells why there is nothing to compare: a file that cannot be read, or what is wrong with a
 // table that is refused. What writes to standard output answers whether it was written; after the first write that fails there is no other, and
 // standard error says so.
+use differ::PAIR;
 use libc::STDERR_FILENO;
 use libc::STDOUT_FILENO;
-
-// 2^63: the bits of the negative numbers start here.
-const TOP: u64 = 0x8000_0000_0000_0000;
+use number::TOP;
+use record::BAD_BYTE;
+use record::BAD_COUNT;
+use record::BAD_KIND;
+use table::EXPONENT;
+use table::FIRST;
+use table::HEAVY;
+use table::LENGTH;
+use table::RECORD;
+use table::SHAPE;
 
 // The limit that the small programs keep, and the bytes of the largest table and of the shortest area over it, by it.
 const LIMIT: usize = 3072;
@@ -14,32 +22,6 @@ const LIMIT: usize = 3072;
 const TABLE: usize = 49152;
 
 const OVER_TABLE: usize = 49168;
-
-// The bytes of a pair in a list, and where its second place stands.
-const PAIR: usize = 16;
-
-const SECOND_AT: usize = 8;
-
-// The refusals of a table.
-const LENGTH: u32 = 1;
-
-const RECORD: u32 = 2;
-
-const WEIGHT: u32 = 3;
-
-const TREE: u32 = 4;
-
-const EXPONENT: u32 = 5;
-
-// What is wrong with a record, in an answer.
-const KIND: u64 = 1;
-
-const BYTE: u64 = 2;
-
-const COUNT: u64 = 3;
-
-// The first of the two tables, in an answer.
-const FIRST: u8 = 1;
 
 // The length of the word `equal`, which asks for the second mode.
 const EQUAL: usize = 5;
@@ -115,7 +97,7 @@ fn say_pair(a: &[u8], b: &[u8], list: &[u8], p: usize) -> bool {
         return true;
     }
     let i = number::read8(list, p * PAIR);
-    let j = number::read8(list, p * PAIR + SECOND_AT);
+    let j = number::read8(list, p * PAIR + number::SIZE);
     say(b"record ", i)
         && say(b", record ", j)
         && put(b": ")
@@ -140,9 +122,9 @@ fn say_pairs(a: &[u8], b: &[u8], list: &[u8], pairs: usize) -> bool {
 // Writes what is wrong with a record, as the listing does; nothing where nothing is.
 fn say_flaw(what: u64, byte: u64) -> bool {
     match what {
-        KIND => put(b" kind"),
-        BYTE => say(b" byte ", byte),
-        COUNT => put(b" count"),
+        BAD_KIND => put(b" kind"),
+        BAD_BYTE => say(b" byte ", byte),
+        BAD_COUNT => put(b" count"),
         _ => true,
     }
 }
@@ -155,9 +137,9 @@ fn tell(word: &[u8]) {
 // Tells what is wrong with a record, in words.
 fn explain_record(what: u64) {
     match what {
-        KIND => tell(b"its kind is none of the five"),
-        BYTE => tell(b"a byte of it that must be zero is not"),
-        COUNT => tell(b"it is a sum or a product of fewer than two members"),
+        BAD_KIND => tell(b"its kind is none of the five"),
+        BAD_BYTE => tell(b"a byte of it that must be zero is not"),
+        BAD_COUNT => tell(b"it is a sum or a product of fewer than two members"),
         _ => (),
     }
 }
@@ -167,8 +149,8 @@ fn explain(number: u32, what: u64) {
     match number {
         LENGTH => tell(b"its length is zero, no multiple of 16, or over 49,152 bytes"),
         RECORD => explain_record(what),
-        WEIGHT => tell(b"it weighs over 3,072"),
-        TREE => tell(b"its records end before the tree, or the tree ends here before the records"),
+        HEAVY => tell(b"it weighs over 3,072"),
+        SHAPE => tell(b"its records end before the tree, or the tree ends here before the records"),
         EXPONENT => tell(b"it is an exponent, and no integer of at least 1"),
         _ => (),
     }
@@ -182,7 +164,7 @@ fn explain_refusal(d: differ::Differed, what: u64) {
         tell(b"differs: second table");
     }
     if d.number != LENGTH {
-        if d.number != WEIGHT {
+        if d.number != HEAVY {
             tell(b", record ");
             io::print_decimal(STDERR_FILENO, d.place as u64);
         }

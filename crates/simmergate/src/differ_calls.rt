@@ -18,7 +18,7 @@ pub extern "C" fn simmergate_differ(
     ensures { λ r. ⌜ DifferCall limit a b list answer r ⌝ }
 {
     if answer.len() < DIFFER_BYTES {
-        return crate::NO_ROOM;
+        return table::ROOM;
     }
     let d = differ::differ(limit, a, b, list);
     let flaw = d.flaw;

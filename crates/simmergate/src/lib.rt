@@ -13,9 +13,6 @@ ghost use mathlib.Core.Path.{_≡_};
 ghost use Rattle.paper.specs.Equal.{one};
 ghost use Rattle.simmergate.specs.Calls.{CheckCall, WeightCall, ValueCall, EqualCall, SimplifyCall};
 
-// The refusal of a call whose answer slice, or the link task's record, is too short.
-const NO_ROOM: u32 = 6;
-
 // The bytes of the checker's answer, four numbers of eight bytes each.
 const CHECK_BYTES: usize = 32;
 
@@ -41,7 +38,7 @@ pub extern "C" fn simmergate_check(limit: usize, table: &[u8], answer: &mut [u8]
     ensures { λ r. ⌜ CheckCall limit table answer r ⌝ }
 {
     if answer.len() < CHECK_BYTES {
-        return NO_ROOM;
+        return table::ROOM;
     }
     let f = table::fault_of(table::check(limit, table));
     let flaw = f.flaw;
@@ -57,7 +54,7 @@ pub extern "C" fn simmergate_weight(limit: usize, table: &[u8], answer: &mut [u8
     ensures { λ r. ⌜ WeightCall limit table answer r ⌝ }
 {
     if answer.len() < MEASURE_BYTES {
-        return NO_ROOM;
+        return table::ROOM;
     }
     let w = table::weight(limit, table);
     let flaw = w.flaw;
@@ -84,7 +81,7 @@ pub extern "C" fn simmergate_value(
     ensures { λ r. ⌜ ValueCall limit table registers answer r ⌝ }
 {
     if answer.len() < MEASURE_BYTES {
-        return NO_ROOM;
+        return table::ROOM;
     }
     let v = value::value(limit, table, registers);
     let flaw = v.flaw;
@@ -107,7 +104,7 @@ pub extern "C" fn simmergate_equal(limit: usize, a: &[u8], b: &[u8], answer: &mu
     ensures { λ r. ⌜ EqualCall limit a b answer r ⌝ }
 {
     if answer.len() < EQUAL_BYTES {
-        return NO_ROOM;
+        return table::ROOM;
     }
     let c = equal::equal(limit, a, b);
     let yes = number_of(c.yes);
@@ -140,7 +137,7 @@ pub extern "C" fn simmergate_simplify(
     ensures { λ r. ⌜ SimplifyCall limit edition table out steps work answer r ⌝ }
 {
     if answer.len() < SIMPLIFY_BYTES {
-        return NO_ROOM;
+        return table::ROOM;
     }
     let a = simplify::simplify(limit, edition, table, out, steps, work);
     let number = a.number;

@@ -51,7 +51,7 @@ pub extern "C" fn simmergate_receive(
     ensures { λ r. ⌜ ReceiveCall limit state area piece r ⌝ }
 {
     if state.len() < RECORD_BYTES {
-        return crate::NO_ROOM;
+        return table::ROOM;
     }
     let r = read_receiver(state);
     let t = receiver::after_piece(limit, r, area, piece);
@@ -71,10 +71,10 @@ pub extern "C" fn simmergate_receive_finish(
     ensures { λ r. ⌜ FinishCall limit state area answer r ⌝ }
 {
     if state.len() < RECORD_BYTES {
-        return crate::NO_ROOM;
+        return table::ROOM;
     }
     if answer.len() < crate::CHECK_BYTES {
-        return crate::NO_ROOM;
+        return table::ROOM;
     }
     let r = read_receiver(state);
     let f = receiver::at_finish(limit, r, area);

@@ -28,7 +28,7 @@ pub extern "C" fn simmergate_settings_fetch(area: &[u8], key: u16, answer: &mut 
     ensures { λ r. ⌜ FetchCall area key answer r ⌝ }
 {
     if answer.len() < FETCH_BYTES {
-        return crate::NO_ROOM;
+        return table::ROOM;
     }
     let s = settings::fetch(area, key);
     let numbers = [s.number as u64, 0, s.setting, s.unit as u64];
@@ -42,7 +42,7 @@ pub extern "C" fn simmergate_settings_fetch_1(area: &[u8], key: u16, answer: &mu
     ensures { λ r. ⌜ OldFetchCall area key answer r ⌝ }
 {
     if answer.len() < OLD_FETCH_BYTES {
-        return crate::NO_ROOM;
+        return table::ROOM;
     }
     let s = settings::fetch_1(area, key);
     let numbers = [s.number as u64, 0, s.setting];

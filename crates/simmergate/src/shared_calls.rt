@@ -20,7 +20,7 @@ pub extern "C" fn simmergate_open(
     ensures { λ r. ⌜ OpenCall limit table symbols lengths definitions opened answer r ⌝ }
 {
     if answer.len() < OPEN_BYTES {
-        return crate::NO_ROOM;
+        return table::ROOM;
     }
     let o = shared::open(limit, table, symbols, lengths, definitions, opened);
     let flaw = o.flaw;
@@ -55,7 +55,7 @@ pub extern "C" fn simmergate_simplify_shared(
     ensures { λ r. ⌜ SharedCall limit edition table symbols lengths definitions opened out steps work answer r ⌝ }
 {
     if answer.len() < crate::SIMPLIFY_BYTES {
-        return crate::NO_ROOM;
+        return table::ROOM;
     }
     let a = shared::simplify(
         limit,

@@ -16,7 +16,7 @@ pub extern "C" fn simmergate_read_text(
     ensures { λ r. ⌜ ReadTextCall limit text table answer r ⌝ }
 {
     if answer.len() < READ_BYTES {
-        return crate::NO_ROOM;
+        return table::ROOM;
     }
     let r = text::read(limit, text, table);
     let numbers = [r.number as u64, r.place as u64, r.records as u64];
@@ -35,7 +35,7 @@ pub extern "C" fn simmergate_write_text(
     ensures { λ r. ⌜ WriteTextCall limit table text answer r ⌝ }
 {
     if answer.len() < crate::MEASURE_BYTES {
-        return crate::NO_ROOM;
+        return table::ROOM;
     }
     let w = text::write(limit, table, text);
     let flaw = w.flaw;

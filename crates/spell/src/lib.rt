@@ -1,4 +1,6 @@
 // The text of a tree that stands in records, written where it fits and measured either way.
+use number::MINUS_ONE;
+use record::NEGATIVE;
 ghost use mathlib.Core.Path.{_≡_};
 ghost use mathlib.Core.List.{[], _∷_};
 ghost use Prim.Native.Nat.{ℕ, _+_, _-_, _*_, _^_, _<_, _≤_};
@@ -32,11 +34,6 @@ const RANK_POWER: u8 = 1;
 const RANK_PRODUCT: u8 = 2;
 
 const RANK_SUM: u8 = 3;
-
-// The first bits that stand for a negative integer, and those of -1.
-const NEGATIVE: u64 = 0x8000_0000_0000_0000;
-
-const MINUS_ONE: u64 = 0xFFFF_FFFF_FFFF_FFFF;
 
 // One character, where it lies in the area; the place after it.
 fn put_sign(c: u8, out: &mut [u8], at: usize) -> usize

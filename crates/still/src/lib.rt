@@ -1,5 +1,6 @@
 // The test by keys that no rule applies at a node: the keys of its members' parts are read off their notes, and kept in scratch to see
 // whether any two are the same. Where none are, and no member is one that a rule looks for, none need be asked.
+use note::KEYS;
 ghost use mathlib.Core.Path.{_≡_};
 ghost use mathlib.Core.Bool.{not};
 ghost use mathlib.Core.List.{List, []};
@@ -11,9 +12,6 @@ ghost use Rattle.note.specs.Note.{keys, note};
 ghost use Rattle.note.specs.Noted.{TreeBy, TreesBy};
 ghost use Rattle.still.specs.Still.{among, sought, apart, stillBy};
 ghost use Rattle.still.specs.Keys.{flagOf, turned, KeysIn, KeptIn, keeping, Scratched, Testable};
-
-// Keys are below it, and wrap around there.
-const KEYS: u64 = 0x1_0000_0000;
 
 // The bytes of a key and of its flags in scratch, of both, and of scratch for each unit of a tree's weight.
 const KEY_BYTES: usize = 8;

@@ -41,12 +41,12 @@ const OF_POWER: usize = 2;
 const LAST_SYMBOL: u64 = 255;
 
 // What a symbol weighs, and what it weighs more than another record.
-const SYMBOL_WEIGHS: usize = 3;
+pub const SYMBOL_WEIGHS: usize = 3;
 
 const SYMBOL_MORE: usize = 2;
 
 // The bits of a word in a row of bits, and the words of the row, a bit for each record of the largest table.
-const WORD: usize = 64;
+pub const WORD: usize = 64;
 
 const WORDS: usize = 256;
 
@@ -70,6 +70,13 @@ pub const EXPONENT: u32 = 5;
 pub const ROOM: u32 = 6;
 
 pub const LIMIT: u32 = 19;
+
+// Which of two tables is refused: none, the first, the second.
+pub const NEITHER: u8 = 0;
+
+pub const FIRST: u8 = 1;
+
+pub const SECOND: u8 = 2;
 
 // The checker's answer: nothing is refused, or which refusal it is, with the record where it has one, and what is wrong with it.
 pub enum Judged {

@@ -6,14 +6,8 @@ ghost use mathlib.Core.Path.{_≡_};
 ghost use Rattle.paper_text.specs.Answers.{readGiven, writeGiven};
 ghost use Rattle.text.specs.Gives.{takes, gives};
 
-// The refusals: there is no such limit; a text that the writer does not write; a tree over the limit; an area too short.
-const NO_LIMIT: u32 = 19;
-
-const NO_TEXT: u32 = 14;
-
-const HEAVY: u32 = 3;
-
-const NO_ROOM: u32 = 6;
+// The refusal of a text that the writer does not write.
+pub const NO_TEXT: u32 = 14;
 
 // What comes of reading a text: number, place (always 0), records written.
 pub struct Taken {
@@ -28,7 +22,7 @@ pub fn read(limit: usize, text: &[u8], table: &mut [u8]) -> Taken
 {
     if !table::is_limit(limit) {
         return Taken {
-            number: NO_LIMIT,
+            number: table::LIMIT,
             place: 0,
             records: 0,
         };
@@ -40,14 +34,14 @@ pub fn read(limit: usize, text: &[u8], table: &mut [u8]) -> Taken
             records: 0,
         },
         Weighed::Heavy => Taken {
-            number: HEAVY,
+            number: table::HEAVY,
             place: 0,
             records: 0,
         },
         Weighed::Is(n) => {
             if table.len() / record::SIZE < n {
                 return Taken {
-                    number: NO_ROOM,
+                    number: table::ROOM,
                     place: 0,
                     records: 0,
                 };
@@ -79,7 +73,7 @@ pub fn write(limit: usize, table: &[u8], text: &mut [u8]) -> Measured
     let n = spell::measure(table);
     if text.len() < n {
         return Measured {
-            number: NO_ROOM,
+            number: table::ROOM,
             place: 0,
             flaw: Flaw::Sound,
             result: 0,

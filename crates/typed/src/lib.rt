@@ -9,29 +9,19 @@ use report::LIMIT;
 use report::OVER_TABLE;
 use report::TABLE;
 use report::WORK;
-
-// The edition by which `shorten` shortens.
-const EDITION_ONE: usize = 1;
+use simplify::EDITION_ONE;
+use simplify::RANGE;
+use table::EXPONENT;
+use table::HEAVY;
+use table::LENGTH;
+use table::RECORD;
+use table::SHAPE;
+use text::NO_TEXT;
 
 // The longest text that a program reads, and one byte more.
 const TEXT: usize = 65536;
 
 const OVER_TEXT: usize = 65537;
-
-// The refusals of a table, of a run, and of a text.
-const LENGTH: u32 = 1;
-
-const RECORD: u32 = 2;
-
-const WEIGHT: u32 = 3;
-
-const TREE: u32 = 4;
-
-const EXPONENT: u32 = 5;
-
-const RANGE: u32 = 7;
-
-const FORM: u32 = 14;
 
 // Tells a word on standard error.
 fn tell(word: &[u8]) {
@@ -45,11 +35,11 @@ fn explain(number: u32) {
         RECORD => tell(
             b"the record has an unknown kind, a byte that must be zero and is not, or fewer than two members\n",
         ),
-        WEIGHT => tell(b"the formula weighs over 3,072\n"),
-        TREE => tell(b"the records are not those of one formula\n"),
+        HEAVY => tell(b"the formula weighs over 3,072\n"),
+        SHAPE => tell(b"the records are not those of one formula\n"),
         EXPONENT => tell(b"the record is an exponent and no integer of at least 1\n"),
         RANGE => tell(b"an integer leaves the signed 64-bit range\n"),
-        FORM => tell(
+        NO_TEXT => tell(
             b"no formula in this form: s0 to s255, integers of 64 bits, + * ^ and no spaces, exponents of at least 1, parentheses only where they must stand\n",
         ),
         _ => (),

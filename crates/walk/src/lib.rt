@@ -2,6 +2,8 @@
 // last member moves into its place and is looked at next. The members' starts and 15 bits of their parts' keys stand at the front of
 // `work`, the members that come out in `out`. A part takes up another only where their keys are the same, so one whose 15 bits are
 // others is passed by without a comparison; a member that is alone with its 15 bits, and stays, is copied at once (`lone`).
+use rebuilt::PAIR;
+use rebuilt::SECOND;
 ghost use mathlib.Core.Path.{_≡_};
 ghost use mathlib.Core.Bool.{Bool, _&&_};
 ghost use mathlib.Core.List.{List};
@@ -39,11 +41,6 @@ const SHORT: u64 = 0x8000;
 const BYTE: usize = 256;
 
 const KEY_BYTE: u64 = 256;
-
-// The members of a product of an integer and another tree, and where in it the second stands.
-const PAIR: usize = 2;
-
-const SECOND: usize = 2;
 
 // So many members at least has a product whose coefficient was appended last.
 const LONGER: usize = 3;
