@@ -13,6 +13,7 @@ use lib.Dec.{eqb}
 use Rattle.paper.specs.Tree.{Tree, Forest, integer, symbol, sum, product, power, toList, ofList, markOf, marked}
 use Rattle.paper.specs.Equal.{eqZ}
 use Rattle.paper.specs.Rules.{asInteger, Term, term, termOf, productTerm, added, mergeTerms, coefficientTimes, timesUnless, fromTerm}
+use Rattle.paper.specs.Rules.{unless, dropAll, productOf, withOther, othersOf}
 use Rattle.paper.specs.Rules.{Factor, factor, factorOf, mergeFactors, powerUnless, fromFactor}
 use Rattle.paper.specs.Driver.{members}
 use Rattle.paper.proofs.WFLaws.{to-of-list}
@@ -112,6 +113,27 @@ pub rest-itself : (μ s : ℕ) (f : Forest) (b : Tree) (ξ e : ℕ)
     → (termOf (symbol μ s) .rest ≡ symbol μ s) × (termOf (sum μ f) .rest ≡ sum μ f) × (termOf (power μ b ξ e) .rest ≡ power μ b ξ e)
 unfolding termOf term
 rest-itself μ s f b ξ e = (refl, refl, refl)
+
+-- a product's rest: "the product of the others in order", each of them as it stands, to the last mark
+unfoldable pub isInteger : Tree → Bool
+isInteger (integer μ z) = true
+isInteger (symbol μ s) = false
+isInteger (sum μ f) = false
+isInteger (product μ f) = false
+isInteger (power μ b ξ e) = false
+
+others-stand : (l : List Tree) → othersOf l ≡ dropAll isInteger l
+unfolding othersOf withOther asInteger dropAll unless isInteger
+others-stand [] = refl
+others-stand (integer μ z ∷ l) = others-stand l
+others-stand (symbol μ s ∷ l) = ap (λ m. symbol μ s ∷ m) (others-stand l)
+others-stand (sum μ f ∷ l) = ap (λ m. sum μ f ∷ m) (others-stand l)
+others-stand (product μ f ∷ l) = ap (λ m. product μ f ∷ m) (others-stand l)
+others-stand (power μ b ξ e ∷ l) = ap (λ m. power μ b ξ e ∷ m) (others-stand l)
+
+pub rest-others : (μ : ℕ) (f : Forest) → termOf (product μ f) .rest ≡ productOf μ (dropAll isInteger (toList f))
+unfolding termOf productTerm
+rest-others μ f = ap (productOf μ) (others-stand (toList f))
 
 pub base-itself : (μ s : ℕ) (z : ℤ) (f : Forest) (b : Tree) (ξ e : ℕ)
     → (factorOf (integer μ z) .base ≡ integer μ z) × (factorOf (symbol μ s) .base ≡ symbol μ s) × (factorOf (sum μ f) .base ≡ sum μ f)
