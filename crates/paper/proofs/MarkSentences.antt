@@ -6,7 +6,7 @@ use Prim.Native.Nat.{ℕ}
 use mathlib.Core.Path.{_≡_, refl, sym, ap}
 use mathlib.Core.Bool.{Bool, true, false}
 use mathlib.Core.List.{List, [], _∷_, _++_, append-nil}
-use mathlib.Core.Option.{none, some, Option·none-ne-some}
+use mathlib.Core.Option.{Option, none, some, Option·none-ne-some}
 use mathlib.Core.Logic.{_⊎_, inl, inr}
 use lib.IntN.{ℤ, pos, _*ℤ_}
 use lib.Dec.{eqb}
@@ -115,23 +115,20 @@ unfolding termOf term
 rest-itself μ s f b ξ e = (refl, refl, refl)
 
 -- a product's rest: "the product of the others in order", each of them as it stands, to the last mark
-unfoldable pub isInteger : Tree → Bool
-isInteger (integer μ z) = true
-isInteger (symbol μ s) = false
-isInteger (sum μ f) = false
-isInteger (product μ f) = false
-isInteger (power μ b ξ e) = false
+unfoldable pub isThere : Option ℤ → Bool
+isThere none = false
+isThere (some z) = true
 
-others-stand : (l : List Tree) → othersOf l ≡ dropAll isInteger l
-unfolding othersOf withOther asInteger dropAll unless isInteger
+others-stand : (l : List Tree) → othersOf l ≡ dropAll (λ t. isThere (asInteger t)) l
+unfolding othersOf withOther dropAll unless isThere
 others-stand [] = refl
-others-stand (integer μ z ∷ l) = others-stand l
-others-stand (symbol μ s ∷ l) = ap (λ m. symbol μ s ∷ m) (others-stand l)
-others-stand (sum μ f ∷ l) = ap (λ m. sum μ f ∷ m) (others-stand l)
-others-stand (product μ f ∷ l) = ap (λ m. product μ f ∷ m) (others-stand l)
-others-stand (power μ b ξ e ∷ l) = ap (λ m. power μ b ξ e ∷ m) (others-stand l)
+others-stand (t ∷ l) = go (asInteger t) (others-stand l)
+  where
+    go : (o : Option ℤ) {k m : List Tree} → k ≡ m → withOther o t k ≡ unless (isThere o) t m
+    go none e = ap (λ n. t ∷ n) e
+    go (some z) e = e
 
-pub rest-others : (μ : ℕ) (f : Forest) → termOf (product μ f) .rest ≡ productOf μ (dropAll isInteger (toList f))
+pub rest-others : (μ : ℕ) (f : Forest) → termOf (product μ f) .rest ≡ productOf μ (dropAll (λ t. isThere (asInteger t)) (toList f))
 unfolding termOf productTerm
 rest-others μ f = ap (productOf μ) (others-stand (toList f))
 
