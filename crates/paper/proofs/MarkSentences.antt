@@ -6,13 +6,14 @@ use Prim.Native.Nat.{ℕ}
 use mathlib.Core.Path.{_≡_, refl, sym, ap}
 use mathlib.Core.Bool.{Bool, true, false}
 use mathlib.Core.List.{List, [], _∷_, _++_, append-nil}
-use mathlib.Core.Option.{none, some, Option·none-ne-some}
+use mathlib.Core.Option.{Option, none, some, Option·none-ne-some}
 use mathlib.Core.Logic.{_⊎_, inl, inr}
 use lib.IntN.{ℤ, pos, _*ℤ_}
 use lib.Dec.{eqb}
 use Rattle.paper.specs.Tree.{Tree, Forest, integer, symbol, sum, product, power, toList, ofList, markOf, marked}
 use Rattle.paper.specs.Equal.{eqZ}
 use Rattle.paper.specs.Rules.{asInteger, Term, term, termOf, productTerm, added, mergeTerms, coefficientTimes, timesUnless, fromTerm}
+use Rattle.paper.specs.Rules.{unless, dropAll, productOf, withOther, othersOf}
 use Rattle.paper.specs.Rules.{Factor, factor, factorOf, mergeFactors, powerUnless, fromFactor}
 use Rattle.paper.specs.Driver.{members}
 use Rattle.paper.proofs.WFLaws.{to-of-list}
@@ -112,6 +113,24 @@ pub rest-itself : (μ s : ℕ) (f : Forest) (b : Tree) (ξ e : ℕ)
     → (termOf (symbol μ s) .rest ≡ symbol μ s) × (termOf (sum μ f) .rest ≡ sum μ f) × (termOf (power μ b ξ e) .rest ≡ power μ b ξ e)
 unfolding termOf term
 rest-itself μ s f b ξ e = (refl, refl, refl)
+
+-- a product's rest: "the product of the others in order", each of them as it stands, to the last mark
+unfoldable pub isThere : Option ℤ → Bool
+isThere none = false
+isThere (some z) = true
+
+others-stand : (l : List Tree) → othersOf l ≡ dropAll (λ t. isThere (asInteger t)) l
+unfolding othersOf withOther dropAll unless isThere
+others-stand [] = refl
+others-stand (t ∷ l) = go (asInteger t) (others-stand l)
+  where
+    go : (o : Option ℤ) {k m : List Tree} → k ≡ m → withOther o t k ≡ unless (isThere o) t m
+    go none e = ap (λ n. t ∷ n) e
+    go (some z) e = e
+
+pub rest-others : (μ : ℕ) (f : Forest) → termOf (product μ f) .rest ≡ productOf μ (dropAll (λ t. isThere (asInteger t)) (toList f))
+unfolding termOf productTerm
+rest-others μ f = ap (productOf μ) (others-stand (toList f))
 
 pub base-itself : (μ s : ℕ) (z : ℤ) (f : Forest) (b : Tree) (ξ e : ℕ)
     → (factorOf (integer μ z) .base ≡ integer μ z) × (factorOf (symbol μ s) .base ≡ symbol μ s) × (factorOf (sum μ f) .base ≡ sum μ f)
