@@ -10,7 +10,7 @@
 #include <stdlib.h>
 #include <sys/stat.h>
 
-enum { MOST_ITEMS = 40, MOST_TEXT = 1 << 21, NAME_ROOM = 24, PATH_ROOM = 4096, OVER = 14, HEAVY = 3 };
+enum { MOST_ITEMS = 40, MOST_TEXT = 1 << 21, NAME_ROOM = 24, PATH_ROOM = 4096, NO_FORMULA = 14, HEAVY = 3 };
 
 static char names[256][NAME_ROOM]; /* empty: it has none */
 static uint8_t made[RECORD * (HIGHER + 64)], out[RECORD * HIGHER], steps[HIGHER];
@@ -126,7 +126,7 @@ static struct said judge(size_t bytes) {
 /* An exact text: 14 where it is none. */
 static struct said judge_text(void) {
     uint32_t node = plain_read((const uint8_t *)exact, strlen(exact));
-    if (node == 0) return (struct said){.number = OVER};
+    if (node == 0) return (struct said){.number = NO_FORMULA};
     if (plain_weight() > limit) return (struct said){.number = HEAVY};
     return judge((size_t)(plain_records(node, made) - made));
 }
@@ -174,9 +174,9 @@ static struct said put_text(FILE *f) {
     if (way == 1 && no_blank() > 0) {
         size_t at = no_blank();
         fwrite(exact, 1, at, f), fputs(" ", f), fputs(exact + at, f);
-        return (struct said){.number = OVER};
+        return (struct said){.number = NO_FORMULA};
     }
-    if (way == 2) return fputs("7 + unheard_of * ", f), fputs(exact, f), (struct said){.number = OVER};
+    if (way == 2) return fputs("7 + unheard_of * ", f), fputs(exact, f), (struct said){.number = NO_FORMULA};
     return put_typed(f, exact), judge_text();
 }
 

@@ -17,8 +17,7 @@ place() { # PLACE CRATE
     for part in "$copy"/tree/target/*; do
         case $part in */rlib) ln -s "$part" "$1/target/" ;; *) cp -R "$part" "$1/target/" ;; esac
     done
-    (cd "$1" && RT_JOBS=1 rt dev "$2") >"$1/log" 2>&1 && grep -q '^logic=proved' "$1/log"
-    cp -R "$1/target/inc" "$1/saved"
+    (cd "$1" && RT_JOBS=1 rt dev "$2") >"$1/log" 2>&1 && grep -q '^logic=proved' "$1/log" && cp -R "$1/target/inc" "$1/saved"
 }
 
 # replaces, in the crate, each old text of the edit by its new one
