@@ -13,7 +13,7 @@ use lib.Dec.{eqb, ltb}
 use Rattle.paper.specs.Tree.{Tree, integer, symbol, sum, product, power, to_list, of_list, marked}
 use Rattle.paper.specs.Equal.{eq_z}
 use Rattle.paper.specs.Walk.{walk}
-use Rattle.paper.specs.Rules.{Rule, collapse, sum_of, product_of, as_integer, is_the, unless, drop_all, on_sum_members, on_product_members, on_power_parts, add_zero}
+use Rattle.paper.specs.Rules.{Rule, collapse, sum_of, product_of, applies_if, any_of, as_integer, is_the, unless, drop_all, on_sum_members, on_product_members, on_power_parts, add_zero}
 use Rattle.paper.specs.Rules.{multiply_zero, multiply_one, power_one, power_constant, raised_if, power_power, all_in_range, rebuilt, outcome, combine, Term, term}
 use Rattle.paper.specs.Rules.{with_other, others_of, product_term, term_of, added, merge_terms, coefficient_times, times_unless, from_term, combine_like_terms}
 use Rattle.paper.specs.Rules.{Factor, factor, factor_of, merge_factors, power_unless, from_factor, combine_like_factors, edition_one, edition_two, rules_of}
@@ -41,8 +41,8 @@ unfolding add_zero on_sum_members
 add_zero_shallow =
     record {
       on_no_integer = λ μ z. refl;
-      shallow = λ P d. on_sum_shallow P _
-          (λ μ l p. applies_shallow P _ _ (sum_shallow d μ _ (drop_all_each (Under P) (is_the (pos 0)) l (each_map d.down l p))));
+      shallow = λ P d. on_sum_shallow P (λ μ l. applies_if (any_of (is_the (pos 0)) l) (sum_of μ (drop_all (is_the (pos 0)) l)))
+          (λ μ l p. applies_shallow P _ (any_of (is_the (pos 0)) l) (sum_shallow d μ _ (drop_all_each (Under P) (is_the (pos 0)) l (each_map d.down l p))));
     }
 
 pub multiply_zero_shallow : Shallow (record { number = 3; try = multiply_zero })
@@ -50,7 +50,8 @@ unfolding multiply_zero on_product_members
 multiply_zero_shallow =
     record {
       on_no_integer = λ μ z. refl;
-      shallow = λ P d. on_product_shallow P _ (λ μ l p. applies_shallow P _ _ (deeper d (integer μ (pos 0)) (unfold members in tt)));
+      shallow = λ P d. on_product_shallow P (λ μ l. applies_if (any_of (is_the (pos 0)) l) (integer μ (pos 0)))
+          (λ μ l p. applies_shallow P _ (any_of (is_the (pos 0)) l) (deeper d (integer μ (pos 0)) (unfold members in tt)));
     }
 
 pub multiply_one_shallow : Shallow (record { number = 4; try = multiply_one })
@@ -58,8 +59,8 @@ unfolding multiply_one on_product_members
 multiply_one_shallow =
     record {
       on_no_integer = λ μ z. refl;
-      shallow = λ P d. on_product_shallow P _
-          (λ μ l p. applies_shallow P _ _ (product_shallow d μ _ (drop_all_each (Under P) (is_the (pos 1)) l (each_map d.down l p))));
+      shallow = λ P d. on_product_shallow P (λ μ l. applies_if (any_of (is_the (pos 1)) l) (product_of μ (drop_all (is_the (pos 1)) l)))
+          (λ μ l p. applies_shallow P _ (any_of (is_the (pos 1)) l) (product_shallow d μ _ (drop_all_each (Under P) (is_the (pos 1)) l (each_map d.down l p))));
     }
 
 -- ---- steps 7, 8 and 9
