@@ -23,10 +23,12 @@ use Rattle.paper_differ.proofs.DifferLaws.{Every, by_members, records_all, recor
 
 -- ---- exactly the pairs that are apart
 none_listed : {p q : ℕ} (ds : List (ℕ × ℕ)) → ds ≡ [] → Listed p q ds → ⊥
+none_listed {p = p} {q = q} [] n h = elim h [ ]
 none_listed (d ∷ ds) n (here e f) = let z : length (d ∷ ds) ≡ 0 = ap length n in omega arith
 none_listed (d ∷ ds) n (there h) = let z : length (d ∷ ds) ≡ 0 = ap length n in omega arith
 
 listed_left : {p q : ℕ} (a b : List (ℕ × ℕ)) → Listed p q a → Listed p q (a ++ b)
+listed_left {p = p} {q = q} [] b h = elim h [ ]
 listed_left (d ∷ a) b (here e f) = here e f
 listed_left (d ∷ a) b (there h) = there (listed_left a b h)
 

@@ -61,9 +61,12 @@ trans_told : (x y : ℕ) (ρ : ℕ → ℕ) (o : Option Tree) → x ≡ y → Te
 trans_told x y ρ none e h = tt
 trans_told x y ρ (some v) e h = h ∙ e
 
+reached_through : (ds : List Definition) (t : Tree) (s : ℕ) (u : Tree) (r : ℕ) (v : Tree) → Stands s t → defined ds s ≡ some u → Reached ds u r v → Reached ds t r v
+reached_through ds t s u r v i e (stands j d) = leads (stands i e) j d
+reached_through ds t s u r v i e (leads k j d) = leads (reached_through ds t s u _ _ i e k) j d
+
 pub reached_from : (ds : List Definition) (t : Tree) (s r : ℕ) (u v : Tree) → Stands s t → defined ds s ≡ some u → Reached ds u r v → Reached ds t r v
-reached_from ds t s r u v i e (stands j d) = leads (stands i e) j d
-reached_from ds t s r u v i e (leads k j d) = leads (reached_from ds t s _ u _ i e k) j d
+reached_from ds t s r u v = reached_through ds t s u r v
 
 pub within_value : (ds : List Definition) (n : ℕ) (t : Tree) (ρ : ℕ → ℕ) → Holds ds t ρ → Tells (λ v. value v ρ ≡ value t ρ) (open_within ds n t)
 unfolding open_within
