@@ -4,40 +4,40 @@ use Rattle.number.proofs.NumLaws.{add_pos_in, add_pos_out, add_mixed, add_mixed'
 use Rattle.number.proofs.add.Statement.{statement}
 use Rattle.number.proofs.add.Tie as tie
 
-returns : tie.Need-returns
+returns : tie.Need-returns-then-r-lt-TOP
 returns c =
-    let g = c.before.before.before.before.args in
-    let w = c.before.before.before.wrapping-add-u64 in
+    let g = c.args in
+    let w = c.wrapping_add_u64-r in
     sym (add_pos_in g.a g.b w.result w.ensures (omega arith) (omega arith) (omega arith))
 
-returns_2 : tie.Need-returns-2
+returns_2 : tie.Need-returns-else-r-lt-TOP
 returns_2 c =
-    let g = c.before.before.before.before.args in
-    let w = c.before.before.before.wrapping-add-u64 in
+    let g = c.args in
+    let w = c.wrapping_add_u64-r in
     sym (add_pos_out g.a g.b w.result w.ensures (omega arith) (omega arith) (omega arith))
 
-returns_3 : tie.Need-returns-3
+returns_3 : tie.Need-returns-else-b-lt-TOP
 returns_3 c =
-    let g = c.before.before.before.args in
-    let w = c.before.before.wrapping-add-u64 in
+    let g = c.args in
+    let w = c.wrapping_add_u64-r in
     sym (add_mixed g.a g.b w.result w.ensures (omega arith) (omega arith) (omega arith))
 
-returns_4 : tie.Need-returns-4
+returns_4 : tie.Need-returns-then-b-lt-TOP-2
 returns_4 c =
-    let g = c.before.before.before.args in
-    let w = c.before.before.wrapping-add-u64 in
+    let g = c.args in
+    let w = c.wrapping_add_u64-r in
     sym (add_mixed' g.a g.b w.result w.ensures (omega arith) (omega arith) (omega arith))
 
-returns_5 : tie.Need-returns-5
+returns_5 : tie.Need-returns-then-r-lt-TOP-2
 returns_5 c =
-    let g = c.before.before.before.before.args in
-    let w = c.before.before.before.wrapping-add-u64 in
+    let g = c.args in
+    let w = c.wrapping_add_u64-r in
     sym (add_neg_out g.a g.b w.result w.ensures (omega arith) (omega arith) (omega arith) (omega arith) (omega arith))
 
-returns_6 : tie.Need-returns-6
+returns_6 : tie.Need-returns-else-r-lt-TOP-2
 returns_6 c =
-    let g = c.before.before.before.before.args in
-    let w = c.before.before.before.wrapping-add-u64 in
+    let g = c.args in
+    let w = c.wrapping_add_u64-r in
     sym (add_neg_in g.a g.b w.result w.ensures (omega arith) (omega arith) (omega arith) (omega arith) (omega arith))
 
 pub add_spec : {M : Type 1} → statement M

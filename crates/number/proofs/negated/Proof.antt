@@ -5,10 +5,9 @@ use Rattle.number.proofs.NumLaws.{minus_bits}
 use Rattle.number.proofs.negated.Statement.{statement}
 use Rattle.number.proofs.negated.Tie as tie
 
-returns : tie.Need-returns
+returns : tie.Need-returns-in-Is
 returns c =
-    let n = c.before.before.n.given in
-    rw n.1 (ap Is (c.wrapping-add-u64.ensures ∙ sym (minus_bits n.0.0 (omega arith))))
+    rw c.in-Is.is (ap Is (c.wrapping_add_u64.ensures ∙ sym (minus_bits c.in-Is.p (omega arith))))
 
 pub negated_spec : {M : Type 1} → statement M
 negated_spec =

@@ -6,7 +6,7 @@ use Rattle.number.proofs.read8.Tie as tie
 
 returns : tie.Need-returns
 unfolding le8
-returns c = c.of-eight.ensures
+returns c = c.of_eight.ensures
 
 pub read8_spec : {M : Type 1} → statement M
 read8_spec =

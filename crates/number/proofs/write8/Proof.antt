@@ -8,9 +8,9 @@ use Rattle.number.proofs.write8.Tie as tie
 
 returns : tie.Need-returns
 returns c =
-    let g = c.before.before.before.before.before.before.before.args in
-    rw (c.before.before.before.before.before.bytes8.ensures, part_whole (bytes 8 g.v) 8 (length_bytes 8 g.v))
-    at c.before.before.copy-bytes.ensures
+    let g = c.args in
+    rw (c.bytes8-b.ensures, part_whole (bytes 8 g.v) 8 (length_bytes 8 g.v))
+    at c.copy_bytes.ensures
 
 pub write8_spec : {M : Type 1} → statement M
 write8_spec =

@@ -9,23 +9,23 @@ use Rattle.stretch.proofs.Laws.{put_none, clear_turn}
 use Rattle.stretch.proofs.clear.Statement.{statement}
 use Rattle.stretch.proofs.clear.Tie as tie
 
-abbrev invariant_loop : tie.invariant-loop
+abbrev invariant_loop : tie.invariant-loop-j
 invariant_loop d₀ at n j₀ d j = (j ≤ n) × (length d ≡ length d₀) × (d ≡ put d₀ at (replicate j 0))
 
-abbrev decreases_loop : tie.decreases-loop
+abbrev decreases_loop : tie.decreases-loop-j
 decreases_loop d₀ at n j₀ d j = n - j
 
-loop_holds : tie.Need-loop-init invariant_loop decreases_loop
+loop_holds : tie.Need-loop-j-init invariant_loop decreases_loop
 loop_holds c = (search rules, refl, sym (put_none _ _))
 
-loop_again : tie.Need-loop-preserved invariant_loop decreases_loop
-loop_again c = (search rules, simp length-set (omega arith), rw c.before.loop.invariant.2 (clear_turn _ _ c.before.loop.j (omega arith)))
+loop_again : tie.Need-loop-j-preserved invariant_loop decreases_loop
+loop_again c = (search rules, simp length-set (omega arith), rw c.before.loop-j.invariant.2 (clear_turn _ _ c.before.loop-j.j (omega arith)))
 
-same_length : tie.Need-same-length invariant_loop decreases_loop
-same_length c = c.before.loop.invariant.1
+same_length : tie.Need-shape_of-d invariant_loop decreases_loop
+same_length c = c.before.loop-j.invariant.1
 
 returns : tie.Need-returns invariant_loop decreases_loop
-returns c = let e : c.before.loop.j ≡ c.before.before.args.n = omega arith in rw e at c.before.loop.invariant.2
+returns c = let e : c.before.loop-j.j ≡ c.before.before.args.n = omega arith in rw e at c.before.loop-j.invariant.2
 
 pub clear_spec : {M : Type 1} → statement M
 clear_spec =

@@ -11,31 +11,31 @@ use Rattle.stretch.proofs.Laws.{put_none, part_none, right_turn}
 use Rattle.stretch.proofs.shift_right.Statement.{statement}
 use Rattle.stretch.proofs.shift_right.Tie as tie
 
-abbrev invariant_loop : tie.invariant-loop
+abbrev invariant_loop : tie.invariant-loop-j
 invariant_loop d₀ to from n j₀ d j = (j ≤ n) × (length d ≡ length d₀) × (d ≡ put d₀ (to + j) (part d₀ (from + j) (n - j)))
 
-abbrev decreases_loop : tie.decreases-loop
+abbrev decreases_loop : tie.decreases-loop-j
 decreases_loop d₀ to from n j₀ d j = j
 
-loop_holds : tie.Need-loop-init invariant_loop decreases_loop
+loop_holds : tie.Need-loop-j-init invariant_loop decreases_loop
 loop_holds c =
     let z : c.args.n - c.args.n ≡ 0 = omega arith in
     (search rules, refl, sym (rw (z, part_none) (put_none _ _)))
 
-loop_again : tie.Need-loop-preserved invariant_loop decreases_loop
+loop_again : tie.Need-loop-j-preserved invariant_loop decreases_loop
 loop_again c = (
   search rules,
   simp length-set (omega arith),
-  rw c.before.before.loop.invariant.2 (right_turn _ _ _ _ _ (omega arith) (omega arith) (omega arith) (omega arith)),
+  rw c.before.before.loop-j.invariant.2 (right_turn _ _ _ _ _ (omega arith) (omega arith) (omega arith) (omega arith)),
 )
 
-same_length : tie.Need-same-length invariant_loop decreases_loop
-same_length c = c.before.loop.invariant.1
+same_length : tie.Need-shape_of-d invariant_loop decreases_loop
+same_length c = c.before.loop-j.invariant.1
 
 returns : tie.Need-returns invariant_loop decreases_loop
 returns c =
-    let z : c.before.loop.j ≡ 0 = omega arith in
-    simp (add-zero, sub-zero) at (rw z at c.before.loop.invariant.2)
+    let z : c.before.loop-j.j ≡ 0 = omega arith in
+    simp (add-zero, sub-zero) at (rw z at c.before.loop-j.invariant.2)
 
 pub shift_right_spec : {M : Type 1} → statement M
 shift_right_spec =

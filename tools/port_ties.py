@@ -1,0 +1,314 @@
+#!/usr/bin/env python3
+"""Renames, in proofs that walk the code by hand, the goals and steps that today's Rattle names anew.
+
+usage: tools/port_ties.py NAMES CRATE..
+
+NAMES has for each crate a folder: names.json as `rt check --generated NAMES/CRATE --old-names` writes it in the crate's folder, and beside it
+the modules that `rt check --generated NAMES/CRATE/all` writes.
+In proofs/F/Proof.antt a goal `tie.Need-loop-init` becomes `tie.Need-loop-j-init`. A step is followed from the goal's place, and then named alone:
+`c.before.before.loop.invariant` becomes `c.loop-j.invariant`. What a `let` names on the way is written out. A line that begins 'left:' is for the hand.
+"""
+import glob
+import json
+import os
+import re
+import sys
+
+N = r"[^\s(){}.;,@\"«»\[\]]+"
+PATH = re.compile(r"(?<![^\s(){};,@\"«»\[\]])(" + N + r")((?:\.(?:" + N + r"))*)(?![^\s(){};,@\"«»\[\]])")
+LET = re.compile(r"\blet (" + N + r") = (" + N + r"(?:\." + N + r")*) in[ \n]")
+START = ("args", "requires", "ranges", "lifetimes", "utf8", "type_inv", "row", "called", "fresh", "well_formed", "ghost", "decreases")
+WORDS = {"taken": "true", "left": "false", "inv": "invariant", "pre": "requires", "last": "new"}
+
+
+def norm(s):
+    return re.sub(r"[-_·]", "", s).lower()
+
+
+def loose(s):
+    return norm(re.sub(r"^(overflow|nonzero|slice_bounds|slice-bounds|offset_bounds)[-_]", "", s))
+
+
+def sources():
+    """Which parameters of a function are `&mut`."""
+    found = {}
+    for p in glob.glob("crates/*/src/*.rt"):
+        crate = p.split("/")[1]
+        t = open(p, encoding="utf-8").read()
+        for m in re.finditer(r"\bfn (\w+)(?:<[^>]*>)?\s*\(([^)]*)\)", t):
+            names = []
+            for a in m[2].split(","):
+                w = re.match(r"\s*(?:mut )?(\w+): &(?:'\w+ )?mut ", a)
+                if w:
+                    names.append(w[1])
+            found[crate + "::" + m[1]] = names
+    return found
+
+
+class Function:
+    def __init__(self, row, lts):
+        self.row, self.lts = row, lts
+        self.places = {p[0]: (i, p) for i, p in enumerate(row["places"])}
+        self.loops = {norm(l[0][0]): l[0][1] for l in row["loops"]}
+
+    def need(self, old):
+        for key in (norm, loose):
+            for i, (a, b) in enumerate(self.row["needs"]):
+                if key(a) == key(old):
+                    return i, b
+            for i, (a, b) in enumerate(self.row["needs"]):
+                if key(b) == key(old):
+                    return i, b
+        return None
+
+    def parent(self, place):
+        return self.places[place][1][1]
+
+    def shown(self, place):
+        """Place -> the arm that shows it, for each place from this one up."""
+        out, at = {}, place
+        while at is not None:
+            arm = self.row["arms"][self.places[at][0]]
+            if arm:
+                up, n = at, arm[1]
+                for _ in range(n):
+                    out[up] = arm
+                    up = self.parent(up)
+                at = up
+            else:
+                out[at] = None
+                at = self.parent(at)
+        return out
+
+    def ways(self, place):
+        """The ways that join at a place: of each the fields, with their types."""
+        place = self.row["places_by_name"][self.places[place][0]]
+        m = re.search(r"(?m)^ *pub data Came-" + re.escape(place) + r" : .*where\n((?: +[^\n:]+ : By-[^\n]*\n)+)", self.lts)
+        if not m:
+            return None
+        out = []
+        for line in m[1].strip().split("\n"):
+            by = re.search(r"By-\S+", line)[0]
+            r = re.search(r"(?m)^( *)pub record " + re.escape(by) + r" : [^\n]*where\n", self.lts)
+            if not r:
+                return None
+            fields, indent = [], len(r[1])
+            for l in self.lts[r.end() :].split("\n"):
+                if l.strip() and len(l) - len(l.lstrip()) <= indent:
+                    break
+                w = re.match(r" {%d}pub (\S+) : (.*)" % (indent + 2), l)
+                if w:
+                    fields.append((w[1], w[2]))
+            out.append(fields)
+        return out
+
+
+class Left(Exception):
+    pass
+
+
+class Turner:
+    def __init__(self, fn, here, muts, said):
+        self.fn, self.here, self.muts, self.said = fn, here, muts, said
+        self.shown = fn.shown(here)
+        self.joins = []
+
+    def words(self, fields, place):
+        """The fields behind a step: what a `&mut` holds afterwards goes by its name."""
+        out = [WORDS.get(f, f) if i == 0 else f for i, f in enumerate(fields)]
+        p = self.fn.places[place][1] if place else None
+        if p and out and out[0] == "new" and len(out) > 1 and out[1].isdigit() and p[3]:
+            k, i = 0, 1
+            while i < len(out) and out[i] == "1":
+                k, i = k + 1, i + 1
+            if i < len(out) and out[i] == "0":
+                i += 1
+            names = self.muts.get(p[3].split("::")[0] + "::" + p[3].split("::")[-1])
+            if names and k < len(names):
+                out[1:i] = [names[k]]
+        return out
+
+    def resolve(self, base, fields):
+        """A path as what stands behind `c.`, and the place if it ends at one."""
+        at, i = base, 0
+        while True:
+            if i == len(fields):
+                return None, at
+            f = fields[i]
+            if f == "before":
+                up = self.fn.parent(at)
+                if up is None:
+                    raise Left(f"nothing before the start: {'.'.join(fields)}")
+                at, i = up, i + 1
+                continue
+            p = self.fn.places[at][1]
+            old, new = p[2]
+            rest = fields[i + 1 :]
+            if old and (norm(f) == norm(old) or f == new):
+                arm = self.shown[at]
+                if arm:
+                    best = None
+                    for field, step, path in arm[2]:
+                        if norm(step) == norm(old) and rest[: len(path)] == path and (best is None or len(path) > len(best[1])):
+                            best = (field, path)
+                    if best is None:
+                        raise Left(f"in the arm {arm[0]} nothing shows {'.'.join(fields)}: {arm[2]}")
+                    return [arm[0], best[0], *self.words(rest[len(best[1]) :], None)], None
+                rest = self.words(rest, at)
+                if rest[:1] == ["branch"]:
+                    rest = ["branch-raw", *rest[1:]]
+                    self.joins.append(at)
+                return [new, *rest], None
+            if f in START or self.fn.parent(at) is None:
+                return [WORDS.get(f, f), *rest], None
+            for up, arm in self.shown.items():
+                q = self.fn.places[up][1]
+                if f == q[2][1] or (arm and f == arm[0]):
+                    return fields[i:], None
+            raise Left(f"at {at} there is no {f}, but {old}: {'.'.join(fields)}")
+
+    def turn(self, text):
+        env = {"c": (self.here, [])}
+        # what a let names: a place, or a step; it is written out where it is used
+        gone = set()
+        for m in LET.finditer(text):
+            head, *fields = m[2].split(".")
+            if head in env:
+                base, front = env[head]
+                try:
+                    out, at = self.resolve(base, front + fields)
+                except Left:
+                    out, at = None, None
+                    env[m[1]] = (base, front + fields)
+                    gone.add(m[0])
+                    continue
+                if at is not None or "given" in fields:
+                    env[m[1]] = (base, front + fields) if at is None else (at, [])
+                    gone.add(m[0])
+
+        def one(m):
+            head, fields = m[1], m[2].split(".")[1:]
+            if head not in env:
+                return m[0]
+            before = text[max(0, m.start() - 2) : m.start()]
+            if not fields and (head == "c" or before.endswith("λ ")):
+                return m[0]
+            base, front = env[head]
+            try:
+                out, at = self.resolve(base, front + fields)
+            except Left as e:
+                self.said(str(e))
+                return m[0]
+            if out is None:
+                if fields or head != "c":
+                    self.said(f"a place stands alone: {m[0]}")
+                return m[0]
+            return "c." + ".".join(out)
+
+        for it in gone:
+            text = text.replace(it, "", 1) if it.endswith(" ") else re.sub(r"[ \t]*" + re.escape(it[:-1]) + r"\n", "", text, 1)
+        text = PATH.sub(one, text)
+        return self.lambdas(text)
+
+    def lambdas(self, text):
+        """The ways of one join, in their order."""
+        if len(self.joins) != 1:
+            if self.joins:
+                self.said(f"{len(self.joins)} joins")
+            return text
+        ways = self.fn.ways(self.joins[0])
+        if not ways:
+            self.said(f"no ways of {self.joins[0]}")
+            return text
+        at = []
+        for m in re.finditer(r"\(λ (" + N + r")\. ", text):
+            depth, i = 0, m.start()
+            while i < len(text):
+                depth += (text[i] == "(") - (text[i] == ")")
+                if depth == 0:
+                    break
+                i += 1
+            if re.search(r"(?<![^\s(){};,])" + re.escape(m[1]) + r"\.\d", text[m.end() : i]):
+                at.append((m, i))
+        at = [it for it in at if not any(o is not it and o[0].start() < it[0].start() and it[1] < o[1] for o in at)]
+        if len(at) != len(ways):
+            self.said(f"{len(ways)} ways and {len(at)} lambdas: {[[f for f, _ in w] for w in ways]}")
+            return text
+        for (m, end), fields in reversed(list(zip(at, ways))):
+            body = text[m.end() : end]
+
+            def way(w):
+                k = int(w[2])
+                if k >= len(fields):
+                    self.said(f"no field {k} of {[f for f, _ in fields]}")
+                    return w[0]
+                name, ty = fields[k]
+                rest = w[3].split(".")[1:]
+                if rest and rest[0] == "taken":
+                    rest[0] = "false" if "Else" in ty else "true"
+                elif rest:
+                    rest[0] = WORDS.get(rest[0], rest[0])
+                place = None
+                o = re.search(r"Own-(\S+)", ty)
+                if o and o[1] in self.fn.row["places_by_name"]:
+                    place = self.fn.row["places"][self.fn.row["places_by_name"].index(o[1])][0]
+                rest = self.words(rest, place)
+                return ".".join([w[1], name, *rest])
+
+            body = re.sub(r"(?<![^\s(){};,])(" + re.escape(m[1]) + r")\.(\d+)((?:\." + N + r")*)", way, body)
+            text = text[: m.end()] + body + text[end:]
+        return text
+
+
+def turn_file(path, fn, muts, said):
+    text = open(path, encoding="utf-8").read()
+    was = text
+    parts = re.split(r"(?m)^(?=(?:pub |abbrev )*" + N + r"(?: \{[^{}\n]*\}| \([^()\n]*\))* :(?: |$))", text)
+    out = []
+    for part in parts:
+        m = re.search(r"\btie\.Need-(" + N + r")", part)
+        first = fn.need(m[1]) if m else None
+        for g in set(re.findall(r"\btie\.Need-(" + N + r")", part)):
+            it = fn.need(g)
+            if it is None:
+                said(f"{path}: no goal {g}: {[b for a, b in fn.row['needs']]}")
+                continue
+            part = re.sub(r"\btie\.Need-" + re.escape(g) + r"(?![^\s(){}.;,])", "tie.Need-" + it[1], part)
+        if first:
+            place = fn.row["asked_at"][first[0]][0]
+            if place in fn.places:
+                part = Turner(fn, place, muts, lambda s: said(f"{path}: {m[1]}: {s}")).turn(part)
+            else:
+                said(f"{path}: {m[1]}: asked at {place}, no place")
+        part = re.sub(r"\btie\.(invariant|decreases)-(" + N + r")", lambda w: f"tie.{w[1]}-{fn.loops.get(norm(w[2]), w[2])}", part)
+        out.append(part)
+    text = "".join(out)
+    if text != was:
+        open(path, "w", encoding="utf-8").write(text)
+    return text != was
+
+
+def main(argv):
+    names, crates = argv[0], argv[1:]
+    muts = sources()
+    for crate in crates:
+        d = json.load(open(os.path.join(names, crate, "names.json")))
+        root = f"crates/{crate}/proofs/"
+        keys = {k: v for k, v in d.items() if "Lts" in k}
+        for path in sorted(glob.glob(root + "**/Proof.antt", recursive=True)):
+            folder = os.path.dirname(path)[len(root) :].replace("/", ".")
+            key = f"Rattle-{crate}-proofs.{folder}.Lts"
+            if key not in keys:
+                print(f"left: {path}: no {key}; there are", [k for k in keys if folder in k])
+                continue
+            it = os.path.join(names, crate, "all", f"Rattle-{crate}-proofs", folder.replace(".", "/"), "Lts.antt")
+            lts = open(it, encoding="utf-8").read() if os.path.exists(it) else ""
+            fn = Function(keys[key], lts)
+            turn_file(path, fn, muts, lambda s: print("left: " + s))
+            for more in sorted(glob.glob(os.path.dirname(path) + "/Proof/*.antt")):
+                turn_file(more, fn, muts, lambda s: print("left: " + s))
+    return 0
+
+
+if __name__ == "__main__":
+    raise SystemExit(main(sys.argv[1:]))
