@@ -99,6 +99,15 @@ def table():
     return {a: b for a, b in new.items() if a != b}, inner
 
 
+# the names that the file at hand gives to modules of specs/ and of laws
+ALIASES = set()
+
+
+def aliases(text):
+    ALIASES.clear()
+    ALIASES.update(re.findall(r"(?m)\buse Rattle\.\w+\.(?:specs|proofs)(?:\.[A-Z]\w*)+ as (\w+)", text))
+
+
 def of_field(w):
     return snake(w)
 
@@ -115,7 +124,7 @@ def turn_code(text, new, inner, in_record):
             last = head[1].split(".")[-1] if head else ""
             if head and head[1].split(".")[0] in ("tie", "goal"):
                 return w
-            if re.match("[A-Z]", last):
+            if re.match("[A-Z]", last) or (head and head[1] in ALIASES):
                 return new[w]
             return of_field(w) if w in inner else w
         if w in inner:
@@ -180,6 +189,7 @@ def main(argv):
         for w in sorted(words & set(new)):
             if new[w] in words and new[w] not in new:
                 print(f"look: {p}: {w} meets {new[w]}")
+        aliases(t)
         u = turn_antt(t, new, inner) if p.endswith(".antt") else turn_rt(t, new, inner)
         if u != t:
             count += 1

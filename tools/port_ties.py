@@ -83,13 +83,18 @@ class Function:
     def ways(self, place):
         """The ways that join at a place: of each the fields, with their types."""
         place = self.row["places_by_name"][self.places[place][0]]
-        m = re.search(r"(?m)^ *pub data Came-" + re.escape(place) + r" : .*where\n((?: +[^\n:]+ : By-[^\n]*\n)+)", self.lts)
+        m = re.search(r"(?m)^( *)pub data Came-" + re.escape(place) + r"\s*:[^\n]*where\n", self.lts)
         if not m:
             return None
+        block = []
+        for l in self.lts[m.end() :].split("\n"):
+            if l.strip() and len(l) - len(l.lstrip()) <= len(m[1]):
+                break
+            block.append(l)
+        bys = re.findall(r"\b(By-\S+) → Came-", " ".join(" ".join(block).split()))
         out = []
-        for line in m[1].strip().split("\n"):
-            by = re.search(r"By-\S+", line)[0]
-            r = re.search(r"(?m)^( *)pub record " + re.escape(by) + r" : [^\n]*where\n", self.lts)
+        for by in bys:
+            r = re.search(r"(?m)^( *)pub record " + re.escape(by) + r"\s*:[^\n]*where\n", self.lts)
             if not r:
                 return None
             fields, indent = [], len(r[1])
@@ -108,8 +113,8 @@ class Left(Exception):
 
 
 class Turner:
-    def __init__(self, fn, here, muts, said):
-        self.fn, self.here, self.muts, self.said = fn, here, muts, said
+    def __init__(self, fn, here, muts, said, var="c"):
+        self.fn, self.here, self.muts, self.said, self.var = fn, here, muts, said, var
         self.shown = fn.shown(here)
         self.joins = []
 
@@ -168,7 +173,7 @@ class Turner:
             raise Left(f"at {at} there is no {f}, but {old}: {'.'.join(fields)}")
 
     def turn(self, text):
-        env = {"c": (self.here, [])}
+        env = {self.var: (self.here, [])}
         # what a let names: a place, or a step; it is written out where it is used
         gone = set()
         for m in LET.finditer(text):
@@ -191,7 +196,7 @@ class Turner:
             if head not in env:
                 return m[0]
             before = text[max(0, m.start() - 2) : m.start()]
-            if not fields and (head == "c" or before.endswith("λ ")):
+            if not fields and (head == self.var or before.endswith("λ ")):
                 return m[0]
             base, front = env[head]
             try:
@@ -200,14 +205,22 @@ class Turner:
                 self.said(str(e))
                 return m[0]
             if out is None:
-                if fields or head != "c":
-                    self.said(f"a place stands alone: {m[0]}")
-                return m[0]
-            return "c." + ".".join(out)
+                if self.shown.get(at) and (self.shown.get(self.here) is not self.shown[at] or at != self.here):
+                    self.said(f"a place in an arm stands alone: {m[0]}")
+                n, up = 0, self.here
+                while up is not None and up != at:
+                    arm = self.shown[up]
+                    for _ in range(arm[1] if arm else 1):
+                        up = self.fn.parent(up)
+                    n += 1
+                return self.var + ".before" * n
+            return self.var + "." + ".".join(out)
 
         for it in gone:
             text = text.replace(it, "", 1) if it.endswith(" ") else re.sub(r"[ \t]*" + re.escape(it[:-1]) + r"\n", "", text, 1)
         text = PATH.sub(one, text)
+        # a test of `!x` says by itself what `x` is
+        text = re.sub(r"\b(?:not-true|not-false|not_true|not_false) _ (?=" + re.escape(self.var) + r"\.[^\s()]*if-not-)", "", text)
         return self.lambdas(text)
 
     def lambdas(self, text):
@@ -228,7 +241,7 @@ class Turner:
                 if depth == 0:
                     break
                 i += 1
-            if re.search(r"(?<![^\s(){};,])" + re.escape(m[1]) + r"\.\d", text[m.end() : i]):
+            if re.search(r"(?<![^\s(){};,])" + re.escape(m[1]) + r"\.(\d|taken|left)", text[m.end() : i]):
                 at.append((m, i))
         at = [it for it in at if not any(o is not it and o[0].start() < it[0].start() and it[1] < o[1] for o in at)]
         if len(at) != len(ways):
@@ -255,6 +268,8 @@ class Turner:
                 rest = self.words(rest, place)
                 return ".".join([w[1], name, *rest])
 
+            if len(fields) == 1:
+                body = re.sub(r"(?<![^\s(){};,])(" + re.escape(m[1]) + r")\.(taken|left|ensures|result)\b", lambda w: f"{w[1]}.{fields[0][0]}.{WORDS.get(w[2], w[2])}", body)
             body = re.sub(r"(?<![^\s(){};,])(" + re.escape(m[1]) + r")\.(\d+)((?:\." + N + r")*)", way, body)
             text = text[: m.end()] + body + text[end:]
         return text
@@ -280,6 +295,13 @@ def turn_file(path, fn, muts, said):
                 part = Turner(fn, place, muts, lambda s: said(f"{path}: {m[1]}: {s}")).turn(part)
             else:
                 said(f"{path}: {m[1]}: asked at {place}, no place")
+        named = [p[0] for p in fn.row["places"]]
+        after = lambda w: next((i for i, it in enumerate(named) if norm(it) == norm(w)), None)
+        for w in re.finditer(r"\((" + N + r") : tie\.(" + N + r")", part):
+            i = after(w[2])
+            if i is not None and not first:
+                part = Turner(fn, named[i], muts, lambda s: said(f"{path}: {w[2]}: {s}"), w[1]).turn(part)
+        part = re.sub(r"\btie\.(" + N + r")", lambda w: w[0] if after(w[1]) is None else "tie." + fn.row["places_by_name"][after(w[1])], part)
         part = re.sub(r"\btie\.(invariant|decreases)-(" + N + r")", lambda w: f"tie.{w[1]}-{fn.loops.get(norm(w[2]), w[2])}", part)
         out.append(part)
     text = "".join(out)

@@ -15,7 +15,7 @@ const PAST_DIGITS: u8 = b'9' + 1;
 const MOST_DIGITS: usize = 20;
 
 // A number and the place after its last digit, or no number that the writer would write.
-#[derive(Drop)]
+#[derive(Clone, Copy)]
 pub enum Digits {
     No,
     Is(u64, usize),

@@ -15,7 +15,7 @@ use record::Flaw;
 use table::Fault;
 
 // The answer: the refusal's number and place, what is wrong with the record, which table is refused, and the number of pairs.
-#[derive(Drop)]
+#[derive(Clone, Copy)]
 pub struct Differed {
     pub number: u32,
     pub place: usize,

@@ -45,7 +45,7 @@ module _ {c : Call} (called : Called c) {out work steps : List ℕ} {q n o τ : 
     c.stand.place c.stand.noted out work steps q n o τ) where
   pub begin_fits : (c.stand.node * 16 + 16 ≤ length out) × (q * 16 + 16 ≤ length work) × (n + (c.stand.openings + o) < 65536)
   begin_fits =
-      let f = passing.record-fits (driving.set-now come) in
+      let f = passing.record_fits (driving.set_now come) in
       (f.1, f.0, omega (arith, called.few, come.lighter, come.noted_end))
 
   pub begun : (s : Stand) → s.node ≡ c.stand.node → s.edition ≡ c.stand.edition → s.openings ≡ c.stand.openings + o
@@ -54,12 +54,12 @@ module _ {c : Call} (called : Called c) {out work steps : List ℕ} {q n o τ : 
       → Midway c out' work steps (begun_at s q n τ' (arity work q))
   begun s nd ed op τ' ti out' w lo =
       let d = c.stand.node in
-      let set_now = driving.set-now come in
+      let set_now = driving.set_now come in
       let k = kind_number come.u in
       let put-now : out' ≡ put out (d * 16) (part work (q * 16) 16) = w ∙ ap (λ i. put out (i * 16) (part work (q * 16) 16)) nd in
       let all : Gathering c.stand.edition (members come.u) c.rest out' work steps k (d + 1) (q + 1)
       n out' work steps (length (members come.u)) (d + 1) (q + 1) n 0 0 0
-      = membering.start k (passing.members-set set_now out' put-now lo) in
+      = membering.start k (passing.members_set set_now out' put-now lo) in
       record {
         called = called;
         out₁ = out;
@@ -80,7 +80,7 @@ module _ {c : Call} (called : Called c) {out work steps : List ℕ} {q n o τ : 
             (q + 1) n out' work steps (arity work q) (i + 1) (q + 1) n 0 0 0) (sym nd)
             (subst (λ i. Gathering c.stand.edition (members come.u) c.rest out' work steps
             k (d + 1) (q + 1) n out' work steps i (d + 1) (q + 1) n 0 0 0)
-            (sym (passing.arity-is set_now)) all);
+            (sym (passing.arity_is set_now)) all);
         openings_are = omega arith;
         tries_are = omega arith;
         prior_is = omega arith;
@@ -99,7 +99,7 @@ module _ {c : Call} {out work steps : List ℕ} {s : Stand} (v : Midway c out wo
   u = v.come.u
 
   set_then : Set v.out₁ v.work₁ v.steps₁ d v.at v.n u c.rest
-  set_then = driving.set-now v.come
+  set_then = driving.set_now v.come
 
   -- ---- the numbers
   pub few_now : s.end + s.noted + s.openings + weight_all v.gathering.r < 65536
@@ -115,7 +115,7 @@ module _ {c : Call} {out work steps : List ℕ} {s : Stand} (v : Midway c out wo
 
   pub node_fits : (s.node * 16 + 16 ≤ length out) × (s.node + 1 ≤ s.end)
   node_fits =
-      let f = (passing.record-fits set_then).1 in
+      let f = (passing.record_fits set_then).1 in
       (omega (arith, v.node_is, v.out_kept, v.gathering.out_long), omega (arith, v.node_is, v.gathering.end))
 
   -- what is pending weighs less than the tree and what was pending after it
@@ -131,10 +131,10 @@ module _ {c : Call} {out work steps : List ℕ} {s : Stand} (v : Midway c out wo
   front_there : take ((d + 1) * 16) out ≡ take (d * 16) v.out₁ ++ first_record u
   front_there =
       let g = v.gathering in
-      let f = (passing.record-fits set_then).1 in
+      let f = (passing.record_fits set_then).1 in
       front_of_lem out (take ((d + 1) * 16) v.out₂) (encode_all g.g) ((d + 1) * 16) (s.end * 16) g.wrote
       (length-take-le ((d + 1) * 16) v.out₂ (omega (arith, v.out_kept))) (omega (arith, g.end))
-      ∙ passing.front-now set_then v.out₂ v.copied
+      ∙ passing.front_now set_then v.out₂ v.copied
 
   kind_of_lem : (x : List ℕ) → take ((d + 1) * 16) x ≡ take (d * 16) v.out₁ ++ first_record u → kind x d ≡ kind_number u
   kind_of_lem x e =
@@ -168,7 +168,7 @@ module _ {c : Call} {out work steps : List ℕ} {s : Stand} (v : Midway c out wo
         out_kept = v.out_kept;
         b = v.b;
         υ = v.υ;
-        gathering = membering.past-changed v.gathering same lo;
+        gathering = membering.past_changed v.gathering same lo;
         openings_are = v.openings_are;
         tries_are = v.tries_are;
         prior_is = v.prior_is;
@@ -183,7 +183,7 @@ module _ {c : Call} {out work steps : List ℕ} {s : Stand} (v : Midway c out wo
 
     pub next_called : Called (call out work steps (entered s) x (encode_all later ++ c.rest))
     next_called =
-        let w = membering.weight-next v.gathering is in
+        let w = membering.weight_next v.gathering is in
         let both = cost_both (weight x) (weight_all later) in
         record {
           set = membering.set_next v.gathering is;
@@ -198,7 +198,7 @@ module _ {c : Call} {out work steps : List ℕ} {s : Stand} (v : Midway c out wo
         let k = kind_number u in
         let run : drives ed x ≡ over b.0 = ap (λ i. drives i x) (sym e) ∙ b.1 in
         let all = membering.burst v.gathering is n (b.0, one_over ed k x b.0 run, b.2) in
-        driving.pass-burst v.come n (passing.burst set_then v.out₂ v.copied ed k refl n all)
+        driving.pass_burst v.come n (passing.burst set_then v.out₂ v.copied ed k refl n all)
 
     -- a member is gathered
     gathered_one : {out' work' steps' : List ℕ} {e' q' n' o' m' τ' : ℕ}
@@ -366,7 +366,7 @@ module _ {c : Call} {out work steps : List ℕ} {s : Stand} (v : Midway c out wo
       let same : v.n ≡ s.noted = omega (arith, gave.noted_end) in
       let was = passing.as_it_was (set_then v) v.out₂ v.copied edition refl gave v.out_kept v.gathering.out_long nothing in
       let lo : length out ≡ length v.out₁ = v.gathering.out_long ∙ v.out_kept in
-      let all = driving.nothing-changed v.come was lo v.gathering.work_long v.gathering.steps_long nothing in
+      let all = driving.nothing_changed v.come was lo v.gathering.work_long v.gathering.steps_long nothing in
       record {
         o = v.o;
         τ = v.τ + (v.υ + 1);
@@ -391,7 +391,7 @@ module _ {c : Call} {out work steps : List ℕ} {s : Stand} (v : Midway c out wo
     pub pass_driven : Drove (passed w (each (drives edition) (members w))) c.rest v.out₁ out' work
         v.steps₁ steps node v.n s.end s.place s.noted v.b v.υ
     pass_driven =
-        passing.closed-up (set_then v) v.out₂ v.copied edition refl gave v.out_kept v.gathering.out_long
+        passing.closed_up_lem (set_then v) v.out₂ v.copied edition refl gave v.out_kept v.gathering.out_long
         (subst (λ i. Closed (closed_over w gave.to) out out' i s.end) v.node_is shut)
 
     lo' : length out' ≡ length v.out₁
@@ -533,7 +533,7 @@ module _ {c : Call} {out₁ work₁ steps₁ : List ℕ} {s : Stand} (v : Midway
       let f = begin_fits v.called a.2 in
       let nd = v.node_is in
       let op = a.3 in
-      (omega (arith, f.0), f.1, omega (arith, f.2), omega (arith, (driving.set-now a.2).steps_room))
+      (omega (arith, f.0), f.1, omega (arith, f.2), omega (arith, (driving.set_now a.2).steps_room))
 
   pub again_midway : (out' : List ℕ) → out' ≡ put out (s.node * 16) (part work (q * 16) 16) → length out' ≡ length out
       → Midway c out' work steps (begun_at s q n τ (arity work q))

@@ -12,7 +12,7 @@ ghost use Rattle.driver.specs.Paused.{Call, call, Called, DrivenTo, Drivable, Dr
 use record::SIZE;
 
 // Where a tree stands once no rule applies to it, and the steps noted; or the steps completed when a rule left the range.
-#[derive(Drop)]
+#[derive(Clone, Copy)]
 enum Settled {
     At(usize, usize),
     Over(usize),
@@ -54,7 +54,7 @@ fn settle(
 
 // What became of a gathered node that stands in front of what is pending: finished after one step, its result standing in out, up to a record; or
 // where it stands once no rule applies to it, and the steps noted; or the steps completed when a rule left the range.
-#[derive(Drop)]
+#[derive(Clone, Copy)]
 enum Eased {
     Quiet(usize),
     At(usize, usize),
@@ -107,7 +107,7 @@ fn ease(
 
 // A gathered node: finished, and what is pending after it; or finished after one more step, up to a record of out, and what is pending; or, after
 // steps, where it stands in work and the steps noted; or the steps completed when a rule left the range.
-#[derive(Drop)]
+#[derive(Clone, Copy)]
 enum TakenUp {
     Finished(usize),
     Quiet(usize, usize),
@@ -154,7 +154,7 @@ fn take_up(
 
 // Where the driver stands: the first record pending, the steps noted, the openings and the tries so far; and at which node: its record in out, where what
 // is gathered after it ends, its members left, the trees gathered, and the steps and openings before the pass over them.
-#[derive(Drop)]
+#[derive(Clone, Copy)]
 struct Stand {
     edition: usize,
     place: usize,
@@ -170,7 +170,7 @@ struct Stand {
 
 // How a pass ended: the tree is finished, up to a record of out, or it begins again; the first record pending, the steps noted and the tries; or the steps
 // completed when a rule left the range.
-#[derive(Drop)]
+#[derive(Clone, Copy)]
 enum Turn {
     Finished {
         end: usize,

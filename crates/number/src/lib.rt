@@ -6,7 +6,7 @@ ghost use Rattle.stretch.specs.Put.{put};
 ghost use Rattle.number.specs.Num.{num_of, within, minus};
 
 // What an operation on the signed 64-bit range gives: a number's bits, or that it is out of range.
-#[derive(Drop)]
+#[derive(Clone, Copy)]
 pub enum Num {
     Is(u64),
     Out,

@@ -47,7 +47,7 @@ const LEVEL_WEIGHT: usize = 2;
 
 // What is read: nothing that the writer could write, or an item, bare or in parentheses: its rank, the place after it, its weight, the
 // record after it.
-#[derive(Drop)]
+#[derive(Clone, Copy)]
 enum Item {
     Not,
     Bare {
@@ -65,7 +65,7 @@ enum Item {
 }
 
 // What a text weighs: it is none that the writer can write, its tree is over the limit, or its tree has so many records.
-#[derive(Drop)]
+#[derive(Clone, Copy)]
 pub enum Weighed {
     Not,
     Heavy,
@@ -73,21 +73,21 @@ pub enum Weighed {
 }
 
 // A group that is passed over ends here, or goes on with d deeper groups open and the rank k.
-#[derive(Drop)]
+#[derive(Clone, Copy)]
 enum Pace {
     Out,
     Goes(usize, u8),
 }
 
 // A character of a text judged by blocks: a block is not read, or so many levels of the present one lie deeper behind it.
-#[derive(Drop)]
+#[derive(Clone, Copy)]
 enum Turned {
     Bad,
     On(usize),
 }
 
 // An item as a member of a node: its parentheses are wrong there, or it ends before a place, has a weight, and ends before a record.
-#[derive(Drop)]
+#[derive(Clone, Copy)]
 enum Member {
     Unfit,
     Fit {

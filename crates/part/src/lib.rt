@@ -19,7 +19,7 @@ pub const AROUND: usize = 2;
 // A term's coefficient, and the record of the member whose rest and mark are its own; the same of a member whose own coefficient is out
 // of range; a factor's exponent, the record and the size of its base, and its mark; a factor's exponent, the bits and the mark of its
 // integer base, and its mark.
-#[derive(Drop)]
+#[derive(Clone, Copy)]
 pub enum Part {
     Term(u64, usize),
     Wide(usize),
@@ -38,7 +38,7 @@ pub enum Part {
 }
 
 // Whether a part takes up a later one: it does not; it does, and what it becomes; it does, and leaves the range.
-#[derive(Drop)]
+#[derive(Clone, Copy)]
 pub enum Merged {
     Apart,
     Into(Part),

@@ -25,7 +25,7 @@ pub const SECOND: usize = 2;
 const NUMBER: usize = 3;
 
 // Where the member that was written ends; or that it is out of range.
-#[derive(Drop)]
+#[derive(Clone, Copy)]
 pub enum Written {
     To(usize),
     Over,

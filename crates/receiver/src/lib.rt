@@ -8,21 +8,21 @@ ghost use Rattle.receiver.specs.Receiving.{says, held, gives};
 use table::Fault;
 
 // The link task's record: how many bytes of the area are the table's, and whether more came than are kept (0 for no).
-#[derive(Drop)]
+#[derive(Clone, Copy)]
 pub struct Receiver {
     pub count: usize,
     pub past: usize,
 }
 
 // The number of the answer to a piece, and the record afterwards.
-#[derive(Drop)]
+#[derive(Clone, Copy)]
 pub struct Taking {
     pub state: Receiver,
     pub number: u32,
 }
 
 // The checker's answer at the finish, and the record afterwards.
-#[derive(Drop)]
+#[derive(Clone, Copy)]
 pub struct Finishing {
     pub state: Receiver,
     pub end: Fault,

@@ -73,8 +73,8 @@ flaw_numbers_once κs a v v' x x' q p p' = numbers_once v v' (p ∙ sym p')
 pub code_of : paper.Flaw → Flaw
 code_of paper.sound = Sound
 code_of paper.bad_kind = Kind
-code_of (paper.bad-byte j) = Byte j
-code_of paper.bad-count = Count
+code_of (paper.bad_byte j) = Byte j
+code_of paper.bad_count = Count
 
 pub code_of_lem : (f : Flaw) → code_of (flaw_of f) ≡ f
 unfolding code_of
@@ -87,8 +87,8 @@ pub flaw_of_lem : (f : paper.Flaw) → flaw_of (code_of f) ≡ f
 unfolding code_of
 flaw_of_lem paper.sound = refl
 flaw_of_lem paper.bad_kind = refl
-flaw_of_lem (paper.bad-byte j) = refl
-flaw_of_lem paper.bad-count = refl
+flaw_of_lem (paper.bad_byte j) = refl
+flaw_of_lem paper.bad_count = refl
 
 -- the paper's value tells the code's answer
 pub flaw_once : (f g : Flaw) → flaw_of f ≡ flaw_of g → f ≡ g

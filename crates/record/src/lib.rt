@@ -60,7 +60,7 @@ const MAY: [[u8; 16]; 5] = [
 ];
 
 // What is wrong with a record: nothing, its kind, the lowest byte that must be zero and is not, or its count.
-#[derive(Drop)]
+#[derive(Clone, Copy)]
 pub enum Flaw {
     Sound,
     Kind,
@@ -78,7 +78,7 @@ pub const BAD_BYTE: u64 = 2;
 pub const BAD_COUNT: u64 = 3;
 
 // What is wrong with a record, as the numbers of an answer: which of the above; and which byte, 0 where it is none.
-#[derive(Drop)]
+#[derive(Clone, Copy)]
 pub struct FlawNumbers {
     pub what: u64,
     pub byte: u64,

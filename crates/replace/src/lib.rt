@@ -38,7 +38,7 @@ const TOO_HEAVY: u32 = 18;
 
 // A refusal's number and place, and after 2 what is wrong with the record; or 0 and 0 and the weight of the opened tree, the definition of
 // each symbol + 1, and where each begins.
-#[derive(Drop)]
+#[derive(Clone, Copy)]
 pub struct Plan {
     pub number: u32,
     pub place: usize,

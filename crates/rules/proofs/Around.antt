@@ -33,7 +33,7 @@ use Rattle.rules.proofs.Dropping.{kept, dropped_weight, node_light}
 
 -- ---- which member it is
 one_record : (z : ℕ) (t : Tree) → is_the (pos z) t ≡ true → records t ≡ 1
-unfolding is_the paper.asInteger records
+unfolding is_the paper.as_integer records
 one_record z (integer μ y) e = refl
 one_record z (symbol μ v) e = absurd (let n : ◌≡◌ {A = ℕ} 0 1 = ap (λ b. cond b 1 0) e in omega arith)
 one_record z (sum μ f) e = absurd (let n : ◌≡◌ {A = ℕ} 0 1 = ap (λ b. cond b 1 0) e in omega arith)

@@ -82,7 +82,7 @@ first_left ed i = go (eqb ed 2)
 
 -- a step that none of the rules has
 pub no_rule_of : (k : ℕ) (t : Tree) → (k ≡ 1 → ⊥) → (k ≡ 2 → ⊥) → (k ≡ 3 → ⊥) → (k ≡ 4 → ⊥) → (k ≡ 6 → ⊥) → (k ≡ 7 → ⊥) → (k ≡ 8 → ⊥)
-    → (k ≡ 9 → ⊥) → rule_of k t ≡ paper.does-not-apply
+    → (k ≡ 9 → ⊥) → rule_of k t ≡ paper.does_not_apply
 unfolding edition_one edition_two rule_of numbered
 no_rule_of k t a b c d e f g h =
     simp
@@ -146,7 +146,7 @@ ends {ed} {t} h e g = (g.same ∙ ap (λ n. ask (drop n (rules_of ed)) t) e ∙ 
 
 -- what is asked when the first rule, of the step k, gave the outcome x and the rules rs are left
 abbrev pub told : paper.Tried → ℕ → List paper.Rule → Tree → Asked
-told x k rs t = elim x [ paper.does-not-apply ↦ ask rs t | paper.applies u ↦ step k u | paper.range-exceeded ↦ out_of_range ]
+told x k rs t = elim x [ paper.does_not_apply ↦ ask rs t | paper.applies u ↦ step k u | paper.range_exceeded ↦ out_of_range ]
 
 first_asked : (r : paper.Rule) (rs : List paper.Rule) (t : Tree) (x : paper.Tried) → r.try t ≡ x → ask (r ∷ rs) t ≡ told x r.number rs t
 unfolding ask
@@ -157,15 +157,15 @@ module _ {ed : ℕ} {t : Tree} {rest o : List ℕ} {d p i : ℕ} {o₁ w₁ : Li
   answered : (x : paper.Tried) → rule_of (step_at i) t ≡ x → ask (rules_of ed) t ≡ told x (step_at i) (drop (i + 1) (rules_of ed)) t
   answered x e = g.same ∙ ap (λ rs. ask rs t) (first_left ed i l) ∙ first_asked _ _ t x e
 
-  pub leaves : rule_of (step_at i) t ≡ paper.range-exceeded → ask (rules_of ed) t ≡ out_of_range
-  leaves e = answered paper.range-exceeded e
+  pub leaves : rule_of (step_at i) t ≡ paper.range_exceeded → ask (rules_of ed) t ≡ out_of_range
+  leaves e = answered paper.range_exceeded e
 
   module _ (o₂ w₂ : List ℕ) where
     pub goes_on : length o₂ ≡ length o₁ → length w₂ ≡ length w₁ → Answers (rule_of (step_at i) t) rest o₁ o₂ w₁ w₂ d p tried.Idle
         → Going ed t rest o d p (i + 1) o₂ w₂
     goes_on a b x =
         record {
-          same = answered paper.does-not-apply x.0;
+          same = answered paper.does_not_apply x.0;
           ready = ready_again g.ready o₂ w₂ a b x.1;
           done = x.2 ∙ g.done;
         }
@@ -174,11 +174,11 @@ module _ {ed : ℕ} {t : Tree} {rest o : List ℕ} {d p i : ℕ} {o₁ w₁ : Li
     steps q x = (x.0, answered (paper.applies x.0) x.1, x.2, x.3 ∙ g.done)
 
 -- ---- step 2 at a sum, step 6 at a product, where no rule before it applies
-passes : (r : paper.Rule) (rs : List paper.Rule) (t : Tree) → r.try t ≡ paper.does-not-apply → ask (r ∷ rs) t ≡ ask rs t
-passes r rs t e = first_asked r rs t paper.does-not-apply e
+passes : (r : paper.Rule) (rs : List paper.Rule) (t : Tree) → r.try t ≡ paper.does_not_apply → ask (r ∷ rs) t ≡ ask rs t
+passes r rs t e = first_asked r rs t paper.does_not_apply e
 
 module _ (ed : ℕ) (t : Tree) (x : paper.Tried) where
-  second : add_zero t ≡ paper.does-not-apply → combine_like_terms t ≡ x → ask (rules_of ed) t ≡ told x 2 (drop 2 (rules_of ed)) t
+  second : add_zero t ≡ paper.does_not_apply → combine_like_terms t ≡ x → ask (rules_of ed) t ≡ told x 2 (drop 2 (rules_of ed)) t
   unfolding rules_of edition_one edition_two
   second a c = go (eqb ed 2)
     where
@@ -186,8 +186,8 @@ module _ (ed : ℕ) (t : Tree) (x : paper.Tried) where
       go true = passes _ _ t a ∙ first_asked _ _ t x c
       go false = passes _ _ t a ∙ first_asked _ _ t x c
 
-  fifth : add_zero t ≡ paper.does-not-apply → combine_like_terms t ≡ paper.does-not-apply → multiply_zero t ≡ paper.does-not-apply
-      → multiply_one t ≡ paper.does-not-apply → combine_like_factors t ≡ x → ask (rules_of ed) t ≡ told x 6 (drop 5 (rules_of ed)) t
+  fifth : add_zero t ≡ paper.does_not_apply → combine_like_terms t ≡ paper.does_not_apply → multiply_zero t ≡ paper.does_not_apply
+      → multiply_one t ≡ paper.does_not_apply → combine_like_factors t ≡ x → ask (rules_of ed) t ≡ told x 6 (drop 5 (rules_of ed)) t
   unfolding rules_of edition_one edition_two
   fifth a b c d e = go (eqb ed 2)
     where
@@ -206,8 +206,8 @@ module _ (ed : ℕ) {o w : List ℕ} {d p : ℕ} {t : Tree} {rest : List ℕ} (h
 
   -- where it does not apply either, none does: those after it are for other trees
   pub combine_none : (b : Bool) → kind w p ≡ node_kind b → (s : IsNode b o w d p t rest) → any_earlier b (to_list s.members) ≡ false
-      → combine_like b t ≡ paper.does-not-apply → ask (rules_of ed) t ≡ no_rule
+      → combine_like b t ≡ paper.does_not_apply → ask (rules_of ed) t ≡ no_rule
   combine_none b k s e c =
-      combine_asked b k s e paper.does-not-apply c
+      combine_asked b k s e paper.does_not_apply c
       ∙ ap (λ i. ask (drop (end_for i ed) (rules_of ed)) t) (sym k)
       ∙ (only_its_own ed (ready_seen h)).1

@@ -189,7 +189,7 @@ module _ {w : List ℕ} {i : ℕ} {t : Tree} (h : Told note w i t) (end : ℕ) w
 
 -- ---- the node of it is itself
 one_member : (b : Bool) (μ : ℕ) (t : Tree) → node_of b μ (t ∷ []) ≡ t
-unfolding paper.sum_of paper.productOf paper.collapse
+unfolding paper.sum_of paper.product_of paper.collapse
 one_member true μ t = refl
 one_member false μ t = refl
 

@@ -128,7 +128,7 @@ leaves_shut b (t ∷ l) h = (other_shut b t (λ e. leaf_kind b (kind_number t) h
 
 -- ---- the node of two members or more
 pub more_is : (b : Bool) (μ : ℕ) (m : List Tree) → 2 ≤ length m → node_of b μ m ≡ node b μ (of_list m)
-unfolding paper.sum_of paper.productOf paper.collapse
+unfolding paper.sum_of paper.product_of paper.collapse
 more_is b μ [] h = absurd (omega arith)
 more_is b μ (t ∷ []) h = absurd (omega arith)
 more_is true μ (t ∷ u ∷ l) h = refl

@@ -58,7 +58,7 @@ module _ {o w : List ℕ} {d p : ℕ} {t : Tree} {rest : List ℕ} (h : Ready o 
 
   -- the walk removes nothing
   pub no_rule_applies : (ed : ℕ) → kind w p ≡ node_kind b → any_earlier b (members t) ≡ false
-      → ((μ : ℕ) → combined b μ (to_list s.members) ≡ paper.does-not-apply) → ask (rules_of ed) t ≡ no_rule
+      → ((μ : ℕ) → combined b μ (to_list s.members) ≡ paper.does_not_apply) → ask (rules_of ed) t ≡ no_rule
   no_rule_applies ed kinded none idle = combine_none ed h b kinded s (none_earlier none) (combine_at s ∙ idle (mark_in w p))
 
   abbrev came : List Tree

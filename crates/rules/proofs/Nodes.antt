@@ -52,7 +52,7 @@ word_is (pos n) z r h = let e : n % modulus ≡ n = omega arith in ap (λ m. eqb
 word_is (negsuc n) z r h = ne_eqb (modulus - suc (n % modulus)) z (λ e. omega arith)
 
 pub other_kind : (s : List ℕ) (i z : ℕ) (t : Tree) → Told note s i t → 0 < kind s i → false ≡ is_the (pos z) t
-unfolding is_the paper.asInteger
+unfolding is_the paper.as_integer
 other_kind s i z t h k = go (seen h)
   where
     go : {t : Tree} → Seen note s i t → false ≡ is_the (pos z) t
@@ -63,7 +63,7 @@ other_kind s i z t h k = go (seen h)
     go (a_power e w b p q x y v) = refl
 
 pub integer_kind : (s : List ℕ) (i z : ℕ) (t : Tree) → Told note s i t → kind s i ≤ 0 → z < 2 → eqb (bits s i) z ≡ is_the (pos z) t
-unfolding is_the paper.asInteger
+unfolding is_the paper.as_integer
 integer_kind s i z t h k l = go (seen h)
   where
     go : {t : Tree} → Seen note s i t → eqb (bits s i) z ≡ is_the (pos z) t
@@ -75,13 +75,13 @@ integer_kind s i z t h k l = go (seen h)
 
 -- ---- the tree of some members
 pub of_none : (b : Bool) (μ : ℕ) (l : List Tree) → length l < 1 → encode_by note (node_of b μ l) ≡ record_of 0 0 μ (neutral b)
-unfolding encode_by word paper.sum_of paper.productOf paper.collapse
+unfolding encode_by word paper.sum_of paper.product_of paper.collapse
 of_none true μ [] h = refl
 of_none false μ [] h = refl
 of_none b μ (t ∷ l) h = absurd (omega arith)
 
 pub of_one : (b : Bool) (μ : ℕ) (l : List Tree) → 1 ≤ length l → length l < 2 → encode_by note (node_of b μ l) ≡ encodes_by note (of_list l)
-unfolding encode_by of_list paper.sum_of paper.productOf paper.collapse
+unfolding encode_by of_list paper.sum_of paper.product_of paper.collapse
 of_one b μ [] g h = absurd (omega arith)
 of_one true μ (t ∷ []) g h = sym (append-nil (encode_by note t))
 of_one false μ (t ∷ []) g h = sym (append-nil (encode_by note t))
@@ -90,14 +90,14 @@ of_one b μ (t ∷ u ∷ l) g h = absurd (omega arith)
 -- before it is closed
 pub of_more : (b : Bool) (μ : ℕ) (l : List Tree) → 2 ≤ length l
     → unclosed (node_of b μ l) ≡ record_of (node_kind b) (length l) μ 0 ++ encodes_by note (of_list l)
-unfolding kind_number count_of mark_of inner paper.sum_of paper.productOf paper.collapse
+unfolding kind_number count_of mark_of inner paper.sum_of paper.product_of paper.collapse
 of_more b μ [] h = absurd (omega arith)
 of_more b μ (t ∷ []) h = absurd (omega arith)
 of_more true μ (t ∷ u ∷ l) h = ap (λ n. record_of 2 n μ 0 ++ encodes_by note (of_list (t ∷ u ∷ l))) (list_count (t ∷ u ∷ l))
 of_more false μ (t ∷ u ∷ l) h = ap (λ n. record_of 3 n μ 0 ++ encodes_by note (of_list (t ∷ u ∷ l))) (list_count (t ∷ u ∷ l))
 
 pub more_node : (b : Bool) (μ : ℕ) (l : List Tree) → 2 ≤ length l → 2 ≤ kind_number (node_of b μ l)
-unfolding kind_number paper.sum_of paper.productOf paper.collapse
+unfolding kind_number paper.sum_of paper.product_of paper.collapse
 more_node b μ [] h = absurd (omega arith)
 more_node b μ (t ∷ []) h = absurd (omega arith)
 more_node true μ (t ∷ u ∷ l) h = lit≤ tt

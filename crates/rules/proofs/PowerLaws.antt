@@ -38,7 +38,7 @@ use Rattle.rules.proofs.RuleLaws.{ready_tree, ready_length, ready_after}
 
 -- a rule on a power, at a tree of another kind
 pub on_no_power : {w : List ℕ} {i : ℕ} {t : Tree} → Seen note w i t → (k : ℕ → Tree → ℕ → ℕ → paper.Tried) → (kind w i ≡ 4 → ⊥)
-    → on_power_parts k t ≡ paper.does-not-apply
+    → on_power_parts k t ≡ paper.does_not_apply
 unfolding on_power_parts
 on_no_power (an_integer e b w) k n = refl
 on_no_power (a_symbol e v w) k n = refl
@@ -85,7 +85,7 @@ module _ {w : List ℕ} {p : ℕ} {t : Tree} {rest : List ℕ} (s : IsPower w p 
   unfolding power_one applies_if
   one_applies e = s.on _ ∙ ap (λ c. applies_if c s.base) (eq-eqb _ _ e)
 
-  pub one_idle : (s.exponent ≡ 1 → ⊥) → power_one t ≡ paper.does-not-apply
+  pub one_idle : (s.exponent ≡ 1 → ⊥) → power_one t ≡ paper.does_not_apply
   unfolding power_one applies_if
   one_idle n = s.on _ ∙ ap (λ c. applies_if c s.base) (ne_eqb _ _ n)
 
@@ -110,7 +110,7 @@ module _ {w : List ℕ} {p : ℕ} {t : Tree} {rest : List ℕ} (s : IsPower w p 
   unfolding power_constant
   constant_is c e = s.on _ ∙ ap (λ c. applies_if c (marked (mark_in w p) s.base)) e
 
-  pub constant_other : 0 < kind w (p + 1) → power_constant t ≡ paper.does-not-apply
+  pub constant_other : 0 < kind w (p + 1) → power_constant t ≡ paper.does_not_apply
   unfolding applies_if
   constant_other k = constant_is false (rw (sym (other_kind w (p + 1) 0 s.base s.there k), sym (other_kind w (p + 1) 1 s.base s.there k)) refl)
 
@@ -118,7 +118,7 @@ module _ {w : List ℕ} {p : ℕ} {t : Tree} {rest : List ℕ} (s : IsPower w p 
     either : is_the (pos 0) s.base || is_the (pos 1) s.base ≡ eqb (bits w (p + 1)) 0 || eqb (bits w (p + 1)) 1
     either = rw (integer_kind w (p + 1) 0 s.base s.there k (omega arith), integer_kind w (p + 1) 1 s.base s.there k (omega arith)) refl
 
-    pub constant_more : 1 < bits w (p + 1) → power_constant t ≡ paper.does-not-apply
+    pub constant_more : 1 < bits w (p + 1) → power_constant t ≡ paper.does_not_apply
     unfolding applies_if
     constant_more m = constant_is false (either ∙ rw (ne_eqb (bits w (p + 1)) 0 (λ e. omega arith), ne_eqb (bits w (p + 1)) 1 (λ e. omega arith)) refl)
 
@@ -145,7 +145,7 @@ module _ {w : List ℕ} {p : ℕ} {t : Tree} {rest : List ℕ} (s : IsPower w p 
         go (a_power e w b p q x y z) = absurd (omega arith)
 
   -- ---- step 9
-  pub no_tower : (kind w (p + 1) ≡ 4 → ⊥) → power_power t ≡ paper.does-not-apply
+  pub no_tower : (kind w (p + 1) ≡ 4 → ⊥) → power_power t ≡ paper.does_not_apply
   unfolding power_power
   no_tower n = s.on _ ∙ on_no_power (seen s.there) _ n
 
@@ -209,7 +209,7 @@ module _ {w : List ℕ} {p : ℕ} {t : Tree} {rest : List ℕ} (s : IsTower w p 
       s.is ∙ ap (λ c. raised_if c (mark_in w p) s.base (mark_in w (p + 3 + records s.base)) product) q.0
       ∙ ap (λ n. paper.applies (power (mark_in w p) s.base (mark_in w (p + 3 + records s.base)) n)) same
 
-  pub tower_over : num_of (signed s.inner *ℤ signed s.outer) ≡ Out → power_power t ≡ paper.range-exceeded
+  pub tower_over : num_of (signed s.inner *ℤ signed s.outer) ≡ Out → power_power t ≡ paper.range_exceeded
   unfolding raised_if fits
   tower_over e =
       s.is

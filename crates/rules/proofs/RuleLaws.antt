@@ -54,7 +54,7 @@ if_any_lem : (z : ℕ) (u : ℕ → List Tree → Tree) (μ : ℕ) (l : List Tre
 unfolding applies_if
 if_any_lem z u μ l e = ap (λ c. applies_if c (u μ l)) e
 
-if_none : (z : ℕ) (u : ℕ → List Tree → Tree) (μ : ℕ) (l : List Tree) → any_of (is_the (pos z)) l ≡ false → if_any z u μ l ≡ paper.does-not-apply
+if_none : (z : ℕ) (u : ℕ → List Tree → Tree) (μ : ℕ) (l : List Tree) → any_of (is_the (pos z)) l ≡ false → if_any z u μ l ≡ paper.does_not_apply
 unfolding applies_if
 if_none z u μ l e = ap (λ c. applies_if c (u μ l)) e
 
@@ -124,11 +124,11 @@ module _ {o w : List ℕ} {d p : ℕ} {t : Tree} {rest : List ℕ} (h : Ready o 
       }
 
   -- a rule for another kind
-  on_other : (b : Bool) (k : ℕ → List Tree → paper.Tried) → (kind w p ≡ node_kind b → ⊥) → on_members b k t ≡ paper.does-not-apply
+  on_other : (b : Bool) (k : ℕ → List Tree → paper.Tried) → (kind w p ≡ node_kind b → ⊥) → on_members b k t ≡ paper.does_not_apply
   unfolding on_sum_members on_product_members
   on_other b k = go b ready_seen
     where
-      go : (b : Bool) {t : Tree} → Seen note w p t → (kind w p ≡ node_kind b → ⊥) → on_members b k t ≡ paper.does-not-apply
+      go : (b : Bool) {t : Tree} → Seen note w p t → (kind w p ≡ node_kind b → ⊥) → on_members b k t ≡ paper.does_not_apply
       go true (an_integer e b w) n = refl
       go true (a_symbol e v w) n = refl
       go true (a_sum e m c w s) n = absurd (n e)
@@ -141,10 +141,10 @@ module _ {o w : List ℕ} {d p : ℕ} {t : Tree} {rest : List ℕ} (h : Ready o 
       go false (a_power e w b p q x y z) n = refl
 
   pub looks_elsewhere : {b : Bool} {z : ℕ} {u : ℕ → List Tree → Tree} {r : Tree → paper.Tried} → LooksFor b z u r → (kind w p ≡ node_kind b → ⊥)
-      → r t ≡ paper.does-not-apply
+      → r t ≡ paper.does_not_apply
   looks_elsewhere {b} {z} {u} q n = q.is t ∙ on_other b (if_any z u) n
 
-  pub combine_other : (b : Bool) → (kind w p ≡ node_kind b → ⊥) → combine_like b t ≡ paper.does-not-apply
+  pub combine_other : (b : Bool) → (kind w p ≡ node_kind b → ⊥) → combine_like b t ≡ paper.does_not_apply
   combine_other b n = combine_is b t ∙ on_other b (combined b) n
 
 -- ---- the tree is a node of the rule's kind: its members are held, and a rule on them is what it does to them
@@ -232,7 +232,7 @@ module _ {b : Bool} {o w : List ℕ} {d p : ℕ} {t : Tree} {rest : List ℕ} (s
     pub finds : any_of (is_the (pos z)) (to_list s.members) ≡ true → r t ≡ paper.applies (u (mark_in w p) (to_list s.members))
     finds e = q.is t ∙ s.on (if_any z u) ∙ if_any_lem z u (mark_in w p) (to_list s.members) e
 
-    pub finds_none : any_of (is_the (pos z)) (to_list s.members) ≡ false → r t ≡ paper.does-not-apply
+    pub finds_none : any_of (is_the (pos z)) (to_list s.members) ≡ false → r t ≡ paper.does_not_apply
     finds_none e = q.is t ∙ s.on (if_any z u) ∙ if_none z u (mark_in w p) (to_list s.members) e
 
   pub combine_at : combine_like b t ≡ combined b (mark_in w p) (to_list s.members)

@@ -16,10 +16,10 @@ use Rattle.rules.specs.declared.Tried.TheVariants.{Idle, Applied, Over}
 -- it applies, and its result is pending from record q on, `rest` after it; `Over`, it leaves the range. What is done stays.
 abbrev pub Answers : paper.Tried → (rest out out' work work' : List ℕ) (d p : ℕ) → Tried → Type 0
 Answers x rest out out' work work' d p Idle =
-    (x ≡ paper.does-not-apply) × (drop (p * 16) work' ≡ drop (p * 16) work) × (take (d * 16) out' ≡ take (d * 16) out)
+    (x ≡ paper.does_not_apply) × (drop (p * 16) work' ≡ drop (p * 16) work) × (take (d * 16) out' ≡ take (d * 16) out)
 Answers x rest out out' work work' d p (Applied q) =
     (u : Tree) × (x ≡ paper.applies u) × (drop (q * 16) work' ≡ encode_by note u ++ rest) × (take (d * 16) out' ≡ take (d * 16) out)
-Answers x rest out out' work work' d p Over = x ≡ paper.range-exceeded
+Answers x rest out out' work work' d p Over = x ≡ paper.range_exceeded
 
 -- the members f of a sum or a product stand behind its record p of `work`, `rest` after them, and there is room
 pub record Held (out work : List ℕ) (d p : ℕ) (f : Forest) (rest : List ℕ) : Type 0 where
@@ -39,12 +39,12 @@ pub record MembersIn (s : List ℕ) (p : ℕ) (f : Forest) : Type 0 where
 -- the record of the last of the trees f that is not the integer z, the first of them standing at record i; `last` where all are
 unfoldable pub last_kept : ℕ → (i last : ℕ) → Forest → ℕ
 last_kept z i last nil = last
-last_kept z i last (cons t f) = last_kept z (i + records t) (cond (paper.isThe (pos z) t) last i) f
+last_kept z i last (cons t f) = last_kept z (i + records t) (cond (paper.is_the (pos z) t) last i) f
 
 -- the record of the last of them that is; `last` where none is
 unfoldable pub last_dropped : ℕ → (i last : ℕ) → Forest → ℕ
 last_dropped z i last nil = last
-last_dropped z i last (cons t f) = last_dropped z (i + records t) (cond (paper.isThe (pos z) t) i last) f
+last_dropped z i last (cons t f) = last_dropped z (i + records t) (cond (paper.is_the (pos z) t) i last) f
 
 -- the members a, a member of one record, x, and the members b stand behind the node's record p of `work`, `rest` after them; without that
 -- one, two or more are left

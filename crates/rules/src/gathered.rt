@@ -17,7 +17,7 @@ ghost use Rattle.rules.specs.Tried.{MembersIn};
 use crate::{Combined, members};
 
 // The members that came out of a walk: how many they are, the record after them, and that of the only new one, or 0.
-#[derive(Drop)]
+#[derive(Clone, Copy)]
 struct Came {
     count: usize,
     end: usize,

@@ -15,7 +15,7 @@ mod multiply;
 mod power;
 
 // What the rules answer: none applies; the step that does, and the record that its result is pending from; the range is exceeded.
-#[derive(Drop)]
+#[derive(Clone, Copy)]
 pub enum Asked {
     Nothing,
     Step(u8, usize),
@@ -23,7 +23,7 @@ pub enum Asked {
 }
 
 // What one rule answers: it does not apply; it does, and the record that its result is pending from; the range is exceeded.
-#[derive(Drop)]
+#[derive(Clone, Copy)]
 pub enum Tried {
     Idle,
     Applied(usize),
@@ -32,7 +32,7 @@ pub enum Tried {
 
 // What became of a gathered node: nothing, and the rules are to be asked; nothing, for none of them applies; the step that applies, and the
 // record that its result is pending from; the step that applies, its result standing finished in out, up to a record.
-#[derive(Drop)]
+#[derive(Clone, Copy)]
 pub enum Combined {
     No,
     Nothing,

@@ -23,7 +23,7 @@ const MOVED: usize = 2;
 
 // The members of a node that are kept: how many, and the record of the last of them; the record of the last that is dropped; and the record
 // after all members.
-#[derive(Drop)]
+#[derive(Clone, Copy)]
 struct Kept {
     many: usize,
     last: usize,

@@ -56,7 +56,7 @@ const PART: usize = 8192;
 const WORDS: usize = 128;
 
 // What a fetch answers: 0 or a refusal's number, the 64 bits of the setting, and its unit; zeros after a refusal.
-#[derive(Drop)]
+#[derive(Clone, Copy)]
 pub struct Shown {
     pub number: u32,
     pub setting: u64,
@@ -64,7 +64,7 @@ pub struct Shown {
 }
 
 // What the old release's fetch answers: it knows no unit.
-#[derive(Drop)]
+#[derive(Clone, Copy)]
 pub struct Shown1 {
     pub number: u32,
     pub setting: u64,

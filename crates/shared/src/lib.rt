@@ -12,7 +12,7 @@ use record::Flaw;
 use simplify::Answer;
 
 // A refusal's number and place, or 0 and 0; after 2 what is wrong with the record; the records of the opened table, and its weight.
-#[derive(Drop)]
+#[derive(Clone, Copy)]
 pub struct Opened {
     pub number: u32,
     pub place: usize,

@@ -81,12 +81,12 @@ module _ (lim : ℕ) (limited : is_limit lim ≡ true) (s : List ℕ) (m : Measu
 
   -- refusals 1 to 5
   pub turned_down : (ed : ℕ) → is_edition ed ≡ true → (a : Answer) (out steps work : List ℕ) → 0 < m.number
-      → says a ≡ paper.refusedBy (told m.number m.place (flaw_of m.flaw))
+      → says a ≡ paper.refused_by (told m.number m.place (flaw_of m.flaw))
       → gives a out steps work ≡ paper.simplified lim ed s (lent out steps work)
   unfolding paper.simplified simplified_by outcome_of judgement judged_call answer_of lent_after out_after steps_after work_after is_accepted
   turned_down ed known a out steps work h q =
       let n : eqb (verdict lim s).number 0 ≡ false = ne_eqb (verdict lim s).number 0 (λ z. omega (arith, number_is)) in
-      rw (limited, known, n, n) (same_given (q ∙ ap paper.refusedBy verdict_is) refl)
+      rw (limited, known, n, n) (same_given (q ∙ ap paper.refused_by verdict_is) refl)
 
   module _ (h : m.number ≤ 0) where
     pub fine : verdict lim s ≡ accepted
@@ -114,8 +114,8 @@ module _ (lim : ℕ) (limited : is_limit lim ≡ true) (s : List ℕ) (m : Measu
         rw (limited, known, fine, k) (same_given q refl)
 
 -- ---- `work`, cleared where there was a run
-ran_number : (w : ℕ) (r : Ran) → has_run (paper.ranAnswer w r).number ≡ true
-unfolding has_run paper.ranAnswer paper.refusedBy
+ran_number : (w : ℕ) (r : Ran) → has_run (paper.ran_answer w r).number ≡ true
+unfolding has_run paper.ran_answer paper.refused_by
 ran_number w (done u ks o n) = refl
 ran_number w (over k) = refl
 
@@ -132,7 +132,7 @@ unfolding cleaned
 cleaned_down lim k work e = rw e
 
 -- clearing looks at nothing that it clears: a stretch of `work` that came back with other bytes is cleared to the same
-cleans : (lim k : ℕ) (r : Ran) (w : ℕ) → k ≡ (paper.ranAnswer w r).number → (need : ℕ) (work work' : List ℕ) → need ≡ work_bytes lim → need ≤ length work
+cleans : (lim k : ℕ) (r : Ran) (w : ℕ) → k ≡ (paper.ran_answer w r).number → (need : ℕ) (work work' : List ℕ) → need ≡ work_bytes lim → need ≤ length work
     → length work' ≡ length (take (need - 0) (drop 0 work)) → cleaned lim k (put_mid 0 (need - 0) work work') ≡ stretch (work_bytes lim) [] work
 unfolding stretch
 cleans lim k r w e need work work' asks room long =
@@ -148,7 +148,7 @@ module _ (lim ed : ℕ) (s : List ℕ) (b : Bytes s) (a : Answer) (out steps wor
   -- where the areas are as the simplifier leaves them, clearing changes nothing
   pub as_left : gives a out' steps' work ≡ paper.simplified lim ed s (lent out steps work)
       → gives a out' steps' (cleaned lim a.number work) ≡ paper.simplified lim ed s (lent out steps work)
-  unfolding paper.simplified lent_after work_after paper.refusedBy
+  unfolding paper.simplified lent_after work_after paper.refused_by
   as_left e = ap (λ (x : List ℕ). gives a out' steps' x) (go (call lim ed (drives ed) s (lent out steps work) b)) ∙ e
     where
       go : Call lim ed (drives ed) s (lent out steps work) → cleaned lim a.number work ≡ work
@@ -157,14 +157,14 @@ module _ (lim ed : ℕ) (s : List ℕ) (b : Bytes s) (a : Answer) (out steps wor
           ap (λ (g : paper.Given). g.answer.number) e ∙ ap (λ (x : paper.Answer). x.number) d.answer in
           cleaned_down lim a.number work (ap has_run k ∙ down_number _ d.number d.not_7)
       go (is_run r) =
-          let k : a.number ≡ (paper.ranAnswer (weight r.holds.tree) (drives ed r.holds.tree)).number
+          let k : a.number ≡ (paper.ran_answer (weight r.holds.tree) (drives ed r.holds.tree)).number
           = ap (λ (g : paper.Given). g.answer.number) e ∙ ap (λ (x : paper.Answer). x.number) r.answer in
           cleaned_ran lim a.number work (ap has_run k ∙ ran_number (weight r.holds.tree) (drives ed r.holds.tree))
           ∙ sym (ap (λ (g : paper.Given). g.lent.work) e ∙ ap (λ (x : paper.Lent). x.work) r.lent)
 
   -- after a run `work` has the bytes that the limit asks for
   pub run_room : says a ≡ (paper.simplified lim ed s (lent out steps work)).answer → has_run a.number ≡ true → work_bytes lim ≤ length work
-  unfolding paper.simplified paper.cramped paper.refusedBy
+  unfolding paper.simplified paper.cramped paper.refused_by
   run_room e h = go (call lim ed (drives ed) s (lent out steps work) b)
     where
       go : Call lim ed (drives ed) s (lent out steps work) → work_bytes lim ≤ length work
@@ -269,9 +269,9 @@ module _ {lim ed : ℕ} {s : List ℕ} {m : Measured} {need : ℕ} {out steps wo
   ran a out' steps' work' r long =
       let w : m.result ≡ weight tree = weighs ∙ on.holds.weighs in
       same_given
-      (r.answer ∙ ap (λ i. paper.ranAnswer i (drives ed tree)) w ∙ sym on.answer)
+      (r.answer ∙ ap (λ i. paper.ran_answer i (drives ed tree)) w ∙ sym on.answer)
       (same_lent
       (lent_stretch (16 * m.result) out out' (paper.written (drives ed tree)) rooms.0 r.out_is)
       (lent_stretch m.result steps steps' (paper.noted (drives ed tree)) rooms.1 r.steps_is)
       (cleans lim a.number (drives ed tree) m.result (ap (λ (x : paper.Answer). x.number) r.answer) need work work' c.asks rooms.2 long)
-      ∙ ap (λ i. paper.lentAfter lim (paper.ran i (drives ed tree)) (lent out steps work)) w ∙ sym on.lent)
+      ∙ ap (λ i. paper.lent_after lim (paper.ran i (drives ed tree)) (lent out steps work)) w ∙ sym on.lent)

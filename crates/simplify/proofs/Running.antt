@@ -116,12 +116,12 @@ module _ {table out steps work : List ℕ} {w : ℕ} {t : Tree} (h : Lending tab
       → out'' ≡ put out' 0 (replicate (length out') 0) → steps'' ≡ put steps' 0 (replicate (length steps') 0)
       → length out' ≡ length out → length steps' ≡ length steps
       → Leaves (drives ed t) w a out out'' steps steps''
-  unfolding paper.ranAnswer paper.written paper.noted
+  unfolding paper.ran_answer paper.written paper.noted
   left_over ed a k out' steps' b s o z lo lz =
       let b2 = b.2 in
       let kb : k ≡ b.0 = omega arith in
       record {
-        answer = s ∙ ap (paper.refusal 7) kb ∙ ap (paper.ranAnswer w) (sym b.1);
+        answer = s ∙ ap (paper.refusal 7) kb ∙ ap (paper.ran_answer w) (sym b.1);
         out_is = o ∙ clear_all out' ∙ ap (λ i. filled i []) lo ∙ ap (λ r. filled (length out) (paper.written r)) (sym b.1);
         steps_is = z ∙ clear_all steps' ∙ ap (λ i. filled i []) lz ∙ ap (λ r. filled (length steps) (paper.noted r)) (sym b.1);
       }
@@ -170,7 +170,7 @@ module _ {table out steps work : List ℕ} {w : ℕ} {t : Tree} (h : Lending tab
           → Leaves (drives ed t) w
           (record { number = 0; place = 0; flaw = Sound; records = e; steps = n; openings = o'; weight_in = w; weight_out = x; tries = τ' })
           out out'' steps steps''
-      unfolding paper.ranAnswer paper.written paper.noted
+      unfolding paper.ran_answer paper.written paper.noted
       left_done out'' steps'' x o' τ' co cz cx eo et =
           let z : e ≡ records a.to = omega (arith, a.end) in
           let k : n ≡ length a.ks = omega (arith, a.noted_end) in

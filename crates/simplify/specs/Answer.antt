@@ -66,6 +66,6 @@ pub record Lending (table out steps work : List ℕ) (w : ℕ) (t : Tree) : Type
 
 -- what the run r, on a tree of weight w, answers and leaves in `out` and `steps`, which are its own from end to end
 pub record Leaves (r : Ran) (w : ℕ) (a : Answer) (out out' steps steps' : List ℕ) : Type 0 where
-  pub answer : says a ≡ paper.ranAnswer w r
+  pub answer : says a ≡ paper.ran_answer w r
   pub out_is : out' ≡ filled (length out) (paper.written r)
   pub steps_is : steps' ≡ filled (length steps) (paper.noted r)

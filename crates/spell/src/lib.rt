@@ -12,7 +12,7 @@ use number::MINUS_ONE;
 use record::NEGATIVE;
 
 // The record after what is spelt, and the place after its text.
-#[derive(Drop)]
+#[derive(Clone, Copy)]
 pub struct Spelt {
     next: usize,
     end: usize,

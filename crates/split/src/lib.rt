@@ -13,7 +13,7 @@ const PAIR: usize = 2;
 
 // The rest of a member: 1, which stands in no record; the tree at a record, no integer; the product at a record without its integers,
 // so many members being left, two or more.
-#[derive(Drop)]
+#[derive(Clone, Copy)]
 pub enum Rest {
     One,
     At(usize),
@@ -21,7 +21,7 @@ pub enum Rest {
 }
 
 // How many members of a product are no integers, and the record of the last of them.
-#[derive(Drop)]
+#[derive(Clone, Copy)]
 struct Counted {
     many: usize,
     last: usize,

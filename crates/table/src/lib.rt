@@ -76,7 +76,7 @@ pub const FIRST: u8 = 1;
 pub const SECOND: u8 = 2;
 
 // The checker's answer: nothing is refused, or which refusal it is, with the record where it has one, and what is wrong with it.
-#[derive(Drop)]
+#[derive(Clone, Copy)]
 pub enum Judged {
     Fine,
     Length,
@@ -88,7 +88,7 @@ pub enum Judged {
 }
 
 // The paper's number and place of a refusal, and after 2 what is wrong with the record; 0 and 0 where nothing is refused.
-#[derive(Drop)]
+#[derive(Clone, Copy)]
 pub struct Fault {
     pub number: u32,
     pub place: usize,
@@ -96,7 +96,7 @@ pub struct Fault {
 }
 
 // The weight of a table, and what was refused.
-#[derive(Drop)]
+#[derive(Clone, Copy)]
 pub struct Measured {
     pub number: u32,
     pub place: usize,
@@ -105,14 +105,14 @@ pub struct Measured {
 }
 
 // What the checker finds: its answer, and the weight of the table, 0 where it is refused.
-#[derive(Drop)]
+#[derive(Clone, Copy)]
 struct Found {
     judged: Judged,
     weight: usize,
 }
 
 // A record at a glance: something is wrong with it, or nothing is and it is of this kind; a sum or a product has so many members.
-#[derive(Drop)]
+#[derive(Clone, Copy)]
 enum Seen {
     Flawed,
     Integer,
@@ -122,7 +122,7 @@ enum Seen {
 }
 
 // All records of a table at a look: refusal 2 or 4 applies, or they are one tree of this weight, in which there is a power or none.
-#[derive(Drop)]
+#[derive(Clone, Copy)]
 enum Looked {
     Odd,
     Whole(usize, bool),

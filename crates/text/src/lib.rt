@@ -11,7 +11,7 @@ use table::Measured;
 pub const NO_TEXT: u32 = 14;
 
 // What comes of reading a text: number, place (always 0), records written.
-#[derive(Drop)]
+#[derive(Clone, Copy)]
 pub struct Taken {
     pub number: u32,
     pub place: usize,

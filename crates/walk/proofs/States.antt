@@ -31,7 +31,7 @@ module _ (b : Bool) (l : List Tree) (done : List (Like b)) (r : ℕ) (w : walked
   unfolding combine
   as_outcome = ap (λ w. outcome (node_of b μ) (map (join b) w.parts) w.removed) w
 
-  pub idle_outcome : r ≡ 0 → combined b μ l ≡ paper.does-not-apply
+  pub idle_outcome : r ≡ 0 → combined b μ l ≡ paper.does_not_apply
   unfolding outcome
   idle_outcome e = as_outcome ∙ ap (outcome (node_of b μ) (map (join b) done)) e
 
@@ -43,7 +43,7 @@ module _ (b : Bool) (l : List Tree) (done : List (Like b)) (r : ℕ) (w : walked
       go zero h = absurd (omega arith)
       go (suc r) h = refl
 
-  pub over_outcome : 1 ≤ r → all_in_range (map (join b) done) ≡ false → combined b μ l ≡ paper.range-exceeded
+  pub over_outcome : 1 ≤ r → all_in_range (map (join b) done) ≡ false → combined b μ l ≡ paper.range_exceeded
   unfolding rebuilt
   over_outcome h e = as_outcome ∙ judged h ∙ ap (rebuilt (node_of b μ) (map (join b) done)) e
 

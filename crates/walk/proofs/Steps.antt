@@ -219,10 +219,10 @@ module _ {b : Bool} {l : List Tree} {o₀ w₀ : List ℕ} {d p count : ℕ} whe
           ∙ ap (rest_of_walk b v.done v.removed) no_more
           ∙ walk_ends (merge b) v.done v.removed
 
-      says_idle : count ≤ n → (μ : ℕ) → combined b μ l ≡ paper.does-not-apply
+      says_idle : count ≤ n → (μ : ℕ) → combined b μ l ≡ paper.does_not_apply
       says_idle h μ = idle_outcome b l v.done v.removed all_out μ (omega (arith, v.gone))
 
-      says_late : n < count → late ≡ true → (μ : ℕ) → combined b μ l ≡ paper.range-exceeded
+      says_late : n < count → late ≡ true → (μ : ℕ) → combined b μ l ≡ paper.range_exceeded
       says_late h q μ =
           over_outcome b l v.done v.removed all_out μ (omega (arith, v.gone)) (subst (Came b d o₀ o e v.done) q v.common.came)
 
@@ -372,7 +372,7 @@ module _ {b : Bool} {l : List Tree} {o₀ w₀ : List ℕ} {d p count : ℕ} whe
 
       -- it is taken up, and the range is left
       pub says_over : (x : Like b) → merge b v.current (split b next.tree) ≡ some x → in_range b x ≡ false → (μ : ℕ)
-          → combined b μ l ≡ paper.range-exceeded
+          → combined b μ l ≡ paper.range_exceeded
       unfolding resumed after then_walk
       says_over x q bad μ =
           let t = next.tree in

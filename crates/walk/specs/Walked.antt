@@ -67,8 +67,8 @@ pub record OneNew (l m : List Tree) (d f : ℕ) : Type 0 where
 -- whatever the node's mark is: `Idle`, nothing was removed; `Over`, something was, and the range is left; `Done n e f`, the n members that came out stand up to
 -- record e, and where f is a record, the member there is the only one that was none before; where f is 0 nothing is said of that
 abbrev pub Says : Bool → List Tree → (out out' : List ℕ) (d : ℕ) → Walked → Type 0
-Says b l out out' d Idle = (μ : ℕ) → combined b μ l ≡ paper.does-not-apply
-Says b l out out' d Over = (μ : ℕ) → combined b μ l ≡ paper.range-exceeded
+Says b l out out' d Idle = (μ : ℕ) → combined b μ l ≡ paper.does_not_apply
+Says b l out out' d Over = (μ : ℕ) → combined b μ l ≡ paper.range_exceeded
 Says b l out out' d (Done n e f) = CameOut b l out out' d n e × (0 < f → OneNew l (came_out b l) d f)
 
 -- what is pending and what is done stay

@@ -42,7 +42,7 @@ const LONGER: usize = 3;
 
 // What the walk answers: nothing was removed; the range is left; how many members came out, where they end, and the record of the
 // only one of them that was no member before, or 0.
-#[derive(Drop)]
+#[derive(Clone, Copy)]
 pub enum Walked {
     Idle,
     Over,
@@ -54,7 +54,7 @@ pub enum Walked {
 }
 
 // The turn of a member is done: it stays, up to a record; it is new, up to a record; it is out of range.
-#[derive(Drop)]
+#[derive(Clone, Copy)]
 enum Finished {
     Kept(usize),
     New(usize),

@@ -52,7 +52,7 @@ const FACTOR: u64 = 0x9e37_79b9_7f4a_7c15;
 const NEXT: u64 = 0xd6e8_feb8_6659_fd93;
 
 // A round over the n listed members of the node at record p, a sum (terms) or a product: 8 m flags, and the factor f.
-#[derive(Drop)]
+#[derive(Clone, Copy)]
 struct Round {
     p: usize,
     n: usize,
@@ -62,14 +62,14 @@ struct Round {
 }
 
 // The flags of a member.
-#[derive(Drop)]
+#[derive(Clone, Copy)]
 struct Flags {
     first: usize,
     second: usize,
 }
 
 // What its flags held.
-#[derive(Drop)]
+#[derive(Clone, Copy)]
 struct Held {
     first: usize,
     second: usize,

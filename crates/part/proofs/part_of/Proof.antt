@@ -53,7 +53,7 @@ no_integer : (c : Other) (t : Tree)
 no_integer c t there =
     let known = known_of c in
     let found = found_of known in
-    laws.no-integer (found.base.ensures.0 note t there) (omega (arith, known.kind.ensures, c.before.if2.false))
+    laws.no_integer (found.base.ensures.0 note t there) (omega (arith, known.kind.ensures, c.before.if2.false))
 
 term_of_requires : tie.Need-term-of-requires
 term_of_requires c κs =
