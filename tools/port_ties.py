@@ -164,12 +164,18 @@ class Turner:
                     rest = ["branch-raw", *rest[1:]]
                     self.joins.append(at)
                 return [new, *rest], None
-            if f in START or self.fn.parent(at) is None:
+            if f in START and self.fn.parent(at) is not None:
+                return [WORDS.get(f, f), *rest], None
+            if f in START or (self.fn.parent(at) is None and f in WORDS):
                 return [WORDS.get(f, f), *rest], None
             for up, arm in self.shown.items():
                 q = self.fn.places[up][1]
                 if f == q[2][1] or (arm and f == arm[0]):
                     return fields[i:], None
+            # a step more or less on the way: by the name alone
+            same = [up for up in self.shown if self.fn.places[up][1][2][0] and norm(self.fn.places[up][1][2][0]) == norm(f)]
+            if len(same) == 1:
+                return self.resolve(same[0], fields[i:])
             raise Left(f"at {at} there is no {f}, but {old}: {'.'.join(fields)}")
 
     def turn(self, text):
@@ -255,8 +261,14 @@ class Turner:
                 if k >= len(fields):
                     self.said(f"no field {k} of {[f for f, _ in fields]}")
                     return w[0]
-                name, ty = fields[k]
                 rest = w[3].split(".")[1:]
+                if rest and rest[0] in ("taken", "left"):
+                    k = next((i for i in range(k, len(fields)) if re.search(r"Own-(Then|Else)", fields[i][1])), k)
+                elif rest and rest[0] in ("ensures", "result"):
+                    k = next((i for i in range(k, len(fields)) if re.search(r"Own-After-", fields[i][1]) and not re.match(r"t\d+-|shared_slice_known|slice_known", fields[i][0])), k)
+                elif not rest and w[0] == w[1] + "." + w[2]:
+                    k = next((i for i in range(k, len(fields)) if fields[i][0].endswith("-is")), k)
+                name, ty = fields[k]
                 if rest and rest[0] == "taken":
                     rest[0] = "false" if "Else" in ty else "true"
                 elif rest:

@@ -6,14 +6,14 @@ use borrow.Author.Rules.{rules}
 use Rattle.decimal.proofs.digit_at.Statement.{statement}
 use Rattle.decimal.proofs.digit_at.Tie as tie
 
-returns : tie.Need-returns
-returns c = let a = c.before.args in sym (no_digit_past a.text.now a.at c.if1.true)
+returns : tie.Need-returns-then-text-at
+returns c = let a = c.args in sym (no_digit_past a.text.now a.at c.if-text-at.true)
 
-returns_2 : tie.Need-returns-2
-returns_2 c = let a = c.before.before.before.args in too_low a.text.now a.at c.before.before.if1.false c.if2.true
+returns_2 : tie.Need-returns-then-text-at-lt48
+returns_2 c = let a = c.args in too_low a.text.now a.at c.if-text-at.false c.if-text-at-lt48.true
 
-returns_3 : tie.Need-returns-3
-returns_3 c = let a = c.before.before.before.before.args in by_the_top a.text.now a.at c.before.before.before.if1.false c.before.if2.false
+returns_3 : tie.Need-returns
+returns_3 c = let a = c.args in by_the_top a.text.now a.at c.if-text-at.false c.if-text-at-lt48.false
 
 pub digit_at_spec : {M : Type 1} → statement M
 digit_at_spec =

@@ -8,42 +8,42 @@ use Rattle.decimal.proofs.SpellLaws.{Spelling, begin_spelling, spell_turn, no_ro
 use Rattle.decimal.proofs.spell_number.Statement.{statement}
 use Rattle.decimal.proofs.spell_number.Tie as tie
 
-abbrev invariant_loop : tie.invariant-loop
+abbrev invariant_loop : tie.invariant-loop-w
 invariant_loop v out at b₀ i₀ w₀ b i w = Spelling v b i w
 
-abbrev decreases_loop : tie.decreases-loop
+abbrev decreases_loop : tie.decreases-loop-w
 decreases_loop v out at b₀ i₀ w₀ b i w = i
 
-loop_holds : tie.Need-loop-init invariant_loop decreases_loop
-loop_holds c = begin_spelling c.before.args.v (search rules)
+loop_holds : tie.Need-loop-w-init invariant_loop decreases_loop
+loop_holds c = begin_spelling c.args.v (search rules)
 
-loop_less : tie.Need-loop-smaller invariant_loop decreases_loop
-loop_less c = let s = c.before.loop.invariant.some in omega (arith, s)
+loop_less : tie.Need-loop-w-smaller invariant_loop decreases_loop
+loop_less c = let s = c.loop-w.invariant.some in omega (arith, s)
 
-loop_again : tie.Need-loop-preserved invariant_loop decreases_loop
+loop_again : tie.Need-loop-w-preserved invariant_loop decreases_loop
 loop_again c =
-    let l = c.before.loop in
-    spell_turn c.before.before.before.args.v l.b l.i l.w c.loop-test.true l.invariant
+    let l = c.loop-w in
+    spell_turn c.args.v l.b l.i l.w c.loop-w-test.true l.invariant
 
-returns : tie.Need-returns invariant_loop decreases_loop
+returns : tie.Need-returns-then-out-at invariant_loop decreases_loop
 returns c =
-    let a = c.before.before.before.before.args in
-    let l = c.before.before.loop in
-    no_room_lem a.v l.b l.i l.w a.out.now _ a.at c.before.loop-test.false l.invariant c.if1.true
+    let a = c.args in
+    let l = c.loop-w in
+    no_room_lem a.v l.b l.i l.w a.out.now _ a.at c.loop-w-test.false l.invariant c.if-out-at.true
 
-copy_bytes_requires : tie.Need-copy-bytes-requires invariant_loop decreases_loop
+copy_bytes_requires : tie.Need-copy_bytes-requires invariant_loop decreases_loop
 copy_bytes_requires c κs =
-    let l = c.before.before.before.before.loop in
+    let l = c.loop-w in
     let f = l.invariant.few in
     let e = l.invariant.long in
     (omega arith, simp length-set (omega (arith, e, f)))
 
-returns_2 : tie.Need-returns-2 invariant_loop decreases_loop
+returns_2 : tie.Need-returns invariant_loop decreases_loop
 returns_2 c =
-    let a = c.before.before.before.before.before.before.before.before.before.args in
-    let l = c.before.before.before.before.before.before.before.loop in
-    room a.v l.b l.i l.w a.out.now c.before.before.copy-bytes.new.0 a.at
-    c.before.before.before.before.before.before.loop-test.false l.invariant c.before.before.copy-bytes.ensures
+    let a = c.args in
+    let l = c.loop-w in
+    room a.v l.b l.i l.w a.out.now c.copy_bytes.new.dst a.at
+    c.loop-w-test.false l.invariant c.copy_bytes.ensures
 
 pub spell_number_spec : {M : Type 1} → statement M
 spell_number_spec =

@@ -7,20 +7,20 @@ use Rattle.paper.specs.Record.{arity}
 use Rattle.record.proofs.arity.Statement.{statement}
 use Rattle.record.proofs.arity.Tie as tie
 
-returns : tie.Need-returns
+returns : tie.Need-returns-then-k-lt-SUM
 unfolding arity
-returns c = (simp (sym c.before.kind.ensures, lt-ltb _ _ c.if1.true), omega arith)
+returns c = (simp (sym c.kind-k.ensures, lt-ltb _ _ c.if-k-lt-SUM.true), omega arith)
 
-returns_2 : tie.Need-returns-2
+returns_2 : tie.Need-returns-then-k-eq-POWER
 unfolding arity
 returns_2 c =
-    (simp (sym c.before.before.kind.ensures, le-ltb _ _ c.before.if1.false, eq-eqb _ _ c.if2.true), omega arith)
+    (simp (sym c.kind-k.ensures, le-ltb _ _ c.if-k-lt-SUM.false, eq-eqb _ _ c.if-k-eq-POWER.true), omega arith)
 
-returns_3 : tie.Need-returns-3
+returns_3 : tie.Need-returns
 unfolding arity
 returns_3 c =
-    let k = c.before.before.before.kind.ensures in (
-      simp (sym k, le-ltb _ _ c.before.before.if1.false, ne_eqb _ _ c.before.if2.false) c.count.ensures.0,
+    let k = c.kind-k.ensures in (
+      simp (sym k, le-ltb _ _ c.if-k-lt-SUM.false, ne_eqb _ _ c.if-k-eq-POWER.false) c.count.ensures.0,
       c.count.ensures.1,
     )
 

@@ -8,16 +8,10 @@ use Rattle.record.proofs.copy_record.Tie as tie
 
 returns : tie.Need-returns
 returns c =
-    let written = c.before.before in
-    let half = written.before.before.before.before in
-    let second = half.before.before in
-    let first = second.before in
-    let known = first.before in
-    let entry = known.before.before in
-    let g = entry.args in
-    halves g.dst.now g.src.now (are_bytes g.src.now known.shared-slice-known.given) (g.i * 16) (g.j * 16) first.read8.result
-    second.read82.result entry.requires.0 entry.requires.1 first.read8.ensures second.read82.ensures half.write8.ensures
-    written.write82.ensures
+    let g = c.args in
+    halves g.dst.now g.src.now (are_bytes g.src.now c.shared_slice_known-1.given) (g.i * 16) (g.j * 16) c.read8-a.result
+    c.read8-b.result c.requires.0 c.requires.1 c.read8-a.ensures c.read8-b.ensures c.write8.ensures
+    c.write8-2.ensures
 
 pub copy_record_spec : {M : Type 1} → statement M
 copy_record_spec =

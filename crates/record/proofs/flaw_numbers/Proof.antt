@@ -7,21 +7,21 @@ use Rattle.record.specs.declared.Flaw.{Flaw}
 use Rattle.record.proofs.flaw_numbers.Statement.{statement}
 use Rattle.record.proofs.flaw_numbers.Tie as tie
 
-returns : tie.Need-returns
+returns : tie.Need-returns-in-Sound
 unfolding flaw_numbers
-returns c = sym (ap (λ (f : Flaw). flaw_numbers (flaw_of f)) c.enum_told.given.1)
+returns c = sym (ap (λ (f : Flaw). flaw_numbers (flaw_of f)) c.in-Sound.is)
 
-returns_2 : tie.Need-returns-2
+returns_2 : tie.Need-returns-in-Kind
 unfolding flaw_numbers
-returns_2 c = sym (ap (λ (f : Flaw). flaw_numbers (flaw_of f)) c.enum-told2.given.1)
+returns_2 c = sym (ap (λ (f : Flaw). flaw_numbers (flaw_of f)) c.in-Kind.is)
 
-returns_3 : tie.Need-returns-3
+returns_3 : tie.Need-returns-in-Byte
 unfolding flaw_numbers
-returns_3 c = sym (ap (λ (f : Flaw). flaw_numbers (flaw_of f)) c.before.f.given.1)
+returns_3 c = sym (ap (λ (f : Flaw). flaw_numbers (flaw_of f)) c.in-Byte.is)
 
-returns_4 : tie.Need-returns-4
+returns_4 : tie.Need-returns-in-Count
 unfolding flaw_numbers
-returns_4 c = sym (ap (λ (f : Flaw). flaw_numbers (flaw_of f)) c.enum-told3.given.1)
+returns_4 c = sym (ap (λ (f : Flaw). flaw_numbers (flaw_of f)) c.in-Count.is)
 
 pub flaw_numbers_spec : {M : Type 1} → statement M
 flaw_numbers_spec =

@@ -7,20 +7,19 @@ use Rattle.record.proofs.KindLaws.{leaf_no_node, power_no_node, between_node}
 use Rattle.record.proofs.front.Statement.{statement}
 use Rattle.record.proofs.front.Tie as tie
 
-returns : tie.Need-returns
+returns : tie.Need-returns-then-k-lt-SUM
 unfolding front
-returns c = simp (leaf_no_node _ c.if1.true, sym c.before.mark.ensures.0)
+returns c = simp (leaf_no_node _ c.if-k-lt-SUM.true, sym c.mark.ensures.0)
 
-returns_2 : tie.Need-returns-2
+returns_2 : tie.Need-returns-then-k-eq-POWER
 unfolding front
-returns_2 c = simp (power_no_node _ c.if2.true, sym c.before.before.mark.ensures.0)
+returns_2 c = simp (power_no_node _ c.if-k-eq-POWER.true, sym c.mark.ensures.0)
 
-returns_3 : tie.Need-returns-3
+returns_3 : tie.Need-returns
 unfolding front
 returns_3 c =
-    let marked = c.before.before.before in
-    let node = between_node _ c.before.before.if1.false (omega (arith, marked.before.before.requires.1)) c.before.if2.false in
-    simp (node, sym c.count.ensures.0, sym marked.mark.ensures.0)
+    let node = between_node _ c.if-k-lt-SUM.false (omega (arith, c.requires.1)) c.if-k-eq-POWER.false in
+    simp (node, sym c.count.ensures.0, sym c.mark.ensures.0)
 
 pub front_spec : {M : Type 1} → statement M
 front_spec =

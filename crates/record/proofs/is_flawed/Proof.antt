@@ -7,21 +7,21 @@ use Rattle.paper.specs.Record.{is_flawed}
 use Rattle.record.proofs.is_flawed.Statement.{statement}
 use Rattle.record.proofs.is_flawed.Tie as tie
 
-returns : tie.Need-returns
+returns : tie.Need-returns-in-Sound
 unfolding is_flawed
-returns c = sym (ap (λ (f : Flaw). is_flawed (flaw_of f)) c.enum_told.given.1)
+returns c = sym (ap (λ (f : Flaw). is_flawed (flaw_of f)) c.in-Sound.is)
 
-returns_2 : tie.Need-returns-2
+returns_2 : tie.Need-returns-in-Kind
 unfolding is_flawed
-returns_2 c = sym (ap (λ (f : Flaw). is_flawed (flaw_of f)) c.enum-told2.given.1)
+returns_2 c = sym (ap (λ (f : Flaw). is_flawed (flaw_of f)) c.in-Kind.is)
 
-returns_3 : tie.Need-returns-3
+returns_3 : tie.Need-returns-in-Byte
 unfolding is_flawed
-returns_3 c = sym (ap (λ (f : Flaw). is_flawed (flaw_of f)) c.enum-told3.given.1)
+returns_3 c = sym (ap (λ (f : Flaw). is_flawed (flaw_of f)) c.in-Byte.is)
 
-returns_4 : tie.Need-returns-4
+returns_4 : tie.Need-returns-in-Count
 unfolding is_flawed
-returns_4 c = sym (ap (λ (f : Flaw). is_flawed (flaw_of f)) c.enum-told4.given.1)
+returns_4 c = sym (ap (λ (f : Flaw). is_flawed (flaw_of f)) c.in-Count.is)
 
 pub is_flawed_spec : {M : Type 1} → statement M
 is_flawed_spec =

@@ -10,37 +10,34 @@ use Rattle.record.proofs.KindLaws.{leaf_no_node, power_no_node, between_node}
 use Rattle.record.proofs.is_sound.Statement.{statement}
 use Rattle.record.proofs.is_sound.Tie as tie
 
-returns : tie.Need-returns
+returns : tie.Need-returns-then-k-gt-POWER
 unfolding flaw is_flawed
-returns c = simp (sym c.before.kind.ensures, lt-ltb _ _ c.if1.true)
+returns c = simp (sym c.kind-k.ensures, lt-ltb _ _ c.if-k-gt-POWER.true)
 
-returns_2 : tie.Need-returns-2
+returns_2 : tie.Need-returns-then-stray-lt-SIZE
 unfolding flaw is_flawed
 returns_2 c =
-    let k = c.before.before.before.kind.ensures in
-    simp (sym k, le-ltb _ _ c.before.before.if1.false, sym c.before.stray.ensures, lt-ltb _ _ c.if2.true)
+    let k = c.kind-k.ensures in
+    simp (sym k, le-ltb _ _ c.if-k-gt-POWER.false, sym c.stray.ensures, lt-ltb _ _ c.if-stray-lt-SIZE.true)
 
-returns_3 : tie.Need-returns-3
+returns_3 : tie.Need-returns-then-k-lt-SUM
 unfolding count_flaw is_flawed
 returns_3 c =
-    let at = c.before.before in
-    let only = flaw_unstray _ _ _ _ at.before.before.kind.ensures at.before.if1.false at.stray.ensures c.before.if2.false in
-    simp (only, leaf_no_node _ c.if3.true)
+    let only = flaw_unstray _ _ _ _ c.kind-k.ensures c.if-k-gt-POWER.false c.stray.ensures c.if-stray-lt-SIZE.false in
+    simp (only, leaf_no_node _ c.if-k-lt-SUM.true)
 
-returns_4 : tie.Need-returns-4
+returns_4 : tie.Need-returns-then-k-eq-POWER
 unfolding count_flaw is_flawed
 returns_4 c =
-    let at = c.before.before.before in
-    let only = flaw_unstray _ _ _ _ at.before.before.kind.ensures at.before.if1.false at.stray.ensures c.before.before.if2.false in
-    simp (only, power_no_node _ c.if4.true)
+    let only = flaw_unstray _ _ _ _ c.kind-k.ensures c.if-k-gt-POWER.false c.stray.ensures c.if-stray-lt-SIZE.false in
+    simp (only, power_no_node _ c.if-k-eq-POWER.true)
 
-returns_5 : tie.Need-returns-5
+returns_5 : tie.Need-returns
 unfolding count_flaw
 returns_5 c =
-    let none = c.before.before.before.if2.false in
-    let at = c.before.before.before.before in
-    let only = flaw_unstray _ _ _ _ at.before.before.kind.ensures at.before.if1.false at.stray.ensures none in
-    let node = between_node _ c.before.before.if3.false at.before.if1.false c.before.if4.false in
+    let none = c.if-stray-lt-SIZE.false in
+    let only = flaw_unstray _ _ _ _ c.kind-k.ensures c.if-k-gt-POWER.false c.stray.ensures none in
+    let node = between_node _ c.if-k-lt-SUM.false c.if-k-gt-POWER.false c.if-k-eq-POWER.false in
     simp (only, node, sym c.count.ensures.0) (count_good c.count.result)
 
 pub is_sound_spec : {M : Type 1} → statement M

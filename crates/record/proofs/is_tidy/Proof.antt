@@ -8,40 +8,40 @@ use Rattle.record.specs.Tidy.{is_tidy}
 use Rattle.record.proofs.is_tidy.Statement.{statement}
 use Rattle.record.proofs.is_tidy.Tie as tie
 
-returns : tie.Need-returns
+returns : tie.Need-returns-then-read8-front
 unfolding is_tidy
 returns c =
-    let one = c.before.before.read8.ensures in
-    let two = c.before.front.ensures in
-    simp (sym one, sym two, ne_eqb _ _ c.if1.true)
+    let one = c.read8.ensures in
+    let two = c.front.ensures in
+    simp (sym one, sym two, ne_eqb _ _ c.if-read8-front.true)
 
-returns_2 : tie.Need-returns-2
+returns_2 : tie.Need-returns-then-k-lt-SYMBOL
 unfolding is_tidy
 returns_2 c =
-    let one = c.before.before.before.read8.ensures in
-    let two = c.before.before.front.ensures in
-    let integer : c.before.before.before.before.before.args.k ≡ 0 = omega (arith, c.if2.true) in
-    simp (sym one, sym two, eq-eqb _ _ c.before.if1.false, eq-eqb _ 0 integer)
+    let one = c.read8.ensures in
+    let two = c.front.ensures in
+    let integer : c.args.k ≡ 0 = omega (arith, c.if-k-lt-SYMBOL.true) in
+    simp (sym one, sym two, eq-eqb _ _ c.if-read8-front.false, eq-eqb _ 0 integer)
 
-returns_3 : tie.Need-returns-3
+returns_3 : tie.Need-returns-then-k-lt-SUM
 unfolding is_tidy
 returns_3 c =
-    let k = c.before.before.before.before.before.before.before.args.k in
-    let one = c.before.before.before.before.before.read8.ensures in
-    let two = c.before.before.before.before.front.ensures in
-    let other : k ≡ 0 → ⊥ = λ e. omega (arith, c.before.before.if2.false) in
-    let symbol : k ≡ 1 = omega (arith, c.before.before.if2.false, c.before.if3.true) in
-    simp (sym one, sym two, eq-eqb _ _ c.before.before.before.if1.false, ne_eqb k 0 other, eq-eqb k 1 symbol, sym c.bits.ensures)
+    let k = c.args.k in
+    let one = c.read8.ensures in
+    let two = c.front.ensures in
+    let other : k ≡ 0 → ⊥ = λ e. omega (arith, c.if-k-lt-SYMBOL.false) in
+    let symbol : k ≡ 1 = omega (arith, c.if-k-lt-SYMBOL.false, c.if-k-lt-SUM.true) in
+    simp (sym one, sym two, eq-eqb _ _ c.if-read8-front.false, ne_eqb k 0 other, eq-eqb k 1 symbol, sym c.bits.ensures)
 
-returns_4 : tie.Need-returns-4
+returns_4 : tie.Need-returns
 unfolding is_tidy
 returns_4 c =
-    let k = c.before.before.before.before.before.before.before.args.k in
-    let one = c.before.before.before.before.before.read8.ensures in
-    let two = c.before.before.before.before.front.ensures in
-    let other : k ≡ 0 → ⊥ = λ e. omega (arith, c.before.before.if2.false) in
-    let node : k ≡ 1 → ⊥ = λ e. omega (arith, c.before.if3.false) in
-    simp (sym one, sym two, eq-eqb _ _ c.before.before.before.if1.false, ne_eqb k 0 other, ne_eqb k 1 node, sym c.bits2.ensures)
+    let k = c.args.k in
+    let one = c.read8.ensures in
+    let two = c.front.ensures in
+    let other : k ≡ 0 → ⊥ = λ e. omega (arith, c.if-k-lt-SYMBOL.false) in
+    let node : k ≡ 1 → ⊥ = λ e. omega (arith, c.if-k-lt-SUM.false) in
+    simp (sym one, sym two, eq-eqb _ _ c.if-read8-front.false, ne_eqb k 0 other, ne_eqb k 1 node, sym c.bits-2.ensures)
 
 pub is_tidy_spec : {M : Type 1} → statement M
 is_tidy_spec =

@@ -7,17 +7,17 @@ use Rattle.record.proofs.FlawLaws.{flaw_known}
 use Rattle.record.proofs.judge_record.Statement.{statement}
 use Rattle.record.proofs.judge_record.Tie as tie
 
-returns : tie.Need-returns
+returns : tie.Need-returns-then-k-gt-POWER
 unfolding flaw
-returns c = simp (sym c.before.kind.ensures, lt-ltb _ _ c.if1.true)
+returns c = simp (sym c.kind-k.ensures, lt-ltb _ _ c.if-k-gt-POWER.true)
 
-returns_2 : tie.Need-returns-2
+returns_2 : tie.Need-returns
 returns_2 c =
-    let members = c.before.judge-count in
-    let bytes = c.before.before.judge-bytes in
-    let k = c.before.before.before.before.kind.ensures in
-    let a = c.before.before.before.before.before.before.args in
-    let small = c.before.before.before.if1.false in
+    let members = c.judge_count-members in
+    let bytes = c.judge_bytes-bytes in
+    let k = c.kind-k.ensures in
+    let a = c.args in
+    let small = c.if-k-gt-POWER.false in
     c.first_of.ensures ∙ rw (bytes.ensures, members.ensures) (flaw_known a.s.now a.i _ k small)
 
 pub judge_record_spec : {M : Type 1} → statement M

@@ -7,7 +7,7 @@ use Rattle.record.proofs.set_mark.Tie as tie
 
 returns : tie.Need-returns
 unfolding part bytes
-returns c = c.before.before.copy-bytes.ensures
+returns c = c.copy_bytes.ensures
 
 pub set_mark_spec : {M : Type 1} → statement M
 set_mark_spec =

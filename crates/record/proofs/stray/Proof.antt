@@ -11,50 +11,47 @@ use Rattle.record.proofs.StrayLaws.{stray_zero, stray_free, stray_here, stray_do
 use Rattle.record.proofs.stray.Statement.{statement}
 use Rattle.record.proofs.stray.Tie as tie
 
-abbrev invariant_loop : tie.invariant-loop
+abbrev invariant_loop : tie.invariant-loop-j
 invariant_loop s i k j₀ j = (j ≤ 16) × (stray s i k 0 16 ≡ stray s i k j (16 - j))
 
-abbrev decreases_loop : tie.decreases-loop
+abbrev decreases_loop : tie.decreases-loop-j
 decreases_loop s i k j₀ j = 16 - j
 
-returns : tie.Need-returns invariant_loop decreases_loop
+returns : tie.Need-returns-then-is_tidy invariant_loop decreases_loop
 returns c =
-    let start = c.before.before.before in
-    sym (tidy_stray start.args.s.now start.args.i start.args.k start.requires.1 (sym c.before.is-tidy.ensures ∙ c.if1.true))
+    sym (tidy_stray c.args.s.now c.args.i c.args.k c.requires.1 (sym c.is_tidy.ensures ∙ c.if-is_tidy.true))
 
-loop_holds : tie.Need-loop-init invariant_loop decreases_loop
+loop_holds : tie.Need-loop-j-init invariant_loop decreases_loop
 loop_holds c = (omega arith, refl)
 
 -- Here, and in `loop-again`, MAY meets `mayTable`: the test of MAY[k][j] is handed to a law about `mayBe k j`, which is admitted
 -- because the two tables are the same numbers.
-returns_2 : tie.Need-returns-2 invariant_loop decreases_loop
+returns_2 : tie.Need-returns-then-k-j-eq0 invariant_loop decreases_loop
 unfolding may_be may_table
 returns_2 c =
-    let at = c.before.before.before.before.before in
-    let a = at.before.before.before.before.args in
-    let test = c.before.before.before.before.loop-test.true in
-    sym (at.loop.invariant.1 ∙ stray_here a.s.now a.i a.k at.loop.j test c.before.before.if2.true c.if3.true)
+    let a = c.args in
+    let test = c.loop-j-test.true in
+    sym (c.loop-j.invariant.1 ∙ stray_here a.s.now a.i a.k c.loop-j.j test c.if-s-i-ne0.true c.if-k-j-eq0.true)
 
-loop_again : tie.Need-loop-preserved invariant_loop decreases_loop
+loop_again : tie.Need-loop-j-preserved invariant_loop decreases_loop
 unfolding may_be may_table
 loop_again c =
-    let at = c.before.before.before in
-    let s = at.before.before.before.before.args.s.now in
-    let i = at.before.before.before.before.args.i in
-    let k = at.before.before.before.before.args.k in
-    let test = c.before.before.loop-test.true in (
+    let s = c.args.s.now in
+    let i = c.args.i in
+    let k = c.args.k in
+    let test = c.loop-j-test.true in (
       omega arith,
-      at.loop.invariant.1
+      c.loop-j.invariant.1
           ∙ ⊎_elim
-          (λ w. stray_free s i k at.loop.j test w.0.taken w.2.left)
-          (λ w. stray_zero s i k at.loop.j test w.left)
-          c.if2.branch,
+          (λ w. stray_free s i k c.loop-j.j test w.if-s-i-ne0.true w.if-k-j-eq0.false)
+          (λ w. stray_zero s i k c.loop-j.j test w.if-s-i-ne0.false)
+          c.if-s-i-ne0.branch-raw,
     )
 
-returns_3 : tie.Need-returns-3 invariant_loop decreases_loop
+returns_3 : tie.Need-returns invariant_loop decreases_loop
 returns_3 c =
-    let a = c.before.before.before.before.before.args in
-    sym (c.before.loop.invariant.1 ∙ stray_done a.s.now a.i a.k c.before.loop.j c.loop-test.false)
+    let a = c.args in
+    sym (c.loop-j.invariant.1 ∙ stray_done a.s.now a.i a.k c.loop-j.j c.loop-j-test.false)
 
 pub stray_spec : {M : Type 1} → statement M
 stray_spec =

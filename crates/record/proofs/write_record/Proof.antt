@@ -14,11 +14,11 @@ use Rattle.record.proofs.write_record.Tie as tie
 returns : tie.Need-returns
 unfolding part record_of bytes
 returns c =
-    let g = c.before.before.before.before.before.before.before.args in
+    let g = c.args in
     let record_of_lem : List ℕ → List ℕ = λ b. g.kind ∷ 0 ∷ g.count % 256 ∷ g.count / 256 % 256 ∷ g.mark % 256 ∷ g.mark / 256 % 256 ∷ 0 ∷ 0
     ∷ get_or b 0 0 ∷ get_or b 1 0 ∷ get_or b 2 0 ∷ get_or b 3 0 ∷ get_or b 4 0 ∷ get_or b 5 0 ∷ get_or b 6 0 ∷ get_or b 7 0 ∷ [] in
-    c.before.before.copy-bytes.ensures
-    ∙ ap (λ b. put g.d.now (g.i * 16) (record_of_lem b)) c.before.before.before.before.before.bytes8.ensures
+    c.copy_bytes.ensures
+    ∙ ap (λ b. put g.d.now (g.i * 16) (record_of_lem b)) c.bytes8-b.ensures
 
 pub write_record_spec : {M : Type 1} → statement M
 write_record_spec =
