@@ -116,13 +116,13 @@ class Turner:
     def __init__(self, fn, here, muts, said, var="c"):
         self.fn, self.here, self.muts, self.said, self.var = fn, here, muts, said, var
         self.shown = fn.shown(here)
-        self.joins = []
+        self.joins, self.step = [], None
 
     def words(self, fields, place):
         """The fields behind a step: what a `&mut` holds afterwards goes by its name."""
         out = [WORDS.get(f, f) if i == 0 else f for i, f in enumerate(fields)]
         p = self.fn.places[place][1] if place else None
-        if p and out and out[0] == "new" and len(out) > 1 and out[1].isdigit() and p[3]:
+        if p and out and out[0] in ("new", "auto") and len(out) > 1 and out[1].isdigit() and p[3]:
             k, i = 0, 1
             while i < len(out) and out[i] == "1":
                 k, i = k + 1, i + 1
@@ -142,9 +142,7 @@ class Turner:
             f = fields[i]
             if f == "before":
                 up = self.fn.parent(at)
-                if up is None:
-                    raise Left(f"nothing before the start: {'.'.join(fields)}")
-                at, i = up, i + 1
+                at, i = up or at, i + 1
                 continue
             p = self.fn.places[at][1]
             old, new = p[2]
@@ -159,6 +157,7 @@ class Turner:
                     if best is None:
                         raise Left(f"in the arm {arm[0]} nothing shows {'.'.join(fields)}: {arm[2]}")
                     return [arm[0], best[0], *self.words(rest[len(best[1]) :], None)], None
+                self.step = at
                 rest = self.words(rest, at)
                 if rest[:1] == ["branch"]:
                     rest = ["branch-raw", *rest[1:]]
@@ -181,7 +180,7 @@ class Turner:
     def turn(self, text):
         env = {self.var: (self.here, [])}
         # what a let names: a place, or a step; it is written out where it is used
-        gone = set()
+        gone, steps = set(), {}
         for m in LET.finditer(text):
             head, *fields = m[2].split(".")
             if head in env:
@@ -193,16 +192,22 @@ class Turner:
                     env[m[1]] = (base, front + fields)
                     gone.add(m[0])
                     continue
+                if at is None and out and len(out) == 1 and out[0] not in START:
+                    steps[m[1]] = self.step
                 if at is not None or "given" in fields:
                     env[m[1]] = (base, front + fields) if at is None else (at, [])
                     gone.add(m[0])
 
         def one(m):
             head, fields = m[1], m[2].split(".")[1:]
+            if head in steps and fields:
+                return ".".join([head, *self.words(fields, steps[head])])
             if head not in env:
                 return m[0]
             before = text[max(0, m.start() - 2) : m.start()]
             if not fields and (head == self.var or before.endswith("λ ")):
+                return m[0]
+            if head == "at" and not fields and re.search(r"\b(rw|simp) ([^()\s]+|\([^()]*\)) $", text[: m.start()]):
                 return m[0]
             base, front = env[head]
             try:
@@ -211,7 +216,7 @@ class Turner:
                 self.said(str(e))
                 return m[0]
             if out is None:
-                if self.shown.get(at) and (self.shown.get(self.here) is not self.shown[at] or at != self.here):
+                if self.shown.get(at) and next(up for up, arm in self.shown.items() if arm is self.shown[at]) != at:
                     self.said(f"a place in an arm stands alone: {m[0]}")
                 n, up = 0, self.here
                 while up is not None and up != at:
@@ -227,6 +232,9 @@ class Turner:
         text = PATH.sub(one, text)
         # a test of `!x` says by itself what `x` is
         text = re.sub(r"\b(?:not-true|not-false|not_true|not_false) _ (?=" + re.escape(self.var) + r"\.[^\s()]*if-not-)", "", text)
+        said = r"\brw (" + re.escape(self.var) + r"\.in[-_]" + N + r")\.is at " + re.escape(self.var) + r"\.[^\s()]+\.ensures"
+        text = re.sub(r"\(" + said + r"\)", lambda w: w[1] + ".ensures", text)
+        text = re.sub(said, lambda w: w[1] + ".ensures", text)
         return self.lambdas(text)
 
     def lambdas(self, text):
@@ -240,7 +248,7 @@ class Turner:
             self.said(f"no ways of {self.joins[0]}")
             return text
         at = []
-        for m in re.finditer(r"\(λ (" + N + r")\. ", text):
+        for m in re.finditer(r"\(λ (" + N + r")\.\s", text):
             depth, i = 0, m.start()
             while i < len(text):
                 depth += (text[i] == "(") - (text[i] == ")")
@@ -256,12 +264,28 @@ class Turner:
         for (m, end), fields in reversed(list(zip(at, ways))):
             body = text[m.end() : end]
 
+            used = [int(k) for k in re.findall(r"(?<![^\s(){};,])" + re.escape(m[1]) + r"\.(\d+)", body)]
+            most = max(used, default=0)
+            arms = [f for f, _ in fields if re.match(r"in[-_]", f)]
+
             def way(w):
                 k = int(w[2])
+                rest = w[3].split(".")[1:]
+                if arms and rest[:1] == ["given"]:
+                    for arm in self.fn.row["arms"]:
+                        if arm and arm[0] == arms[-1]:
+                            best = max((it for it in arm[2] if it[2] and rest[: len(it[2])] == it[2]), key=lambda it: len(it[2]), default=None)
+                            if best:
+                                return ".".join([w[1], arms[-1], best[0], *rest[len(best[2]) :]])
+                    self.said(f"{w[0]}: not in {arms}")
+                    return w[0]
+                if not rest and most != len(fields) - 1:
+                    j = len(fields) - 1 - (most - k)
+                    if j >= 0 and fields[j][0].endswith("-is"):
+                        return w[1] + "." + fields[j][0]
                 if k >= len(fields):
                     self.said(f"no field {k} of {[f for f, _ in fields]}")
                     return w[0]
-                rest = w[3].split(".")[1:]
                 if rest and rest[0] in ("taken", "left"):
                     k = next((i for i in range(k, len(fields)) if re.search(r"Own-(Then|Else)", fields[i][1])), k)
                 elif rest and rest[0] in ("ensures", "result"):
@@ -283,40 +307,79 @@ class Turner:
             if len(fields) == 1:
                 body = re.sub(r"(?<![^\s(){};,])(" + re.escape(m[1]) + r")\.(taken|left|ensures|result)\b", lambda w: f"{w[1]}.{fields[0][0]}.{WORDS.get(w[2], w[2])}", body)
             body = re.sub(r"(?<![^\s(){};,])(" + re.escape(m[1]) + r")\.(\d+)((?:\." + N + r")*)", way, body)
+            said = r"\brw (" + re.escape(m[1]) + r"\.in[-_]" + N + r")\.is at [^\s()]+"
+            body = re.sub(r"\(" + said + r"\)", lambda w: w[1] + ".ensures", body)
+            body = re.sub(said, lambda w: w[1] + ".ensures", body)
+            body = re.sub(r"\b(?:not-true|not-false|not_true|not_false) _ (?=" + re.escape(m[1]) + r"\.[^\s()]*if-not-)", "", body)
             text = text[: m.end()] + body + text[end:]
         return text
 
 
-def turn_file(path, fn, muts, said):
+def turn_file(path, fns, muts, said):
+    """fns: the names under which the file cites a function's goals, each with the function."""
     text = open(path, encoding="utf-8").read()
     was = text
+    heads = "|".join(map(re.escape, fns))
+
+    def after(head, w):
+        named = [p[0] for p in fns[head].row["places"]]
+        return next((named[i] for i, it in enumerate(named) if norm(it) == norm(w)), None)
+
+    # the file's own names of places, and those of the other files of the same proof
+    places = {}
+    for other in [path, *glob.glob(os.path.dirname(path) + "/*.antt")]:
+        for m in re.finditer(r"(?m)^ *(" + N + r") = (" + heads + r")\.(" + N + r")[^\n]*$", open(other, encoding="utf-8").read()):
+            if after(m[2], m[3]) is not None:
+                places.setdefault(m[1], (m[2], after(m[2], m[3])))
     parts = re.split(r"(?m)^(?=(?:pub |abbrev )*" + N + r"(?: \{[^{}\n]*\}| \([^()\n]*\))* :(?: |$))", text)
     out = []
     for part in parts:
-        m = re.search(r"\btie\.Need-(" + N + r")", part)
-        first = fn.need(m[1]) if m else None
-        for g in set(re.findall(r"\btie\.Need-(" + N + r")", part)):
-            it = fn.need(g)
+        first = None
+        for m in re.finditer(r"\b(" + heads + r")\.Need-(" + N + r")", part):
+            it = fns[m[1]].need(m[2])
             if it is None:
-                said(f"{path}: no goal {g}: {[b for a, b in fn.row['needs']]}")
+                said(f"{path}: no goal {m[2]}: {[b for a, b in fns[m[1]].row['needs']]}")
                 continue
-            part = re.sub(r"\btie\.Need-" + re.escape(g) + r"(?![^\s(){}.;,])", "tie.Need-" + it[1], part)
+            first = first or (m[1], m[2], it)
         if first:
-            place = fn.row["asked_at"][first[0]][0]
+            fn = fns[first[0]]
+            place = fn.row["asked_at"][first[2][0]][0]
             if place in fn.places:
-                part = Turner(fn, place, muts, lambda s: said(f"{path}: {m[1]}: {s}")).turn(part)
+                part = Turner(fn, place, muts, lambda s: said(f"{path}: {first[1]}: {s}")).turn(part)
             else:
-                said(f"{path}: {m[1]}: asked at {place}, no place")
-        named = [p[0] for p in fn.row["places"]]
-        after = lambda w: next((i for i, it in enumerate(named) if norm(it) == norm(w)), None)
-        for w in re.finditer(r"\((" + N + r") : tie\.(" + N + r")", part):
-            i = after(w[2])
-            if i is not None and not first:
-                part = Turner(fn, named[i], muts, lambda s: said(f"{path}: {w[2]}: {s}"), w[1]).turn(part)
-        part = re.sub(r"\btie\.(" + N + r")", lambda w: w[0] if after(w[1]) is None else "tie." + fn.row["places_by_name"][after(w[1])], part)
-        part = re.sub(r"\btie\.(invariant|decreases)-(" + N + r")", lambda w: f"tie.{w[1]}-{fn.loops.get(norm(w[2]), w[2])}", part)
+                said(f"{path}: {first[1]}: asked at {place}, no place")
+        else:
+            bound = []
+            for w in re.finditer(r"\((" + N + r") : (?:(" + heads + r")\.(" + N + r")|(" + N + r"))", part):
+                it = (w[2], after(w[2], w[3])) if w[2] else places.get(w[4])
+                if it and it[1]:
+                    bound.append((w[1], *it))
+            arrow = re.match(r"(?:pub |abbrev )*(" + N + r") : (?:(" + heads + r")\.(" + N + r")|(" + N + r"))[^→\n]* → ", part)
+            if arrow:
+                it = (arrow[2], after(arrow[2], arrow[3])) if arrow[2] else places.get(arrow[4])
+                var = re.search(r"(?m)^" + re.escape(arrow[1]) + r" (" + N + r")", part)
+                if var and it and it[1]:
+                    bound.append((var[1], *it))
+            for var, head, place in bound:
+                part = Turner(fns[head], place, muts, lambda s: said(f"{path}: {var}: {s}"), var).turn(part)
+
+        def goal(m):
+            it = fns[m[1]].need(m[2])
+            return f"{m[1]}.Need-{it[1]}" if it else m[0]
+
+        def place_of(m):
+            it = after(m[1], m[2])
+            if it is None:
+                return m[0]
+            row = fns[m[1]].row
+            return f"{m[1]}.{row['places_by_name'][[p[0] for p in row['places']].index(it)]}"
+
+        part = re.sub(r"\b(" + heads + r")\.Need-(" + N + r")", goal, part)
+        part = re.sub(r"\b(" + heads + r")\.(" + N + r")", place_of, part)
+        part = re.sub(r"\b(" + heads + r")\.(invariant|decreases)-(" + N + r")", lambda w: f"{w[1]}.{w[2]}-{fns[w[1]].loops.get(norm(w[3]), w[3])}", part)
         out.append(part)
     text = "".join(out)
+    text = re.sub(r"(?<=[^\s(){};,])\.(pre|inv)(?![^\s(){}.;,])", lambda w: "." + WORDS[w[1]], text)
     if text != was:
         open(path, "w", encoding="utf-8").write(text)
     return text != was
@@ -331,16 +394,24 @@ def main(argv):
         keys = {k: v for k, v in d.items() if "Lts" in k}
         for path in sorted(glob.glob(root + "**/Proof.antt", recursive=True)):
             folder = os.path.dirname(path)[len(root) :].replace("/", ".")
-            key = f"Rattle-{crate}-proofs.{folder}.Lts"
-            if key not in keys:
-                print(f"left: {path}: no {key}; there are", [k for k in keys if folder in k])
-                continue
-            it = os.path.join(names, crate, "all", f"Rattle-{crate}-proofs", folder.replace(".", "/"), "Lts.antt")
-            lts = open(it, encoding="utf-8").read() if os.path.exists(it) else ""
-            fn = Function(keys[key], lts)
-            turn_file(path, fn, muts, lambda s: print("left: " + s))
-            for more in sorted(glob.glob(os.path.dirname(path) + "/Proof/*.antt")):
-                turn_file(more, fn, muts, lambda s: print("left: " + s))
+            base = f"Rattle-{crate}-proofs.{folder}.Lts"
+
+            def function(key):
+                it = os.path.join(names, crate, "all", f"Rattle-{crate}-proofs", folder.replace(".", "/"), key.rsplit(".", 1)[1] + ".antt")
+                return Function(keys[key], open(it, encoding="utf-8").read() if os.path.exists(it) else "")
+
+            for file in [path, *sorted(glob.glob(os.path.dirname(path) + "/Proof/*.antt"))]:
+                text = open(file, encoding="utf-8").read()
+                fns = {}
+                for m in re.finditer(r"(?m)^use Rattle\." + crate + r"\.proofs\.(" + re.escape(folder) + r")\.(" + N + r") as (" + N + r")", text):
+                    key = base if m[2] == "Tie" else base.replace("Lts", m[2])
+                    key = next((k for k in keys if norm(k) == norm(key)), key)
+                    if key in keys:
+                        fns[m[3]] = function(key)
+                if fns:
+                    turn_file(file, fns, muts, lambda s: print("left: " + s))
+                elif "Need-" in text:
+                    print(f"left: {file}: whose goals? there are", [k for k in keys if folder in k])
     return 0
 
 

@@ -16,68 +16,59 @@ use Rattle.table.proofs.judge.Tie as tie
 
 -- places on the way through the code: after the limit was asked, where it is known, and the entry
 abbrev Asked : Type 0
-Asked = tie.After-is-limit
+Asked = tie.After-is_limit
 
 abbrev Limited : Type 0
-Limited = tie.Else1
+Limited = tie.Else-not-is_limit
 
 abbrev entry_of : Asked → tie.Start
 entry_of c = c.before.before
 
 known : (c : Limited) → is_limit (entry_of c.before).args.limit ≡ true
-known c = sym c.before.is-limit.ensures ∙ not-false _ c.if1.false
+known c = sym c.is_limit.ensures ∙ c.if-not-is_limit.false
 
-returns : tie.Need-returns
+returns : tie.Need-returns-then-not-is_limit
 unfolding is_accepted
 returns c =
-    let at = c.before in
-    let a = (entry_of at.before).args in
-    let told = limit_unknown a.limit a.s.now (sym at.before.is-limit.ensures ∙ not-true _ at.if1.true) in
+    let a = (entry_of c.before.before).args in
+    let told = limit_unknown a.limit a.s.now (sym c.is_limit.ensures ∙ c.if-not-is_limit.true) in
     finds_refused _ _ Limit c.refused.result c.refused.ensures (sym told) refl
 
-returns_2 : tie.Need-returns-2
+returns_2 : tie.Need-returns-then-s-lt1
 unfolding is_accepted
 returns_2 c =
-    let at = c.before in
-    let a = (entry_of at.before.before).args in
-    finds_refused _ _ Length c.refused2.result c.refused2.ensures (sym (length_zero a.limit (known at.before) a.s.now at.if2.true)) refl
+    let a = (entry_of c.before.before.before).args in
+    finds_refused _ _ Length c.refused-then-s-lt1.result c.refused-then-s-lt1.ensures (sym (length_zero a.limit (known c.before.before) a.s.now c.if-s-lt1.true)) refl
 
-returns_3 : tie.Need-returns-3
+returns_3 : tie.Need-returns-then-s-gt0
 unfolding is_accepted
 returns_3 c =
-    let at = c.before in
-    let limited = at.before.before in
-    let a = (entry_of limited.before).args in
-    let told = length_uneven a.limit (known limited) a.s.now at.before.if2.false at.if3.true in
-    finds_refused _ _ Length c.refused3.result c.refused3.ensures (sym told) refl
+    let a = (entry_of c.before.before.before.before).args in
+    let told = length_uneven a.limit (known c.before.before.before) a.s.now c.if-s-lt1.false c.if-s-gt0.true in
+    finds_refused _ _ Length c.refused-then-s-gt0.result c.refused-then-s-gt0.ensures (sym told) refl
 
-mul_if4 : tie.Need-overflow-mul-if4
+mul_if4 : tie.Need-overflow_mul-limit
 mul_if4 c =
-    let limited = c.before.before in
-    omega (arith, limit_small (entry_of limited.before).args.limit (known limited))
+    omega (arith, limit_small (entry_of c.before.before.before).args.limit (known c.before.before))
 
-returns_4 : tie.Need-returns-4
+returns_4 : tie.Need-returns-then-limit-s
 unfolding is_accepted
 returns_4 c =
-    let at = c.before in
-    let limited = at.before.before.before in
-    let a = (entry_of limited.before).args in
-    let told = length_over a.limit (known limited) a.s.now at.before.before.if2.false at.before.if3.false at.if4.true in
-    finds_refused _ _ Length c.refused4.result c.refused4.ensures (sym told) refl
+    let a = (entry_of c.before.before.before.before.before).args in
+    let told = length_over a.limit (known c.before.before.before.before) a.s.now c.if-s-lt1.false c.if-s-gt0.false c.if-limit-s.true in
+    finds_refused _ _ Length c.refused-then-limit-s.result c.refused-then-limit-s.ensures (sym told) refl
 
-judge_records_requires : tie.Need-judge-records-requires
+judge_records_requires : tie.Need-judge_records-requires
 judge_records_requires c κs =
-    let limited = c.before.before.before in
-    let a = (entry_of limited.before).args in
-    (records_there a.s.now, omega (arith, limit_small a.limit (known limited)))
+    let a = (entry_of c.before.before.before.before).args in
+    (records_there a.s.now, omega (arith, limit_small a.limit (known c.before.before.before)))
 
-returns_5 : tie.Need-returns-5
+returns_5 : tie.Need-returns
 returns_5 c =
-    let limited = c.before.before.before.before in
-    let a = (entry_of limited.before).args in
+    let a = (entry_of c.before.before.before.before.before).args in
     let s = a.s.now in
-    let good = length_good a.limit (known limited) s c.before.before.before.if2.false c.before.before.if3.false c.before.if4.false in
-    subst (λ (v : Verdict). Finds v (table_weight s) c.judge-records.result) (sym (rw (← records_there s) at good)) c.judge-records.ensures
+    let good = length_good a.limit (known c.before.before.before.before) s c.if-s-lt1.false c.if-s-gt0.false c.if-limit-s.false in
+    subst (λ (v : Verdict). Finds v (table_weight s) c.judge_records.result) (sym (rw (← records_there s) at good)) c.judge_records.ensures
 
 pub judge_spec : {M : Type 1} → statement M
 judge_spec =

@@ -15,78 +15,72 @@ use Rattle.table.proofs.judge_records.Tie as tie
 
 -- the place where the look was told whole, and the entry
 abbrev Known : Type 0
-Known = tie.After-known-told
+Known = tie.In-Whole
 
 abbrev entry_of : Known → tie.Start
-entry_of c = c.before.before.before.before.before
+entry_of c = c.before.before.before
 
 -- what the look says there
-whole : (c : Known) → let a = (entry_of c).args in Looks a.s.now a.n (Whole c.before.w.given.0.0 c.before.w.given.0.1.0)
-whole c = rw c.before.w.given.1 at c.before.before.before.look.ensures
+whole : (c : Known) → let a = (entry_of c).args in Looks a.s.now a.n (Whole c.in-Whole.w c.in-Whole.power)
+whole c = c.in-Whole.ensures
 
-weighs : (c : Known) → c.before.w.given.0.0 ≡ table_weight (entry_of c).args.s.now
+weighs : (c : Known) → c.in-Whole.w ≡ table_weight (entry_of c).args.s.now
 unfolding table_weight
-weighs c = let entry = entry_of c in (whole c).2 ∙ ap (weight_from entry.args.s.now 0) entry.pre.0
+weighs c = let entry = entry_of c in (whole c).2 ∙ ap (weight_from entry.args.s.now 0) entry.requires.0
 
 look_requires : tie.Need-look-requires
-look_requires c κs = let a = c.before in (records_within a.args.s.now a.args.n a.requires.0, a.requires.1)
+look_requires c κs = (records_within c.args.s.now c.args.n c.requires.0, c.requires.1)
 
-judge_odd_requires : tie.Need-judge-odd-requires
+judge_odd_requires : tie.Need-judge_odd-requires
 judge_odd_requires c κs =
-    let a = c.before.before.before.before in
-    (a.requires.0, a.requires.1, rw c.enum_told.given.1 at c.before.before.look.ensures)
+    (c.requires.0, c.requires.1, c.in_default.ensures)
 
-returns : tie.Need-returns
+returns : tie.Need-returns-in_default
 returns c =
-    let odd = c.before.judge-odd in
+    let odd = c.judge_odd in
     finds_refused _ _ odd.result c.refused.result c.refused.ensures odd.ensures.0 odd.ensures.1
 
-returns_2 : tie.Need-returns-2
+returns_2 : tie.Need-returns-then-limit-w
 unfolding is_accepted
 returns_2 c =
-    let known = c.before.before in
-    let a = (entry_of known).args in
-    let k = whole known in
-    let told = heavy a.limit a.s.now a.n a.n (sym k.0) (omega arith) _ k.2 c.before.if1.true in
-    finds_refused _ _ Heavy c.refused2.result c.refused2.ensures (sym told) refl
+    let a = (entry_of c.before.before).args in
+    let k = whole c.before.before in
+    let told = heavy a.limit a.s.now a.n a.n (sym k.0) (omega arith) _ k.2 c.if-limit-w.true in
+    finds_refused _ _ Heavy c.refused-then-limit-w.result c.refused-then-limit-w.ensures (sym told) refl
 
-first_bad_requires : tie.Need-first-bad-requires
+first_bad_requires : tie.Need-first_bad-x-requires
 first_bad_requires c κs =
-    let known = c.before.before in
-    let a = entry_of known in
-    (records_within a.args.s.now a.args.n a.pre.0, a.pre.1, (whole known).1)
+    let a = entry_of c.before.before in
+    (records_within a.args.s.now a.args.n a.requires.0, a.requires.1, (whole c.before.before).1)
 
-returns_3 : tie.Need-returns-3
+returns_3 : tie.Need-returns-then-x-n
 unfolding is_accepted
 returns_3 c =
-    let bad = c.before.before.first-bad in
-    let light = c.before.before.before.before.if1.false in
-    let known = c.before.before.before.before.before in
-    let a = (entry_of known).args in
-    let k = whole known in
+    let bad = c.first_bad-x in
+    let light = c.if-limit-w.false in
+    let a = (entry_of c.before.before.before.before.before).args in
+    let k = whole c.before.before.before.before.before in
     let told =
-    exponent a.limit a.s.now a.n a.n (sym k.0) (omega arith) _ k.2 light k.1 bad.result bad.ensures c.before.if3.true in
-    finds_refused _ _ (Exponent bad.result) c.refused3.result c.refused3.ensures (sym told) refl
+    exponent a.limit a.s.now a.n a.n (sym k.0) (omega arith) _ k.2 light k.1 bad.result bad.ensures c.if-x-n.true in
+    finds_refused _ _ (Exponent bad.result) c.refused-then-x-n.result c.refused-then-x-n.ensures (sym told) refl
 
-returns_4 : tie.Need-returns-4
+returns_4 : tie.Need-returns-else-x-n
 returns_4 c =
-    let bad = c.before.first-bad in
-    let light = c.before.before.before.if1.false in
-    let known = c.before.before.before.before in
-    let a = (entry_of known).args in
-    let k = whole known in
-    let told = fine a.limit a.s.now a.n a.n (sym k.0) (omega arith) _ k.2 light k.1 bad.result bad.ensures c.if3.false in
-    (sym told, finds_weight _ _ _ told (weighs known))
+    let bad = c.first_bad-x in
+    let light = c.if-limit-w.false in
+    let a = (entry_of c.before.before.before.before).args in
+    let k = whole c.before.before.before.before in
+    let told = fine a.limit a.s.now a.n a.n (sym k.0) (omega arith) _ k.2 light k.1 bad.result bad.ensures c.if-x-n.false in
+    (sym told, finds_weight _ _ _ told (weighs c.before.before.before.before))
 
-returns_5 : tie.Need-returns-5
+returns_5 : tie.Need-returns-else-power
 returns_5 c =
-    let light = c.before.if1.false in
-    let known = c.before.before in
-    let a = (entry_of known).args in
-    let k = whole known in
-    let none = no_powers a.s.now a.n 0 a.n (sym k.3 ∙ c.if2.false) in
+    let light = c.if-limit-w.false in
+    let a = (entry_of c.before.before).args in
+    let k = whole c.before.before in
+    let none = no_powers a.s.now a.n 0 a.n (sym k.3 ∙ c.if-power.false) in
     let told = fine a.limit a.s.now a.n a.n (sym k.0) (omega arith) _ k.2 light k.1 a.n (sym none) (omega arith) in
-    (sym told, finds_weight _ _ _ told (weighs known))
+    (sym told, finds_weight _ _ _ told (weighs c.before.before))
 
 pub judge_records_spec : {M : Type 1} → statement M
 judge_records_spec =

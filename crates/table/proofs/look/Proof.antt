@@ -9,91 +9,85 @@ use Rattle.table.proofs.LookLaws.{passed_integer, passed_symbol, passed_members,
 use Rattle.table.proofs.look.Statement.{statement}
 use Rattle.table.proofs.look.Tie as tie
 
-abbrev invariant_loop : tie.invariant-loop
+abbrev invariant_loop : tie.invariant-loop-i
 invariant_loop s n i₀ owed₀ w₀ power₀ i owed w power = Looking s n i owed w power
 
-abbrev decreases_loop : tie.decreases-loop
+abbrev decreases_loop : tie.decreases-loop-i
 decreases_loop s n i₀ owed₀ w₀ power₀ i owed w power = n - i
 
-loop_holds : tie.Need-loop-init invariant_loop decreases_loop
+loop_holds : tie.Need-loop-i-init invariant_loop decreases_loop
 loop_holds c = begin_looking _ _
 
-returns : tie.Need-returns invariant_loop decreases_loop
+returns : tie.Need-returns-then-owed-lt1 invariant_loop decreases_loop
 returns c =
-    let a = c.before.before.before.before.args in
-    let l = c.before.before.loop in
-    ended_early a.s.now a.n l.i l.owed l.w l.power l.invariant c.before.loop-test.true c.if1.true
+    let a = c.args in
+    let l = c.loop-i in
+    ended_early a.s.now a.n l.i l.owed l.w l.power l.invariant c.loop-i-test.true c.if-owed-lt1.true
 
 glance_requires : tie.Need-glance-requires invariant_loop decreases_loop
 glance_requires c κs =
-    let l = c.before.before.loop.invariant.within in
-    omega (arith, l, c.before.loop-test.true, c.before.before.before.before.requires.0)
+    let l = c.loop-i.invariant.within in
+    omega (arith, l, c.loop-i-test.true, c.requires.0)
 
-returns_2 : tie.Need-returns-2 invariant_loop decreases_loop
+returns_2 : tie.Need-returns-in-Flawed invariant_loop decreases_loop
 returns_2 c =
-    let at = c.before.before.before.before.before in
-    let a = at.before.before.args in
-    let l = at.loop in
-    found_flawed a.s.now a.n l.i l.owed l.w l.power l.invariant c.before.before.before.before.loop-test.true
-    (rw c.enum_told.given.1 at c.before.before.glance.ensures)
+    let a = c.args in
+    let l = c.loop-i in
+    found_flawed a.s.now a.n l.i l.owed l.w l.power l.invariant c.loop-i-test.true
+    c.in-Flawed.ensures
 
-add_w : tie.Need-overflow-add-w invariant_loop decreases_loop
+add_w : tie.Need-overflow_add-w invariant_loop decreases_loop
 add_w c =
-    let at = c.before.before.before.before.before in
-    let l = at.loop.invariant in
-    omega (arith, l.light, l.within, at.before.before.requires.1)
+    let l = c.loop-i.invariant in
+    omega (arith, l.light, l.within, c.requires.1)
 
-add_owed : tie.Need-overflow-add-owed invariant_loop decreases_loop
+add_owed : tie.Need-overflow_add-owed invariant_loop decreases_loop
 add_owed c =
-    let at = c.before.before.before.before.before.before in
-    let l = at.loop.invariant in
-    let seen = rw c.before.c.given.1 at c.before.before.before.glance.ensures in
-    omega (arith, l.few, l.within, seen.4, at.before.before.requires.1)
+    let l = c.loop-i.invariant in
+    let seen = c.in-Members.ensures in
+    omega (arith, l.few, l.within, seen.4, c.requires.1)
 
-add_owed_2 : tie.Need-overflow-add-owed-2 invariant_loop decreases_loop
+add_owed_2 : tie.Need-overflow_add-owed-in-Power invariant_loop decreases_loop
 add_owed_2 c =
-    let at = c.before.before.before.before.before in
-    let l = at.loop.invariant in
-    omega (arith, l.few, l.within, at.before.before.requires.1)
+    let l = c.loop-i.invariant in
+    omega (arith, l.few, l.within, c.requires.1)
 
-add_i : tie.Need-overflow-add-i invariant_loop decreases_loop
+add_i : tie.Need-overflow_add-i invariant_loop decreases_loop
 add_i c =
-    let at = c.before.before.before.before in
-    omega (arith, c.before.before.before.loop-test.true, at.before.before.requires.1)
+    omega (arith, c.loop-i-test.true, c.requires.1)
 
-loop_less : tie.Need-loop-smaller invariant_loop decreases_loop
+loop_less : tie.Need-loop-i-smaller invariant_loop decreases_loop
 loop_less c =
-    omega (arith, c.before.before.before.loop-test.true)
+    omega (arith, c.loop-i-test.true)
 
-loop_again : tie.Need-loop-preserved invariant_loop decreases_loop
+loop_again : tie.Need-loop-i-preserved invariant_loop decreases_loop
 loop_again c =
-    let at = c.before.before.before.before in
-    let a = at.before.before.args in
-    let l = at.loop in
-    let more = c.before.before.before.loop-test.true in
-    let some = c.before.before.if1.false in
-    let seen = c.before.glance.ensures in
+    let a = c.args in
+    let l = c.loop-i in
+    let more = c.loop-i-test.true in
+    let some = c.if-owed-lt1.false in
+    let seen = c.glance.ensures in
     ⊎_elim
-    (λ w. rw (w.2, w.3, w.4) (passed_integer a.s.now a.n l.i l.owed l.w l.power l.invariant more some (rw w.1.given.1 at seen)))
+    (λ w. rw (w.owed-is, w.w-is, w.power-is) (passed_integer a.s.now a.n l.i l.owed l.w l.power l.invariant more some w.in-Integer.ensures))
     (⊎_elim
-    (λ w. rw (w.2, w.3, w.4) (passed_symbol a.s.now a.n l.i l.owed l.w l.power l.invariant more some (rw w.1.given.1 at seen)))
+    (λ w. rw (w.owed-is, w.w-is, w.power-is) (passed_symbol a.s.now a.n l.i l.owed l.w l.power l.invariant more some w.in-Symbol.ensures))
     (⊎_elim
-    (λ w. rw (w.3, w.4, w.5)
-    (passed_members a.s.now a.n l.i l.owed l.w l.power l.invariant more some w.1.given.0.0 (rw w.1.given.1 at seen)))
-    (λ w. rw (w.2, w.3, w.4) (passed_power a.s.now a.n l.i l.owed l.w l.power l.invariant more some (rw w.1.given.1 at seen)))))
-    c.match.branch
+    (λ w. rw (w.owed-is, w.w-is, w.power-is)
+    (passed_members a.s.now a.n l.i l.owed l.w l.power l.invariant more some w.in-Members.c w.in-Members.ensures))
+    (λ w. rw (w.owed-is, w.w-is, w.power-is) (passed_power a.s.now a.n l.i l.owed l.w l.power l.invariant more some w.in-Power.ensures))))
+    c.match-glance.branch-raw
 
-returns_3 : tie.Need-returns-3 invariant_loop decreases_loop
+returns_3 : tie.Need-returns-then-owed-gt0 invariant_loop decreases_loop
 returns_3 c =
-    let a = c.before.before.before.before.args in
-    let l = c.before.before.loop in
-    ended_late a.s.now a.n l.i l.owed l.w l.power l.invariant c.before.loop-test.false c.if2.true
+    let a = c.args in
+    let l = c.loop-i in
+    ended_late a.s.now a.n l.i l.owed l.w l.power l.invariant c.loop-i-test.false c.if-owed-gt0.true
 
-returns_4 : tie.Need-returns-4 invariant_loop decreases_loop
+returns_4 : tie.Need-returns invariant_loop decreases_loop
 returns_4 c =
-    let a = c.before.before.before.before.args in
-    let l = c.before.before.loop in
-    looked a.s.now a.n l.i l.owed l.w l.power l.invariant c.before.loop-test.false c.if2.false
+    let a = c.args in
+    let l = c.loop-i in
+    looked a.s.now a.n l.i l.owed l.w l.power l.invariant c.loop-i-test.false c.if-owed-gt0.false
 
 pub look_spec : {M : Type 1} → statement M
 look_spec =

@@ -18,8 +18,8 @@ told lim s v w e q = rw (← q, ← e) refl
 
 returns : tie.Need-returns
 returns c =
-    let found = c.before.before.judge.ensures in
-    c.with-result.ensures ∙ told _ _ _ _ (c.before.fault-of.ensures ∙ found.0) found.1
+    let found = c.judge-found.ensures in
+    c.with_result.ensures ∙ told _ _ _ _ (c.fault_of.ensures ∙ found.0) found.1
 
 pub weight_spec : {M : Type 1} → statement M
 weight_spec = tie.close (tie.spec (λ c κs. search rules) (λ c κs. search rules) (λ c κs. search rules) returns)

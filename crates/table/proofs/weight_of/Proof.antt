@@ -10,30 +10,29 @@ use Rattle.table.proofs.StepLaws.{weight_symbol, weight_other, weight_done}
 use Rattle.table.proofs.weight_of.Statement.{statement}
 use Rattle.table.proofs.weight_of.Tie as tie
 
-abbrev invariant_loop : tie.invariant-loop
+abbrev invariant_loop : tie.invariant-loop-i
 invariant_loop s n i₀ w₀ i w = (i ≤ n) × (w ≤ 3 * i) × (w + weight_from s i (n - i) ≡ weight_from s 0 n)
 
-abbrev decreases_loop : tie.decreases-loop
+abbrev decreases_loop : tie.decreases-loop-i
 decreases_loop s n i₀ w₀ i w = n - i
 
-loop_holds : tie.Need-loop-init invariant_loop decreases_loop
+loop_holds : tie.Need-loop-i-init invariant_loop decreases_loop
 loop_holds c = (omega arith, omega arith, simp (zero-add, sub-zero))
 
-loop_again : tie.Need-loop-preserved invariant_loop decreases_loop
+loop_again : tie.Need-loop-i-preserved invariant_loop decreases_loop
 loop_again c =
-    let at = c.before.before.before in
-    let a = at.before.before.args in
-    let test = c.before.before.loop-test.true in
-    let k = sym c.before.kind.ensures in
+    let a = c.args in
+    let test = c.loop-i-test.true in
+    let k = sym c.kind.ensures in
     ⊎_elim
-    (λ w. omega (arith, weight_symbol a.s.now a.n at.loop.i test (k ∙ w.0.taken)))
-    (λ w. omega (arith, weight_other a.s.now a.n at.loop.i test (λ e. w.0.left (sym k ∙ e))))
-    c.if1.branch
+    (λ w. omega (arith, weight_symbol a.s.now a.n c.loop-i.i test (k ∙ w.if-kind-eq-SYMBOL.true)))
+    (λ w. omega (arith, weight_other a.s.now a.n c.loop-i.i test (λ e. w.if-kind-eq-SYMBOL.false (sym k ∙ e))))
+    c.if-kind-eq-SYMBOL.branch-raw
 
 returns : tie.Need-returns invariant_loop decreases_loop
 returns c =
-    let a = c.before.before.before.args in
-    omega (arith, weight_done a.s.now a.n c.before.loop.i c.loop-test.false)
+    let a = c.args in
+    omega (arith, weight_done a.s.now a.n c.loop-i.i c.loop-i-test.false)
 
 pub weight_of_spec : {M : Type 1} → statement M
 weight_of_spec =
