@@ -28,10 +28,10 @@ abbrev Asked : Type 0
 Asked = tie.After-fit
 
 abbrev Base : Type 0
-Base = tie.In-Fit-2
+Base = tie.After-e
 
 abbrev Exponent : Type 0
-Exponent = tie.In-Is-2
+Exponent = tie.After-v
 
 abbrev entry_of : Asked → Entry
 entry_of c = c.before.before.before.before.before.before
@@ -83,70 +83,75 @@ sign_there c =
     let s = (entry_of (asked_of c)).args.text.now in
     ap (λ (x : ℕ). begins 94 (drop x s)) (lies c).0 ∙ raises (asked_of c)
 
-returns : tie.Need-returns-then-not-sign_at
+returns : tie.Need-returns
 returns c =
-    let a = c.args in
+    let a = c.before.before.before.before.before.args in
     let s = a.text.now in
-    let no_sign = after_no s a.i _ 94 _ c.next.ensures c.sign_at.ensures c.if-not-sign_at.true in
+    let no_sign = after_no s a.i _ 94 _ c.before.before.next.ensures c.before.sign_at.ensures c.if1.true in
     λ at o old h. not_raised s at o (Laid old a.d a.out.now) a.i h no_sign
 
-returns_2 : tie.Need-returns-in_default
+returns_2 : tie.Need-returns-2
 returns_2 c =
-    λ at o old h. unfit_raised (entry_of c.before).args.text.now at o _ (asked c.before _ c.in_default.is at o old h) (raises c.before)
+    let it = c.before.before in
+    λ at o old h. unfit_raised (entry_of it).args.text.now at o _ (asked it _ c.enum_told.given.1 at o old h) (raises it)
 
-add_read_number : tie.Need-overflow_add-e
+add_read_number : tie.Need-overflow-add-read-number
 add_read_number c =
-    let i = sign_inside (entry_of (asked_of c.before.before.before.before.before.before.before.before)).args.text.now c.in-Fit.e 94 (sign_there c.before.before.before.before.before.before.before.before) in
+    let base = c.before in
+    let i = sign_inside (entry_of (asked_of base)).args.text.now base.e.given.0.0 94 (sign_there base) in
     search (rules, i)
 
-returns_3 : tie.Need-returns-in_default-read_number
+returns_3 : tie.Need-returns-3
 returns_3 c =
-    let s = (entry_of (asked_of c.before.before.before.before.before.before.before.before.before.before)).args.text.now in
-    let number = rw c.in_default-read_number.is at c.read_number.ensures in
-    λ at o old h. no_exponent s at o _ _ _ (fitting c.before.before.before.before.before.before.before.before.before.before at o old h) (sign_there c.before.before.before.before.before.before.before.before.before.before) number
+    let base = c.before.before.before.before in
+    let s = (entry_of (asked_of base)).args.text.now in
+    let number = rw c.enum-told2.given.1 at c.before.before.read_number.ensures in
+    λ at o old h. no_exponent s at o _ _ _ (fitting base at o old h) (sign_there base) number
 
-returns_4 : tie.Need-returns-then-v-lt1
+returns_4 : tie.Need-returns-4
 returns_4 c =
-    let s = (entry_of (asked_of c.before.before.before.before.before.before.before.before.before.before.before)).args.text.now in
-    let number = rw c.in-Is.is at c.read_number.ensures in
-    λ at o old h. exponent_nought s at o _ _ _ _ _ (fitting c.before.before.before.before.before.before.before.before.before.before.before at o old h) (sign_there c.before.before.before.before.before.before.before.before.before.before.before) number c.if-v-lt1.true
+    let base = c.before.before.before.before.before.before in
+    let s = (entry_of (asked_of base)).args.text.now in
+    let number = rw c.before.before.v.given.1 at c.before.before.before.before.read_number.ensures in
+    λ at o old h. exponent_nought s at o _ _ _ _ _ (fitting base at o old h) (sign_there base) number c.if2.true
 
-make_room_requires : tie.Need-make_room-requires
-make_room_requires c κs = (lies c.before.before.before.before.before.before.before.before.before.before.before.before).2
+make_room_requires : tie.Need-make-room-requires
+make_room_requires c κs = (lies c.before.before.before.before.before.before.before).2
 
-add_put_record : tie.Need-overflow_add-q
+add_put_record : tie.Need-overflow-add-put-record
 add_put_record c =
-    let m = lies c.before.before.before.before.before.before.before.before.before.before.before.before.before.before.before.before in
+    let m = lies c.before.before.before.before.before.before.before.before.before.before.before in
     let x = m.3 in
     let y = m.4 in
     search (rules, x, y)
 
-add_t11 : tie.Need-overflow_add-result
+add_t11 : tie.Need-overflow-add-t11
 add_t11 c =
-    let base = base_of c.before.before.before.before.before.before.before.before.before.before.before.before.before.before.before.before.before.before.before.before.before.before.before in
+    let base = base_of c.before.before.before.before.before.before.before.before.before.before.before.before.before.before in
     let l = (lies base).1 in
     let g = (entry_of (asked_of base)).well-formed.0.1 in
     record { fits = omega (arith, l, g) }
 
-add_t22 : tie.Need-overflow_add-result-2
+add_t22 : tie.Need-overflow-add-t22
 add_t22 c =
-    let base = base_of c.before.before.before.before.before.before.before.before.before.before.before.before.before.before.before.before.before.before.before.before.before.before.before in
+    let base = base_of c.before.before.before.before.before.before.before.before.before.before.before.before.before.before in
     let m = lies base in
     let x = m.3 in
     let y = m.4 in
     let g = (entry_of (asked_of base)).well-formed.0.1 in
     record { fits = omega (arith, x, y, g) }
 
-returns_5 : tie.Need-returns
+returns_5 : tie.Need-returns-5
 returns_5 c =
-    let base = base_of c.before.before.before.before.before.before.before.before.before.before.before.before.before.before.before.before.before.before.before.before.before.before.before in
+    let exponent = c.before.before.before.before.before.before.before.before.before.before.before.before.before.before in
+    let base = base_of exponent in
     let s = (entry_of (asked_of base)).args.text.now in
-    let number = rw c.in-Is.is at c.read_number.ensures in
-    let positive = c.if-v-lt1.false in
-    let room = c.make_room.ensures in
-    let put = c.put_record.ensures in
+    let number = rw exponent.v.given.1 at exponent.before.before.read_number.ensures in
+    let positive = c.before.before.before.before.before.before.before.before.before.before.before.before.if2.false in
+    let room = c.before.before.before.before.before.before.before.before.before.before.make-room.ensures in
+    let put = c.before.before.before.before.before.before.put_record.ensures in
     λ at o old h. is_raised s at o _ _ _ _ _ _ (fitting base at o old h) (sign_there base) number positive
-    (power_laid room put c.put_record-2.ensures)
+    (power_laid room put c.before.before.put-record2.ensures)
 
 pub raised_spec : {M : Type 1} → statement M
 raised_spec =
