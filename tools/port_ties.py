@@ -17,6 +17,8 @@ import sys
 N = r"[^\s(){}.;,@\"«»\[\]]+"
 PATH = re.compile(r"(?<![^\s(){};,@\"«»\[\]])(" + N + r")((?:\.(?:" + N + r"))*)(?![^\s(){};,@\"«»\[\]])")
 LET = re.compile(r"\blet (" + N + r") = (" + N + r"(?:\." + N + r")*) in[ \n]")
+# only the proofs whose path has this
+ONLY = os.environ.get("ONLY", "")
 START = ("args", "requires", "ranges", "lifetimes", "utf8", "type_inv", "row", "called", "fresh", "well_formed", "ghost", "decreases")
 WORDS = {"taken": "true", "left": "false", "inv": "invariant", "pre": "requires", "last": "new"}
 
@@ -328,7 +330,7 @@ def turn_file(path, fns, muts, said):
     # the file's own names of places, and those of the other files of the same proof
     places = {}
     for other in [path, *glob.glob(os.path.dirname(path) + "/*.antt")]:
-        for m in re.finditer(r"(?m)^ *(" + N + r") = (" + heads + r")\.(" + N + r")[^\n]*$", open(other, encoding="utf-8").read()):
+        for m in re.finditer(r"(?m)^ *(" + N + r")(?: [^=\n:]*)? = (" + heads + r")\.(" + N + r")[^\n]*$", open(other, encoding="utf-8").read()):
             if after(m[2], m[3]) is not None:
                 places.setdefault(m[1], (m[2], after(m[2], m[3])))
     parts = re.split(r"(?m)^(?=(?:pub |abbrev )*" + N + r"(?: \{[^{}\n]*\}| \([^()\n]*\))* :(?: |$))", text)
@@ -392,7 +394,7 @@ def main(argv):
         d = json.load(open(os.path.join(names, crate, "names.json")))
         root = f"crates/{crate}/proofs/"
         keys = {k: v for k, v in d.items() if "Lts" in k}
-        for path in sorted(glob.glob(root + "**/Proof.antt", recursive=True)):
+        for path in sorted([p for p in glob.glob(root + "**/Proof.antt", recursive=True) if not ONLY or ONLY in p]):
             folder = os.path.dirname(path)[len(root) :].replace("/", ".")
             base = f"Rattle-{crate}-proofs.{folder}.Lts"
 

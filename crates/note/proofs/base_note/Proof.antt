@@ -6,23 +6,23 @@ use Rattle.note.proofs.BaseLaws.{integer_base, other_base, own_base, base_behind
 use Rattle.note.proofs.base_note.Statement.{statement}
 use Rattle.note.proofs.base_note.Tie as tie
 
-returns : tie.Need-returns
+returns : tie.Need-returns-then-k-lt-SYMBOL
 returns c = λ t h. let k = h.kind_known in integer_base t (omega arith) ∙ own_base t (omega arith)
 
-returns_2 : tie.Need-returns-2
+returns_2 : tie.Need-returns-then-k-lt-POWER
 returns_2 c = λ t h. let k = h.kind_known in h.note_known ∙ other_base t (omega arith) ∙ own_base t (omega arith)
 
-add_base_key : tie.Need-overflow-add-base-key
-add_base_key c = omega (arith, record_within (noted_told c.before.before.before.requires.1.there))
+add_base_key : tie.Need-overflow_add-i
+add_base_key c = omega (arith, record_within (noted_told c.requires.1.there))
 
-base_key_requires : tie.Need-base-key-requires
+base_key_requires : tie.Need-base_key-requires
 base_key_requires c κs =
-    let some = c.before.before.before.requires in
+    let some = c.requires in
     let k = some.1.kind_known in
     let b = base_behind some.0 some.1.there (omega arith) in
     (b.base, b.there)
 
-returns_3 : tie.Need-returns-3
+returns_3 : tie.Need-returns
 returns_3 c = λ t h.
     let k = h.kind_known in
     let b = base_behind t h.there (omega arith) in

@@ -14,91 +14,86 @@ abbrev first_of : {s : List ℕ} {i n : ℕ} (p : (μ : ℕ) × (f : Forest) × 
     → FirstBy note s (i + 1) 2 (pair_start p.2 p.3).rest
 first_of p = pair_first p.2 p.3
 
-add_kind : tie.Need-overflow-add-kind
-add_kind c = let p = c.before.requires in omega (arith, tree_within (noted_told (first_of p).there))
+add_kind : tie.Need-overflow_add-i
+add_kind c = let p = c.requires in omega (arith, tree_within (noted_told (first_of p).there))
 
-kind_requires : tie.Need-kind-requires
-kind_requires c κs = record_within (noted_told (first_of c.before.requires).there)
+kind_requires : tie.Need-kind-k-requires
+kind_requires c κs = record_within (noted_told (first_of c.requires).there)
 
-add_at : tie.Need-overflow-add-at
-add_at c = let p = c.before.before.requires in omega (arith, tree_within (noted_told (first_of p).there))
+add_at : tie.Need-overflow_add-at
+add_at c = let p = c.requires in omega (arith, tree_within (noted_told (first_of p).there))
 
-add_size_at : tie.Need-overflow-add-size-at
-add_size_at c = let p = c.before.before.requires in omega (arith, tree_within (noted_told (first_of p).there))
+add_size_at : tie.Need-overflow_add-i-2
+add_size_at c = let p = c.requires in omega (arith, tree_within (noted_told (first_of p).there))
 
-size_at_requires : tie.Need-size-at-requires
+size_at_requires : tie.Need-size_at-requires
 size_at_requires c κs =
-    let f = first_of c.before.before.requires in
-    (f.tree, f.there, c.kind.ensures ∙ kind_number_lem (noted_told f.there))
+    let f = first_of c.requires in
+    (f.tree, f.there, c.kind-k.ensures ∙ kind_number_lem (noted_told f.there))
 
-add_at_2 : tie.Need-overflow-add-at-2
+add_at_2 : tie.Need-overflow_add-at-2
 add_at_2 c =
-    let f = first_of c.before.before.before.requires in
-    let z = c.size-at.ensures f.tree f.there (c.before.kind.ensures ∙ kind_number_lem (noted_told f.there)) in
+    let f = first_of c.requires in
+    let z = c.size_at.ensures f.tree f.there (c.kind-k.ensures ∙ kind_number_lem (noted_told f.there)) in
     omega (arith, z, tree_within (noted_told f.there))
 
-kind_requires_2 : tie.Need-kind-requires-2
+kind_requires_2 : tie.Need-kind-j-requires
 kind_requires_2 c κs =
-    let p = c.before.before.before.requires in
+    let p = c.requires in
     let f = first_of p in
-    let z = c.size-at.ensures f.tree f.there (c.before.kind.ensures ∙ kind_number_lem (noted_told f.there)) in
-    record_within (noted_told (pair_second p.2 p.3 _ _ c.before.kind.ensures z).there)
+    let z = c.size_at.ensures f.tree f.there (c.kind-k.ensures ∙ kind_number_lem (noted_told f.there)) in
+    record_within (noted_told (pair_second p.2 p.3 _ _ c.kind-k.ensures z).there)
 
 -- where both kinds are known: the first member's size is, and so is where the second one stands
 abbrev Read : Type 0
-Read = tie.After-kind2
+Read = tie.After-kind-j
 
 abbrev start_of : Read → tie.Start
 start_of c = c.before.before.before.before
 
 module _ (c : Read) {μ : ℕ} {f : Forest} (q : Known (start_of c).args.s.now (start_of c).args.i 3 (start_of c).args.n (product μ f))
     (two : count f ≡ 2) where
-  sized : c.before.size-at.result ≡ records (pair_first q two).tree
-  sized = let u = pair_first q two in c.before.size-at.ensures u.tree u.there (c.before.before.kind.ensures ∙ kind_number_lem (noted_told u.there))
+  sized : c.size_at.result ≡ records (pair_first q two).tree
+  sized = let u = pair_first q two in c.size_at.ensures u.tree u.there (c.kind-k.ensures ∙ kind_number_lem (noted_told u.there))
 
-  abbrev second : FirstBy note (start_of c).args.s.now ((start_of c).args.i + 1 + c.before.size-at.result) 1 (pair_first q two).others
-  second = pair_second q two _ _ c.before.before.kind.ensures sized
+  abbrev second : FirstBy note (start_of c).args.s.now ((start_of c).args.i + 1 + c.size_at.result) 1 (pair_first q two).others
+  second = pair_second q two _ _ c.kind-k.ensures sized
 
-returns : tie.Need-returns
+returns : tie.Need-returns-then-j-lt-SYMBOL
 returns c = λ μ f q two.
-    let at = c.before.before.before in
-    c.leaf-note.ensures
-    ∙ both_integers_lem q two _ _ at.before.before.kind.ensures (sized at q two) _ at.kind2.ensures c.before.before.if1.true
-    c.before.if2.true
+    c.leaf_note.ensures
+    ∙ both_integers_lem q two _ _ c.kind-k.ensures (sized c.before.before.before q two) _ c.kind-j.ensures c.if-k-lt-SYMBOL.true
+    c.if-j-lt-SYMBOL.true
 
-note_at_requires : tie.Need-note-at-requires
+note_at_requires : tie.Need-note_at-requires
 note_at_requires c κs =
-    let at = c.before.before in
-    let p = (start_of at).requires in
-    let u = second at p.2 p.3 in
+    let p = (start_of c.before.before).requires in
+    let u = second c.before.before p.2 p.3 in
     (u.tree, u.there)
 
-returns_2 : tie.Need-returns-2
+returns_2 : tie.Need-returns-then-k-lt-SYMBOL
 returns_2 c = λ μ f q two.
-    let at = c.before.before.before in
-    second_alone q two _ _ at.before.before.kind.ensures (sized at q two) _ at.kind2.ensures c.before.before.if1.true c.before.if2.false _
-    c.note-at.ensures
+    second_alone q two _ _ c.kind-k.ensures (sized c.before.before.before q two) _ c.kind-j.ensures c.if-k-lt-SYMBOL.true c.if-j-lt-SYMBOL.false _
+    c.note_at.ensures
 
-add_note_at : tie.Need-overflow-add-note-at
+add_note_at : tie.Need-overflow_add-i-then-j-lt-SYMBOL-2
 add_note_at c =
     let p = (start_of c.before.before).requires in
     omega (arith, tree_within (noted_told (first_of p).there))
 
-note_at_requires_2 : tie.Need-note-at-requires-2
+note_at_requires_2 : tie.Need-note_at-requires-then-j-lt-SYMBOL-2
 note_at_requires_2 c κs =
     let u = first_of (start_of c.before.before).requires in
     (u.tree, u.there)
 
-returns_3 : tie.Need-returns-3
+returns_3 : tie.Need-returns-then-j-lt-SYMBOL-2
 returns_3 c = λ μ f q two.
-    let at = c.before.before.before in
-    first_alone q two _ _ at.before.before.kind.ensures (sized at q two) _ at.kind2.ensures c.before.before.if1.false c.before.if3.true _
-    c.note-at2.ensures
+    first_alone q two _ _ c.kind-k.ensures (sized c.before.before.before q two) _ c.kind-j.ensures c.if-k-lt-SYMBOL.false c.if-j-lt-SYMBOL-2.true _
+    c.note_at-then-j-lt-SYMBOL-2.ensures
 
-returns_4 : tie.Need-returns-4
+returns_4 : tie.Need-returns
 returns_4 c = λ μ f q two.
-    let at = c.before.before in
-    neither_integer q two _ _ at.before.before.kind.ensures (sized at q two) _ at.kind2.ensures c.before.if1.false c.if3.false
+    neither_integer q two _ _ c.kind-k.ensures (sized c.before.before q two) _ c.kind-j.ensures c.if-k-lt-SYMBOL.false c.if-j-lt-SYMBOL-2.false
 
 pub pair_rest_spec : {M : Type 1} → statement M
 pair_rest_spec =

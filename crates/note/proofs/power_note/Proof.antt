@@ -9,61 +9,61 @@ use Rattle.note.proofs.AddingLaws.{headed, raised, raised_size, raised_note}
 use Rattle.note.proofs.power_note.Statement.{statement}
 use Rattle.note.proofs.power_note.Tie as tie
 
-add_note_at : tie.Need-overflow-add-note-at
-add_note_at c = omega (arith, own_within (headed c.before.requires.1))
+add_note_at : tie.Need-overflow_add-i
+add_note_at c = omega (arith, own_within (headed c.requires.1))
 
-note_at_requires : tie.Need-note-at-requires
+note_at_requires : tie.Need-note_at-n-requires
 note_at_requires c κs =
-    let some = c.before.requires in
+    let some = c.requires in
     let r = raised some.0 some.1 some.2 in
     (r.base, r.there)
 
-add_kind : tie.Need-overflow-add-kind
-add_kind c = omega (arith, own_within (headed c.before.before.requires.1))
+add_kind : tie.Need-overflow_add-i-2
+add_kind c = omega (arith, own_within (headed c.requires.1))
 
 kind_requires : tie.Need-kind-requires
 kind_requires c κs =
-    let some = c.before.before.requires in
+    let some = c.requires in
     let r = raised some.0 some.1 some.2 in
     record_within (noted_told r.there)
 
-added_requires : tie.Need-added-requires
+added_requires : tie.Need-added-base-requires
 added_requires c κs =
-    let some = c.before.before.before.requires in
+    let some = c.requires in
     let r = raised some.0 some.1 some.2 in
     omega (arith, c.kind.ensures, kind_number_lem (noted_told r.there), kind_lt r.base)
 
-add_bits : tie.Need-overflow-add-bits
-add_bits c = omega (arith, own_within (headed c.before.before.before.before.requires.1))
+add_bits : tie.Need-overflow_add-i-3
+add_bits c = omega (arith, own_within (headed c.requires.1))
 
-add_bits_2 : tie.Need-overflow-add-bits-2
-add_bits_2 c = omega (arith, own_within (headed c.before.before.before.before.before.requires.1))
+add_bits_2 : tie.Need-overflow_add-i-4
+add_bits_2 c = omega (arith, own_within (headed c.requires.1))
 
-bits_requires : tie.Need-bits-requires
+bits_requires : tie.Need-bits-e-requires
 bits_requires c κs =
-    let some = c.before.before.before.before.before.requires in
+    let some = c.requires in
     let r = raised some.0 some.1 some.2 in
-    let k = c.before.before.kind in
-    let n = c.before.before.before.note-at in
+    let k = c.kind in
+    let n = c.note_at-n in
     let size = raised_size r k.result n.result 0 k.ensures (n.ensures r.base r.there) in
-    omega (arith, c.records-of.ensures, size, r.within)
+    omega (arith, c.records_of.ensures, size, r.within)
 
 returns : tie.Need-returns
 returns c = λ t q l.
-    let a = c.before.before.before.before.before.before.before.before.before.args in
+    let a = c.args in
     let r = raised t q l in
-    let first = c.before.before.wrapping-add-u64 in
-    let x = c.before.before.before.bits in
-    let told = c.before.before.before.before.records-of in
-    let b = c.before.before.before.before.before.added in
-    let k = c.before.before.before.before.before.before.kind in
-    let n = c.before.before.before.before.before.before.before.note-at in
-    let p = c.before.added-exponent in
+    let first = c.wrapping_add_u64 in
+    let x = c.bits-e in
+    let told = c.records_of in
+    let b = c.added-base in
+    let k = c.kind in
+    let n = c.note_at-n in
+    let p = c.added_exponent in
     let y = n.ensures r.base r.there in
     let size = raised_size r k.result n.result x.result k.ensures y in
     let place : x.result ≡ r.exponent = x.ensures ∙ ap (λ m. bits a.s.now (a.i + 1 + m)) (told.ensures ∙ size) ∙ r.bits_there in
-    raised_note r k.result n.result x.result k.ensures y b.result p.result c.wrapping-add-u642.result b.ensures place
-    p.ensures (c.wrapping-add-u642.ensures ∙ ap (λ m. (m + p.result) % modulus) first.ensures)
+    raised_note r k.result n.result x.result k.ensures y b.result p.result c.wrapping_add_u64-2.result b.ensures place
+    p.ensures (c.wrapping_add_u64-2.ensures ∙ ap (λ m. (m + p.result) % modulus) first.ensures)
 
 pub power_note_spec : {M : Type 1} → statement M
 power_note_spec =

@@ -10,85 +10,70 @@ use Rattle.note.proofs.RelabelLaws.{Half, rest, half_start, half_end, reached_wi
 use Rattle.note.proofs.strip.Statement.{statement}
 use Rattle.note.proofs.strip.Tie as tie
 
-abbrev invariant_loop : tie.invariant-loop
+abbrev invariant_loop : tie.invariant-loop-j
 invariant_loop s₀ i n j₀ s j = (length s ≡ length s₀) × (j ≤ n) × ((t : Tree) (q : Whole note s₀ i n t) → Half (λ u. 0) s₀ s i j t (rest q))
 
-abbrev decreases_loop : tie.decreases-loop
+abbrev decreases_loop : tie.decreases-loop-j
 decreases_loop s₀ i n j₀ s j = j
 
-loop_holds : tie.Need-loop-init invariant_loop decreases_loop
+loop_holds : tie.Need-loop-j-init invariant_loop decreases_loop
 loop_holds c = (refl, omega arith, λ t q. half_start q (λ u. 0))
 
-add_kind : tie.Need-overflow-add-kind invariant_loop decreases_loop
+add_kind : tie.Need-overflow_add-i invariant_loop decreases_loop
 add_kind c =
-    let head = c.before.before in
-    omega (arith, reached_within head.before.before.requires.1 head.loop.j c.before.loop-test.true head.loop.invariant.1)
+    omega (arith, reached_within c.requires.1 c.loop-j.j c.loop-j-test.true c.loop-j.invariant.1)
 
 kind_requires : tie.Need-kind-requires invariant_loop decreases_loop
 kind_requires c κs =
-    let head = c.before.before in
-    let within = reached_within head.before.before.requires.1 head.loop.j c.before.loop-test.true head.loop.invariant.1 in
-    omega (arith, within, head.loop.invariant.0)
+    let within = reached_within c.requires.1 c.loop-j.j c.loop-j-test.true c.loop-j.invariant.1 in
+    omega (arith, within, c.loop-j.invariant.0)
 
-add_write8 : tie.Need-overflow-add-write8 invariant_loop decreases_loop
+add_write8 : tie.Need-overflow_add-i-then-kind-gt-SYMBOL invariant_loop decreases_loop
 add_write8 c =
-    let test = c.before.before.before.before in
-    let head = test.before in
-    let within = reached_within head.before.before.requires.1 head.loop.j test.loop-test.true head.loop.invariant.1 in
+    let within = reached_within c.requires.1 c.loop-j.j c.loop-j-test.true c.loop-j.invariant.1 in
     omega (arith, within)
 
-mul_write8 : tie.Need-overflow-mul-write8 invariant_loop decreases_loop
+mul_write8 : tie.Need-overflow_mul-i invariant_loop decreases_loop
 mul_write8 c =
-    let test = c.before.before.before.before in
-    let head = test.before in
-    let within = reached_within head.before.before.requires.1 head.loop.j test.loop-test.true head.loop.invariant.1 in
+    let within = reached_within c.requires.1 c.loop-j.j c.loop-j-test.true c.loop-j.invariant.1 in
     omega (arith, within)
 
-add_write8_2 : tie.Need-overflow-add-write8-2 invariant_loop decreases_loop
+add_write8_2 : tie.Need-overflow_add-i-then-kind-gt-SYMBOL-2 invariant_loop decreases_loop
 add_write8_2 c =
-    let test = c.before.before.before.before in
-    let head = test.before in
-    let within = reached_within head.before.before.requires.1 head.loop.j test.loop-test.true head.loop.invariant.1 in
+    let within = reached_within c.requires.1 c.loop-j.j c.loop-j-test.true c.loop-j.invariant.1 in
     omega (arith, within)
 
 write8_requires : tie.Need-write8-requires invariant_loop decreases_loop
 write8_requires c κs =
-    let test = c.before.before.before.before in
-    let head = test.before in
-    let within = reached_within head.before.before.requires.1 head.loop.j test.loop-test.true head.loop.invariant.1 in
-    omega (arith, within, head.loop.invariant.0)
+    let within = reached_within c.requires.1 c.loop-j.j c.loop-j-test.true c.loop-j.invariant.1 in
+    omega (arith, within, c.loop-j.invariant.0)
 
-loop_again : tie.Need-loop-preserved invariant_loop decreases_loop
+loop_again : tie.Need-loop-j-preserved-then-kind-gt-SYMBOL invariant_loop decreases_loop
 loop_again c =
-    let write = c.before.before.write8 in
-    let branch = c.before.before.before.before in
-    let read = branch.before in
-    let test = read.before.before in
-    let loop = test.before.loop in (
-      write.auto.0 ∙ loop.invariant.0,
+    let write = c.write8 in
+    let loop = c.loop-j in (
+      write.auto.d ∙ loop.invariant.0,
       omega (arith, loop.invariant.1),
-      λ t q. reached_node q loop.j test.loop-test.true loop.invariant.1 (loop.invariant.2 t q) read.kind.result read.kind.ensures
-          branch.if1.true write.new.0 write.ensures,
+      λ t q. reached_node q loop.j c.loop-j-test.true loop.invariant.1 (loop.invariant.2 t q) c.kind.result c.kind.ensures
+          c.if-kind-gt-SYMBOL.true write.new.d write.ensures,
     )
 
-loop_again_2 : tie.Need-loop-preserved-2 invariant_loop decreases_loop
+loop_again_2 : tie.Need-loop-j-preserved invariant_loop decreases_loop
 loop_again_2 c =
-    let read = c.before in
-    let test = read.before.before in
-    let loop = test.before.loop in (
+    let loop = c.loop-j in (
       loop.invariant.0,
       omega (arith, loop.invariant.1),
-      λ t q. reached_leaf q loop.j test.loop-test.true loop.invariant.1 (loop.invariant.2 t q) read.kind.result read.kind.ensures
-          c.if1.false,
+      λ t q. reached_leaf q loop.j c.loop-j-test.true loop.invariant.1 (loop.invariant.2 t q) c.kind.result c.kind.ensures
+          c.if-kind-gt-SYMBOL.false,
     )
 
-same_length : tie.Need-same-length invariant_loop decreases_loop
-same_length c = c.before.loop.invariant.0
+same_length : tie.Need-shape_of-s invariant_loop decreases_loop
+same_length c = c.loop-j.invariant.0
 
 returns : tie.Need-returns invariant_loop decreases_loop
 returns c = λ t q.
-    let a = c.before.before.before.args in
-    half_end q (λ u. 0) (omega arith) (c.before.loop.invariant.2 t q) ∙ ap (put a.s.now (a.i * 16)) (plain_encode t)
+    let a = c.args in
+    half_end q (λ u. 0) (omega arith) (c.loop-j.invariant.2 t q) ∙ ap (put a.s.now (a.i * 16)) (plain_encode t)
 
 pub strip_spec : {M : Type 1} → statement M
 strip_spec =

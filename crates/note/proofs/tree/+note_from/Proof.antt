@@ -53,96 +53,94 @@ rs t = (
   added-exponent-reads.Learnt,
 )
 
-abbrev invariant_loop : lts.invariant-loop
+abbrev invariant_loop : lts.invariant-loop-left
 invariant_loop s i k sum₀ at₀ left₀ sum at left = Summed s.now i sum at left
 
-abbrev decreases_loop : lts.decreases-loop
+abbrev decreases_loop : lts.decreases-loop-left
 decreases_loop s i k sum₀ at₀ left₀ sum at left = left
 
-kind_requires : (t : ℕ) → lts.Need-kind-requires (rs t) (here t) note-from.Post invariant_loop decreases_loop
-kind_requires t c κs = inside c.before.requires.1.0
+kind_requires : (t : ℕ) → lts.Need-kind-k-requires (rs t) (here t) note-from.Post invariant_loop decreases_loop
+kind_requires t c κs = inside c.requires.1.0
 
 bits_requires : (t : ℕ) → lts.Need-bits-requires (rs t) (here t) note-from.Post invariant_loop decreases_loop
-bits_requires t c κs = inside c.before.before.before.before.requires.1.0
+bits_requires t c κs = inside c.requires.1.0
 
-returns : (t : ℕ) → lts.Need-returns (rs t) (here t) note-from.Post invariant_loop decreases_loop
+returns : (t : ℕ) → lts.Need-returns-then-k-lt-SUM (rs t) (here t) note-from.Post invariant_loop decreases_loop
 returns t c =
-    let kind = c.before.before.before.before.kind in
-    let told = c.leaf-note.ensures in
-    λ u h w. told ∙ leaf_told (plain_by h w) kind.result c.before.bits.result kind.ensures c.before.bits.ensures (omega arith)
+    let kind = c.kind-k in
+    let told = c.leaf_note.ensures in
+    λ u h w. told ∙ leaf_told (plain_by h w) kind.result c.bits.result kind.ensures c.bits.ensures (omega arith)
 
-add_at : (t : ℕ) → lts.Need-overflow-add-at (rs t) (here t) note-from.Post invariant_loop decreases_loop
-add_at t c = let p = c.before.before.before.requires.1 in omega (arith, inside p.0, p.1)
+add_at : (t : ℕ) → lts.Need-overflow_add-at (rs t) (here t) note-from.Post invariant_loop decreases_loop
+add_at t c = let p = c.requires.1 in omega (arith, inside p.0, p.1)
 
-parts_requires : (t : ℕ) → lts.Need-parts-requires (rs t) (here t) note-from.Post invariant_loop decreases_loop
-parts_requires t c κs = inside c.before.before.before.before.requires.1.0
+parts_requires : (t : ℕ) → lts.Need-parts-left-requires (rs t) (here t) note-from.Post invariant_loop decreases_loop
+parts_requires t c κs = inside c.requires.1.0
 
-loop_holds : (t : ℕ) → lts.Need-loop-init (rs t) (here t) note-from.Post invariant_loop decreases_loop
+loop_holds : (t : ℕ) → lts.Need-loop-left-init (rs t) (here t) note-from.Post invariant_loop decreases_loop
 loop_holds t c =
-    let kind = c.before.before.before.kind in
+    let kind = c.kind-k in
     record {
       fits = omega arith;
       ahead = omega arith;
-      each = λ u q. summing_start q kind.result c.parts.result kind.ensures (omega arith) c.parts.ensures;
+      each = λ u q. summing_start q kind.result c.parts-left.result kind.ensures (omega arith) c.parts-left.ensures;
     }
 
 -- in a turn of the loop, a tree stands at the record that it has come to
 abbrev Turn : ℕ → Type 0
-Turn t = lts.In-loop (rs t) (here t) note-from.Post invariant_loop decreases_loop
+Turn t = lts.In-loop-left (rs t) (here t) note-from.Post invariant_loop decreases_loop
 
 abbrev entry_of : (t : ℕ) → Turn t → lts.Start (rs t) (here t) note-from.Post invariant_loop decreases_loop
 entry_of t c = c.before.before.before.before.before.before.before
 
-turn_given : (t : ℕ) (c : Turn t) → Given (entry_of t c).args.s.now.now c.before.loop.at
-turn_given t c = part_given c.before.loop.invariant (entry_of t c).requires.1.0 c.loop-test.true
+turn_given : (t : ℕ) (c : Turn t) → Given (entry_of t c).args.s.now.now c.loop-left.at
+turn_given t c = part_given c.loop-left.invariant (entry_of t c).requires.1.0 c.loop-left-test.true
 
-note_from_requires : (t : ℕ) → lts.Need-note-from-requires (rs t) (here t) note-from.Post invariant_loop decreases_loop
+note_from_requires : (t : ℕ) → lts.Need-note_from-n-requires (rs t) (here t) note-from.Post invariant_loop decreases_loop
 unfolding records_in
 note_from_requires t c κs =
     let p = (entry_of t c).requires.1 in
-    (omega (arith, c.before.loop.invariant.ahead, inside p.0), (turn_given t c, p.1))
+    (omega (arith, c.loop-left.invariant.ahead, inside p.0), (turn_given t c, p.1))
 
-kind_requires_2 : (t : ℕ) → lts.Need-kind-requires-2 (rs t) (here t) note-from.Post invariant_loop decreases_loop
+kind_requires_2 : (t : ℕ) → lts.Need-kind-requires (rs t) (here t) note-from.Post invariant_loop decreases_loop
 kind_requires_2 t c κs = inside (turn_given t c.before.before)
 
 added_requires : (t : ℕ) → lts.Need-added-requires (rs t) (here t) note-from.Post invariant_loop decreases_loop
-added_requires t c κs = omega (arith, c.kind2.ensures, given_kind (turn_given t c.before.before.before))
+added_requires t c κs = omega (arith, c.kind.ensures, given_kind (turn_given t c.before.before.before))
 
-add_at_2 : (t : ℕ) → lts.Need-overflow-add-at-2 (rs t) (here t) note-from.Post invariant_loop decreases_loop
+add_at_2 : (t : ℕ) → lts.Need-overflow_add-at-in-loop-left (rs t) (here t) note-from.Post invariant_loop decreases_loop
 add_at_2 t c =
-    let turn = c.before.before.before.before.before.before in
-    omega (arith, inside (turn_given t turn), (entry_of t turn).requires.1.1)
+    omega (arith, inside (turn_given t c.before.before.before.before.before.before), (entry_of t c.before.before.before.before.before.before).requires.1.1)
 
-loop_again : (t : ℕ) → lts.Need-loop-preserved (rs t) (here t) note-from.Post invariant_loop decreases_loop
+loop_again : (t : ℕ) → lts.Need-loop-left-preserved (rs t) (here t) note-from.Post invariant_loop decreases_loop
 loop_again t c =
-    let turn = c.before.before.before.before.before.before in
-    let at = turn.before.loop in
-    let kind = c.before.before.before.kind2 in
-    let part = c.before.before.before.before.before.note-from in
-    let next = c.before.wrapping-add-u64 in
-    rw c.records-of.ensures
-    (summed_step at.invariant turn.loop-test.true kind.result part.result kind.ensures part.ensures next.result
-    (next.ensures ∙ ap (λ x. (at.sum + x) % modulus) c.before.before.added.ensures))
+    let at = c.loop-left in
+    let kind = c.kind in
+    let part = c.note_from-n in
+    let next = c.wrapping_add_u64-sum in
+    rw c.records_of-at.ensures
+    (summed_step at.invariant c.loop-left-test.true kind.result part.result kind.ensures part.ensures next.result
+    (next.ensures ∙ ap (λ x. (at.sum + x) % modulus) c.added.ensures))
 
-bits_requires_2 : (t : ℕ) → lts.Need-bits-requires-2 (rs t) (here t) note-from.Post invariant_loop decreases_loop
+bits_requires_2 : (t : ℕ) → lts.Need-bits-requires-then-k-gt-PRODUCT (rs t) (here t) note-from.Post invariant_loop decreases_loop
 bits_requires_2 t c κs =
-    let kind = c.before.before.before.before.before.before.before.kind in
-    exponent_inside c.before.before.before.loop.invariant (omega arith) kind.result kind.ensures (omega arith)
-    c.before.before.before.before.before.before.before.before.before.requires.1.0
+    let kind = c.kind-k in
+    exponent_inside c.loop-left.invariant (omega arith) kind.result kind.ensures (omega arith)
+    c.requires.1.0
 
-returns_2 : (t : ℕ) → lts.Need-returns-2 (rs t) (here t) note-from.Post invariant_loop decreases_loop
+returns_2 : (t : ℕ) → lts.Need-returns-then-k-gt-PRODUCT (rs t) (here t) note-from.Post invariant_loop decreases_loop
 returns_2 t c =
-    let kind = c.before.before.before.before.before.before.before.before.before.before.kind in
-    let exponent = c.before.before.bits2 in
-    let more = c.before.added-exponent in
-    let all = c.wrapping-add-u642 in
-    summed_power c.before.before.before.before.before.before.loop.invariant (omega arith) kind.result kind.ensures (omega arith)
+    let kind = c.kind-k in
+    let exponent = c.bits-then-k-gt-PRODUCT in
+    let more = c.added_exponent in
+    let all = c.wrapping_add_u64 in
+    summed_power c.loop-left.invariant (omega arith) kind.result kind.ensures (omega arith)
     exponent.result more.result all.result exponent.ensures more.ensures all.ensures
 
-returns_3 : (t : ℕ) → lts.Need-returns-3 (rs t) (here t) note-from.Post invariant_loop decreases_loop
+returns_3 : (t : ℕ) → lts.Need-returns (rs t) (here t) note-from.Post invariant_loop decreases_loop
 returns_3 t c =
-    let kind = c.before.before.before.before.before.before.kind in
-    summed_node c.before.before.loop.invariant (omega arith) kind.result kind.ensures (omega arith) (omega (arith, c.if2.false))
+    let kind = c.kind-k in
+    summed_node c.loop-left.invariant (omega arith) kind.result kind.ensures (omega arith) (omega (arith, c.if-k-gt-PRODUCT.false))
 
 pub +note_from_spec : {M : Type 1} → statement M
 +note_from_spec = close μ_note_from λ t. lts.spec (rs t)
