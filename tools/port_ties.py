@@ -32,7 +32,7 @@ def loose(s):
 
 
 def sources():
-    """Which parameters of a function are `&mut`."""
+    """The parameters of each function."""
     found = {}
     for p in glob.glob("crates/*/src/*.rt"):
         crate = p.split("/")[1]
@@ -40,7 +40,7 @@ def sources():
         for m in re.finditer(r"\bfn (\w+)(?:<[^>]*>)?\s*\(([^)]*)\)", t):
             names = []
             for a in m[2].split(","):
-                w = re.match(r"\s*(?:mut )?(\w+): &(?:'\w+ )?mut ", a)
+                w = re.match(r"\s*(?:mut )?(\w+): ", a)
                 if w:
                     names.append(w[1])
             found[crate + "::" + m[1]] = names
@@ -122,7 +122,8 @@ class Turner:
 
     def words(self, fields, place):
         """The fields behind a step: what a `&mut` holds afterwards goes by its name."""
-        out = [WORDS.get(f, f) if i == 0 else f for i, f in enumerate(fields)]
+        plain = bool(place) and not re.match(r"(Then|Else|In-loop|After-loop)", place)
+        out = [WORDS.get(f, f) if i == 0 and not (plain and f in ("taken", "left")) and not (f == "last" and place and re.match(r"(At-loop|Joined)", place)) else f for i, f in enumerate(fields)]
         p = self.fn.places[place][1] if place else None
         if p and out and out[0] in ("new", "auto") and len(out) > 1 and out[1].isdigit() and p[3]:
             k, i = 0, 1
@@ -188,6 +189,22 @@ class Turner:
             n += 1
         return self.var + ".before" * n
 
+    def paths(self, text):
+        """The paths from one place, and no more."""
+
+        def one(m):
+            if m[1] != self.var or not m[2]:
+                return m[0]
+            fields = m[2].split(".")[1:]
+            try:
+                out, at = self.resolve(self.here, fields)
+            except Left as e:
+                self.said(str(e))
+                return m[0]
+            return self.place_alone(at) if out is None else self.var + "." + ".".join(out)
+
+        return PATH.sub(one, text)
+
     def turn(self, text):
         env = {self.var: (self.here, [])}
         # what a let names: a place, or a step; it is written out where it is used
@@ -216,7 +233,7 @@ class Turner:
             if head not in env:
                 return m[0]
             before = text[max(0, m.start() - 2) : m.start()]
-            if not fields and (head == self.var or before.endswith("λ ")):
+            if not fields and (head == self.var or before.endswith("λ ") or re.search(r"\blet $", text[: m.start()])):
                 return m[0]
             if head == "at" and not fields and re.search(r"\b(rw|simp) ([^()\s]+|\([^()]*\)) $", text[: m.start()]):
                 return m[0]
@@ -340,10 +357,10 @@ def turn_file(path, fns, muts, said):
         for m in re.finditer(r"(?m)^ *(" + N + r")(?: [^=\n:]*)? = (" + heads + r")\.(" + N + r")[^\n]*$", open(other, encoding="utf-8").read()):
             if after(m[2], m[3]) is not None:
                 places.setdefault(m[1], (m[2], after(m[2], m[3])))
-    parts = re.split(r"(?m)^(?=(?:pub |abbrev )*" + N + r"(?: \{[^{}\n]*\}| \([^()\n]*\))* :(?: |$))", text)
+    parts = re.split(r"(?m)^(?=(?:  )?(?:pub |abbrev )*" + N + r"(?: \{[^{}\n]*\}| \([^()\n]*\))* :(?: |$))", text)
     out = []
     wants = {}
-    for m in re.finditer(r"(?m)^(?:pub |abbrev )*(" + N + r") : (?:\(" + N + r" : )?(?:(" + heads + r")\.(" + N + r")|(" + N + r"))", text):
+    for m in re.finditer(r"(?m)^(?:  )?(?:pub |abbrev )*(" + N + r") : (?:\(" + N + r" : )?(?:(" + heads + r")\.(" + N + r")|(" + N + r"))", text):
         it = (m[2], after(m[2], m[3])) if m[2] and not m[3].startswith("Need-") else places.get(m[4])
         if it and it[1]:
             wants[m[1]] = it[1]
@@ -351,6 +368,18 @@ def turn_file(path, fns, muts, said):
         if m[1] in places:
             for w in re.finditer(r"(?m)^  (?:pub |abbrev )*(" + N + r") :", m[2]):
                 wants[w[1]] = places[m[1]][1]
+    gives = {}
+    for m in re.finditer(r"(?m)^(?:  )?(?:pub |abbrev )*(" + N + r") : [^\n]*→ (?:(" + heads + r")\.(" + N + r")|(" + N + r"))(?: [^→\n]*)?$", text):
+        it = (m[2], after(m[2], m[3])) if m[2] else places.get(m[4])
+        if it and it[1]:
+            gives[m[1]] = it
+    # a module over a place: what is bound for all of it
+    over = {}
+    for m in re.finditer(r"(?m)^module _ ((?:\(" + N + r" : [^()]*\) ?|\{[^{}]*\} ?)+)", text):
+        for w in re.finditer(r"\((" + N + r") : (?:(" + heads + r")\.(" + N + r")|(" + N + r"))", m[1]):
+            it = (w[2], after(w[2], w[3])) if w[2] else places.get(w[4])
+            if it and it[1]:
+                over[w[1]] = it
     for part in parts:
         first = None
         for m in re.finditer(r"\b(" + heads + r")\.Need-(" + N + r")", part):
@@ -372,14 +401,31 @@ def turn_file(path, fns, muts, said):
                 it = (w[2], after(w[2], w[3])) if w[2] else places.get(w[4])
                 if it and it[1]:
                     bound.append((w[1], *it))
-            arrow = re.match(r"(?:pub |abbrev )*(" + N + r") : (?:(" + heads + r")\.(" + N + r")|(" + N + r"))[^→\n]* → ", part)
+            arrow = re.match(r" *(?:pub |abbrev )*(" + N + r") : (?:(" + heads + r")\.(" + N + r")|(" + N + r"))[^→\n]* → ", part)
             if arrow:
                 it = (arrow[2], after(arrow[2], arrow[3])) if arrow[2] else places.get(arrow[4])
-                var = re.search(r"(?m)^" + re.escape(arrow[1]) + r" (" + N + r")", part)
+                var = re.search(r"(?m)^ *" + re.escape(arrow[1]) + r" (" + N + r")", part)
                 if var and it and it[1]:
                     bound.append((var[1], *it))
+            if part.startswith("  "):
+                bound += [(v, *it) for v, it in over.items() if v not in [b[0] for b in bound]]
+            if arrow and arrow[1] in gives and var and it and it[1] and gives[arrow[1]][0] == it[0]:
+                # a helper that goes from one place to another
+                t = Turner(fns[it[0]], it[1], muts, said, var[1])
+                if gives[arrow[1]][1] in t.shown:
+                    part = re.sub(r"(?m)^( *" + re.escape(arrow[1]) + r" " + re.escape(var[1]) + r" = )" + re.escape(var[1]) + r"(?:\.before)*$", lambda w: w[1] + t.place_alone(gives[arrow[1]][1]), part)
+                    if re.search(r"(?m)^ *" + re.escape(arrow[1]) + r" " + re.escape(var[1]) + r" = " + re.escape(var[1]) + r"(?:\.before)*$", part):
+                        bound = []
             for var, head, place in bound:
                 part = Turner(fns[head], place, muts, lambda s: said(f"{path}: {var}: {s}"), var).turn(part)
+
+        # what a helper gives, by a name or in parentheses
+        named = [(m[1], gives[m[2]]) for m in re.finditer(r"\blet (" + N + r") = (" + N + r") [^\n=]* in\b", part) if m[2] in gives]
+        for var, (head, place) in dict(named).items():
+            part = Turner(fns[head], place, muts, lambda s: said(f"{path}: {var}: {s}"), var).paths(part)
+        for helper, (head, place) in gives.items():
+            for m in sorted(set(re.findall(r"\(" + re.escape(helper) + r" [^()\s]+(?: [^()\s]+)*\)(?=\.)", part))):
+                part = Turner(fns[head], place, muts, lambda s: said(f"{path}: {m}: {s}"), "⟪⟫").paths(part.replace(m + ".", "⟪⟫.")).replace("⟪⟫.", m + ".")
 
         def goal(m):
             it = fns[m[1]].need(m[2])

@@ -223,8 +223,8 @@ fn drive_tree(
         out.new.now work.new.now steps.new.now st.new result }
     ensures out_len_unchanged { (length out.new.now ≡ length out.old.now) × (length work.new.now ≡ length work.old.now)
         × (length steps.new.now ≡ length steps.old.now) }
-    ensures name_unchanged { (out.new.name ≡ out.old.name) × (work.new.name ≡ work.old.name)
-        × (steps.new.name ≡ steps.old.name) }
+    ensures name_unchanged { (out.new.ghost_name ≡ out.old.ghost_name) × (work.new.ghost_name ≡ work.old.ghost_name)
+        × (steps.new.ghost_name ≡ steps.old.ghost_name) }
 {
     let mut e = go_on(out, work, steps, st, 0);
     while 0 < st[LEFT] {
@@ -310,7 +310,7 @@ fn enter_work<'b>(
     ensures drives { Drives out.old work.old steps.old.now st.old
         out.new result.now steps.new.now st.new (get_or end.new 0 0) }
     ensures ghost_name_value { (result.ghost_name ≡ work.entry.ghost_name) × (length result.now ≡ length work.old) × (length end.new ≡ 1)
-        × (steps.new.name ≡ steps.old.name) × (length steps.new.now ≡ length steps.old.now) }
+        × (steps.new.ghost_name ≡ steps.old.ghost_name) × (length steps.new.now ≡ length steps.old.now) }
 {
     let mut w = work;
     enter_out(out, &mut w, steps, st, end);
@@ -330,8 +330,8 @@ fn enter_out<'b>(
     ensures drives { Drives out.old work.old.now steps.old.now st.old
         result.now work.new.now steps.new.now st.new (get_or end.new 0 0) }
     ensures ghost_name_value { (result.ghost_name ≡ out.entry.ghost_name) × (length result.now ≡ length out.old) × (length end.new ≡ 1)
-        × (work.new.name ≡ work.old.name) × (length work.new.now ≡ length work.old.now)
-        × (steps.new.name ≡ steps.old.name) × (length steps.new.now ≡ length steps.old.now) }
+        × (work.new.ghost_name ≡ work.old.ghost_name) × (length work.new.now ≡ length work.old.now)
+        × (steps.new.ghost_name ≡ steps.old.ghost_name) × (length steps.new.now ≡ length steps.old.now) }
 {
     let mut o = out;
     let e = drive_tree(&mut o, work, steps, st);
@@ -390,8 +390,8 @@ fn go_on(
         → WentOn c out.new.now work.new.now steps.new.now (stand_of st.new)) }
     ensures out_len_unchanged { (length out.new.now ≡ length out.old.now) × (length work.new.now ≡ length work.old.now)
         × (length steps.new.now ≡ length steps.old.now) }
-    ensures name_unchanged { (out.new.name ≡ out.old.name) × (work.new.name ≡ work.old.name)
-        × (steps.new.name ≡ steps.old.name) }
+    ensures name_unchanged { (out.new.ghost_name ≡ out.old.ghost_name) × (work.new.ghost_name ≡ work.old.ghost_name)
+        × (steps.new.ghost_name ≡ steps.old.ghost_name) }
 {
     let s = from_cells(st);
     let begun = first(*out, *work, *steps, s, g);

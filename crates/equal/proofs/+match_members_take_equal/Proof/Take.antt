@@ -40,11 +40,11 @@ pub record Search (a b : List ℕ) (j m : ℕ) (at₀ us₀ at us : List ℕ) (k
   pub looked : (how : Tree → ℕ) (t : Tree) (g : Forest) → Told how a (place_in at₀) t → ToldTrees how b j m g
       → Looked how t b (used_in at₀ - m) (used_in at₀) us₀ us g c k
 
-abbrev pub Inv : lts.invariant-loop
+abbrev pub Inv : lts.invariant-loop-k
 Inv a b j m at₀ ticks₀ k₀ c₀ at ticks k c =
     Search a.now b.now j m at₀ ticks₀.now at ticks.now k c × (ticks.ghost_name ≡ ticks₀.ghost_name)
 
-abbrev pub μ : lts.decreases-loop
+abbrev pub μ : lts.decreases-loop-k
 μ a b j m at₀ ticks₀ k₀ c₀ at ticks k c = used_in at₀ - k
 
 module _ (t : ℕ) where
@@ -54,25 +54,25 @@ module _ (t : ℕ) where
   Entry = lts.Start (claims t) (take_at t) reads.Post Inv μ
 
   abbrev Head : Type 0
-  Head = lts.At-loop (claims t) (take_at t) reads.Post Inv μ
+  Head = lts.At-loop-k (claims t) (take_at t) reads.Post Inv μ
 
   abbrev Turn : Type 0
-  Turn = lts.Then1 (claims t) (take_at t) reads.Post Inv μ
+  Turn = lts.In-loop-k (claims t) (take_at t) reads.Post Inv μ
 
   abbrev Tested : Type 0
-  Tested = lts.After-is-candidate (claims t) (take_at t) reads.Post Inv μ
+  Tested = lts.After-is_candidate (claims t) (take_at t) reads.Post Inv μ
 
   abbrev Free : Type 0
-  Free = lts.Then2 (claims t) (take_at t) reads.Post Inv μ
+  Free = lts.Then-is_candidate (claims t) (take_at t) reads.Post Inv μ
 
   abbrev Compared : Type 0
-  Compared = lts.After-match-members (claims t) (take_at t) reads.Post Inv μ
+  Compared = lts.After-match_members-e (claims t) (take_at t) reads.Post Inv μ
 
   abbrev entry_of : Head → Entry
-  entry_of c = c.before.before
+  entry_of c = c.before.before.before
 
   abbrev head_of : Turn → Head
-  head_of c = c.before.before
+  head_of c = c.before.before.before
 
   abbrev turn_of_lem : Tested → Turn
   turn_of_lem c = c.before.before.before.before.before
@@ -88,7 +88,7 @@ module _ (t : ℕ) where
   other_of c = (entry_of c).args.b.now.now
 
   abbrev ticks_of : Head → List ℕ
-  ticks_of c = c.loop.ticks.now
+  ticks_of c = c.loop-k.ticks.now
 
   abbrev first_ticks : Head → List ℕ
   first_ticks c = (entry_of c).args.ticks.now.now
@@ -100,51 +100,51 @@ module _ (t : ℕ) where
   end_of_lem c = used_in (entry_of c).args.at.now
 
   -- the cells are as at the entry
-  place_is : (c : Head) → place_in c.loop.at ≡ place_of c
-  place_is c = ap place_in c.loop.invariant.0.same_cells
+  place_is : (c : Head) → place_in c.loop-k.at ≡ place_of c
+  place_is c = ap place_in c.loop-k.invariant.0.same_cells
 
-  used_is : (c : Head) → used_in c.loop.at ≡ end_of_lem c
-  used_is c = ap used_in c.loop.invariant.0.same_cells
+  used_is : (c : Head) → used_in c.loop-k.at ≡ end_of_lem c
+  used_is c = ap used_in c.loop-k.invariant.0.same_cells
 
-  more : (c : Turn) → let head = head_of c in head.loop.k < end_of_lem head
-  more c = omega (arith, used_is (head_of c), c.if1.true)
+  more : (c : Turn) → let head = head_of c in head.loop-k.k < end_of_lem head
+  more c = omega (arith, used_is (head_of c), c.loop-k-test.true)
 
   room : (c : Head) → end_of_lem c ≤ length (ticks_of c)
-  room c = omega (arith, (entry_of c).requires.1.2.within, c.loop.invariant.0.as_long)
+  room c = omega (arith, (entry_of c).requires.1.2.within, c.loop-k.invariant.0.as_long)
 
   -- the search, for the trees that the contract says stand there
   look : (c : Head)
       → let entry = entry_of c in
-      let some = entry.pre.1.0 in
-      Looked some.how some.one (other_of c) (end_of_lem c - entry.args.m) (end_of_lem c) (first_ticks c) (ticks_of c) some.others c.loop.c c.loop.k
+      let some = entry.requires.1.0 in
+      Looked some.how some.one (other_of c) (end_of_lem c - entry.args.m) (end_of_lem c) (first_ticks c) (ticks_of c) some.others c.loop-k.c c.loop-k.k
   look c =
       let some = (entry_of c).requires.1.0 in
-      c.loop.invariant.0.looked some.how some.one some.others some.one_there some.others_there
+      c.loop-k.invariant.0.looked some.how some.one some.others some.one_there some.others_there
 
   -- the search for x among the trees g, at the ticks us, before tick k of the tree at record i
   abbrev Looking : Head → (Tree → ℕ) → Tree → Forest → List ℕ → (i k : ℕ) → Type 0
   Looking c how x g us i k = Looked how x (other_of c) (end_of_lem c - (entry_of c).args.m) (end_of_lem c) (first_ticks c) us g i k
 
   -- a tree at the place of the entry is at that of the turn
-  at_hand : (c : Head) (how : Tree → ℕ) (x : Tree) → Told how (one_of c) (place_of c) x → Told how (one_of c) (place_in c.loop.at) x
+  at_hand : (c : Head) (how : Tree → ℕ) (x : Tree) → Told how (one_of c) (place_of c) x → Told how (one_of c) (place_in c.loop-k.at) x
   at_hand c how x h = subst (λ p. Told how (one_of c) p x) (sym (place_is c)) h
 
-  some_there : (c : Head) → let some = (entry_of c).requires.1.0 in Told some.how (one_of c) (place_in c.loop.at) some.one
+  some_there : (c : Head) → let some = (entry_of c).requires.1.0 in Told some.how (one_of c) (place_in c.loop-k.at) some.one
   some_there c = let some = (entry_of c).requires.1.0 in at_hand c some.how some.one some.one_there
 
   -- a candidate has no tick, and begins as the tree does
-  chosen : (c : Free) → c.before.is-candidate.result ≡ true
-  chosen c = c.if2.true
+  chosen : (c : Free) → c.is_candidate.result ≡ true
+  chosen c = c.if-is_candidate.true
 
-  no_tick : (c : Free) → let head = head_of (turn_of_lem c.before) in get_or (ticks_of head) head.loop.k 0 ≡ 0
+  no_tick : (c : Free) → let head = head_of (turn_of_lem c.before) in get_or (ticks_of head) head.loop-k.k 0 ≡ 0
   no_tick c =
       let head = head_of (turn_of_lem c.before) in
-      candidate_free (one_of head) (place_in head.loop.at) (other_of head) head.loop.c _ (sym c.before.is-candidate.ensures ∙ chosen c)
+      candidate_free (one_of head) (place_in head.loop-k.at) (other_of head) head.loop-k.c _ (sym c.is_candidate.ensures ∙ chosen c)
 
-  begins : (c : Free) → let head = head_of (turn_of_lem c.before) in begin_alike (one_of head) (place_in head.loop.at) (other_of head) head.loop.c ≡ true
+  begins : (c : Free) → let head = head_of (turn_of_lem c.before) in begin_alike (one_of head) (place_in head.loop-k.at) (other_of head) head.loop-k.c ≡ true
   begins c =
       let head = head_of (turn_of_lem c.before) in
-      candidate_begins (one_of head) (place_in head.loop.at) (other_of head) head.loop.c _ (sym c.before.is-candidate.ensures ∙ chosen c)
+      candidate_begins (one_of head) (place_in head.loop-k.at) (other_of head) head.loop-k.c _ (sym c.is_candidate.ensures ∙ chosen c)
 
   -- ---- the next tree, compared: its tick is set before that
   abbrev turn_at : Compared → Turn
@@ -154,199 +154,193 @@ module _ (t : ℕ) where
   head_at c = head_of (turn_at c)
 
   abbrev before_it : Head → List ℕ
-  before_it c = set (ticks_of c) c.loop.k 1
+  before_it c = set (ticks_of c) c.loop-k.k 1
 
   abbrev after_it : Compared → List ℕ
-  after_it c = c.match-members.last.1.1.1.1.0.now
+  after_it c = c.match_members-e.new.ticks.now
 
   kept_by_lem : (c : Compared) → let head = head_at c in Kept (end_of_lem head) (before_it head) (after_it c)
-  kept_by_lem c = subst (λ n. Kept n (before_it (head_at c)) (after_it c)) (used_is (head_at c)) c.match-members.ensures.1.1
+  kept_by_lem c = subst (λ n. Kept n (before_it (head_at c)) (after_it c)) (used_is (head_at c)) c.match_members-e.ensures.1.1
 
   length_kept : (c : Compared) → length (after_it c) ≡ length (first_ticks (head_at c))
   length_kept c =
       let head = head_at c in
-      (kept_by_lem c).as_long ∙ length-set (ticks_of head) head.loop.k 1 ∙ head.loop.inv.0.as_long
+      (kept_by_lem c).as_long ∙ length-set (ticks_of head) head.loop-k.k 1 ∙ head.loop-k.invariant.0.as_long
 
-  ticked : (c : Compared) → let head = head_at c in TickedAt (ticks_of head) (after_it c) (end_of_lem head) head.loop.k
-  ticked c = let head = head_at c in ticked_at (ticks_of head) (after_it c) (end_of_lem head) head.loop.k (room head) (more (turn_at c)) (kept_by_lem c)
+  ticked : (c : Compared) → let head = head_at c in TickedAt (ticks_of head) (after_it c) (end_of_lem head) head.loop-k.k
+  ticked c = let head = head_at c in ticked_at (ticks_of head) (after_it c) (end_of_lem head) head.loop-k.k (room head) (more (turn_at c)) (kept_by_lem c)
 
-  same_cells_after : (c : Compared) → c.match-members.last.1.1.1.0 ≡ (entry_of (head_at c)).args.at.now
-  same_cells_after c = c.match-members.ensures.1.0 ∙ (head_at c).loop.invariant.0.same_cells
+  same_cells_after : (c : Compared) → c.match_members-e.new.at ≡ (entry_of (head_at c)).args.at.now
+  same_cells_after c = c.match_members-e.ensures.1.0 ∙ (head_at c).loop-k.invariant.0.same_cells
 
   -- what the comparison's answer says of it
   told : (c : Compared)
       → let head = head_at c in
-      (how : Tree → ℕ) (x u : Tree) → Told how (one_of head) (place_of head) x → Told how (other_of head) head.loop.c u
-      → c.match-members.result ≡ end_of (equal x u) (place_of head + records x)
+      (how : Tree → ℕ) (x u : Tree) → Told how (one_of head) (place_of head) x → Told how (other_of head) head.loop-k.c u
+      → c.match_members-e.result ≡ end_of (equal x u) (place_of head + records x)
   told c how x u h v =
       let head = head_at c in
-      c.match-members.ensures.0 how x u (at_hand head how x h) v ∙ ap (λ p. end_of (equal x u) (p + records x)) (place_is head)
+      c.match_members-e.ensures.0 how x u (at_hand head how x h) v ∙ ap (λ p. end_of (equal x u) (p + records x)) (place_is head)
 
   -- which is that the trees are equal, where it is not 0
-  found : (c : Compared) → 1 ≤ c.match-members.result
+  found : (c : Compared) → 1 ≤ c.match_members-e.result
       → let head = head_at c in
-      (how : Tree → ℕ) (x u : Tree) → Told how (one_of head) (place_of head) x → Told how (other_of head) head.loop.c u
-      → (equal x u ≡ true) × (c.match-members.result ≡ place_of head + records x)
-  found c l how x u h v = is_some (equal x u) _ c.match-members.result (told c how x u h v) l
+      (how : Tree → ℕ) (x u : Tree) → Told how (one_of head) (place_of head) x → Told how (other_of head) head.loop-k.c u
+      → (equal x u ≡ true) × (c.match_members-e.result ≡ place_of head + records x)
+  found c l how x u h v = is_some (equal x u) _ c.match_members-e.result (told c how x u h v) l
 
-  pub element_copy_out_k : lts.Need-element-copy-out-k (claims t) (take_at t) reads.Post Inv μ
+  pub element_copy_out_k : lts.Need-bounds-at-1 (claims t) (take_at t) reads.Post Inv μ
   element_copy_out_k c = search rules
 
-  pub sub_k : lts.Need-overflow-sub-k (claims t) (take_at t) reads.Post Inv μ
-  sub_k c = omega (arith, c.before.requires.1.1)
+  pub sub_k : lts.Need-overflow_sub-k (claims t) (take_at t) reads.Post Inv μ
+  sub_k c = omega (arith, c.requires.1.1)
 
-  pub loop_holds : lts.Need-loop-init (claims t) (take_at t) reads.Post Inv μ
+  pub loop_holds : lts.Need-loop-k-init (claims t) (take_at t) reads.Post Inv μ
   loop_holds c =
-      let entry = c.before in (
+      (
         record {
           same_cells = refl;
           from = omega arith;
           up_to = omega arith;
           as_long = refl;
-          looked = λ how x g h q. looked_start _ _ entry.args.m (omega (arith, entry.requires.1.1)) q;
+          looked = λ how x g h q. looked_start _ _ c.args.m (omega (arith, c.requires.1.1)) q;
         },
         refl,
       )
 
-  pub element_copy_out_if1 : lts.Need-element-copy-out-if1 (claims t) (take_at t) reads.Post Inv μ
+  pub element_copy_out_if1 : lts.Need-bounds-at-1-in-loop-k (claims t) (take_at t) reads.Post Inv μ
   element_copy_out_if1 c = search rules
 
-  pub element_copy_out_is_candidate : lts.Need-element-copy-out-is-candidate (claims t) (take_at t) reads.Post Inv μ
+  pub element_copy_out_is_candidate : lts.Need-bounds-at-0 (claims t) (take_at t) reads.Post Inv μ
   element_copy_out_is_candidate c = search rules
 
-  pub index_1_is_candidate : lts.Need-bounds-1-is-candidate (claims t) (take_at t) reads.Post Inv μ
+  pub index_1_is_candidate : lts.Need-bounds-ticks-k (claims t) (take_at t) reads.Post Inv μ
   index_1_is_candidate c = let turn = c.before.before.before in omega (arith, more turn, room (head_of turn))
 
-  pub is_candidate_requires : lts.Need-is-candidate-requires (claims t) (take_at t) reads.Post Inv μ
+  pub is_candidate_requires : lts.Need-is_candidate-requires (claims t) (take_at t) reads.Post Inv μ
   is_candidate_requires c κs =
-      let turn = c.before.before.before.before in
-      let head = head_of turn in
-      (some_told (some_there head), some_told (looked_tree (look head) (more turn)).1)
+      let head = head_of c.before.before.before.before in
+      (some_told (some_there head), some_told (looked_tree (look head) (more c.before.before.before.before)).1)
 
-  pub index_1_ticks : lts.Need-bounds-1-ticks (claims t) (take_at t) reads.Post Inv μ
+  pub index_1_ticks : lts.Need-bounds-ticks-k-then-is_candidate (claims t) (take_at t) reads.Post Inv μ
   index_1_ticks c = let turn = turn_of_lem c.before in omega (arith, more turn, room (head_of turn))
 
-  pub match_members_requires : lts.Need-match-members-requires (claims t) (take_at t) reads.Post Inv μ
+  pub match_members_requires : lts.Need-match_members-e-requires (claims t) (take_at t) reads.Post Inv μ
   match_members_requires c κs =
-      let free = c.before.before in
-      let turn = turn_of_lem free.before in
+      let turn = turn_of_lem c.before.before.before in
       let head = head_of turn in
       let entry = entry_of head in
-      let some = entry.pre.1.0 in
-      let level = entry.pre.1.2 in
-      let long = length-set (ticks_of head) head.loop.k 1 in (
-        omega (arith, entry.pre.0, place_is head),
+      let some = entry.requires.1.0 in
+      let level = entry.requires.1.2 in
+      let long = length-set (ticks_of head) head.loop-k.k 1 in (
+        omega (arith, entry.requires.0, place_is head),
         (
-          looked_pair (look head) (more turn) _ (some_there head) (begins free)
-              (omega (arith, some.enough, room head, head.loop.inv.0.as_long, used_is head, long, entry.pre.1.1)),
+          looked_pair (look head) (more turn) _ (some_there head) (begins c.before.before)
+              (omega (arith, some.enough, room head, head.loop-k.invariant.0.as_long, used_is head, long, entry.requires.1.1)),
           record {
-            two = ap length head.loop.inv.0.same_cells ∙ level.two;
+            two = ap length head.loop-k.invariant.0.same_cells ∙ level.two;
             within = omega (arith, room head, used_is head, long);
             one_short = level.one_short;
             other_short = level.other_short;
-            ticks_short = omega (arith, level.ticks_short, head.loop.inv.0.as_long, long);
+            ticks_short = omega (arith, level.ticks_short, head.loop-k.invariant.0.as_long, long);
           },
         ),
       )
 
-  pub returns : lts.Need-returns (claims t) (take_at t) reads.Post Inv μ
+  pub returns : lts.Need-returns-then-e-gt0 (claims t) (take_at t) reads.Post Inv μ
   returns c =
-      let compared = c.before in
-      let free = free_of compared in
-      let turn = turn_at compared in
+      let free = free_of c.before in
+      let turn = turn_at c.before in
       let head = head_of turn in
-      let e = compared.match-members.result in
-      let says = found compared c.if3.true in (
+      let e = c.match_members-e.result in
+      let says = found c.before c.if-e-gt0.true in (
         λ how x g h q.
-            let found-by = head.loop.inv.0.looked how x g h q in
+            let found-by = head.loop-k.invariant.0.looked how x g h q in
             let o = looked_tree found-by (more turn) in
-            some_took x g _ _ _ _ e c.if3.true (says how x o.0 h o.1).1
-            (looked_found found-by (more turn) (after_it compared) (ticked compared) (no_tick free) (λ u v. (says how x u h v).0)),
+            some_took x g _ _ _ _ e c.if-e-gt0.true (says how x o.0 h o.1).1
+            (looked_found found-by (more turn) (after_it c.before) (ticked c.before) (no_tick free) (λ u v. (says how x u h v).0)),
         (
-          same_cells_after compared,
+          same_cells_after c.before,
           record {
-            as_long = length_kept compared;
+            as_long = length_kept c.before;
             same = λ n l.
-                (ticked compared).others n (omega (arith, more turn, head.loop.inv.0.from)) (λ d. omega (arith, head.loop.inv.0.from))
-                ∙ (look head).kept n (omega (arith, more turn, head.loop.inv.0.from));
+                (ticked c.before).others n (omega (arith, more turn, head.loop-k.invariant.0.from)) (λ d. omega (arith, head.loop-k.invariant.0.from))
+                ∙ (look head).kept n (omega (arith, more turn, head.loop-k.invariant.0.from));
           },
-          compared.match-members.ensures.1.2 ∙ head.loop.inv.1,
+          c.match_members-e.ensures.1.2 ∙ head.loop-k.invariant.1,
         ),
       )
 
-  pub index_1_ticks_2 : lts.Need-bounds-1-ticks-2 (claims t) (take_at t) reads.Post Inv μ
+  pub index_1_ticks_2 : lts.Need-bounds-ticks-k-then-is_candidate-2 (claims t) (take_at t) reads.Post Inv μ
   index_1_ticks_2 c = (ticked c.before).there
 
-  pub skip_tree_requires : lts.Need-skip-tree-requires (claims t) (take_at t) reads.Post Inv μ
+  pub skip_tree_requires : lts.Need-skip_tree-c-requires (claims t) (take_at t) reads.Post Inv μ
   skip_tree_requires c κs =
       let turn = turn_of_lem c.before.before in
       some_told (looked_tree (look (head_of turn)) (more turn)).1
 
-  pub add_k : lts.Need-overflow-add-k (claims t) (take_at t) reads.Post Inv μ
+  pub add_k : lts.Need-overflow_add-k (claims t) (take_at t) reads.Post Inv μ
   add_k c =
       let turn = turn_of_lem c.before.before.before in
       let entry = entry_of (head_of turn) in
-      omega (arith, more turn, entry.pre.1.2.within, entry.pre.1.2.ticks_short)
+      omega (arith, more turn, entry.requires.1.2.within, entry.requires.1.2.ticks_short)
 
-  pub loop_less : lts.Need-loop-smaller (claims t) (take_at t) reads.Post Inv μ
+  pub loop_less : lts.Need-loop-k-smaller (claims t) (take_at t) reads.Post Inv μ
   loop_less c = omega (arith, more (turn_of_lem c.before.before.before))
 
   -- by the way that the turn went. The next tree was compared: its test w .0, the comparison w .3 and the test of its answer w .4, the cells w .5
   -- and the ticks w .6 after it; or it was no candidate: its test w .0, the cells w .1, the ticks w .2
-  pub loop_again : lts.Need-loop-preserved (claims t) (take_at t) reads.Post Inv μ
+  pub loop_again : lts.Need-loop-k-preserved (claims t) (take_at t) reads.Post Inv μ
   loop_again c =
-      let joined = c.before.before in
-      let tested = joined.before in
-      let turn = turn_of_lem tested in
+      let turn = turn_of_lem c.before.before.before in
       let head = head_of turn in
-      let l = head.loop in
-      let past = c.skip-tree in
+      let l = head.loop-k in
+      let past = c.skip_tree-c in
       ⊎_elim
       (λ w.
-      let free : Free = record { before = tested; if2 = w.0 } in
+      let free : Free = record { before = c.before.before.before; if-is_candidate = w.if-is_candidate } in
       let compared : Compared
-      = record { before = record { before = record { before = free; match-members-arg = w.1 }; match-members-arg2 = w.2 }; match-members = w.3 } in
+      = record { before = record { before = record { before = free; match_members-arg-1 = w.match_members-arg-1 }; match_members-arg-then-is_candidate-1 = w.match_members-arg-then-is_candidate-1 }; match_members-e = w.match_members-e } in
       let back = ticked_back (ticked compared) in
-      let now = ap (λ s. s.now) w.6 in (
+      let now = ap (λ s. s.now) w.ticks-is in (
         record {
-          same_cells = w.5 ∙ same_cells_after compared;
-          from = omega (arith, l.inv.0.from);
+          same_cells = w.at-is ∙ same_cells_after compared;
+          from = omega (arith, l.invariant.0.from);
           up_to = omega (arith, more turn);
           as_long = ap length now ∙ length-set (after_it compared) l.k _ ∙ length_kept compared;
           looked = λ how x g h q.
               subst (λ us. Looking head how x g us past.result (l.k + 1)) (sym now)
-              (looked_next (l.inv.0.looked how x g h q) (more turn) _ past.result (back _ (sym (no_tick free))) (past.ensures how)
-              (λ z u v. is_none (equal x u) _ w.3.result (told compared how x u h v) (omega (arith, w.4.left)) (omega (arith, records_pos x))));
+              (looked_next (l.invariant.0.looked how x g h q) (more turn) _ past.result (back _ (sym (no_tick free))) (past.ensures how)
+              (λ z u v. is_none (equal x u) _ w.match_members-e.result (told compared how x u h v) (omega (arith, w.if-e-gt0.false)) (omega (arith, records_pos x))));
         },
-        ap (λ s. s.name) w.6 ∙ w.3.ensures.1.2 ∙ l.inv.1,
+        ap (λ s. s.ghost_name) w.ticks-is ∙ w.match_members-e.ensures.1.2 ∙ l.invariant.1,
       ))
       (λ w.
-      let now = ap (λ s. s.now) w.2 in (
+      let now = ap (λ s. s.now) w.ticks-is in (
         record {
-          same_cells = w.1 ∙ l.inv.0.same_cells;
-          from = omega (arith, l.inv.0.from);
+          same_cells = w.at-is ∙ l.invariant.0.same_cells;
+          from = omega (arith, l.invariant.0.from);
           up_to = omega (arith, more turn);
-          as_long = ap length now ∙ l.inv.0.as_long;
+          as_long = ap length now ∙ l.invariant.0.as_long;
           looked = λ how x g h q.
               subst (λ us. Looking head how x g us past.result (l.k + 1)) (sym now)
-              (looked_next (l.inv.0.looked how x g h q) (more turn) (ticks_of head) past.result (λ n v. refl) (past.ensures how)
-              (λ z u v. passed_by (at_hand head how x h) v _ (sym tested.is-candidate.ensures ∙ w.0.left) z));
+              (looked_next (l.invariant.0.looked how x g h q) (more turn) (ticks_of head) past.result (λ n v. refl) (past.ensures how)
+              (λ z u v. passed_by (at_hand head how x h) v _ (sym c.is_candidate.ensures ∙ w.if-is_candidate.false) z));
         },
-        ap (λ s. s.name) w.2 ∙ l.inv.1,
+        ap (λ s. s.ghost_name) w.ticks-is ∙ l.invariant.1,
       ))
-      joined.if2.branch
+      c.if-is_candidate.branch-raw
 
-  pub returns_2 : lts.Need-returns-2 (claims t) (take_at t) reads.Post Inv μ
+  pub returns_2 : lts.Need-returns (claims t) (take_at t) reads.Post Inv μ
   returns_2 c =
-      let head = c.before.before in
-      let all : end_of_lem head ≤ head.loop.k = omega (arith, used_is head, c.if1.false) in (
-        λ how x g h q. looked_none (head.loop.invariant.0.looked how x g h q) all,
+      let all : end_of_lem c.before.before.before ≤ c.loop-k.k = omega (arith, used_is c.before.before.before, c.loop-k-test.false) in (
+        λ how x g h q. looked_none (c.loop-k.invariant.0.looked how x g h q) all,
         (
-          head.loop.invariant.0.same_cells,
+          c.loop-k.invariant.0.same_cells,
           record {
-            as_long = head.loop.invariant.0.as_long;
-            same = λ n l. (look head).kept n (omega arith);
+            as_long = c.loop-k.invariant.0.as_long;
+            same = λ n l. (look c.before.before.before).kept n (omega arith);
           },
-          head.loop.invariant.1,
+          c.loop-k.invariant.1,
         ),
       )
