@@ -72,8 +72,9 @@ copy_bytes_requires c κs = let h = within_count c.before.before in (omega arith
 
 returns_4 : tie.Need-returns-then-room-n
 returns_4 c =
-    let a = (entry_of c.before.before.before.before.before.before.before.before.before).args in
-    keeps_front a.limit a.r a.area.now a.piece.now c.copy_bytes.new.dst (known c.before.before.before.before.before.before.before.before) c.if-area-most.false (within c.before.before.before.before.before)
+    let open_at = c.before.before.before.before.before in
+    let k = known open_at.before.before.before in
+    keeps_front c.args.limit c.args.r c.args.area.now c.args.piece.now c.copy_bytes.new.dst k c.if-area-most.false (within open_at)
     (omega arith) c.copy_bytes.ensures
 
 copy_bytes_requires_2 : tie.Need-copy_bytes-requires-2
@@ -81,8 +82,9 @@ copy_bytes_requires_2 c κs = let h = within_count c.before.before in (omega ari
 
 returns_5 : tie.Need-returns
 returns_5 c =
-    let a = (entry_of c.before.before.before.before.before.before.before.before.before).args in
-    keeps_whole a.limit a.r a.area.now a.piece.now c.copy_bytes-2.new.dst (known c.before.before.before.before.before.before.before.before) c.if-area-most.false (within c.before.before.before.before.before)
+    let open_at = c.before.before.before.before.before in
+    let k = known open_at.before.before.before in
+    keeps_whole c.args.limit c.args.r c.args.area.now c.args.piece.now c.copy_bytes-2.new.dst k c.if-area-most.false (within open_at)
     (omega arith) c.copy_bytes-2.ensures
 
 pub after_piece_spec : {M : Type 1} → statement M
