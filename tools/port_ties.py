@@ -20,7 +20,7 @@ LET = re.compile(r"\blet (" + N + r") = (" + N + r"(?:\." + N + r")*) in[ \n]")
 # only the proofs whose path has this
 ONLY = os.environ.get("ONLY", "")
 START = ("args", "requires", "ranges", "lifetimes", "utf8", "type_inv", "row", "called", "fresh", "well_formed", "ghost", "decreases")
-WORDS = {"taken": "true", "left": "false", "inv": "invariant", "pre": "requires", "last": "new"}
+WORDS = {"taken": "true", "left": "false", "inv": "invariant", "pre": "requires", "last": "new", "type-inv": "type_inv"}
 
 
 def norm(s):
@@ -115,8 +115,8 @@ class Left(Exception):
 
 
 class Turner:
-    def __init__(self, fn, here, muts, said, var="c"):
-        self.fn, self.here, self.muts, self.said, self.var = fn, here, muts, said, var
+    def __init__(self, fn, here, muts, said, var="c", wants=()):
+        self.fn, self.here, self.muts, self.said, self.var, self.wants = fn, here, muts, said, var, wants or {}
         self.shown = fn.shown(here)
         self.joins, self.step = [], None
 
@@ -179,6 +179,15 @@ class Turner:
                 return self.resolve(same[0], fields[i:])
             raise Left(f"at {at} there is no {f}, but {old}: {'.'.join(fields)}")
 
+    def place_alone(self, at):
+        n, up = 0, self.here
+        while up is not None and up != at:
+            arm = self.shown[up]
+            for _ in range(arm[1] if arm else 1):
+                up = self.fn.parent(up)
+            n += 1
+        return self.var + ".before" * n
+
     def turn(self, text):
         env = {self.var: (self.here, [])}
         # what a let names: a place, or a step; it is written out where it is used
@@ -220,20 +229,18 @@ class Turner:
             if out is None:
                 if self.shown.get(at) and next(up for up, arm in self.shown.items() if arm is self.shown[at]) != at:
                     self.said(f"a place in an arm stands alone: {m[0]}")
-                n, up = 0, self.here
-                while up is not None and up != at:
-                    arm = self.shown[up]
-                    for _ in range(arm[1] if arm else 1):
-                        up = self.fn.parent(up)
-                    n += 1
-                return self.var + ".before" * n
+                return self.place_alone(at)
             return self.var + "." + ".".join(out)
 
         for it in gone:
             text = text.replace(it, "", 1) if it.endswith(" ") else re.sub(r"[ \t]*" + re.escape(it[:-1]) + r"\n", "", text, 1)
         text = PATH.sub(one, text)
+        # a helper that wants one place is given that place
+        for name, place in self.wants.items():
+            if place in self.shown:
+                text = re.sub(r"(?<![^\s(){};,@])(" + re.escape(name) + r") (" + re.escape(self.var) + r"(?:\.before)*)(?![^\s(){};,@])", lambda w: w[1] + " " + self.place_alone(place), text)
         # a test of `!x` says by itself what `x` is
-        text = re.sub(r"\b(?:not-true|not-false|not_true|not_false) _ (?=" + re.escape(self.var) + r"\.[^\s()]*if-not-)", "", text)
+        text = re.sub(r"\b(?:not-true|not-false|not_true|not_false) (?:_|[^\s()]+\.result) (?=" + re.escape(self.var) + r"\.[^\s()]*if-not-)", "", text)
         said = r"\brw (" + re.escape(self.var) + r"\.in[-_]" + N + r")\.is at " + re.escape(self.var) + r"\.[^\s()]+\.ensures"
         text = re.sub(r"\(" + said + r"\)", lambda w: w[1] + ".ensures", text)
         text = re.sub(said, lambda w: w[1] + ".ensures", text)
@@ -250,7 +257,7 @@ class Turner:
             self.said(f"no ways of {self.joins[0]}")
             return text
         at = []
-        for m in re.finditer(r"\(λ (" + N + r")\.\s", text):
+        for m in re.finditer(r"\(λ (" + N + r")(?:\.| [^().\n]*\.)\s", text):
             depth, i = 0, m.start()
             while i < len(text):
                 depth += (text[i] == "(") - (text[i] == ")")
@@ -312,7 +319,7 @@ class Turner:
             said = r"\brw (" + re.escape(m[1]) + r"\.in[-_]" + N + r")\.is at [^\s()]+"
             body = re.sub(r"\(" + said + r"\)", lambda w: w[1] + ".ensures", body)
             body = re.sub(said, lambda w: w[1] + ".ensures", body)
-            body = re.sub(r"\b(?:not-true|not-false|not_true|not_false) _ (?=" + re.escape(m[1]) + r"\.[^\s()]*if-not-)", "", body)
+            body = re.sub(r"\b(?:not-true|not-false|not_true|not_false) (?:_|[^\s()]+\.result) (?=" + re.escape(m[1]) + r"\.[^\s()]*if-not-)", "", body)
             text = text[: m.end()] + body + text[end:]
         return text
 
@@ -335,6 +342,15 @@ def turn_file(path, fns, muts, said):
                 places.setdefault(m[1], (m[2], after(m[2], m[3])))
     parts = re.split(r"(?m)^(?=(?:pub |abbrev )*" + N + r"(?: \{[^{}\n]*\}| \([^()\n]*\))* :(?: |$))", text)
     out = []
+    wants = {}
+    for m in re.finditer(r"(?m)^(?:pub |abbrev )*(" + N + r") : (?:\(" + N + r" : )?(?:(" + heads + r")\.(" + N + r")|(" + N + r"))", text):
+        it = (m[2], after(m[2], m[3])) if m[2] and not m[3].startswith("Need-") else places.get(m[4])
+        if it and it[1]:
+            wants[m[1]] = it[1]
+    for m in re.finditer(r"(?m)^module _ \(" + N + r" : (" + N + r")\).*\n((?:(?:  .*)?\n)+)", text):
+        if m[1] in places:
+            for w in re.finditer(r"(?m)^  (?:pub |abbrev )*(" + N + r") :", m[2]):
+                wants[w[1]] = places[m[1]][1]
     for part in parts:
         first = None
         for m in re.finditer(r"\b(" + heads + r")\.Need-(" + N + r")", part):
@@ -347,7 +363,7 @@ def turn_file(path, fns, muts, said):
             fn = fns[first[0]]
             place = fn.row["asked_at"][first[2][0]][0]
             if place in fn.places:
-                part = Turner(fn, place, muts, lambda s: said(f"{path}: {first[1]}: {s}")).turn(part)
+                part = Turner(fn, place, muts, lambda s: said(f"{path}: {first[1]}: {s}"), wants=wants).turn(part)
             else:
                 said(f"{path}: {first[1]}: asked at {place}, no place")
         else:
@@ -381,7 +397,7 @@ def turn_file(path, fns, muts, said):
         part = re.sub(r"\b(" + heads + r")\.(invariant|decreases)-(" + N + r")", lambda w: f"{w[1]}.{w[2]}-{fns[w[1]].loops.get(norm(w[3]), w[3])}", part)
         out.append(part)
     text = "".join(out)
-    text = re.sub(r"(?<=[^\s(){};,])\.(pre|inv)(?![^\s(){}.;,])", lambda w: "." + WORDS[w[1]], text)
+    text = re.sub(r"(?<=[^\s(){};,])\.(pre|inv|type-inv)(?![^\s(){}.;,])", lambda w: "." + WORDS[w[1]], text)
     if text != was:
         open(path, "w", encoding="utf-8").write(text)
     return text != was

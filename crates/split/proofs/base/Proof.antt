@@ -7,20 +7,20 @@ use Rattle.split.proofs.base.Statement.{statement}
 use Rattle.split.proofs.base.Tie as tie
 
 kind_requires : tie.Need-kind-requires
-kind_requires c κs = record_within c.before.requires.there
+kind_requires c κs = record_within c.requires.there
 
-add_result : tie.Need-overflow-add-result
-add_result c = omega (arith, record_within c.before.before.before.requires.there)
+add_result : tie.Need-overflow_add-result
+add_result c = omega (arith, record_within c.requires.there)
 
-returns : tie.Need-returns
+returns : tie.Need-returns-then-kind-eq-POWER
 returns c =
-    let k = sym c.before.kind.ensures ∙ c.if1.true in
+    let k = sym c.kind.ensures ∙ c.if-kind-eq-POWER.true in
     (λ how t h. base_power t h k, λ how t h. base_behind t h k)
 
-returns_2 : tie.Need-returns-2
+returns_2 : tie.Need-returns
 returns_2 c = (
-  λ how t h. base_itself t h (λ e. c.if1.false (c.before.kind.ensures ∙ e)),
-  λ how t h. base_here t h (λ e. c.if1.false (c.before.kind.ensures ∙ e)),
+  λ how t h. base_itself t h (λ e. c.if-kind-eq-POWER.false (c.kind.ensures ∙ e)),
+  λ how t h. base_here t h (λ e. c.if-kind-eq-POWER.false (c.kind.ensures ∙ e)),
 )
 
 pub base_spec : {M : Type 1} → statement M

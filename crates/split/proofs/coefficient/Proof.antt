@@ -10,31 +10,31 @@ use Rattle.split.proofs.SplitLaws.{term_integer, term_other, term_product, some_
 use Rattle.split.proofs.coefficient.Statement.{statement}
 use Rattle.split.proofs.coefficient.Tie as tie
 
-kind_requires : tie.Need-kind-requires
-kind_requires c κs = record_within c.before.requires.there
+kind_requires : tie.Need-kind-k-requires
+kind_requires c κs = record_within c.requires.there
 
 bits_requires : tie.Need-bits-requires
-bits_requires c κs = record_within c.before.before.before.requires.there
+bits_requires c κs = record_within c.requires.there
 
-returns : tie.Need-returns
+returns : tie.Need-returns-then-k-lt-SYMBOL
 returns c = λ how t h.
-    let k = c.before.before.kind.ensures in
+    let k = c.kind-k.ensures in
     ap Is c.bits.ensures ∙ (term_integer t h (omega arith)).0
 
-returns_2 : tie.Need-returns-2
+returns_2 : tie.Need-returns-then-k-ne-PRODUCT
 unfolding coefficient_of term word
 returns_2 c = λ how t h.
-    let k = c.before.before.kind.ensures in
-    ap coefficient_of (sym (term_other t h (omega arith) (λ e. c.if2.true (k ∙ e))))
+    let k = c.kind-k.ensures in
+    ap coefficient_of (sym (term_other t h (omega arith) (λ e. c.if-k-ne-PRODUCT.true (k ∙ e))))
 
-product_coefficient_requires : tie.Need-product-coefficient-requires
+product_coefficient_requires : tie.Need-product_coefficient-requires
 product_coefficient_requires c κs =
-    some_product c.before.before.before.before.requires (sym c.before.before.kind.ensures ∙ c.if2.false)
+    some_product c.requires (sym c.kind-k.ensures ∙ c.if-k-ne-PRODUCT.false)
 
-returns_3 : tie.Need-returns-3
+returns_3 : tie.Need-returns
 returns_3 c = λ how t h.
-    let k = sym c.before.before.before.kind.ensures ∙ c.before.if2.false in
-    term_product t h k (c.product-coefficient.ensures how)
+    let k = sym c.kind-k.ensures ∙ c.if-k-ne-PRODUCT.false in
+    term_product t h k (c.product_coefficient.ensures how)
 
 pub coefficient_spec : {M : Type 1} → statement M
 coefficient_spec =

@@ -10,64 +10,61 @@ use Rattle.split.proofs.SplitLaws.{Counting, counting_start, counting_tree, coun
 use Rattle.split.proofs.count_others.Statement.{statement}
 use Rattle.split.proofs.count_others.Tie as tie
 
-abbrev invariant_loop : tie.invariant-loop
+abbrev invariant_loop : tie.invariant-loop-left
 invariant_loop s i many₀ last₀ at₀ left₀ many last at left =
     (many + left ≤ 65535) × ((how : Tree → ℕ) (μ : ℕ) (f : Forest) → Told how s i (product μ f) → Counting how s i at left many last f)
 
-abbrev decreases_loop : tie.decreases-loop
+abbrev decreases_loop : tie.decreases-loop-left
 decreases_loop s i many₀ last₀ at₀ left₀ many last at left = left
 
-add_at : tie.Need-overflow-add-at invariant_loop decreases_loop
-add_at c = omega (arith, record_within c.before.requires.there)
+add_at : tie.Need-overflow_add-at invariant_loop decreases_loop
+add_at c = omega (arith, record_within c.requires.there)
 
-count_requires : tie.Need-count-requires invariant_loop decreases_loop
-count_requires c κs = record_within c.before.requires.there
+count_requires : tie.Need-count-left-requires invariant_loop decreases_loop
+count_requires c κs = record_within c.requires.there
 
-loop_holds : tie.Need-loop-init invariant_loop decreases_loop
-loop_holds c = (omega (arith, c.count.ensures.1), λ how μ f h. rw c.count.ensures.0 (counting_start h))
+loop_holds : tie.Need-loop-left-init invariant_loop decreases_loop
+loop_holds c = (omega (arith, c.count-left.ensures.1), λ how μ f h. rw c.count-left.ensures.0 (counting_start h))
 
 kind_requires : tie.Need-kind-requires invariant_loop decreases_loop
 kind_requires c κs =
-    let some = c.before.before.before.before.requires in
-    record_within (counting_tree (c.before.loop.invariant.1 some.how some.mark some.members some.there) c.loop-test.true).there
+    let some = c.requires in
+    record_within (counting_tree (c.loop-left.invariant.1 some.how some.mark some.members some.there) c.loop-left-test.true).there
 
-add_many : tie.Need-overflow-add-many invariant_loop decreases_loop
-add_many c = let left = c.before.before in omega (arith, left.before.loop.invariant.0)
+add_many : tie.Need-overflow_add-many invariant_loop decreases_loop
+add_many c = omega (arith, c.loop-left.invariant.0)
 
-skip_tree_requires : tie.Need-skip-tree-requires invariant_loop decreases_loop
+skip_tree_requires : tie.Need-skip_tree-at-requires invariant_loop decreases_loop
 skip_tree_requires c κs =
-    let left = c.before.before in
-    let some = left.before.before.before.before.requires in
-    counting_tree (left.before.loop.invariant.1 some.how some.mark some.members some.there) left.loop-test.true
+    let some = c.requires in
+    counting_tree (c.loop-left.invariant.1 some.how some.mark some.members some.there) c.loop-left-test.true
 
-sub_left : tie.Need-overflow-sub-left invariant_loop decreases_loop
-sub_left c = let l = c.before.before.before.loop-test.true in omega arith
+sub_left : tie.Need-overflow_sub-left invariant_loop decreases_loop
+sub_left c = let l = c.loop-left-test.true in omega arith
 
-loop_less : tie.Need-loop-smaller invariant_loop decreases_loop
-loop_less c = let l = c.before.before.before.loop-test.true in omega arith
+loop_less : tie.Need-loop-left-smaller invariant_loop decreases_loop
+loop_less c = let l = c.loop-left-test.true in omega arith
 
-loop_again : tie.Need-loop-preserved invariant_loop decreases_loop
+loop_again : tie.Need-loop-left-preserved invariant_loop decreases_loop
 loop_again c =
-    let kinded = c.before.before in
-    let left = kinded.before in
-    let inv = left.before.loop.invariant in
-    let l = left.loop-test.true in
-    let next = c.skip-tree in
+    let inv = c.loop-left.invariant in
+    let l = c.loop-left-test.true in
+    let next = c.skip_tree-at in
     ⊎_elim
     (λ a. (
-      omega (arith, inv.0, a.1),
+      omega (arith, inv.0, a.many-is),
       λ how μ f h.
-          rw (a.1, a.2) (counted_other (inv.1 how μ f h) l next.result (next.ensures how) (omega (arith, kinded.kind.ensures, a.0.taken))),
+          rw (a.many-is, a.last-is) (counted_other (inv.1 how μ f h) l next.result (next.ensures how) (omega (arith, c.kind.ensures, a.if-kind-gt-INTEGER.true))),
     ))
     (λ a. (
-      omega (arith, inv.0, a.1),
+      omega (arith, inv.0, a.many-is),
       λ how μ f h.
-          rw (a.1, a.2) (counted_integer (inv.1 how μ f h) l next.result (next.ensures how) (omega (arith, kinded.kind.ensures, a.0.left))),
+          rw (a.many-is, a.last-is) (counted_integer (inv.1 how μ f h) l next.result (next.ensures how) (omega (arith, c.kind.ensures, a.if-kind-gt-INTEGER.false))),
     ))
-    c.before.if1.branch
+    c.if-kind-gt-INTEGER.branch-raw
 
 returns : tie.Need-returns invariant_loop decreases_loop
-returns c = λ how μ f h. counted_all (c.before.loop.invariant.1 how μ f h) (omega arith)
+returns c = λ how μ f h. counted_all (c.loop-left.invariant.1 how μ f h) (omega arith)
 
 pub count_others_spec : {M : Type 1} → statement M
 count_others_spec =

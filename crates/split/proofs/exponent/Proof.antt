@@ -9,29 +9,29 @@ use Rattle.split.proofs.exponent.Statement.{statement}
 use Rattle.split.proofs.exponent.Tie as tie
 
 kind_requires : tie.Need-kind-requires
-kind_requires c κs = record_within c.before.requires.there
+kind_requires c κs = record_within c.requires.there
 
-add_skip_tree : tie.Need-overflow-add-skip-tree
-add_skip_tree c = omega (arith, record_within c.before.before.before.requires.there)
+add_skip_tree : tie.Need-overflow_add-i
+add_skip_tree c = omega (arith, record_within c.requires.there)
 
-skip_tree_requires : tie.Need-skip-tree-requires
-skip_tree_requires c κs = some_base c.before.before.before.requires (sym c.before.kind.ensures ∙ c.if1.true)
+skip_tree_requires : tie.Need-skip_tree-requires
+skip_tree_requires c κs = some_base c.requires (sym c.kind.ensures ∙ c.if-kind-eq-POWER.true)
 
 bits_requires : tie.Need-bits-requires
 bits_requires c κs =
-    let some = c.before.before.before.before.requires in
-    let k : kind c.before.before.before.before.args.s.now c.before.before.before.before.args.i ≡ 4 =
-    sym c.before.before.kind.ensures ∙ c.before.if1.true in
-    (exponent_power some.tree some.there k c.skip-tree.result (c.skip-tree.ensures some.how)).within
+    let some = c.requires in
+    let k : kind c.args.s.now c.args.i ≡ 4 =
+    sym c.kind.ensures ∙ c.if-kind-eq-POWER.true in
+    (exponent_power some.tree some.there k c.skip_tree.result (c.skip_tree.ensures some.how)).within
 
-returns : tie.Need-returns
+returns : tie.Need-returns-then-kind-eq-POWER
 returns c = λ how t h.
-    let k = sym c.before.before.before.kind.ensures ∙ c.before.before.if1.true in
-    let e : ExponentAt _ _ t = exponent_power t h k c.before.skip-tree.result (c.before.skip-tree.ensures how) in
+    let k = sym c.kind.ensures ∙ c.if-kind-eq-POWER.true in
+    let e : ExponentAt _ _ t = exponent_power t h k c.skip_tree.result (c.skip_tree.ensures how) in
     rw c.bits.ensures (e.exponent, e.most)
 
-returns_2 : tie.Need-returns-2
-returns_2 c = λ how t h. (exponent_itself t h (λ e. c.if1.false (c.before.kind.ensures ∙ e)), lit< tt)
+returns_2 : tie.Need-returns
+returns_2 c = λ how t h. (exponent_itself t h (λ e. c.if-kind-eq-POWER.false (c.kind.ensures ∙ e)), lit< tt)
 
 pub exponent_spec : {M : Type 1} → statement M
 exponent_spec =

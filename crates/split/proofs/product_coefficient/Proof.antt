@@ -15,72 +15,65 @@ use Rattle.split.proofs.SplitLaws.{Multiplying, multiplying_start, multiplying_t
 use Rattle.split.proofs.product_coefficient.Statement.{statement}
 use Rattle.split.proofs.product_coefficient.Tie as tie
 
-abbrev invariant_loop : tie.invariant-loop
+abbrev invariant_loop : tie.invariant-loop-left
 invariant_loop s i n₀ at₀ left₀ n at left = (how : Tree → ℕ) (μ : ℕ) (f : Forest) → Told how s i (product μ f) → Multiplying how s n at left f
 
-abbrev decreases_loop : tie.decreases-loop
+abbrev decreases_loop : tie.decreases-loop-left
 decreases_loop s i n₀ at₀ left₀ n at left = left
 
-add_at : tie.Need-overflow-add-at invariant_loop decreases_loop
-add_at c = omega (arith, record_within c.before.requires.there)
+add_at : tie.Need-overflow_add-at invariant_loop decreases_loop
+add_at c = omega (arith, record_within c.requires.there)
 
-count_requires : tie.Need-count-requires invariant_loop decreases_loop
-count_requires c κs = record_within c.before.requires.there
+count_requires : tie.Need-count-left-requires invariant_loop decreases_loop
+count_requires c κs = record_within c.requires.there
 
-loop_holds : tie.Need-loop-init invariant_loop decreases_loop
-loop_holds c = λ how μ f h. rw c.count.ensures.0 (multiplying_start h)
+loop_holds : tie.Need-loop-left-init invariant_loop decreases_loop
+loop_holds c = λ how μ f h. rw c.count-left.ensures.0 (multiplying_start h)
 
 kind_requires : tie.Need-kind-requires invariant_loop decreases_loop
 kind_requires c κs =
-    let some = c.before.before.before.before.requires in
-    record_within (multiplying_tree (c.before.loop.invariant some.how some.mark some.members some.there) c.loop-test.true).there
+    let some = c.requires in
+    record_within (multiplying_tree (c.loop-left.invariant some.how some.mark some.members some.there) c.loop-left-test.true).there
 
 bits_requires : tie.Need-bits-requires invariant_loop decreases_loop
 bits_requires c κs =
-    let left = c.before.before in
-    let some = left.before.before.before.before.requires in
-    record_within (multiplying_tree (left.before.loop.invariant some.how some.mark some.members some.there) left.loop-test.true).there
+    let some = c.requires in
+    record_within (multiplying_tree (c.loop-left.invariant some.how some.mark some.members some.there) c.loop-left-test.true).there
 
-returns : tie.Need-returns invariant_loop decreases_loop
+returns : tie.Need-returns-in-Out invariant_loop decreases_loop
 returns c = λ how μ f h.
-    let mul = c.before.before in
-    let kinded = mul.before.before.before in
-    let left = kinded.before in
     let answer =
-    ap (λ b. num_of (signed left.before.loop.n *ℤ signed b)) (sym mul.before.bits.ensures) ∙ sym mul.mul.ensures
-    ∙ c.enum_told.given.1 in
-    multiplied_out (left.before.loop.invariant how μ f h) left.loop-test.true (omega (arith, kinded.kind.ensures, mul.before.before.if1.true)) μ answer
+    ap (λ b. num_of (signed c.loop-left.n *ℤ signed b)) (sym c.bits.ensures) ∙ sym c.mul-product.ensures
+    ∙ c.in-Out.is in
+    multiplied_out (c.loop-left.invariant how μ f h) c.loop-left-test.true (omega (arith, c.kind.ensures, c.if-kind-lt-SYMBOL.true)) μ answer
 
-skip_tree_requires : tie.Need-skip-tree-requires invariant_loop decreases_loop
+skip_tree_requires : tie.Need-skip_tree-at-requires invariant_loop decreases_loop
 skip_tree_requires c κs =
-    let left = c.before.before in
-    let some = left.before.before.before.before.requires in
-    multiplying_tree (left.before.loop.invariant some.how some.mark some.members some.there) left.loop-test.true
+    let some = c.requires in
+    multiplying_tree (c.loop-left.invariant some.how some.mark some.members some.there) c.loop-left-test.true
 
-sub_left : tie.Need-overflow-sub-left invariant_loop decreases_loop
-sub_left c = let l = c.before.before.before.loop-test.true in omega arith
+sub_left : tie.Need-overflow_sub-left invariant_loop decreases_loop
+sub_left c = let l = c.loop-left-test.true in omega arith
 
-loop_less : tie.Need-loop-smaller invariant_loop decreases_loop
-loop_less c = let l = c.before.before.before.loop-test.true in omega arith
+loop_less : tie.Need-loop-left-smaller invariant_loop decreases_loop
+loop_less c = let l = c.loop-left-test.true in omega arith
 
-loop_again : tie.Need-loop-preserved invariant_loop decreases_loop
+loop_again : tie.Need-loop-left-preserved invariant_loop decreases_loop
 loop_again c =
-    let kinded = c.before.before in
-    let left = kinded.before in
-    let inv = left.before.loop.invariant in
-    let l = left.loop-test.true in
-    let next = c.skip-tree in
+    let inv = c.loop-left.invariant in
+    let l = c.loop-left-test.true in
+    let next = c.skip_tree-at in
     ⊎_elim
     (λ a how μ f h.
     let answer =
-    ap (λ b. num_of (signed left.before.loop.n *ℤ signed b)) (sym a.1.ensures) ∙ sym a.2.ensures ∙ a.4.given.1 in
-    rw a.6
-    (multiplied_in (inv how μ f h) l (omega (arith, kinded.kind.ensures, a.0.taken)) answer next.result (next.ensures how)))
-    (λ a how μ f h. rw a.1 (multiplied_by (inv how μ f h) l (omega (arith, kinded.kind.ensures, a.0.left)) next.result (next.ensures how)))
-    c.before.if1.branch
+    ap (λ b. num_of (signed c.loop-left.n *ℤ signed b)) (sym a.bits.ensures) ∙ sym a.mul-product.ensures ∙ a.in-Is.is in
+    rw a.n-is
+    (multiplied_in (inv how μ f h) l (omega (arith, c.kind.ensures, a.if-kind-lt-SYMBOL.true)) answer next.result (next.ensures how)))
+    (λ a how μ f h. rw a.n-is (multiplied_by (inv how μ f h) l (omega (arith, c.kind.ensures, a.if-kind-lt-SYMBOL.false)) next.result (next.ensures how)))
+    c.if-kind-lt-SYMBOL.branch-raw
 
-returns_2 : tie.Need-returns-2 invariant_loop decreases_loop
-returns_2 c = λ how μ f h. multiplied_all (c.before.loop.invariant how μ f h) μ (omega arith)
+returns_2 : tie.Need-returns invariant_loop decreases_loop
+returns_2 c = λ how μ f h. multiplied_all (c.loop-left.invariant how μ f h) μ (omega arith)
 
 pub product_coefficient_spec : {M : Type 1} → statement M
 product_coefficient_spec =

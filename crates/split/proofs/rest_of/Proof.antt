@@ -8,66 +8,58 @@ use Rattle.split.proofs.SplitLaws.{place_integer, place_other, place_whole, plac
 use Rattle.split.proofs.rest_of.Statement.{statement}
 use Rattle.split.proofs.rest_of.Tie as tie
 
-kind_requires : tie.Need-kind-requires
-kind_requires c κs = record_within c.before.requires.there
+kind_requires : tie.Need-kind-k-requires
+kind_requires c κs = record_within c.requires.there
 
-returns : tie.Need-returns
+returns : tie.Need-returns-then-k-lt-SYMBOL
 returns c =
-    let k = c.before.kind.ensures in
+    let k = c.kind-k.ensures in
     (λ how t h. (term_integer t h (omega arith)).1, λ how t h. place_integer t h (omega arith))
 
-returns_2 : tie.Need-returns-2
+returns_2 : tie.Need-returns-then-k-ne-PRODUCT
 returns_2 c =
-    let k = c.before.before.kind.ensures in (
-      λ how t h. rest_itself t h (omega arith) (λ e. c.if2.true (k ∙ e)),
-      λ how t h. place_other t h (omega arith) (λ e. c.if2.true (k ∙ e)),
+    let k = c.kind-k.ensures in (
+      λ how t h. rest_itself t h (omega arith) (λ e. c.if-k-ne-PRODUCT.true (k ∙ e)),
+      λ how t h. place_other t h (omega arith) (λ e. c.if-k-ne-PRODUCT.true (k ∙ e)),
     )
 
-count_others_requires : tie.Need-count-others-requires
-count_others_requires c κs = some_product c.before.before.before.before.requires (sym c.before.before.kind.ensures ∙ c.if2.false)
+count_others_requires : tie.Need-count_others-others-requires
+count_others_requires c κs = some_product c.requires (sym c.kind-k.ensures ∙ c.if-k-ne-PRODUCT.false)
 
 count_requires : tie.Need-count-requires
-count_requires c κs = record_within c.before.before.before.before.before.requires.there
+count_requires c κs = record_within c.requires.there
 
-returns_3 : tie.Need-returns-3
+returns_3 : tie.Need-returns-then-others-count
 returns_3 c =
-    let counted = c.before.before in
-    let split = counted.before in
-    let k = sym split.before.before.before.kind.ensures ∙ split.before.if2.false in
-    let n = counted.count.ensures.0 in
-    let told = split.count-others.ensures in
-    (λ how t h. rest_whole t h k n (told how) c.if3.true, λ how t h. place_whole t h k n (told how) c.if3.true)
+    let k = sym c.kind-k.ensures ∙ c.if-k-ne-PRODUCT.false in
+    let n = c.count.ensures.0 in
+    let told = c.count_others-others.ensures in
+    (λ how t h. rest_whole t h k n (told how) c.if-others-count.true, λ how t h. place_whole t h k n (told how) c.if-others-count.true)
 
-returns_4 : tie.Need-returns-4
+returns_4 : tie.Need-returns-then-others-lt1
 returns_4 c =
-    let counted = c.before.before.before.before in
-    let split = counted.before in
-    let k = sym split.before.before.before.kind.ensures ∙ split.before.if2.false in
-    let n = counted.count.ensures.0 in
-    let told = split.count-others.ensures in
-    let some = c.before.before.if3.false in
-    (λ how t h. rest_one t h k n (told how) some c.if4.true, λ how t h. place_one t h k n (told how) some c.if4.true)
+    let k = sym c.kind-k.ensures ∙ c.if-k-ne-PRODUCT.false in
+    let n = c.count.ensures.0 in
+    let told = c.count_others-others.ensures in
+    let some = c.if-others-count.false in
+    (λ how t h. rest_one t h k n (told how) some c.if-others-lt1.true, λ how t h. place_one t h k n (told how) some c.if-others-lt1.true)
 
-returns_5 : tie.Need-returns-5
+returns_5 : tie.Need-returns-then-others-lt-PAIR
 returns_5 c =
-    let counted = c.before.before.before.before.before.before in
-    let split = counted.before in
-    let k = sym split.before.before.before.kind.ensures ∙ split.before.if2.false in
-    let n = counted.count.ensures.0 in
-    let told = split.count-others.ensures in
-    let some = c.before.before.before.before.if3.false in
-    let one = c.before.before.if4.false in
-    (λ how t h. rest_single t h k n (told how) some one c.if5.true, λ how t h. place_single t h k n (told how) some one c.if5.true)
+    let k = sym c.kind-k.ensures ∙ c.if-k-ne-PRODUCT.false in
+    let n = c.count.ensures.0 in
+    let told = c.count_others-others.ensures in
+    let some = c.if-others-count.false in
+    let one = c.if-others-lt1.false in
+    (λ how t h. rest_single t h k n (told how) some one c.if-others-lt-PAIR.true, λ how t h. place_single t h k n (told how) some one c.if-others-lt-PAIR.true)
 
-returns_6 : tie.Need-returns-6
+returns_6 : tie.Need-returns
 returns_6 c =
-    let counted = c.before.before.before.before.before.before in
-    let split = counted.before in
-    let k = sym split.before.before.before.kind.ensures ∙ split.before.if2.false in
-    let n = counted.count.ensures.0 in
-    let told = split.count-others.ensures in
-    let some = c.before.before.before.before.if3.false in
-    (λ how t h. (refl, rest_others t h k n (told how) some c.if5.false), λ how t h. place_others t h k n (told how) some c.if5.false)
+    let k = sym c.kind-k.ensures ∙ c.if-k-ne-PRODUCT.false in
+    let n = c.count.ensures.0 in
+    let told = c.count_others-others.ensures in
+    let some = c.if-others-count.false in
+    (λ how t h. (refl, rest_others t h k n (told how) some c.if-others-lt-PAIR.false), λ how t h. place_others t h k n (told how) some c.if-others-lt-PAIR.false)
 
 pub rest_of_spec : {M : Type 1} → statement M
 rest_of_spec =

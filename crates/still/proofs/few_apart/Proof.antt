@@ -18,19 +18,19 @@ use borrow.Author.Rules.{rules}
 use Rattle.still.proofs.few_apart.Statement.{statement}
 use Rattle.still.proofs.few_apart.Tie as tie
 
-abbrev invariant_loop : tie.invariant-loop
+abbrev invariant_loop : tie.invariant-loop-m
 invariant_loop s i n d₀ o terms at₀ m₀ d at m =
     (m ≤ n) × Scratched d₀ d o (n * 8) × ((f : Forest) → TreesBy note s i n f → Testing s f terms (KeysAt d o) n at m)
 
-abbrev decreases_loop : tie.decreases-loop
+abbrev decreases_loop : tie.decreases-loop-m
 decreases_loop s i n d₀ o terms at₀ m₀ d at m = n - m
 
-loop_holds : tie.Need-loop-init invariant_loop decreases_loop
+loop_holds : tie.Need-loop-m-init invariant_loop decreases_loop
 loop_holds c = (omega arith, scratched_none _ _ _, λ f h. testing_start (keys_none _ _) h)
 
 -- ---- a turn of the loop: the test as it has come there, its next member, and room for one key more
 abbrev Turn : Type 0
-Turn = tie.In-loop invariant_loop decreases_loop
+Turn = tie.In-loop-m invariant_loop decreases_loop
 
 abbrev entry : Turn → tie.Start invariant_loop decreases_loop
 entry c = c.before.before.before.before
@@ -42,133 +42,125 @@ some : (c : Turn) → Members c (entry c).requires.0.0
 some c = (entry c).requires.0.1
 
 module _ (c : Turn) {f : Forest} (q : Members c f) where
-  tested : Testing (entry c).args.s.now f (entry c).args.terms (KeysAt c.before.loop.d (entry c).args.o) (entry c).args.n
-      c.before.loop.at c.before.loop.m
-  tested = c.before.loop.invariant.2 f q
+  tested : Testing (entry c).args.s.now f (entry c).args.terms (KeysAt c.loop-m.d (entry c).args.o) (entry c).args.n
+      c.loop-m.at c.loop-m.m
+  tested = c.loop-m.invariant.2 f q
 
-  abbrev first : FirstBy note (entry c).args.s.now c.before.loop.at ((entry c).args.n - c.before.loop.m) tested.rest
-  first = testing_first tested c.loop-test.true
+  abbrev first : FirstBy note (entry c).args.s.now c.loop-m.at ((entry c).args.n - c.loop-m.m) tested.rest
+  first = testing_first tested c.loop-m-test.true
 
-  places : (entry c).args.o + (entry c).args.n * 8 ≤ length c.before.loop.d
-  places = omega (arith, c.before.loop.invariant.1.long, (entry c).requires.1)
+  places : (entry c).args.o + (entry c).args.n * 8 ≤ length c.loop-m.d
+  places = omega (arith, c.loop-m.invariant.1.long, (entry c).requires.1)
 
-  room : KeysIn c.before.loop.d (entry c).args.o c.before.loop.m tested.before
-  room = testing_keys tested c.loop-test.true (members_few q) places
+  room : KeysIn c.loop-m.d (entry c).args.o c.loop-m.m tested.before
+  room = testing_keys tested c.loop-m-test.true (members_few q) places
 
 -- the member, when its note is read: it is none that is sought
 abbrev Noted : Type 0
-Noted = tie.After-note-at invariant_loop decreases_loop
+Noted = tie.After-note_at-v invariant_loop decreases_loop
 
 abbrev turn : Noted → Turn
 turn c = c.before.before.before.before
 
 module _ (c : Noted) {f : Forest} (q : Members (turn c) f) where
-  known : Known (entry (turn c)).args.s.now (turn c).before.loop.at c.before.before.before.kind.result c.note-at.result
+  known : Known (entry (turn c)).args.s.now (turn c).loop-m.at c.kind-k.result c.note_at-v.result
       (first (turn c) q).tree
   known =
-      let k = c.before.before.before.kind in
-      testing_known (tested (turn c) q) (turn c).loop-test.true k.result c.note-at.result k.ensures c.note-at.ensures
+      let k = c.kind-k in
+      testing_known (tested (turn c) q) (turn c).loop-m-test.true k.result c.note_at-v.result k.ensures c.note_at-v.ensures
 
   passed : sought (entry (turn c)).args.terms (first (turn c) q).tree ≡ false
-  passed = sym (c.before.before.is-sought.ensures (first (turn c) q).tree known.there known.kind_known) ∙ c.before.if1.false
+  passed = sym (c.is_sought.ensures (first (turn c) q).tree known.there known.kind_known) ∙ c.if-is_sought.false
 
-kind_requires : tie.Need-kind-requires invariant_loop decreases_loop
+kind_requires : tie.Need-kind-k-requires invariant_loop decreases_loop
 kind_requires c κs = record_within (noted_told (first c (some c)).there)
 
-is_sought_requires : tie.Need-is-sought-requires invariant_loop decreases_loop
+is_sought_requires : tie.Need-is_sought-requires invariant_loop decreases_loop
 is_sought_requires c κs =
     let f = first c.before (some c.before) in
-    (f.tree, f.there, c.kind.ensures ∙ kind_number_lem (noted_told f.there))
+    (f.tree, f.there, c.kind-k.ensures ∙ kind_number_lem (noted_told f.there))
 
-same_length : tie.Need-same-length invariant_loop decreases_loop
-same_length c = c.before.before.before.before.loop.invariant.1.long
+same_length : tie.Need-shape_of-d-then-is_sought invariant_loop decreases_loop
+same_length c = c.loop-m.invariant.1.long
 
-returns : tie.Need-returns invariant_loop decreases_loop
+returns : tie.Need-returns-then-is_sought invariant_loop decreases_loop
 returns c =
-    let read = c.before.before in
-    let t = read.before in (
+    (
       λ f q.
-          let u = first t q in
-          let here = c.before.is-sought.ensures u.tree u.there (read.kind.ensures ∙ kind_number_lem (noted_told u.there)) in
-          testing_sought (tested t q) t.loop-test.true (sym here ∙ c.if1.true),
-      t.before.loop.invariant.1,
+          let u = first c.before.before.before q in
+          let here = c.is_sought.ensures u.tree u.there (c.kind-k.ensures ∙ kind_number_lem (noted_told u.there)) in
+          testing_sought (tested c.before.before.before q) c.loop-m-test.true (sym here ∙ c.if-is_sought.true),
+      c.loop-m.invariant.1,
     )
 
-note_at_requires : tie.Need-note-at-requires invariant_loop decreases_loop
-note_at_requires c κs = let t = c.before.before.before in ((first t (some t)).tree, (first t (some t)).there)
+note_at_requires : tie.Need-note_at-v-requires invariant_loop decreases_loop
+note_at_requires c κs = ((first c.before.before.before (some c.before.before.before)).tree, (first c.before.before.before (some c.before.before.before)).there)
 
-part_key_requires : tie.Need-part-key-requires invariant_loop decreases_loop
+part_key_requires : tie.Need-part_key-key-requires invariant_loop decreases_loop
 part_key_requires c κs = ((first (turn c) (some (turn c))).tree, known c (some (turn c)))
 
-is_kept_requires : tie.Need-is-kept-requires invariant_loop decreases_loop
-is_kept_requires c κs = let t = turn c.before.before in ((tested t (some t)).before, room t (some t))
+is_kept_requires : tie.Need-is_kept-requires invariant_loop decreases_loop
+is_kept_requires c κs = let t = turn c.before in ((tested t (some t)).before, room t (some t))
 
-same_length_2 : tie.Need-same-length-2 invariant_loop decreases_loop
-same_length_2 c = (turn c.before.before.before.before).before.loop.inv.1.long
+same_length_2 : tie.Need-shape_of-d-then-is_kept invariant_loop decreases_loop
+same_length_2 c = (turn c.before.before.before).loop-m.invariant.1.long
 
-returns_2 : tie.Need-returns-2 invariant_loop decreases_loop
+returns_2 : tie.Need-returns-then-is_kept invariant_loop decreases_loop
 returns_2 c =
-    let looked = c.before in
-    let key = looked.before.before in
-    let noted = key.before in
-    let t = turn noted in (
+    let t = turn c.before.before.before in (
       λ f q.
           let ks = (tested t q).before in
-          let e = key.part-key.ensures (first t q).tree (known noted q) in
-          testing_seen (tested t q) t.loop-test.taken (passed noted q)
-          (ap not (ap (λ m. among m ks) (sym e) ∙ sym (looked.is-kept.ensures ks (room t q)) ∙ c.if2.true)),
-      t.before.loop.inv.1,
+          let e = c.part_key-key.ensures (first t q).tree (known c.before.before.before q) in
+          testing_seen (tested t q) t.loop-m-test.true (passed c.before.before.before q)
+          (ap not (ap (λ m. among m ks) (sym e) ∙ sym (c.is_kept.ensures ks (room t q)) ∙ c.if-is_kept.true)),
+      t.loop-m.invariant.1,
     )
 
-mul_write8 : tie.Need-overflow-mul-write8 invariant_loop decreases_loop
+mul_write8 : tie.Need-overflow_mul-m invariant_loop decreases_loop
 mul_write8 c =
-    let t = turn c.before.before.before.before.before in
-    omega (arith, members_few (some t), t.loop-test.taken)
+    let t = turn c.before.before.before.before in
+    omega (arith, members_few (some t), t.loop-m-test.true)
 
-add_write8 : tie.Need-overflow-add-write8 invariant_loop decreases_loop
+add_write8 : tie.Need-overflow_add-o invariant_loop decreases_loop
 add_write8 c =
-    let t = turn c.before.before.before.before.before in
-    omega (arith, places t (some t), t.loop-test.taken)
+    let t = turn c.before.before.before.before in
+    omega (arith, places t (some t), t.loop-m-test.true)
 
 write8_requires : tie.Need-write8-requires invariant_loop decreases_loop
 write8_requires c κs =
-    let t = turn c.before.before.before.before.before in
-    omega (arith, places t (some t), t.loop-test.taken)
+    let t = turn c.before.before.before.before in
+    omega (arith, places t (some t), t.loop-m-test.true)
 
-add_at : tie.Need-overflow-add-at invariant_loop decreases_loop
+add_at : tie.Need-overflow_add-at invariant_loop decreases_loop
 add_at c =
-    let t = turn c.before.before.before.before.before.before.before.before.before in
+    let t = turn c.before.before.before.before.before.before.before.before in
     omega (arith, record_within (noted_told (first t (some t)).there))
 
-loop_again : tie.Need-loop-preserved invariant_loop decreases_loop
+loop_again : tie.Need-loop-m-preserved invariant_loop decreases_loop
 loop_again c =
-    let held = c.before.before.before in
-    let kept = held.write8 in
-    let looked = held.before.before.before in
-    let key = looked.before.before in
-    let noted = key.before in
-    let t = turn noted in
+    let kept = c.write8 in
+    let t = turn c.before.before.before.before.before.before.before.before in
     let g = (entry t).args in
-    let at = t.before.loop in
-    let v = key.part-key.result in
-    let b = key.part-key.type-inv in (
+    let at = t.loop-m in
+    let v = c.part_key-key.result in
+    let b = c.part_key-key.type_inv in (
       omega arith,
-      scratched_both at.inv.1
-          (key_put_scratched at.d g.o g.n at.m v t.loop-test.taken (places t (some t)) kept.new.0 kept.ensures),
+      scratched_both at.invariant.1
+          (key_put_scratched at.d g.o g.n at.m v t.loop-m-test.true (places t (some t)) kept.new.d kept.ensures),
       λ f q.
           let ks = (tested t q).before in
-          let e = key.part-key.ensures (first t q).tree (known noted q) in
-          let seen = ap (λ m. among m ks) (sym e) ∙ sym (looked.is-kept.ensures ks (room t q)) ∙ held.before.before.if2.false in
-          rw c.records-of.ensures
-          (testing_step (tested t q) t.loop-test.taken (passed noted q) (ap not seen) v noted.note-at.result e (known noted q).note_known
-          (keys_more (room t q) v (omega (arith, b)) (omega (arith, places t q, t.loop-test.taken)) kept.new.0 kept.ensures)),
+          let e = c.part_key-key.ensures (first t q).tree (known c.before.before.before.before.before.before.before.before q) in
+          let seen = ap (λ m. among m ks) (sym e) ∙ sym (c.is_kept.ensures ks (room t q)) ∙ c.if-is_kept.false in
+          rw c.records_of-at.ensures
+          (testing_step (tested t q) t.loop-m-test.true (passed c.before.before.before.before.before.before.before.before q) (ap not seen) v c.note_at-v.result e (known c.before.before.before.before.before.before.before.before q).note_known
+          (keys_more (room t q) v (omega (arith, b)) (omega (arith, places t q, t.loop-m-test.true)) kept.new.d kept.ensures)),
     )
 
-same_length_3 : tie.Need-same-length-3 invariant_loop decreases_loop
-same_length_3 c = c.before.loop.invariant.1.long
+same_length_3 : tie.Need-shape_of-d invariant_loop decreases_loop
+same_length_3 c = c.loop-m.invariant.1.long
 
-returns_3 : tie.Need-returns-3 invariant_loop decreases_loop
-returns_3 c = (λ g q. testing_end (c.before.loop.invariant.2 g q) (omega arith), c.before.loop.invariant.1)
+returns_3 : tie.Need-returns invariant_loop decreases_loop
+returns_3 c = (λ g q. testing_end (c.loop-m.invariant.2 g q) (omega arith), c.loop-m.invariant.1)
 
 pub few_apart_spec : {M : Type 1} → statement M
 few_apart_spec =

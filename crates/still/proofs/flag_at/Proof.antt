@@ -8,25 +8,23 @@ use borrow.Author.Rules.{rules}
 use Rattle.still.proofs.flag_at.Statement.{statement}
 use Rattle.still.proofs.flag_at.Tie as tie
 
-mul_half : tie.Need-overflow-mul-half
-mul_half c = record { fits = below 32 (omega (arith, c.key_of.ensures, c.before.ranges.key.fits)) c.before.requires.3 }
+mul_half : tie.Need-overflow_mul-half
+mul_half c = record { fits = below 32 (omega (arith, c.key_of.ensures, c.ranges.key.fits)) c.requires.3 }
 
-mul_result_3 : tie.Need-overflow-mul-result-3
+mul_result_3 : tie.Need-overflow_mul-result-3
 mul_result_3 c = record { fits = below 32 (omega arith) (omega arith) }
 
-add_result_2 : tie.Need-overflow-add-result-2
+add_result_2 : tie.Need-overflow_add-result-2
 unfolding flag_of
 add_result_2 c =
-    let start = c.before in
-    let a = start.args in
-    rw c.key_of.ensures (omega (arith, flag_lt a.n a.x a.key start.requires.1, start.requires.2))
+    let a = c.args in
+    rw c.key_of.ensures (omega (arith, flag_lt a.n a.x a.key c.requires.1, c.requires.2))
 
 returns : tie.Need-returns
 unfolding flag_of
 returns c =
-    let start = c.before in
-    let a = start.args in
-    rw c.key_of.ensures (refl, omega (arith, flag_lt a.n a.x a.key start.requires.1))
+    let a = c.args in
+    rw c.key_of.ensures (refl, omega (arith, flag_lt a.n a.x a.key c.requires.1))
 
 pub flag_at_spec : {M : Type 1} → statement M
 flag_at_spec =

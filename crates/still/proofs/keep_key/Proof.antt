@@ -10,39 +10,33 @@ use borrow.Author.Rules.{rules}
 use Rattle.still.proofs.keep_key.Statement.{statement}
 use Rattle.still.proofs.keep_key.Tie as tie
 
-slice_write_d_2 : tie.Need-slice-write-d-2
+slice_write_d_2 : tie.Need-bounds-d-g
 slice_write_d_2 c =
-    let first = c.before.before in
-    let a = first.before.before.args in
-    let h = first.before.before.requires.1 in
-    omega (arith, length-set a.d.now first.flag_at.result 1, c.flag-at2.ensures.1, h.room)
+    let a = c.args in
+    let h = c.requires.1 in
+    omega (arith, length-set a.d.now c.flag_at-f.result 1, c.flag_at-g.ensures.1, h.room)
 
 write8_requires : tie.Need-write8-requires
 write8_requires c κs =
-    let first = c.before.before.before in
-    let d = first.before.before.args.d.now in
-    let h = first.before.before.requires.1 in
-    let once = set d first.flag_at.result 1 in
-    omega (arith, length-set d first.flag_at.result 1, length-set once c.before.flag-at2.result 1, h.place, h.room)
+    let d = c.args.d.now in
+    let h = c.requires.1 in
+    let once = set d c.flag_at-f.result 1 in
+    omega (arith, length-set d c.flag_at-f.result 1, length-set once c.flag_at-g.result 1, h.place, h.room)
 
-same_length : tie.Need-same-length
+same_length : tie.Need-shape_of-d
 same_length c =
-    let second = c.before.before.before.before in
-    let first = second.before.before in
-    let d = first.before.before.args.d.now in
-    c.before.before.write8.auto.0
-    ∙ length-set (set d first.flag_at.result 1) second.flag-at2.result 1
-    ∙ length-set d first.flag_at.result 1
+    let d = c.args.d.now in
+    c.write8.auto.d
+    ∙ length-set (set d c.flag_at-f.result 1) c.flag_at-g.result 1
+    ∙ length-set d c.flag_at-f.result 1
 
 returns : tie.Need-returns
 unfolding keeping
 returns c =
-    let second = c.before.before.before.before in
-    let first = second.before.before in
-    let a = first.before.before.args in
-    let place = second.flag-at2.ensures.0 ∙ ap (λ y. a.o + a.n * 8 + flag_of a.n y a.key) second.before.turned.ensures.0 in
-    c.before.before.write8.ensures
-    ∙ ap (λ x. put (set (set a.d.now x 1) second.flag-at2.result 1) (a.o + a.m * 8) (bytes 8 a.key)) first.flag_at.ensures.0
+    let a = c.args in
+    let place = c.flag_at-g.ensures.0 ∙ ap (λ y. a.o + a.n * 8 + flag_of a.n y a.key) c.turned.ensures.0 in
+    c.write8.ensures
+    ∙ ap (λ x. put (set (set a.d.now x 1) c.flag_at-g.result 1) (a.o + a.m * 8) (bytes 8 a.key)) c.flag_at-f.ensures.0
     ∙ ap (λ x. put (set (set a.d.now (a.o + a.n * 8 + flag_of a.n a.x a.key) 1) x 1) (a.o + a.m * 8) (bytes 8 a.key)) place
 
 pub keep_key_spec : {M : Type 1} → statement M

@@ -13,63 +13,62 @@ use borrow.Author.Rules.{rules}
 use Rattle.still.proofs.still_power.Statement.{statement}
 use Rattle.still.proofs.still_power.Tie as tie
 
-add_kind : tie.Need-overflow-add-kind
-add_kind c = omega (arith, record_within (noted_told c.before.requires.1))
+add_kind : tie.Need-overflow_add-i
+add_kind c = omega (arith, record_within (noted_told c.requires.1))
 
-kind_requires : tie.Need-kind-requires
+kind_requires : tie.Need-kind-k-requires
 kind_requires c κs =
-    let some = c.before.requires in
+    let some = c.requires in
     record_within (noted_told (power_at some.0 some.1 some.2).there)
 
-returns : tie.Need-returns
+returns : tie.Need-returns-then-k-gt-PRODUCT
 returns c = λ t h e.
     let p = power_at t h e in
-    power_of_power p.base p.exponent (omega (arith, c.before.kind.ensures, kind_number_lem (noted_told p.there))) ∙ sym p.tells
+    power_of_power p.base p.exponent (omega (arith, c.kind-k.ensures, kind_number_lem (noted_told p.there))) ∙ sym p.tells
 
-add_is_sought : tie.Need-overflow-add-is-sought
-add_is_sought c = omega (arith, record_within (noted_told c.before.before.before.requires.1))
+add_is_sought : tie.Need-overflow_add-i-2
+add_is_sought c = omega (arith, record_within (noted_told c.requires.1))
 
-is_sought_requires : tie.Need-is-sought-requires
+is_sought_requires : tie.Need-is_sought-requires
 is_sought_requires c κs =
-    let some = c.before.before.before.requires in
+    let some = c.requires in
     let p = power_at some.0 some.1 some.2 in
-    (p.base, p.there, c.before.kind.ensures ∙ kind_number_lem (noted_told p.there))
+    (p.base, p.there, c.kind-k.ensures ∙ kind_number_lem (noted_told p.there))
 
-returns_2 : tie.Need-returns-2
+returns_2 : tie.Need-returns-then-is_sought
 returns_2 c = λ t h e.
     let p = power_at t h e in
-    let k = c.before.before.before.kind.ensures ∙ kind_number_lem (noted_told p.there) in
-    power_of_sought p.base p.exponent (omega (arith, k)) (sym (c.before.is-sought.ensures p.base p.there k) ∙ c.if2.true)
+    let k = c.kind-k.ensures ∙ kind_number_lem (noted_told p.there) in
+    power_of_sought p.base p.exponent (omega (arith, k)) (sym (c.is_sought.ensures p.base p.there k) ∙ c.if-is_sought.true)
     ∙ sym p.tells
 
 bits_requires : tie.Need-bits-requires
-bits_requires c κs = record_within (noted_told c.before.before.before.before.before.requires.1)
+bits_requires c κs = record_within (noted_told c.requires.1)
 
-add_bits : tie.Need-overflow-add-bits
-add_bits c = omega (arith, record_within (noted_told c.before.before.before.before.before.before.before.requires.1))
+add_bits : tie.Need-overflow_add-i-3
+add_bits c = omega (arith, record_within (noted_told c.requires.1))
 
-sub_bits : tie.Need-overflow-sub-bits
+sub_bits : tie.Need-overflow_sub-i
 sub_bits c =
-    let some = c.before.before.before.before.before.before.before.requires in
-    omega (arith, c.before.bits.ensures, c.records-of.ensures, (power_at some.0 some.1 some.2).size)
+    let some = c.requires in
+    omega (arith, c.bits.ensures, c.records_of-size.ensures, (power_at some.0 some.1 some.2).size)
 
 bits_requires_2 : tie.Need-bits-requires-2
 bits_requires_2 c κs =
-    let some = c.before.before.before.before.before.before.before.requires in
+    let some = c.requires in
     let p = power_at some.0 some.1 some.2 in
-    omega (arith, c.before.bits.ensures, c.records-of.ensures, p.size, p.within)
+    omega (arith, c.bits.ensures, c.records_of-size.ensures, p.size, p.within)
 
-returns_3 : tie.Need-returns-3
+returns_3 : tie.Need-returns
 returns_3 c = λ t h e.
-    let size = c.before.records-of in
-    let note = c.before.before.bits in
-    let passed = c.before.before.before in
-    let a = passed.before.before.before.before.before.args in
+    let size = c.records_of-size in
+    let note = c.bits in
+    let a = c.args in
     let p = power_at t h e in
-    let k = passed.before.before.before.kind.ensures ∙ kind_number_lem (noted_told p.there) in
-    let base = sym (passed.before.is-sought.ensures p.base p.there k) ∙ passed.if2.false in
+    let k = c.kind-k.ensures ∙ kind_number_lem (noted_told p.there) in
+    let base = sym (c.is_sought.ensures p.base p.there k) ∙ c.if-is_sought.false in
     let place : a.i + size.result - 1 ≡ a.i + 1 + records p.base = omega (arith, size.ensures, note.ensures, p.size) in
-    ap (λ n. not (eqb n 1)) (c.bits2.ensures ∙ ap (bits a.s.now) place ∙ p.exponent_there)
+    ap (λ n. not (eqb n 1)) (c.bits-2.ensures ∙ ap (bits a.s.now) place ∙ p.exponent_there)
     ∙ power_by_exponent p.base p.exponent (omega (arith, k)) base
     ∙ sym p.tells
 
