@@ -1,13 +1,15 @@
 -- The examples of the link's calls, by computation, and the takeover at its very edges: a record of 16 bytes, an area, an answer slice and lent areas
 -- with not a byte to spare, from the higher limit to the lower.
 use mathlib.Core.Path.{◌≡◌, refl, sym, ◌∙◌}
+use Prim.Native.Nat.{ℕ}
 use mathlib.Core.List.{[], ◌∷◌, ◌++◌}
-use lib.ListN.{replicate}
+use lib.ListN.{replicate, length-replicate}
 use lib.Dec.{lit≤}
 use Rattle.paper.specs.Tree.{symbol, sum, of_list}
 use Rattle.paper.specs.Limits.{is_limit, work_bytes}
 use Rattle.paper.specs.Table.{encode}
 use Rattle.paper.specs.Verdict.{refused}
+use Rattle.paper.specs.Answers.{Given, simplified}
 use Rattle.paper.specs.Demands.{result}
 use Rattle.paper.specs.Takeover.{Room}
 use Rattle.paper.proofs.EncodeLaws.{encode_bytes}
@@ -47,9 +49,30 @@ pub record First : Type 0 where
   pub bytes : result simplified_first ≡ encode 2*a
   pub joins : whole cuts ≡ encode 2*a
 
+-- the call looks at the length of the lent `work` alone, so that length stays a variable: 524288 bytes are not computed
+abbrev first_in : ℕ → Given
+first_in n = simplified 16384 1 first_table (record { out = replicate 112 165; steps = replicate 7 165; work = replicate n 165 })
+
+record FirstIn (n : ℕ) : Type 0 where
+  accepted : (first_in n).answer.number ≡ 0
+  weighs : (first_in n).answer.weight_out ≡ 5
+  bytes : result (first_in n) ≡ encode 2*a
+
+first_in_any : (n : ℕ) → n ≡ 524288 → FirstIn n
+unfolding batch_computes result first_table 2*a
+first_in_any n e =
+    let r = length-replicate {A = ℕ} n 165 in
+    record { accepted = rw (r, e) refl; weighs = rw (r, e) refl; bytes = rw (r, e) refl }
+
+cuts_join : whole cuts ≡ encode 2*a
+unfolding batch_computes whole 2*a cuts
+cuts_join = refl
+
 pub first : First
-unfolding batch_computes result whole first_table 2*a lends simplified_first cuts
-first = record { accepted = refl; weighs = refl; bytes = refl; joins = refl }
+unfolding lends simplified_first
+first =
+    let f : FirstIn 524288 = first_in_any 524288 refl in
+    record { accepted = f.accepted; weighs = f.weighs; bytes = f.bytes; joins = cuts_join }
 
 -- the lower limit holds it
 first_held : Holds 3072 simplified_first

@@ -1,7 +1,7 @@
 -- No rule and no opening brings in a symbol: whatever stands in the result of a run stands in the tree that it began with. Shown over any
 -- property P of symbols: where every symbol of a tree has P, so has every symbol of what is dropped from it, split off, merged, put together
 -- again and gathered, and so of what a run ends with.
-use Prim.Native.Nat.{ℕ, zero, suc, ◌+◌, ◌*◌, ◌^◌}
+use Prim.Native.Nat.{ℕ, zero, suc, ◌*◌, ◌^◌}
 use mathlib.Core.Path.{◌≡◌, refl, subst}
 use mathlib.Core.Bool.{Bool, true, false, cond, ◌||◌}
 use mathlib.Core.List.{List, [], ◌∷◌, ◌++◌, map}

@@ -10,7 +10,7 @@ use Rattle.table.specs.declared.Fault.{Fault}
 use Rattle.table.specs.Judged.{verdict_of}
 use Rattle.table.proofs.Unique.{fault_once}
 use Rattle.receiver.specs.declared.Receiver.{Receiver}
-use Rattle.receiver.specs.Receiving.{says, held, gives}
+use Rattle.receiver.specs.Receiving.{says, gives}
 use Rattle.receiver.proofs.after_piece.Reads as after-piece-reads
 use Rattle.receiver.proofs.after_piece.Kinds as after-piece-kinds
 use Rattle.receiver.proofs.at_finish.Reads as at-finish-reads

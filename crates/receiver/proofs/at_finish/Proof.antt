@@ -6,7 +6,6 @@ use mathlib.Core.Bool.{true, false}
 use native.Mathlib.Nat.{sub-zero}
 use native.Mathlib.Omega.{arith}
 use borrow.Author.Rules.{rules}
-use borrow.Author.Tests.{not-true, not-false}
 use Rattle.paper.specs.Limits.{is_limit, max_bytes}
 use Rattle.paper.proofs.LimitLaws.{limit_small}
 use Rattle.paper_receiver.specs.Receiver.{is_past}
@@ -19,16 +18,16 @@ use Rattle.receiver.proofs.at_finish.Tie as tie
 -- places on the way through the code: after the limit was asked, where it is known, where the area is long enough, and where the record
 -- is within the limit
 abbrev Asked : Type 0
-Asked = tie.After-is-limit
+Asked = tie.After-is_limit
 
 abbrev Known : Type 0
-Known = tie.Else1
+Known = tie.Else-not-is_limit
 
 abbrev Long : Type 0
-Long = tie.Else2
+Long = tie.Else-area-most
 
 abbrev Within : Type 0
-Within = tie.Else3
+Within = tie.Else-is_past
 
 abbrev entry_of : Asked → tie.Start
 entry_of c = c.before.before
@@ -37,53 +36,47 @@ abbrev start_of : Within → tie.Start
 start_of c = entry_of c.before.before.before.before
 
 known : (c : Known) → is_limit (entry_of c.before).args.limit ≡ true
-known c = sym c.before.is-limit.ensures ∙ not-false _ c.if1.false
+known c = sym c.is_limit.ensures ∙ c.if-not-is_limit.false
 
 within : (c : Within) → is_past (max_bytes (start_of c).args.limit) (says (start_of c).args.r) ≡ false
-within c = sym c.before.is-past.ensures ∙ c.if3.false
+within c = sym c.is_past.ensures ∙ c.if-is_past.false
 
 within_count : (c : Within) → (start_of c).args.r.count ≤ max_bytes (start_of c).args.limit
 within_count c = (open_count (max_bytes (start_of c).args.limit) (says (start_of c).args.r) (within c)).1
 
-returns : tie.Need-returns
+returns : tie.Need-returns-then-not-is_limit
 returns c =
-    let asked = c.before.before in
-    let a = (entry_of asked).args in
-    let q = unknown_finish a.limit (held a.r a.area.now) (sym asked.is-limit.ensures ∙ not-true _ c.before.if1.true) in
+    let a = (entry_of c.before.before).args in
+    let q = unknown_finish a.limit (held a.r a.area.now) (sym c.is_limit.ensures ∙ c.if-not-is_limit.true) in
     (c.refusal.ensures ∙ sym q.0, sym q.1)
 
-mul_most : tie.Need-overflow-mul-most
+mul_most : tie.Need-overflow_mul-most
 mul_most c = omega (arith, limit_small (entry_of c.before).args.limit (known c))
 
-returns_2 : tie.Need-returns-2
+returns_2 : tie.Need-returns-then-area-most
 returns_2 c =
-    let limited = c.before.before in
-    let a = (entry_of limited.before).args in
-    let q = short_finish a.limit (held a.r a.area.now) (known limited) (is_short_lem a.limit a.area.now c.before.if2.true) in
-    (c.refusal2.ensures ∙ sym q.0, sym q.1)
+    let a = (entry_of c.before.before.before).args in
+    let q = short_finish a.limit (held a.r a.area.now) (known c.before.before) (is_short_lem a.limit a.area.now c.if-area-most.true) in
+    (c.refusal-then-area-most.ensures ∙ sym q.0, sym q.1)
 
-returns_3 : tie.Need-returns-3
+returns_3 : tie.Need-returns-then-is_past
 returns_3 c =
-    let asked = c.before.before in
-    let long = asked.before in
-    let a = (entry_of long.before.before).args in
+    let a = (entry_of c.before.before.before.before.before).args in
     let q =
-    past_finish a.limit (held a.r a.area.now) (known long.before) (is_long a.limit a.area.now long.if2.false)
-    (sym asked.is-past.ensures ∙ c.before.if3.true) in
-    (c.refusal3.ensures ∙ sym q.0, sym q.1)
+    past_finish a.limit (held a.r a.area.now) (known c.before.before.before.before) (is_long a.limit a.area.now c.if-area-most.false)
+    (sym c.is_past.ensures ∙ c.if-is_past.true) in
+    (c.refusal-then-is_past.ensures ∙ sym q.0, sym q.1)
 
-part_check_end : tie.Need-slice-bounds-check-end
+part_check_end : tie.Need-slice_bounds-check-end
 part_check_end c = let h = within_count c in omega arith
 
-returns_4 : tie.Need-returns-4
+returns_4 : tie.Need-returns
 returns_4 c =
-    let w = c.before.before.before in
-    let long = w.before.before in
-    let a = (entry_of long.before.before).args in
+    let a = (entry_of c.before.before.before.before.before.before.before).args in
     let q =
-    open_finish a.limit (held a.r a.area.now) (known long.before) (is_long a.limit a.area.now long.if2.false)
-    (within w) in
-    (simp sub-zero at (c.fault-of.ensures ∙ c.before.check.ensures) ∙ sym q.0, sym q.1)
+    open_finish a.limit (held a.r a.area.now) (known c.before.before.before.before.before.before) (is_long a.limit a.area.now c.if-area-most.false)
+    (within c.before.before.before) in
+    (simp sub-zero at (c.fault_of.ensures ∙ c.check.ensures) ∙ sym q.0, sym q.1)
 
 pub at_finish_spec : {M : Type 1} → statement M
 at_finish_spec =

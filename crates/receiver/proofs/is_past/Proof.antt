@@ -6,11 +6,11 @@ use Rattle.receiver.specs.Receiving.{says}
 use Rattle.receiver.proofs.is_past.Statement.{statement}
 use Rattle.receiver.proofs.is_past.Tie as tie
 
-returns : tie.Need-returns
-returns c = let a = c.before.before.args in sym (past_by_mark a.most (says a.r) c.if1.true)
+returns : tie.Need-returns-then-r-gt0
+returns c = let a = c.args in sym (past_by_mark a.most (says a.r) c.if-r-gt0.true)
 
-returns_2 : tie.Need-returns-2
-returns_2 c = let a = c.before.before.before.args in sym (past_by_count a.most (says a.r) (omega arith))
+returns_2 : tie.Need-returns
+returns_2 c = let a = c.args in sym (past_by_count a.most (says a.r) (omega arith))
 
 pub is_past_spec : {M : Type 1} → statement M
 is_past_spec = tie.close (tie.spec returns returns_2)

@@ -8,35 +8,33 @@ use borrow.Author.Rules.{rules}
 use Rattle.settings.proofs.all_free.Statement.{statement}
 use Rattle.settings.proofs.all_free.Tie as tie
 
-abbrev invariant_loop : tie.invariant-loop
+abbrev invariant_loop : tie.invariant-loop-i
 invariant_loop area from n i₀ i = all_free (rest area from) ≡ all_free (rest area i)
 
-abbrev decreases_loop : tie.decreases-loop
+abbrev decreases_loop : tie.decreases-loop-i
 decreases_loop area from n i₀ i = n - i
 
-loop_holds : tie.Need-loop-init invariant_loop decreases_loop
+loop_holds : tie.Need-loop-i-init invariant_loop decreases_loop
 loop_holds c = refl
 
-loop_again : tie.Need-loop-preserved invariant_loop decreases_loop
+loop_again : tie.Need-loop-i-preserved invariant_loop decreases_loop
 loop_again c =
-    let at = c.before.before.before in
-    let a = at.before.before.args in
-    let i = at.loop.i in
-    let test = c.before.before.loop-test.true in
-    at.loop.invariant ∙ frees_later a.area.now i test (sym c.before.is_free.ensures ∙ c.if1.true)
+    let a = c.args in
+    let i = c.loop-i.i in
+    let test = c.loop-i-test.true in
+    c.loop-i.invariant ∙ frees_later a.area.now i test (sym c.is_free.ensures ∙ c.if-is_free.true)
 
-returns : tie.Need-returns invariant_loop decreases_loop
+returns : tie.Need-returns-else-is_free invariant_loop decreases_loop
 returns c =
-    let at = c.before.before.before in
-    let a = at.before.before.args in
-    let i = at.loop.i in
-    let test = c.before.before.loop-test.true in
-    sym (at.loop.invariant ∙ frees_here a.area.now i test (sym c.before.is_free.ensures ∙ c.if1.false))
+    let a = c.args in
+    let i = c.loop-i.i in
+    let test = c.loop-i-test.true in
+    sym (c.loop-i.invariant ∙ frees_here a.area.now i test (sym c.is_free.ensures ∙ c.if-is_free.false))
 
-returns_2 : tie.Need-returns-2 invariant_loop decreases_loop
+returns_2 : tie.Need-returns invariant_loop decreases_loop
 returns_2 c =
-    let a = c.before.before.before.args in
-    sym (c.before.loop.invariant ∙ frees_done a.area.now c.before.loop.i c.loop-test.false)
+    let a = c.args in
+    sym (c.loop-i.invariant ∙ frees_done a.area.now c.loop-i.i c.loop-i-test.false)
 
 pub all_free_spec : {M : Type 1} → statement M
 all_free_spec =

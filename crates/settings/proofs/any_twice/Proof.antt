@@ -11,32 +11,29 @@ use borrow.Author.Rules.{rules}
 use Rattle.settings.proofs.any_twice.Statement.{statement}
 use Rattle.settings.proofs.any_twice.Tie as tie
 
-abbrev invariant_loop : tie.invariant-loop
+abbrev invariant_loop : tie.invariant-loop-part
 invariant_loop area n part₀ part = twice (part_from 0) (keys_in (slots_of area)) ≡ twice (part_from part) (keys_in (slots_of area))
 
-abbrev decreases_loop : tie.decreases-loop
+abbrev decreases_loop : tie.decreases-loop-part
 decreases_loop area n part₀ part = n - part
 
-loop_holds : tie.Need-loop-init invariant_loop decreases_loop
+loop_holds : tie.Need-loop-part-init invariant_loop decreases_loop
 loop_holds c = refl
 
-returns : tie.Need-returns invariant_loop decreases_loop
+returns : tie.Need-returns-then-twice_in invariant_loop decreases_loop
 returns c =
-    let at = c.before.before.before in
-    let ks = keys_in (slots_of at.before.before.before.args.area.now) in
-    sym (at.loop.invariant ∙ parts_split at.loop.part ks ∙ rw (sym c.before.twice_in.ensures ∙ c.if1.true))
+    let ks = keys_in (slots_of c.args.area.now) in
+    sym (c.loop-part.invariant ∙ parts_split c.loop-part.part ks ∙ rw (sym c.twice_in.ensures ∙ c.if-twice_in.true))
 
-loop_again : tie.Need-loop-preserved invariant_loop decreases_loop
+loop_again : tie.Need-loop-part-preserved invariant_loop decreases_loop
 loop_again c =
-    let at = c.before.before.before in
-    let ks = keys_in (slots_of at.before.before.before.args.area.now) in
-    at.loop.invariant ∙ parts_split at.loop.part ks ∙ rw (sym c.before.twice_in.ensures ∙ c.if1.false)
+    let ks = keys_in (slots_of c.args.area.now) in
+    c.loop-part.invariant ∙ parts_split c.loop-part.part ks ∙ rw (sym c.twice_in.ensures ∙ c.if-twice_in.false)
 
-returns_2 : tie.Need-returns-2 invariant_loop decreases_loop
+returns_2 : tie.Need-returns invariant_loop decreases_loop
 returns_2 c =
-    let at = c.before in
-    let ks = keys_in (slots_of at.before.before.before.args.area.now) in
-    sym (at.loop.invariant ∙ parts_over at.loop.part 0 ks (omega (arith, at.before.parts.ensures, c.loop-test.false)))
+    let ks = keys_in (slots_of c.args.area.now) in
+    sym (c.loop-part.invariant ∙ parts_over c.loop-part.part 0 ks (omega (arith, c.parts-n.ensures, c.loop-part-test.false)))
 
 pub any_twice_spec : {M : Type 1} → statement M
 any_twice_spec =

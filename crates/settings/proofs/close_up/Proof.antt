@@ -7,10 +7,8 @@ use Rattle.settings.proofs.close_up.Tie as tie
 
 returns : tie.Need-returns
 returns c =
-    let at = c.before.before.before.before.before.before in
-    let entry = at.before.before.before in
-    let g = entry.args in
-    rw at.shift-left.ensures at c.before.before.clear.ensures ∙ closed_up_lem g.area.now g.i entry.requires
+    let g = c.args in
+    rw c.shift_left.ensures at c.clear.ensures ∙ closed_up_lem g.area.now g.i c.requires
 
 pub close_up_spec : {M : Type 1} → statement M
 close_up_spec =

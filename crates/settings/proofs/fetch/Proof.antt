@@ -4,27 +4,27 @@ use borrow.Author.Rules.{rules}
 use Rattle.settings.proofs.fetch.Statement.{statement}
 use Rattle.settings.proofs.fetch.Tie as tie
 
-returns : tie.Need-returns
+returns : tie.Need-returns-then-number-gt0
 returns c =
-    let g = c.before.before.before.args in
-    fetch_refused 2 g.key g.area.now c.before.judge.result c.before.judge.ensures c.if1.true
+    let g = c.args in
+    fetch_refused 2 g.key g.area.now c.judge-number.result c.judge-number.ensures c.if-number-gt0.true
 
-returns_2 : tie.Need-returns-2
+returns_2 : tie.Need-returns-then-i-area
 returns_2 c =
-    let g = c.before.before.before.before.before.before.before.args in
-    let judged = c.before.before.before.before.before.judge in
-    let at = c.before.before.before.find in
+    let g = c.args in
+    let judged = c.judge-number in
+    let at = c.find-i in
     fetch_found 2 g.key g.area.now judged.result judged.ensures at.result at.ensures.0
-    c.before.before.before.before.if1.false c.before.before.if2.true
-    c.read8.result c.before.read2.result c.read8.ensures c.before.read2.ensures.0
+    c.if-number-gt0.false c.if-i-area.true
+    c.read8-setting.result c.read2-unit.result c.read8-setting.ensures c.read2-unit.ensures.0
 
-returns_3 : tie.Need-returns-3
+returns_3 : tie.Need-returns
 returns_3 c =
-    let g = c.before.before.before.before.before.args in
-    let judged = c.before.before.before.judge in
-    let at = c.before.find in
+    let g = c.args in
+    let judged = c.judge-number in
+    let at = c.find-i in
     fetch_absent 2 g.key g.area.now judged.result judged.ensures at.result at.ensures.0
-    c.before.before.if1.false c.if2.false
+    c.if-number-gt0.false c.if-i-area.false
 
 pub fetch_spec : {M : Type 1} → statement M
 fetch_spec =

@@ -7,30 +7,30 @@ use borrow.Author.Rules.{rules}
 use Rattle.settings.proofs.fetch_1.Statement.{statement}
 use Rattle.settings.proofs.fetch_1.Tie as tie
 
-returns : tie.Need-returns
+returns : tie.Need-returns-then-number-gt0
 returns c =
-    let g = c.before.before.before.args in
-    let v = c.before.judge.result in
-    old_answer g.key g.area.now v 0 0 (fetch_refused 1 g.key g.area.now v c.before.judge.ensures c.if1.true)
+    let g = c.args in
+    let v = c.judge-number.result in
+    old_answer g.key g.area.now v 0 0 (fetch_refused 1 g.key g.area.now v c.judge-number.ensures c.if-number-gt0.true)
 
-returns_2 : tie.Need-returns-2
+returns_2 : tie.Need-returns-then-i-area
 returns_2 c =
-    let g = c.before.before.before.before.before.before.args in
-    let judged = c.before.before.before.before.judge in
-    let at = c.before.before.find in
+    let g = c.args in
+    let judged = c.judge-number in
+    let at = c.find-i in
     let unit = le2 g.area.now (32 * at.result + 4) in
-    old_answer g.key g.area.now 0 c.read8.result unit
+    old_answer g.key g.area.now 0 c.read8-setting.result unit
     (fetch_found 1 g.key g.area.now judged.result judged.ensures at.result at.ensures.0
-    c.before.before.before.if1.false c.before.if2.true c.read8.result unit c.read8.ensures refl)
+    c.if-number-gt0.false c.if-i-area.true c.read8-setting.result unit c.read8-setting.ensures refl)
 
-returns_3 : tie.Need-returns-3
+returns_3 : tie.Need-returns
 returns_3 c =
-    let g = c.before.before.before.before.before.args in
-    let judged = c.before.before.before.judge in
-    let at = c.before.find in
+    let g = c.args in
+    let judged = c.judge-number in
+    let at = c.find-i in
     old_answer g.key g.area.now 12 0 0
     (fetch_absent 1 g.key g.area.now judged.result judged.ensures at.result at.ensures.0
-    c.before.before.if1.false c.if2.false)
+    c.if-number-gt0.false c.if-i-area.false)
 
 pub fetch_1_spec : {M : Type 1} → statement M
 fetch_1_spec =

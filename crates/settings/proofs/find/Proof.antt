@@ -9,35 +9,33 @@ use borrow.Author.Rules.{rules}
 use Rattle.settings.proofs.find.Statement.{statement}
 use Rattle.settings.proofs.find.Tie as tie
 
-abbrev invariant_loop : tie.invariant-loop
+abbrev invariant_loop : tie.invariant-loop-i
 invariant_loop area key n i₀ i = (i ≤ n) × (first_in (holds key) 0 (rest area 0) ≡ first_in (holds key) i (rest area i))
 
-abbrev decreases_loop : tie.decreases-loop
+abbrev decreases_loop : tie.decreases-loop-i
 decreases_loop area key n i₀ i = n - i
 
-loop_holds : tie.Need-loop-init invariant_loop decreases_loop
+loop_holds : tie.Need-loop-i-init invariant_loop decreases_loop
 loop_holds c = (omega arith, refl)
 
-returns : tie.Need-returns invariant_loop decreases_loop
+returns : tie.Need-returns-then-holds invariant_loop decreases_loop
 returns c =
-    let at = c.before.before.before in
-    let a = at.before.before.args in
-    let i = at.loop.i in
-    let test = c.before.before.loop-test.true in
-    (sym (at.loop.invariant.1 ∙ first_here a.area.now i (holds a.key) test (sym c.before.holds.ensures ∙ c.if1.true)), omega arith)
+    let a = c.args in
+    let i = c.loop-i.i in
+    let test = c.loop-i-test.true in
+    (sym (c.loop-i.invariant.1 ∙ first_here a.area.now i (holds a.key) test (sym c.holds.ensures ∙ c.if-holds.true)), omega arith)
 
-loop_again : tie.Need-loop-preserved invariant_loop decreases_loop
+loop_again : tie.Need-loop-i-preserved invariant_loop decreases_loop
 loop_again c =
-    let at = c.before.before.before in
-    let a = at.before.before.args in
-    let i = at.loop.i in
-    let test = c.before.before.loop-test.true in
-    (omega arith, at.loop.invariant.1 ∙ first_later a.area.now i (holds a.key) test (sym c.before.holds.ensures ∙ c.if1.false))
+    let a = c.args in
+    let i = c.loop-i.i in
+    let test = c.loop-i-test.true in
+    (omega arith, c.loop-i.invariant.1 ∙ first_later a.area.now i (holds a.key) test (sym c.holds.ensures ∙ c.if-holds.false))
 
-returns_2 : tie.Need-returns-2 invariant_loop decreases_loop
+returns_2 : tie.Need-returns invariant_loop decreases_loop
 returns_2 c =
-    let a = c.before.before.before.args in
-    (sym (c.before.loop.invariant.1 ∙ first_done a.area.now c.before.loop.i (holds a.key) c.loop-test.false), omega arith)
+    let a = c.args in
+    (sym (c.loop-i.invariant.1 ∙ first_done a.area.now c.loop-i.i (holds a.key) c.loop-i-test.false), omega arith)
 
 pub find_spec : {M : Type 1} → statement M
 find_spec =

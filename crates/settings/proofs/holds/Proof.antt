@@ -5,16 +5,16 @@ use borrow.Author.Rules.{rules}
 use Rattle.settings.proofs.holds.Statement.{statement}
 use Rattle.settings.proofs.holds.Tie as tie
 
-returns : tie.Need-returns
+returns : tie.Need-returns-then-is_free
 unfolding holds
 returns c =
-    let free = sym c.before.is_free.ensures ∙ c.if1.true in
+    let free = sym c.is_free.ensures ∙ c.if-is_free.true in
     rw free
 
-returns_2 : tie.Need-returns-2
+returns_2 : tie.Need-returns
 unfolding holds
 returns_2 c =
-    let used = sym c.before.before.is_free.ensures ∙ c.before.if1.false in
+    let used = sym c.is_free.ensures ∙ c.if-is_free.false in
     rw (used, sym c.key_of.ensures)
 
 pub holds_spec : {M : Type 1} → statement M

@@ -11,42 +11,39 @@ use borrow.Author.Rules.{rules}
 use Rattle.settings.proofs.in_place.Statement.{statement}
 use Rattle.settings.proofs.in_place.Tie as tie
 
-abbrev invariant_loop : tie.invariant-loop
+abbrev invariant_loop : tie.invariant-loop-i
 invariant_loop area n i₀ i = (i ≤ n) × (in_place (slots_of area) ≡ in_place (rest area i))
 
-abbrev decreases_loop : tie.decreases-loop
+abbrev decreases_loop : tie.decreases-loop-i
 decreases_loop area n i₀ i = n - i
 
-loop_holds : tie.Need-loop-init invariant_loop decreases_loop
+loop_holds : tie.Need-loop-i-init invariant_loop decreases_loop
 loop_holds c = (omega arith, ap in_place (rest_all _))
 
-returns : tie.Need-returns invariant_loop decreases_loop
+returns : tie.Need-returns-then-is_free invariant_loop decreases_loop
 returns c =
-    let at = c.before.before.before.before in
-    let a = at.before.before.args.area.now in
-    let free = sym c.before.before.is_free.ensures ∙ c.before.if1.true in
-    c.all-free.ensures ∙ sym (at.loop.invariant.1 ∙ place_free a at.loop.i c.before.before.before.loop-test.true free)
+    let a = c.args.area.now in
+    let free = sym c.is_free.ensures ∙ c.if-is_free.true in
+    c.all_free.ensures ∙ sym (c.loop-i.invariant.1 ∙ place_free a c.loop-i.i c.loop-i-test.true free)
 
-returns_2 : tie.Need-returns-2 invariant_loop decreases_loop
+returns_2 : tie.Need-returns-then-is_malformed invariant_loop decreases_loop
 returns_2 c =
-    let at = c.before.before.before.before.before in
-    let a = at.before.before.args.area.now in
-    let used = sym c.before.before.before.is_free.ensures ∙ c.before.before.if1.false in
-    let bad = sym c.before.is-malformed.ensures ∙ c.if2.true in
-    sym (at.loop.invariant.1 ∙ place_bad a at.loop.i c.before.before.before.before.loop-test.true used bad)
+    let a = c.args.area.now in
+    let used = sym c.is_free.ensures ∙ c.if-is_free.false in
+    let bad = sym c.is_malformed.ensures ∙ c.if-is_malformed.true in
+    sym (c.loop-i.invariant.1 ∙ place_bad a c.loop-i.i c.loop-i-test.true used bad)
 
-loop_again : tie.Need-loop-preserved invariant_loop decreases_loop
+loop_again : tie.Need-loop-i-preserved invariant_loop decreases_loop
 loop_again c =
-    let at = c.before.before.before.before.before in
-    let a = at.before.before.args.area.now in
-    let used = sym c.before.before.before.is_free.ensures ∙ c.before.before.if1.false in
-    let sound = sym c.before.is-malformed.ensures ∙ c.if2.false in
-    (omega arith, at.loop.invariant.1 ∙ place_later a at.loop.i c.before.before.before.before.loop-test.true used sound)
+    let a = c.args.area.now in
+    let used = sym c.is_free.ensures ∙ c.if-is_free.false in
+    let sound = sym c.is_malformed.ensures ∙ c.if-is_malformed.false in
+    (omega arith, c.loop-i.invariant.1 ∙ place_later a c.loop-i.i c.loop-i-test.true used sound)
 
-returns_3 : tie.Need-returns-3 invariant_loop decreases_loop
+returns_3 : tie.Need-returns invariant_loop decreases_loop
 returns_3 c =
-    let a = c.before.before.before.args.area.now in
-    sym (c.before.loop.invariant.1 ∙ place_done a c.before.loop.i c.loop-test.false)
+    let a = c.args.area.now in
+    sym (c.loop-i.invariant.1 ∙ place_done a c.loop-i.i c.loop-i-test.false)
 
 pub in_place_spec : {M : Type 1} → statement M
 in_place_spec =

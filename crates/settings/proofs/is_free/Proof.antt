@@ -9,31 +9,29 @@ use borrow.Author.Rules.{rules}
 use Rattle.settings.proofs.is_free.Statement.{statement}
 use Rattle.settings.proofs.is_free.Tie as tie
 
-abbrev invariant_loop : tie.invariant-loop
+abbrev invariant_loop : tie.invariant-loop-j
 invariant_loop area i j₀ j = (j ≤ 32) × (is_free (slot_at area i) ≡ free_from area i j)
 
-abbrev decreases_loop : tie.decreases-loop
+abbrev decreases_loop : tie.decreases-loop-j
 decreases_loop area i j₀ j = 32 - j
 
-loop_holds : tie.Need-loop-init invariant_loop decreases_loop
+loop_holds : tie.Need-loop-j-init invariant_loop decreases_loop
 loop_holds c = (omega arith, free_start _ _)
 
-returns : tie.Need-returns invariant_loop decreases_loop
+returns : tie.Need-returns-then-area-i-ne0 invariant_loop decreases_loop
 returns c =
-    let at = c.before.before.before in
-    let a = at.before.args in
-    sym (at.loop.invariant.1 ∙ free_other a.area.now a.i at.loop.j c.before.before.loop-test.true (omega arith) c.if1.true)
+    let a = c.args in
+    sym (c.loop-j.invariant.1 ∙ free_other a.area.now a.i c.loop-j.j c.loop-j-test.true (omega arith) c.if-area-i-ne0.true)
 
-loop_again : tie.Need-loop-preserved invariant_loop decreases_loop
+loop_again : tie.Need-loop-j-preserved invariant_loop decreases_loop
 loop_again c =
-    let at = c.before.before.before in
-    let a = at.before.args in
-    (omega arith, at.loop.invariant.1 ∙ free_zero a.area.now a.i at.loop.j c.before.before.loop-test.true (omega arith) c.if1.false)
+    let a = c.args in
+    (omega arith, c.loop-j.invariant.1 ∙ free_zero a.area.now a.i c.loop-j.j c.loop-j-test.true (omega arith) c.if-area-i-ne0.false)
 
-returns_2 : tie.Need-returns-2 invariant_loop decreases_loop
+returns_2 : tie.Need-returns invariant_loop decreases_loop
 returns_2 c =
-    let a = c.before.before.args in
-    sym (c.before.loop.invariant.1 ∙ free_done a.area.now a.i c.before.loop.j c.loop-test.false)
+    let a = c.args in
+    sym (c.loop-j.invariant.1 ∙ free_done a.area.now a.i c.loop-j.j c.loop-j-test.false)
 
 pub is_free_spec : {M : Type 1} → statement M
 is_free_spec =

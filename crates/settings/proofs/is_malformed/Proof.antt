@@ -10,62 +10,59 @@ use borrow.Author.Rules.{rules}
 use Rattle.settings.proofs.is_malformed.Statement.{statement}
 use Rattle.settings.proofs.is_malformed.Tie as tie
 
-abbrev invariant_loop : tie.invariant-loop
+abbrev invariant_loop : tie.invariant-loop-byte
 invariant_loop area i v may byte₀ byte = (byte ≤ 32) × (is_malformed (slot_at area i) ≡ strays_from area i v byte)
 
-abbrev decreases_loop : tie.decreases-loop
+abbrev decreases_loop : tie.decreases-loop-byte
 decreases_loop area i v may byte₀ byte = 32 - byte
 
-returns : tie.Need-returns invariant_loop decreases_loop
+returns : tie.Need-returns-then-v-gt-NEWEST invariant_loop decreases_loop
 returns c =
-    let a = c.before.before.before.args in
-    sym (over_malformed a.area.now a.i (omega (arith, c.before.version_of.ensures)))
+    let a = c.args in
+    sym (over_malformed a.area.now a.i (omega (arith, c.version_of-v.ensures)))
 
-loop_holds : tie.Need-loop-init invariant_loop decreases_loop
+loop_holds : tie.Need-loop-byte-init invariant_loop decreases_loop
 loop_holds c =
-    let a = c.before.before.before.before.args in
-    let version = c.before.before.version_of in
+    let a = c.args in
+    let version = c.version_of-v in
     (omega arith, strays_start a.area.now a.i version.result version.ensures)
 
-returns_2 : tie.Need-returns-2 invariant_loop decreases_loop
+returns_2 : tie.Need-returns-then-byte-gt-LAST invariant_loop decreases_loop
 returns_2 c =
-    let at = c.before.before.before.before in
-    let a = at.before.before.before.before.before.args in
-    let v = at.before.before.before.version_of.result in
-    let test = c.before.before.before.loop-test.true in
-    sym (at.loop.invariant.1
-    ∙ strays_here a.area.now a.i v at.loop.byte test c.before.if2.true (high_zero v at.loop.byte c.if3.true))
+    let a = c.args in
+    let v = c.version_of-v.result in
+    let test = c.loop-byte-test.true in
+    sym (c.loop-byte.invariant.1
+    ∙ strays_here a.area.now a.i v c.loop-byte.byte test c.if-area-i-ne0.true (high_zero v c.loop-byte.byte c.if-byte-gt-LAST.true))
 
-returns_3 : tie.Need-returns-3 invariant_loop decreases_loop
+returns_3 : tie.Need-returns-then-may-byte-eq0 invariant_loop decreases_loop
 unfolding may_be may_table
 returns_3 c =
-    let at = c.before.before.before.before.before in
-    let a = at.before.before.before.before.before.args in
-    let v = at.before.before.before.version_of.result in
-    let test = c.before.before.before.before.loop-test.true in
-    sym (at.loop.invariant.1
-    ∙ strays_here a.area.now a.i v at.loop.byte test c.before.before.if2.true c.if4.true)
+    let a = c.args in
+    let v = c.version_of-v.result in
+    let test = c.loop-byte-test.true in
+    sym (c.loop-byte.invariant.1
+    ∙ strays_here a.area.now a.i v c.loop-byte.byte test c.if-area-i-ne0.true c.if-may-byte-eq0.true)
 
-loop_again : tie.Need-loop-preserved invariant_loop decreases_loop
+loop_again : tie.Need-loop-byte-preserved invariant_loop decreases_loop
 unfolding may_be may_table
 loop_again c =
-    let at = c.before.before.before in
-    let a = at.before.before.before.before.before.args in
-    let v = at.before.before.before.version_of.result in
-    let test = c.before.before.loop-test.true in (
+    let a = c.args in
+    let v = c.version_of-v.result in
+    let test = c.loop-byte-test.true in (
       omega arith,
-      at.loop.invariant.1
+      c.loop-byte.invariant.1
           ∙ ⊎_elim
-          (λ w. strays_may a.area.now a.i v at.loop.byte test w.2.left)
-          (λ w. strays_zero a.area.now a.i v at.loop.byte test w.left)
-          c.if2.branch,
+          (λ w. strays_may a.area.now a.i v c.loop-byte.byte test w.if-may-byte-eq0.false)
+          (λ w. strays_zero a.area.now a.i v c.loop-byte.byte test w.if-area-i-ne0.false)
+          c.if-area-i-ne0.branch-raw,
     )
 
-returns_4 : tie.Need-returns-4 invariant_loop decreases_loop
+returns_4 : tie.Need-returns invariant_loop decreases_loop
 returns_4 c =
-    let a = c.before.before.before.before.before.before.args in
-    let v = c.before.before.before.before.version_of.result in
-    sym (c.before.loop.invariant.1 ∙ strays_done a.area.now a.i v c.before.loop.byte c.loop-test.false)
+    let a = c.args in
+    let v = c.version_of-v.result in
+    sym (c.loop-byte.invariant.1 ∙ strays_done a.area.now a.i v c.loop-byte.byte c.loop-byte-test.false)
 
 pub is_malformed_spec : {M : Type 1} → statement M
 is_malformed_spec =

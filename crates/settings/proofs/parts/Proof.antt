@@ -14,45 +14,43 @@ use borrow.Author.Rules.{rules}
 use Rattle.settings.proofs.parts.Statement.{statement}
 use Rattle.settings.proofs.parts.Tie as tie
 
-abbrev invariant_loop : tie.invariant-loop
+abbrev invariant_loop : tie.invariant-loop-i
 invariant_loop area n most₀ i₀ most i = (i ≤ n) × (parts_of 0 (keys_in (slots_of area)) ≡ parts_of most (keys_in (rest area i)))
 
-abbrev decreases_loop : tie.decreases-loop
+abbrev decreases_loop : tie.decreases-loop-i
 decreases_loop area n most₀ i₀ most i = n - i
 
-loop_holds : tie.Need-loop-init invariant_loop decreases_loop
+loop_holds : tie.Need-loop-i-init invariant_loop decreases_loop
 loop_holds c = (omega arith, ap (λ xs. parts_of 0 (keys_in xs)) (rest_all _))
 
-returns : tie.Need-returns invariant_loop decreases_loop
+returns : tie.Need-returns-then-is_free invariant_loop decreases_loop
 unfolding parts_of
 returns c =
-    let at = c.before.before.before in
-    let a = at.before.before.args.area.now in
-    let free = sym c.before.is_free.ensures ∙ c.if1.true in
-    sym (at.loop.invariant.1 ∙ ap (parts_of at.loop.most) (keys_free a at.loop.i c.before.before.loop-test.true free))
+    let a = c.args.area.now in
+    let free = sym c.is_free.ensures ∙ c.if-is_free.true in
+    sym (c.loop-i.invariant.1 ∙ ap (parts_of c.loop-i.most) (keys_free a c.loop-i.i c.loop-i-test.true free))
 
-loop_again : tie.Need-loop-preserved invariant_loop decreases_loop
+loop_again : tie.Need-loop-i-preserved invariant_loop decreases_loop
 loop_again c =
-    let at = c.before.before.before.before.before in
-    let a = at.before.before.args.area.now in
-    let used = sym c.before.before.before.is_free.ensures ∙ c.before.before.if1.false in
-    let keys = keys_record a at.loop.i c.before.before.before.before.loop-test.true used in
-    let k = c.before.key_of.result in
-    let ks = keys_in (rest a (at.loop.i + 1)) in
-    let first = at.loop.invariant.1 ∙ ap (parts_of at.loop.most) (keys ∙ ap (λ j. j ∷ ks) (sym c.before.key_of.ensures)) in (
+    let a = c.args.area.now in
+    let used = sym c.is_free.ensures ∙ c.if-is_free.false in
+    let keys = keys_record a c.loop-i.i c.loop-i-test.true used in
+    let k = c.key_of-part.result in
+    let ks = keys_in (rest a (c.loop-i.i + 1)) in
+    let first = c.loop-i.invariant.1 ∙ ap (parts_of c.loop-i.most) (keys ∙ ap (λ j. j ∷ ks) (sym c.key_of-part.ensures)) in (
       omega arith,
       first
           ∙ ⊎_elim
-          (λ w. parts_more at.loop.most k ks w.0.taken ∙ ap (λ m. parts_of m ks) (sym w.1))
-          (λ w. parts_same at.loop.most k ks w.0.left ∙ ap (λ m. parts_of m ks) (sym w.1))
-          c.if2.branch,
+          (λ w. parts_more c.loop-i.most k ks w.if-most-part.true ∙ ap (λ m. parts_of m ks) (sym w.most-is))
+          (λ w. parts_same c.loop-i.most k ks w.if-most-part.false ∙ ap (λ m. parts_of m ks) (sym w.most-is))
+          c.if-most-part.branch-raw,
     )
 
-returns_2 : tie.Need-returns-2 invariant_loop decreases_loop
+returns_2 : tie.Need-returns invariant_loop decreases_loop
 unfolding parts_of
 returns_2 c =
-    let a = c.before.before.before.args.area.now in
-    sym (c.before.loop.invariant.1 ∙ ap (parts_of c.before.loop.most) (keys_done a c.before.loop.i c.loop-test.false))
+    let a = c.args.area.now in
+    sym (c.loop-i.invariant.1 ∙ ap (parts_of c.loop-i.most) (keys_done a c.loop-i.i c.loop-i-test.false))
 
 pub parts_spec : {M : Type 1} → statement M
 parts_spec =

@@ -5,27 +5,26 @@ use borrow.Author.Rules.{rules}
 use Rattle.settings.proofs.remove.Statement.{statement}
 use Rattle.settings.proofs.remove.Tie as tie
 
-returns : tie.Need-returns
+returns : tie.Need-returns-then-number-gt0
 returns c =
-    let g = c.before.before.before.before.args in
-    call_refused g.area.now c.before.judge.result c.before.judge.ensures (to_remove g.key) c.if1.true
+    let g = c.args in
+    call_refused g.area.now c.judge-number.result c.judge-number.ensures (to_remove g.key) c.if-number-gt0.true
 
-returns_2 : tie.Need-returns-2
+returns_2 : tie.Need-returns-then-i-area
 returns_2 c =
-    let at = c.before.before.before.before.before in
-    let judged = at.before.before.before.judge in
-    let g = at.before.before.before.before.before.before.args in
-    let closed = c.before.before.close_up in
-    remove_done g.area.now judged.result judged.ensures g.key at.before.before.if1.false at.find.result at.find.ensures.0
-    c.before.before.before.before.if2.true closed.new.0 closed.ensures
+    let judged = c.judge-number in
+    let g = c.args in
+    let closed = c.close_up in
+    remove_done g.area.now judged.result judged.ensures g.key c.if-number-gt0.false c.find-i.result c.find-i.ensures.0
+    c.if-i-area.true closed.new.area closed.ensures
 
-returns_3 : tie.Need-returns-3
+returns_3 : tie.Need-returns
 returns_3 c =
-    let g = c.before.before.before.before.before.before.before.args in
-    let judged = c.before.before.before.before.judge in
-    let at = c.before.find in
-    remove_absent g.area.now judged.result judged.ensures g.key c.before.before.before.if1.false
-    at.result at.ensures.0 c.if2.false
+    let g = c.args in
+    let judged = c.judge-number in
+    let at = c.find-i in
+    remove_absent g.area.now judged.result judged.ensures g.key c.if-number-gt0.false
+    at.result at.ensures.0 c.if-i-area.false
 
 pub remove_spec : {M : Type 1} → statement M
 remove_spec =

@@ -11,7 +11,7 @@ use Rattle.settings.proofs.see.Tie as tie
 returns : tie.Need-returns
 unfolding turned
 returns c =
-    let r = c.before.args.k % 64 in
+    let r = c.args.k % 64 in
     let one : 1 * 2 ^ r ≡ 2 ^ r = omega arith in
     let bit : 1 * 2 ^ r % 2 ^ 64 ≡ 2 ^ r = shl_exact {a = 1} 1 r 64 (omega arith) (omega arith) ∙ one in
     rw bit refl

@@ -5,27 +5,26 @@ use borrow.Author.Rules.{rules}
 use Rattle.settings.proofs.store.Statement.{statement}
 use Rattle.settings.proofs.store.Tie as tie
 
-returns : tie.Need-returns
+returns : tie.Need-returns-then-number-gt0
 returns c =
-    let g = c.before.before.before.before.args in
-    call_refused g.area.now c.before.judge.result c.before.judge.ensures (to_store g.key g.setting g.unit) c.if1.true
+    let g = c.args in
+    call_refused g.area.now c.judge-number.result c.judge-number.ensures (to_store g.key g.setting g.unit) c.if-number-gt0.true
 
-returns_2 : tie.Need-returns-2
+returns_2 : tie.Need-returns-then-i-area
 returns_2 c =
-    let at = c.before.before.before.before.before in
-    let judged = at.before.before.before.judge in
-    let g = at.before.before.before.before.before.before.args in
-    let wrote = c.before.before.write-slot in
-    store_done g.area.now judged.result judged.ensures g.key at.before.before.if1.false g.setting g.unit
-    at.room_for.result at.room_for.ensures.0 c.before.before.before.before.if2.true wrote.new.0 wrote.ensures
+    let judged = c.judge-number in
+    let g = c.args in
+    let wrote = c.write_slot in
+    store_done g.area.now judged.result judged.ensures g.key c.if-number-gt0.false g.setting g.unit
+    c.room_for-i.result c.room_for-i.ensures.0 c.if-i-area.true wrote.new.area wrote.ensures
 
-returns_3 : tie.Need-returns-3
+returns_3 : tie.Need-returns
 returns_3 c =
-    let g = c.before.before.before.before.before.before.before.args in
-    let judged = c.before.before.before.before.judge in
-    let at = c.before.room_for in
-    store_full g.area.now judged.result judged.ensures g.key c.before.before.before.if1.false g.setting g.unit
-    at.result at.ensures.0 c.if2.false
+    let g = c.args in
+    let judged = c.judge-number in
+    let at = c.room_for-i in
+    store_full g.area.now judged.result judged.ensures g.key c.if-number-gt0.false g.setting g.unit
+    at.result at.ensures.0 c.if-i-area.false
 
 pub store_spec : {M : Type 1} → statement M
 store_spec =

@@ -14,11 +14,11 @@ use Rattle.settings.proofs.write_slot.Tie as tie
 returns : tie.Need-returns
 unfolding part slot_of bytes
 returns c =
-    let g = c.before.before.before.before.before.before.before.args in
+    let g = c.args in
     let slot : List ℕ → List ℕ = λ b. 2 ∷ 0 ∷ g.key % 256 ∷ g.key / 256 % 256 ∷ g.unit % 256 ∷ g.unit / 256 % 256 ∷ 0 ∷ 0
     ∷ get_or b 0 0 ∷ get_or b 1 0 ∷ get_or b 2 0 ∷ get_or b 3 0 ∷ get_or b 4 0 ∷ get_or b 5 0 ∷ get_or b 6 0 ∷ get_or b 7 0 ∷ replicate 16 0 in
-    c.before.before.copy-bytes.ensures
-    ∙ ap (λ b. put g.area.now (32 * g.i) (slot b)) c.before.before.before.before.before.bytes8.ensures
+    c.copy_bytes.ensures
+    ∙ ap (λ b. put g.area.now (32 * g.i) (slot b)) c.bytes8-b.ensures
 
 pub write_slot_spec : {M : Type 1} → statement M
 write_slot_spec =

@@ -58,11 +58,11 @@ rs t = (
   wrapping-pow-reads.Learnt,
 )
 
-abbrev Inv : lts.invariant-loop
+abbrev Inv : lts.invariant-loop-left
 Inv s regs at₀ i k left₀ total₀ at left total =
     Gathering (joined (kind s.now i)) (gathered (held regs) (kind s.now i)) s.now (i + 1) (parts s.now i) total left at
 
-abbrev μ : lts.decreases-loop
+abbrev μ : lts.decreases-loop-left
 μ s regs at₀ i k left₀ total₀ at left total = left
 
 -- the cell, once its one number is written
@@ -71,119 +71,108 @@ written [] v h = absurd (omega arith)
 written (x ∷ []) v h = refl
 written (x ∷ y ∷ at) v h = absurd (omega arith)
 
-kind_requires : (t : ℕ) → lts.Need-kind-requires (rs t) (here t) value-at.Post Inv μ
-kind_requires t c κs = inside c.before.before.requires.1.1
+kind_requires : (t : ℕ) → lts.Need-kind-k-requires (rs t) (here t) value-at.Post Inv μ
+kind_requires t c κs = inside c.requires.1.1
 
-add_at : (t : ℕ) → lts.Need-overflow-add-at (rs t) (here t) value-at.Post Inv μ
-add_at t c = omega (arith, inside c.before.before.before.requires.1.1, c.before.before.before.requires.1.2)
+add_at : (t : ℕ) → lts.Need-overflow_add-at (rs t) (here t) value-at.Post Inv μ
+add_at t c = omega (arith, inside c.requires.1.1, c.requires.1.2)
 
 bits_requires : (t : ℕ) → lts.Need-bits-requires (rs t) (here t) value-at.Post Inv μ
-bits_requires t c κs = inside c.before.before.before.before.before.requires.1.1
+bits_requires t c κs = inside c.requires.1.1
 
-returns : (t : ℕ) → lts.Need-returns (rs t) (here t) value-at.Post Inv μ
+returns : (t : ℕ) → lts.Need-returns-then-k-lt-SYMBOL (rs t) (here t) value-at.Post Inv μ
 returns t c =
-    let a = c.before.before.before.before.before.before in
-    let i = place a.args.at.now in
-    let k : kind a.args.s.now.now i ≡ 0 = omega (arith, c.before.before.before.kind.ensures) in
-    rw (written a.args.at.now (i + 1) a.requires.1.0) (λ t h. integer_value (held a.args.regs.now) t h k _ c.bits.ensures)
+    let i = place c.args.at.now in
+    let k : kind c.args.s.now.now i ≡ 0 = omega (arith, c.kind-k.ensures) in
+    rw (written c.args.at.now (i + 1) c.requires.1.0) (λ t h. integer_value (held c.args.regs.now) t h k _ c.bits.ensures)
 
 symbol_requires : (t : ℕ) → lts.Need-symbol-requires (rs t) (here t) value-at.Post Inv μ
-symbol_requires t c κs = inside c.before.before.before.before.before.before.requires.1.1
+symbol_requires t c κs = inside c.requires.1.1
 
-returns_2 : (t : ℕ) → lts.Need-returns-2 (rs t) (here t) value-at.Post Inv μ
+returns_2 : (t : ℕ) → lts.Need-returns-then-k-lt-SUM (rs t) (here t) value-at.Post Inv μ
 returns_2 t c =
-    let a = c.before.before.before.before.before.before.before.before in
-    let i = place a.args.at.now in
-    let k : kind a.args.s.now.now i ≡ 1 = omega (arith, c.before.before.before.before.before.kind.ensures) in
-    let regs = held a.args.regs.now in
-    let v = c.register_of.ensures ∙ ap regs c.before.symbol.ensures in
-    rw (written a.args.at.now (i + 1) a.requires.1.0) (λ t h. symbol_value regs t h k _ v c.register_of.type-inv)
+    let i = place c.args.at.now in
+    let k : kind c.args.s.now.now i ≡ 1 = omega (arith, c.kind-k.ensures) in
+    let regs = held c.args.regs.now in
+    let v = c.register_of.ensures ∙ ap regs c.symbol.ensures in
+    rw (written c.args.at.now (i + 1) c.requires.1.0) (λ t h. symbol_value regs t h k _ v c.register_of.type_inv)
 
-parts_requires : (t : ℕ) → lts.Need-parts-requires (rs t) (here t) value-at.Post Inv μ
-parts_requires t c κs = inside c.before.before.before.before.before.before.requires.1.1
+parts_requires : (t : ℕ) → lts.Need-parts-left-requires (rs t) (here t) value-at.Post Inv μ
+parts_requires t c κs = inside c.requires.1.1
 
-loop_holds : (t : ℕ) → lts.Need-loop-init (rs t) (here t) value-at.Post Inv μ
+loop_holds : (t : ℕ) → lts.Need-loop-left-init (rs t) (here t) value-at.Post Inv μ
 loop_holds t c =
-    let a = c.before.before.before.before.before.before.before.before in
-    let s = a.args.s.now.now in
-    let i = place a.args.at.now in
-    let from = begins (gathers (held a.args.regs.now) (kind s i)) (parts s i) (neutral_small (kind s i)) in
-    let unit = c.neutral.ensures ∙ ap neutral c.before.before.before.before.before.kind.ensures in
-    rw (written a.args.at.now (i + 1) a.requires.1.0, c.before.parts.ensures, unit) from
+    let s = c.args.s.now.now in
+    let i = place c.args.at.now in
+    let from = begins (gathers (held c.args.regs.now) (kind s i)) (parts s i) (neutral_small (kind s i)) in
+    let unit = c.neutral-total.ensures ∙ ap neutral c.kind-k.ensures in
+    rw (written c.args.at.now (i + 1) c.requires.1.0, c.parts-left.ensures, unit) from
 
-value_at_requires : (t : ℕ) → lts.Need-value-at-requires (rs t) (here t) value-at.Post Inv μ
+value_at_requires : (t : ℕ) → lts.Need-value_at-v-requires (rs t) (here t) value-at.Post Inv μ
 unfolding records_in
 value_at_requires t c κs =
-    let a = c.before.before.before.before.before.before.before.before.before.before.before in
-    let s = a.args.s.now.now in
-    let i = place a.args.at.now in
-    let l = c.before.before.loop.invariant in
-    let node : 2 ≤ kind s i = omega (arith, c.before.before.before.before.before.before.before.before.kind.ensures) in
-    let members = parts_there a.requires.1.1 node in
-    let there = member_there (gathers (held a.args.regs.now) (kind s i)) l members c.before.loop-test.true in
-    (omega (arith, l.ahead, inside a.requires.1.1), (ap length l.cell, there, a.requires.1.2))
+    let s = c.args.s.now.now in
+    let i = place c.args.at.now in
+    let l = c.loop-left.invariant in
+    let node : 2 ≤ kind s i = omega (arith, c.kind-k.ensures) in
+    let members = parts_there c.requires.1.1 node in
+    let there = member_there (gathers (held c.args.regs.now) (kind s i)) l members c.loop-left-test.true in
+    (omega (arith, l.ahead, inside c.requires.1.1), (ap length l.cell, there, c.requires.1.2))
 
-loop_again : (t : ℕ) → lts.Need-loop-preserved (rs t) (here t) value-at.Post Inv μ
+loop_again : (t : ℕ) → lts.Need-loop-left-preserved (rs t) (here t) value-at.Post Inv μ
 loop_again t c =
-    let a = c.before.before.before.before.before.before.before.before.before.before.before.before.before in
-    let s = a.args.s.now.now in
-    let i = place a.args.at.now in
-    let l = c.before.before.before.before.loop in
-    let k = c.before.before.before.before.before.before.before.before.before.before.kind in
+    let s = c.args.s.now.now in
+    let i = place c.args.at.now in
+    let l = c.loop-left in
+    let k = c.kind-k in
     let node : 2 ≤ kind s i = omega (arith, k.ensures) in
-    let members = parts_there a.requires.1.1 node in
-    let member = c.before.value-at in
-    let next = c.joined.ensures ∙ ap (λ (x : ℕ). joined x l.total member.result % modulus) k.ensures in
-    goes_on (gathers (held a.args.regs.now) (kind s i)) l.invariant members (omega arith) member.result _ member.ensures _ next
+    let members = parts_there c.requires.1.1 node in
+    let member = c.value_at-v in
+    let next = c.joined-total.ensures ∙ ap (λ (x : ℕ). joined x l.total member.result % modulus) k.ensures in
+    goes_on (gathers (held c.args.regs.now) (kind s i)) l.invariant members (omega arith) member.result _ member.ensures _ next
 
--- behind the loop: the entry, and what the trees have given that the node's value is made from
+-- behind the loop: what the trees have given that the node's value is made from
 abbrev Gathered : ℕ → Type 0
-Gathered t = lts.After-loop (rs t) (here t) value-at.Post Inv μ
+Gathered t = lts.After-loop-left (rs t) (here t) value-at.Post Inv μ
 
-abbrev entry_of : (t : ℕ) → Gathered t → lts.Start (rs t) (here t) value-at.Post Inv μ
-entry_of t c = c.before.before.before.before.before.before.before.before.before.before
-
-all : (t : ℕ) (c : Gathered t) → let a = (entry_of t c).args in let s = a.s.now.now in let i = place a.at.now in (f : Forest)
+all : (t : ℕ) (c : Gathered t) → let s = c.args.s.now.now in let i = place c.args.at.now in (f : Forest)
     → TreesIn s (i + 1) (parts s i) f
-    → Evaluated (i + 1) (recordses f) (gathered (held a.regs.now) (kind s i) f) c.before.loop.total c.before.loop.at
+    → Evaluated (i + 1) (recordses f) (gathered (held c.args.regs.now) (kind s i) f) c.loop-left.total c.loop-left.at
 all t c =
-    let a = (entry_of t c).args in
-    ends (gathers (held a.regs.now) (kind a.s.now.now (place a.at.now))) c.before.loop.invariant c.loop-test.false
+    ends (gathers (held c.args.regs.now) (kind c.args.s.now.now (place c.args.at.now))) c.loop-left.invariant c.loop-left-test.false
 
-last : (t : ℕ) (c : lts.Else3 (rs t) (here t) value-at.Post Inv μ) → let a = (entry_of t c.before).args in kind a.s.now.now (place a.at.now) ≡ 4
+last : (t : ℕ) (c : lts.Else-k-lt-POWER (rs t) (here t) value-at.Post Inv μ) → kind c.args.s.now.now (place c.args.at.now) ≡ 4
 last t c =
-    let k = c.before.before.before.before.before.before.before.before.kind in
-    last_kind (entry_of t c.before).pre.1.1 (omega (arith, k.ensures))
+    let k = c.kind-k in
+    last_kind c.requires.1.1 (omega (arith, k.ensures))
 
-exponent : (t : ℕ) (c : lts.Else3 (rs t) (here t) value-at.Post Inv μ)
-    → place c.before.before.loop.at * 16 + 16 ≤ length (entry_of t c.before).args.s.now.now
+exponent : (t : ℕ) (c : lts.Else-k-lt-POWER (rs t) (here t) value-at.Post Inv μ)
+    → place c.loop-left.at * 16 + 16 ≤ length c.args.s.now.now
 exponent t c =
-    let a = entry_of t c.before in
-    let l = c.before.before.loop in
-    exponent_inside (held a.args.regs.now) l.total l.at (all t c.before) a.pre.1.1 (last t c)
+    let l = c.loop-left in
+    exponent_inside (held c.args.regs.now) l.total l.at (all t c.before) c.requires.1.1 (last t c)
 
-returns_3 : (t : ℕ) → lts.Need-returns-3 (rs t) (here t) value-at.Post Inv μ
+returns_3 : (t : ℕ) → lts.Need-returns-then-k-lt-POWER (rs t) (here t) value-at.Post Inv μ
 returns_3 t c =
-    let a = entry_of t c.before in
-    let l = c.before.before.loop in
-    let k = c.before.before.before.before.before.before.before.before.kind in
-    let i = place a.args.at.now in
-    let node : 2 ≤ kind a.args.s.now.now i = omega (arith, k.ensures) in
-    let members : kind a.args.s.now.now i < 4 = omega (arith, k.ensures) in
-    λ t' h. members_value (held a.args.regs.now) l.total l.at (all t c.before) t' h node members
+    let l = c.loop-left in
+    let k = c.kind-k in
+    let i = place c.args.at.now in
+    let node : 2 ≤ kind c.args.s.now.now i = omega (arith, k.ensures) in
+    let members : kind c.args.s.now.now i < 4 = omega (arith, k.ensures) in
+    λ t' h. members_value (held c.args.regs.now) l.total l.at (all t c.before) t' h node members
 
-add_at_2 : (t : ℕ) → lts.Need-overflow-add-at-2 (rs t) (here t) value-at.Post Inv μ
-add_at_2 t c = omega (arith, exponent t c.before, (entry_of t c.before.before).pre.1.2)
+add_at_2 : (t : ℕ) → lts.Need-overflow_add-at-2 (rs t) (here t) value-at.Post Inv μ
+add_at_2 t c = omega (arith, exponent t c.before.before, c.requires.1.2)
 
 bits_requires_2 : (t : ℕ) → lts.Need-bits-requires-2 (rs t) (here t) value-at.Post Inv μ
-bits_requires_2 t c κs = exponent t c.before.before
+bits_requires_2 t c κs = exponent t c.before.before.before
 
-returns_4 : (t : ℕ) → lts.Need-returns-4 (rs t) (here t) value-at.Post Inv μ
+returns_4 : (t : ℕ) → lts.Need-returns (rs t) (here t) value-at.Post Inv μ
 returns_4 t c =
-    let power = c.before.before.before.before in
-    let regs = held (entry_of t power.before).args.regs.now in
-    let l = power.before.before.loop in
-    let v = c.wrapping-pow.ensures ∙ ap (λ (x : ℕ). l.total ^ x % modulus) c.before.bits2.ensures in
+    let power = c.before.before.before.before.before in
+    let regs = held c.args.regs.now in
+    let l = c.loop-left in
+    let v = c.wrapping_pow.ensures ∙ ap (λ (x : ℕ). l.total ^ x % modulus) c.bits-2.ensures in
     λ t' h.
     let told = power_value regs l.total l.at (all t power.before) t' h (last t power) _ v in
     record { value = told.value; end = written l.at _ (ap length l.invariant.cell) ∙ told.end }

@@ -5,23 +5,23 @@ use Rattle.paper.specs.Answers.{register}
 use Rattle.value.proofs.fill.Statement.{statement}
 use Rattle.value.proofs.fill.Tie as tie
 
-abbrev invariant_loop : tie.invariant-loop
+abbrev invariant_loop : tie.invariant-loop-i
 invariant_loop registers r₀ i₀ r i = (i ≤ 256) × (length r ≡ 256) × ((k : ℕ) → k < i → get_or r k 0 ≡ register registers k)
 
-abbrev decreases_loop : tie.decreases-loop
+abbrev decreases_loop : tie.decreases-loop-i
 decreases_loop registers r₀ i₀ r i = 256 - i
 
-loop_holds : tie.Need-loop-init invariant_loop decreases_loop
+loop_holds : tie.Need-loop-i-init invariant_loop decreases_loop
 loop_holds c = (omega arith, refl, λ k h. absurd (none h))
   where
     none : {k : ℕ} → k < 0 → ⊥
     none h = omega arith
 
-loop_again : tie.Need-loop-preserved invariant_loop decreases_loop
+loop_again : tie.Need-loop-i-preserved invariant_loop decreases_loop
 unfolding register
 loop_again c =
-    let l = c.before.before.loop in
-    let registers = c.before.before.before.before.args.registers.now in
+    let l = c.loop-i in
+    let registers = c.args.registers.now in
     let v = c.read8.result in
     let i = l.i in
     let inside : i < length l.r = omega arith in (
@@ -33,7 +33,7 @@ loop_again c =
     )
 
 returns : tie.Need-returns invariant_loop decreases_loop
-returns c = λ k h. c.before.loop.invariant.2 k (omega arith)
+returns c = λ k h. c.loop-i.invariant.2 k (omega arith)
 
 pub fill_spec : {M : Type 1} → statement M
 fill_spec =

@@ -4,13 +4,13 @@ use Rattle.value.specs.Evaluated.{joined}
 use Rattle.value.proofs.joined.Statement.{statement}
 use Rattle.value.proofs.joined.Tie as tie
 
-returns : tie.Need-returns
+returns : tie.Need-returns-then-k-lt-PRODUCT
 unfolding joined
-returns c = rw (lt-ltb _ _ c.before.if1.true) c.wrapping-add-u64.ensures
+returns c = rw (lt-ltb _ _ c.if-k-lt-PRODUCT.true) c.wrapping_add_u64.ensures
 
-returns_2 : tie.Need-returns-2
+returns_2 : tie.Need-returns
 unfolding joined
-returns_2 c = rw (le-ltb _ _ c.before.if1.false) c.wrapping-mul.ensures
+returns_2 c = rw (le-ltb _ _ c.if-k-lt-PRODUCT.false) c.wrapping_mul.ensures
 
 pub joined_spec : {M : Type 1} → statement M
 joined_spec = tie.close (tie.spec (λ c κs. search rules) returns (λ c κs. search rules) returns_2)

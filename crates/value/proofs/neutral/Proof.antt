@@ -4,13 +4,13 @@ use Rattle.value.specs.Evaluated.{neutral}
 use Rattle.value.proofs.neutral.Statement.{statement}
 use Rattle.value.proofs.neutral.Tie as tie
 
-returns : tie.Need-returns
+returns : tie.Need-returns-then-k-lt-PRODUCT
 unfolding neutral
-returns c = simp (lt-ltb _ _ c.if1.true)
+returns c = simp (lt-ltb _ _ c.if-k-lt-PRODUCT.true)
 
-returns_2 : tie.Need-returns-2
+returns_2 : tie.Need-returns
 unfolding neutral
-returns_2 c = simp (le-ltb _ _ c.if1.false)
+returns_2 c = simp (le-ltb _ _ c.if-k-lt-PRODUCT.false)
 
 pub neutral_spec : {M : Type 1} → statement M
 neutral_spec = tie.close (tie.spec returns returns_2)

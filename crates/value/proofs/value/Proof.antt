@@ -15,62 +15,46 @@ use Rattle.value.proofs.value.Tie as tie
 
 -- places on the way through the code: after the table was judged, and where it is accepted
 abbrev Judged : Type 0
-Judged = tie.After-fault-of
+Judged = tie.After-fault_of-f
 
 abbrev Fine : Type 0
-Fine = tie.Else1
+Fine = tie.Else-f-gt0
 
 abbrev judged_of : Fine → Judged
 judged_of c = c.before.before
 
-abbrev known_of : Judged → tie.After-shared-slice-known
-known_of c = c.before.before.before
+judges : (c : Judged) → verdict_of c.fault_of-f.result ≡ verdict c.args.limit c.args.s.now
+judges c = c.fault_of-f.ensures ∙ c.check.ensures
 
-judges : (c : Judged) → let a = (known_of c).before.args in verdict_of c.fault-of.result ≡ verdict a.limit a.s.now
-judges c = c.fault-of.ensures ∙ c.before.check.ensures
-
-fine : (c : Fine) → let a = (known_of (judged_of c)).before.args in verdict a.limit a.s.now ≡ accepted
+fine : (c : Fine) → verdict c.args.limit c.args.s.now ≡ accepted
 fine c =
-    let a = (known_of (judged_of c)).before.args in
-    told_accepted a.limit a.s.now _ _ _ (judges (judged_of c)) (omega (arith, c.if1.false))
+    told_accepted c.args.limit c.args.s.now _ _ _ (judges (judged_of c)) (omega (arith, c.if-f-gt0.false))
 
-holds : (c : Fine) → let a = (known_of (judged_of c)).before.args in Holds a.limit a.s.now
+holds : (c : Fine) → Holds c.args.limit c.args.s.now
 holds c =
-    let known = known_of (judged_of c) in
-    let a = known.before.args in
-    accepted_holds a.limit a.s.now (are_bytes a.s.now known.shared-slice-known.given) (fine c)
+    accepted_holds c.args.limit c.args.s.now (are_bytes c.args.s.now c.shared_slice_known-1.given) (fine c)
 
-returns : tie.Need-returns
+returns : tie.Need-returns-then-f-gt0
 returns c =
-    let judged = c.before.before.before in
-    let a = (known_of judged).before.args in
-    c.with-result.ensures ∙ refused_table a.limit a.s.now a.registers.now _ _ _ (judges judged) (omega (arith, c.before.if1.true))
+    c.with_result.ensures ∙ refused_table c.args.limit c.args.s.now c.args.registers.now _ _ _ (judges c.before.before.before) (omega (arith, c.if-f-gt0.true))
 
-returns_2 : tie.Need-returns-2
+returns_2 : tie.Need-returns-then-registers-ne-REGISTER_BYTES
 returns_2 c =
-    let short = c.before.before in
-    let a = (known_of (judged_of short.before)).before.args in
-    c.with-result2.ensures ∙ ap (λ (v : Verdict). with_result v 0) c.before.refusal.ensures
-    ∙ refused_registers a.limit a.s.now a.registers.now (fine short.before) short.if2.true
+    c.with_result-then-registers-ne-REGISTER_BYTES.ensures ∙ ap (λ (v : Verdict). with_result v 0) c.refusal.ensures
+    ∙ refused_registers c.args.limit c.args.s.now c.args.registers.now (fine c.before.before.before) c.if-registers-ne-REGISTER_BYTES.true
 
-value_at_requires : tie.Need-value-at-requires
+value_at_requires : tie.Need-value_at-v-requires
 value_at_requires c κs =
-    let there = c.before.before.before.before.before in
-    let a = (known_of (judged_of there)).before.args in
-    let h = holds there in
-    (refl, record { tree = h.tree; there = holds_tree a.limit a.s.now h }, omega arith)
+    let h = holds c.before.before.before.before.before in
+    (refl, record { tree = h.tree; there = holds_tree c.args.limit c.args.s.now h }, omega arith)
 
-returns_3 : tie.Need-returns-3
+returns_3 : tie.Need-returns
 returns_3 c =
-    let valued = c.before.before in
-    let filled = valued.before.before.before.before in
-    let there = filled.before.before in
-    let a = (known_of (judged_of there)).before.args in
-    let h = holds there in
-    let v = (valued.value-at.ensures h.tree (holds_tree a.limit a.s.now h)).value in
-    let told = v ∙ same_value (held filled.fill.result) (register a.registers.now) filled.fill.ensures h.tree h.wf in
-    c.with-result3.ensures ∙ ap (λ (w : Verdict). with_result w valued.value-at.result) c.before.refusal2.ensures
-    ∙ value_told a.limit a.s.now a.registers.now h (fine there) filled.before.if2.false valued.value-at.result told
+    let h = holds c.before.before.before.before.before.before.before.before in
+    let v = (c.value_at-v.ensures h.tree (holds_tree c.args.limit c.args.s.now h)).value in
+    let told = v ∙ same_value (held c.fill-regs.result) (register c.args.registers.now) c.fill-regs.ensures h.tree h.wf in
+    c.with_result-2.ensures ∙ ap (λ (w : Verdict). with_result w c.value_at-v.result) c.refusal-2.ensures
+    ∙ value_told c.args.limit c.args.s.now c.args.registers.now h (fine c.before.before.before.before.before.before.before.before) c.if-registers-ne-REGISTER_BYTES.false c.value_at-v.result told
 
 pub value_spec : {M : Type 1} → statement M
 value_spec =
