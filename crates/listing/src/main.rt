@@ -1,25 +1,24 @@
 // The listing of the table on standard input, by the rules of the edition that the argument names, or of edition one where there is none;
 // stored here: example 2.
+#![tactic(auto)]
 
-// The edition that is asked for, a digit; 0, which is no edition, where the argument is anything else.
-fn edition() -> usize {
-    if os::arg_count() <= 1 {
-        return 1;
-    }
+use std::env::{Env, FillError};
+
+// The edition that is asked for, a digit, or 1 where there is no argument; 0, which is no edition, where the argument is anything else.
+fn edition(env: &impl Env) -> usize {
     let mut word = [0u8; 1];
-    if os::arg(1, &mut word) < 1 {
-        return 0;
+    match env.arg(1, &mut word) {
+        Ok(1) if word[0].is_ascii_digit() => (word[0] - b'0') as usize,
+        Ok(_) | Err(FillError::TooLong) => 0,
+        Err(FillError::NotPresent) => 1,
     }
-    let digit = word[0];
-    if digit < b'0' {
-        return 0;
-    }
-    if b'9' < digit {
-        return 0;
-    }
-    (digit - b'0') as usize
 }
 
-fn main() {
-    report::run(edition());
+fn main(rt: HostRuntime) {
+    report::run(
+        &mut rt.stdin(),
+        &mut rt.stdout(),
+        &mut rt.stderr(),
+        edition(&rt),
+    );
 }

@@ -1,11 +1,16 @@
-// The listing of a table: whether it was accepted, its steps and openings, both weights, and the steps by name. What writes answers whether it
-// was written; after the first write that fails there is no other, and standard error says so.
-use libc::{STDIN_FILENO, STDOUT_FILENO};
+// The listing of a table: whether it was accepted, its steps and openings, both weights, and the steps by name. What writes answers the error of
+// the first write that fails, after which there is no other; standard error then says that output was lost.
+#![tactic(auto)]
+
+ghost use Rattle.std.specs.Prelude.{◌≤◌, length};
+
 use record::Flaw;
 use rules::{
     ADD_ZERO, COMBINE_LIKE_FACTORS, COMBINE_LIKE_TERMS, MULTIPLY_ONE, MULTIPLY_ZERO,
     POWER_CONSTANT, POWER_ONE, POWER_POWER,
 };
+use std::io::{Read, Write};
+use std::{io, str};
 
 // The limit that the small programs keep, and the bytes of the largest table, of the shortest area over it, and of `work`, by it.
 pub const LIMIT: usize = 3072;
@@ -16,95 +21,121 @@ pub const OVER_TABLE: usize = 49168;
 
 pub const WORK: usize = 65536;
 
-// Tells that output was lost, and why.
-pub fn lost() {
-    os::fail(b"output was lost");
+// Room for the words of an error.
+const WORDS: usize = 128;
+
+// What stands between the system's words for an error and its number, where std writes it.
+const BEFORE_NUMBER: &str = " (os error ";
+
+// Why a call failed, in the system's words alone.
+fn reason(error: io::Error, room: &mut [u8; WORDS]) -> &str {
+    let mut rest = &mut room[..];
+    let _ = write!(rest, "{error}");
+    let n = WORDS.saturating_sub(rest.len());
+    let text = str::from_utf8(&room[..n]).unwrap_or("");
+    match text.split_once(BEFORE_NUMBER) {
+        Some((words, _)) => words,
+        None => text,
+    }
 }
 
-// Writes a word.
-fn put(word: &[u8]) -> bool {
-    io::write_all(STDOUT_FILENO, word)
+// Tells on `err` that output was lost, and why.
+pub fn lost(err: &mut impl Write, error: io::Error) {
+    let mut room = [0u8; WORDS];
+    let why = reason(error, &mut room);
+    let _ = writeln!(err, "output was lost: {why}");
 }
 
-// Writes a word and a number.
-fn say(word: &[u8], number: usize) -> bool {
-    put(word) && io::print_decimal(STDOUT_FILENO, number as u64)
+// Reads until the room is full, the input ends or a read fails, and answers how many bytes there are.
+pub fn read_full(input: &mut impl Read, room: &mut [u8]) -> usize
+    ensures { result ≤ length room.new }
+{
+    let mut n = 0;
+    while n < room.len() {
+        match input.read(&mut room[n..]) {
+            Ok(0) | Err(_) => return n,
+            Ok(got) => n += got,
+        }
+    }
+    n
 }
 
 // Writes the name of a step, a line.
-fn name(step: u8) -> bool {
+fn name(out: &mut impl Write, step: u8) -> io::Result<()> {
     match step {
-        ADD_ZERO => put(b"add-zero\n"),
-        COMBINE_LIKE_TERMS => put(b"like-terms\n"),
-        MULTIPLY_ZERO => put(b"multiply-zero\n"),
-        MULTIPLY_ONE => put(b"multiply-one\n"),
-        COMBINE_LIKE_FACTORS => put(b"like-factors\n"),
-        POWER_ONE => put(b"power-one\n"),
-        POWER_CONSTANT => put(b"power-constant\n"),
-        POWER_POWER => put(b"power-power\n"),
-        _ => true,
+        ADD_ZERO => out.write_all(b"add-zero\n"),
+        COMBINE_LIKE_TERMS => out.write_all(b"like-terms\n"),
+        MULTIPLY_ZERO => out.write_all(b"multiply-zero\n"),
+        MULTIPLY_ONE => out.write_all(b"multiply-one\n"),
+        COMBINE_LIKE_FACTORS => out.write_all(b"like-factors\n"),
+        POWER_ONE => out.write_all(b"power-one\n"),
+        POWER_CONSTANT => out.write_all(b"power-constant\n"),
+        POWER_POWER => out.write_all(b"power-power\n"),
+        _ => Ok(()),
     }
 }
 
 // Writes the names of the first n steps, where there are so many.
-fn names(steps: &[u8], n: usize) -> bool {
-    let mut i = 0;
-    while i < steps.len() {
-        if i < n {
-            if !name(steps[i]) {
-                return false;
-            }
-        }
-        i += 1;
+fn names(out: &mut impl Write, steps: &[u8], n: usize) -> io::Result<()> {
+    for step in steps.iter().take(n) {
+        name(out, *step)?;
     }
-    true
+    Ok(())
 }
 
 // Writes what is wrong with a record; nothing where nothing is.
-fn say_flaw(f: Flaw) -> bool {
+fn say_flaw(out: &mut impl Write, f: Flaw) -> io::Result<()> {
     match f {
-        Flaw::Sound => true,
-        Flaw::Kind => put(b" kind"),
-        Flaw::Byte(j) => say(b" byte ", j),
-        Flaw::Count => put(b" count"),
+        Flaw::Sound => Ok(()),
+        Flaw::Kind => out.write_all(b" kind"),
+        Flaw::Byte(j) => write!(out, " byte {j}"),
+        Flaw::Count => out.write_all(b" count"),
     }
 }
 
 // Writes a refusal, a line: number, place, and what is wrong with a record.
-pub fn refuse(number: u32, place: usize, flaw: Flaw) -> bool {
-    say(b"refused ", number as usize) && say(b" at ", place) && say_flaw(flaw) && put(b"\n")
+pub fn refuse(out: &mut impl Write, number: u32, place: usize, flaw: Flaw) -> io::Result<()> {
+    write!(out, "refused {number} at {place}")?;
+    say_flaw(out, flaw)?;
+    out.write_all(b"\n")
 }
 
 // Writes what an accepted table was shortened by.
-fn tell(a: simplify::Answer, steps: &[u8]) -> bool {
-    put(b"ok\n")
-        && say(b"steps ", a.steps)
-        && say(b"\nopened ", a.openings)
-        && say(b"\nweight ", a.weight_in)
-        && say(b" to ", a.weight_out)
-        && put(b"\n")
-        && names(steps, a.steps)
+fn tell(out: &mut impl Write, a: simplify::Answer, steps: &[u8]) -> io::Result<()> {
+    let (noted, opened) = (a.steps, a.openings);
+    let (before, after) = (a.weight_in, a.weight_out);
+    write!(
+        out,
+        "ok\nsteps {noted}\nopened {opened}\nweight {before} to {after}\n",
+    )?;
+    names(out, steps, noted)
 }
 
 // Writes a refusal, or what an accepted table was shortened by.
-pub fn list(a: simplify::Answer, steps: &[u8]) -> bool {
-    let flaw = a.flaw;
+pub fn list(out: &mut impl Write, a: simplify::Answer, steps: &[u8]) -> io::Result<()> {
     if 0 < a.number {
-        return refuse(a.number, a.place, flaw);
+        return refuse(out, a.number, a.place, a.flaw);
     }
-    tell(a, steps)
+    tell(out, a, steps)
 }
 
-// Reads a table from standard input, simplifies it at the limit 3,072 by the rules of the edition, in memory of its own, and writes its
-// listing. Of an input that is longer than any table only as much is read as shows that it is.
-pub fn run(edition: usize) {
+// Reads a table, simplifies it at the limit 3,072 by the rules of the edition, in memory of its own, and writes its listing. Of an input that is
+// longer than any table only as much is read as shows that it is.
+pub fn run(input: &mut impl Read, out: &mut impl Write, err: &mut impl Write, edition: usize) {
     let mut table = [0u8; OVER_TABLE];
-    let mut out = [0u8; TABLE];
+    let mut simplified = [0u8; TABLE];
     let mut steps = [0u8; LIMIT];
     let mut work = [0u8; WORK];
-    let n = io::read_full(STDIN_FILENO, &mut table);
-    let a = simplify::simplify(LIMIT, edition, &table[..n], &mut out, &mut steps, &mut work);
-    if !list(a, &steps) {
-        lost();
+    let n = read_full(input, &mut table);
+    let a = simplify::simplify(
+        LIMIT,
+        edition,
+        &table[..n],
+        &mut simplified,
+        &mut steps,
+        &mut work,
+    );
+    if let Err(error) = list(out, a, &steps) {
+        lost(err, error);
     }
 }

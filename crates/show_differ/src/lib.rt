@@ -1,11 +1,18 @@
 // What differs between the tables in two files, in words: a line for each pair of records, and in the second mode whether the trees are equal. All
 // of that goes to standard output; standard error tells why there is nothing to compare: a file that cannot be read, or what is wrong with a
-// table that is refused. What writes to standard output answers whether it was written; after the first write that fails there is no other, and
-// standard error says so.
+// table that is refused. What writes to standard output answers the error of the first write that fails, after which there is no other; standard
+// error then says that output was lost.
+#![tactic(auto)]
+
+ghost use Rattle.std.specs.Prelude.{◌≤◌, length, IfOk, IfSome};
+
 use differ::PAIR;
-use libc::{STDERR_FILENO, STDOUT_FILENO};
 use number::TOP;
 use record::{BAD_BYTE, BAD_COUNT, BAD_KIND};
+use std::env::{Env, FillError};
+use std::fs::Files;
+use std::io::{Read, Write};
+use std::{fs, io, str};
 use table::{EXPONENT, FIRST, HEAVY, LENGTH, RECORD, SHAPE};
 
 // The limit that the small programs keep, and the bytes of the largest table and of the shortest area over it, by it.
@@ -15,13 +22,16 @@ const TABLE: usize = 49152;
 
 const OVER_TABLE: usize = 49168;
 
-// The length of the word `equal`, which asks for the second mode.
-const EQUAL: usize = 5;
+// The word that asks for the second mode.
+const EQUAL: [u8; 5] = *b"equal";
 
-// How many words the command line has, the program's own among them: two files, or the word `equal` and two files.
+// How many words the command line has, the program's own among them: two files, or the word `equal` and two files; and one word more than any
+// mode takes.
 const TWO_FILES: usize = 3;
 
 const EQUAL_AND_TWO: usize = 4;
+
+const TOO_MANY: usize = 5;
 
 // The words after the program's own.
 const FIRST_WORD: usize = 1;
@@ -30,274 +40,324 @@ const SECOND_WORD: usize = 2;
 
 const THIRD_WORD: usize = 3;
 
-// What reading answers where a file cannot be read.
-const UNREAD: isize = -1;
+// Room for the name of a file.
+const NAME: usize = 4096;
 
-// Writes a word.
-fn put(word: &[u8]) -> bool {
-    io::write_all(STDOUT_FILENO, word)
-}
+// Room for the words of an error.
+const WORDS: usize = 128;
 
-// Writes a word and a number.
-fn say(word: &[u8], number: u64) -> bool {
-    put(word) && io::print_decimal(STDOUT_FILENO, number)
-}
+// What stands between the system's words for an error and its number, where std writes it.
+const BEFORE_NUMBER: &str = " (os error ";
 
 // Writes an integer, which its 64 bits stand for.
-fn say_integer(bits: u64) -> bool {
+fn say_integer(out: &mut impl Write, bits: u64) -> io::Result<()> {
     if bits < TOP {
-        return say(b"integer ", bits);
+        return write!(out, "integer {bits}");
     }
-    say(b"integer -", u64::MAX - bits + 1)
+    let size = u64::MAX - bits + 1;
+    write!(out, "integer -{size}")
 }
 
 // Writes the line of the sheet that record i comes from, where it says one.
-fn say_line(s: &[u8], i: usize) -> bool {
+fn say_line(out: &mut impl Write, s: &[u8], i: usize) -> io::Result<()> {
     if s.len() / record::SIZE <= i {
-        return true;
+        return Ok(());
     }
     let line = record::mark(s, i);
     if 0 < line {
-        return say(b", line ", line as u64);
+        return write!(out, ", line {line}");
     }
-    true
+    Ok(())
 }
 
 // Writes kind, count and number of record i of an accepted table.
-fn say_node(s: &[u8], i: usize) -> bool {
+fn say_node(out: &mut impl Write, s: &[u8], i: usize) -> io::Result<()> {
     if s.len() / record::SIZE <= i {
-        return true;
+        return Ok(());
     }
-    let k = record::kind(s, i);
-    match k {
-        record::INTEGER => say_integer(record::bits(s, i)),
-        record::SYMBOL => say(b"symbol ", record::symbol(s, i) as u64),
-        record::SUM => say(b"sum of ", record::count(s, i) as u64),
-        record::PRODUCT => say(b"product of ", record::count(s, i) as u64),
-        _ => put(b"power"),
+    match record::kind(s, i) {
+        record::INTEGER => say_integer(out, record::bits(s, i)),
+        record::SYMBOL => {
+            let symbol = record::symbol(s, i);
+            write!(out, "symbol {symbol}")
+        }
+        record::SUM => {
+            let count = record::count(s, i);
+            write!(out, "sum of {count}")
+        }
+        record::PRODUCT => {
+            let count = record::count(s, i);
+            write!(out, "product of {count}")
+        }
+        _ => out.write_all(b"power"),
     }
 }
 
 // Writes what stands at record i of an accepted table.
-fn say_record(s: &[u8], i: usize) -> bool {
-    say_node(s, i) && say_line(s, i)
+fn say_record(out: &mut impl Write, s: &[u8], i: usize) -> io::Result<()> {
+    say_node(out, s, i)?;
+    say_line(out, s, i)
 }
 
 // Writes pair p of the list, a line.
-fn say_pair(a: &[u8], b: &[u8], list: &[u8], p: usize) -> bool {
+fn say_pair(out: &mut impl Write, a: &[u8], b: &[u8], list: &[u8], p: usize) -> io::Result<()> {
     if list.len() / PAIR <= p {
-        return true;
+        return Ok(());
     }
     let i = number::read8(list, p * PAIR);
     let j = number::read8(list, p * PAIR + number::SIZE);
-    say(b"record ", i)
-        && say(b", record ", j)
-        && put(b": ")
-        && say_record(a, i as usize)
-        && put(b", ")
-        && say_record(b, j as usize)
-        && put(b"\n")
+    write!(out, "record {i}, record {j}: ")?;
+    say_record(out, a, i as usize)?;
+    out.write_all(b", ")?;
+    say_record(out, b, j as usize)?;
+    out.write_all(b"\n")
 }
 
 // Writes the first pairs of the list.
-fn say_pairs(a: &[u8], b: &[u8], list: &[u8], pairs: usize) -> bool {
-    let mut p = 0;
-    while p < pairs {
-        if !say_pair(a, b, list, p) {
-            return false;
-        }
-        p += 1;
+fn say_pairs(
+    out: &mut impl Write,
+    a: &[u8],
+    b: &[u8],
+    list: &[u8],
+    pairs: usize,
+) -> io::Result<()> {
+    for p in 0..pairs {
+        say_pair(out, a, b, list, p)?;
     }
-    true
+    Ok(())
 }
 
 // Writes what is wrong with a record, as the listing does; nothing where nothing is.
-fn say_flaw(what: u64, byte: u64) -> bool {
+fn say_flaw(out: &mut impl Write, what: u64, byte: u64) -> io::Result<()> {
     match what {
-        BAD_KIND => put(b" kind"),
-        BAD_BYTE => say(b" byte ", byte),
-        BAD_COUNT => put(b" count"),
-        _ => true,
+        BAD_KIND => out.write_all(b" kind"),
+        BAD_BYTE => write!(out, " byte {byte}"),
+        BAD_COUNT => out.write_all(b" count"),
+        _ => Ok(()),
     }
 }
 
-// Tells a word on standard error.
-fn tell(word: &[u8]) {
-    io::write_all(STDERR_FILENO, word);
+// Tells a word on standard error; one that cannot be written is lost.
+fn tell(err: &mut impl Write, word: &[u8]) {
+    let _ = err.write_all(word);
 }
 
 // Tells what is wrong with a record, in words.
-fn explain_record(what: u64) {
+fn explain_record(err: &mut impl Write, what: u64) {
     match what {
-        BAD_KIND => tell(b"its kind is none of the five"),
-        BAD_BYTE => tell(b"a byte of it that must be zero is not"),
-        BAD_COUNT => tell(b"it is a sum or a product of fewer than two members"),
+        BAD_KIND => tell(err, b"its kind is none of the five"),
+        BAD_BYTE => tell(err, b"a byte of it that must be zero is not"),
+        BAD_COUNT => tell(err, b"it is a sum or a product of fewer than two members"),
         _ => (),
     }
 }
 
 // Tells what is wrong with a table, in words.
-fn explain(number: u32, what: u64) {
+fn explain(err: &mut impl Write, number: u32, what: u64) {
     match number {
-        LENGTH => tell(b"its length is zero, no multiple of 16, or over 49,152 bytes"),
-        RECORD => explain_record(what),
-        HEAVY => tell(b"it weighs over 3,072"),
-        SHAPE => tell(b"its records end before the tree, or the tree ends here before the records"),
-        EXPONENT => tell(b"it is an exponent, and no integer of at least 1"),
+        LENGTH => tell(
+            err,
+            b"its length is zero, no multiple of 16, or over 49,152 bytes",
+        ),
+        RECORD => explain_record(err, what),
+        HEAVY => tell(err, b"it weighs over 3,072"),
+        SHAPE => tell(
+            err,
+            b"its records end before the tree, or the tree ends here before the records",
+        ),
+        EXPONENT => tell(err, b"it is an exponent, and no integer of at least 1"),
         _ => (),
     }
 }
 
 // Tells on standard error what is wrong with a table, and with which record of it: 1 and 3 are of the whole.
-fn explain_refusal(d: differ::Differed, what: u64) {
-    if d.which == FIRST {
-        tell(b"differs: first table");
+fn explain_refusal(err: &mut impl Write, which: u8, number: u32, place: usize, what: u64) {
+    if which == FIRST {
+        tell(err, b"differs: first table");
     } else {
-        tell(b"differs: second table");
+        tell(err, b"differs: second table");
     }
-    if d.number != LENGTH {
-        if d.number != HEAVY {
-            tell(b", record ");
-            io::print_decimal(STDERR_FILENO, d.place as u64);
-        }
+    if number != LENGTH && number != HEAVY {
+        let _ = write!(err, ", record {place}");
     }
-    tell(b": ");
-    explain(d.number, what);
-    tell(b"\n");
+    tell(err, b": ");
+    explain(err, number, what);
+    tell(err, b"\n");
 }
 
 // Writes which table is refused. The list being as long as any table, one of the two is.
-fn say_which(which: u8) -> bool {
+fn say_which(out: &mut impl Write, which: u8) -> io::Result<()> {
     if which == FIRST {
-        return put(b"first");
+        return out.write_all(b"first");
     }
-    put(b"second")
+    out.write_all(b"second")
 }
 
 // Writes which table is refused, the refusal's number and place, and what is wrong with the record; then, on standard error, the same in words.
-fn say_refusal(d: differ::Differed) -> bool {
-    let flaw = d.flaw;
-    let wrong = record::flaw_numbers(flaw);
-    if !(say_which(d.which)
-        && say(b": refused ", d.number as u64)
-        && say(b" at ", d.place as u64)
-        && say_flaw(wrong.what, wrong.byte)
-        && put(b"\n"))
-    {
-        return false;
-    }
-    explain_refusal(d, wrong.what);
-    true
+fn say_refusal(out: &mut impl Write, err: &mut impl Write, d: differ::Differed) -> io::Result<()> {
+    let (number, place, which) = (d.number, d.place, d.which);
+    let wrong = record::flaw_numbers(d.flaw);
+    say_which(out, which)?;
+    write!(out, ": refused {number} at {place}")?;
+    say_flaw(out, wrong.what, wrong.byte)?;
+    out.write_all(b"\n")?;
+    explain_refusal(err, which, number, place, wrong.what);
+    Ok(())
 }
 
 // Writes whether the trees are equal, the order of members not counting.
-fn say_equal(a: &[u8], b: &[u8]) -> bool {
+fn say_equal(out: &mut impl Write, a: &[u8], b: &[u8]) -> io::Result<()> {
     if equal::equal(LIMIT, a, b).yes {
-        return put(b"trees equal\n");
+        return out.write_all(b"trees equal\n");
     }
-    put(b"trees not equal\n")
+    out.write_all(b"trees not equal\n")
 }
 
 // Writes what differs between two tables; the list is as long as any table.
-fn compare(a: &[u8], b: &[u8], with_equal: bool) -> bool {
+fn compare(
+    out: &mut impl Write,
+    err: &mut impl Write,
+    a: &[u8],
+    b: &[u8],
+    with_equal: bool,
+) -> io::Result<()> {
     let mut list = [0u8; TABLE];
     let d = differ::differ(LIMIT, a, b, &mut list);
     if 0 < d.number {
-        return say_refusal(d);
+        return say_refusal(out, err, d);
     }
-    if !(say(b"differences ", d.pairs as u64) && put(b"\n") && say_pairs(a, b, &list, d.pairs)) {
-        return false;
-    }
+    let pairs = d.pairs;
+    write!(out, "differences {pairs}\n")?;
+    say_pairs(out, a, b, &list, pairs)?;
     if with_equal {
-        return say_equal(a, b);
+        return say_equal(out, a, b);
     }
-    true
+    Ok(())
+}
+
+// Why a call failed, in the system's words alone.
+fn reason(error: io::Error, room: &mut [u8; WORDS]) -> &str {
+    let mut rest = &mut room[..];
+    let _ = write!(rest, "{error}");
+    let n = WORDS.saturating_sub(rest.len());
+    let text = str::from_utf8(&room[..n]).unwrap_or("");
+    match text.split_once(BEFORE_NUMBER) {
+        Some((words, _)) => words,
+        None => text,
+    }
+}
+
+// Tells on standard error what failed, and why.
+fn fail(err: &mut impl Write, what: &[u8], error: io::Error) {
+    let mut room = [0u8; WORDS];
+    let why = reason(error, &mut room);
+    tell(err, what);
+    let _ = writeln!(err, ": {why}");
 }
 
 // Tells that a file cannot be read, and why.
-fn unread(name: &[u8]) -> isize {
-    tell(b"differs: cannot read ");
-    os::fail(name);
-    UNREAD
+fn unread(err: &mut impl Write, name: &[u8], error: io::Error) {
+    tell(err, b"differs: cannot read ");
+    fail(err, name, error);
+}
+
+// Reads the file of this name, up to as many bytes as there is room for, and answers how many there are.
+fn read_file(files: &impl Files, name: &[u8], room: &mut [u8]) -> io::Result<usize>
+    ensures { IfOk result (λ n. n ≤ length room.new) }
+{
+    let Ok(path) = str::from_utf8(name) else {
+        return Err(io::Error::from(io::ErrorKind::InvalidFilename));
+    };
+    let mut file = fs::open(files, path)?;
+    let mut n = 0;
+    while n < room.len() {
+        let got = file.read(&mut room[n..])?;
+        if got == 0 {
+            break;
+        }
+        n += got;
+    }
+    Ok(n)
 }
 
 // Reads the file that argument k names, up to as many bytes as there is room for, and answers how many there are. Where it cannot be opened, or
-// reading stops before the file ends, it tells so and answers UNREAD.
-fn read_named(k: usize, room: &mut [u8]) -> isize {
-    let mut space = io::buffer();
-    let n = os::arg(k, &mut space);
-    let fd = os::open_read(&space[..n]);
-    if fd < 0 {
-        return unread(&space[..n]);
-    }
-    let got = io::read_full(fd, room);
-    let mut more = [0u8; 1];
-    if got < room.len() {
-        if libc::read(fd, &mut more) != 0 {
-            return unread(&space[..n]);
+// reading stops before the file ends, it tells so and answers nothing.
+fn read_named(
+    rt: &(impl Env + Files),
+    err: &mut impl Write,
+    k: usize,
+    room: &mut [u8],
+) -> Option<usize>
+    ensures { IfSome result (λ n. n ≤ length room.new) }
+{
+    let mut space = [0u8; NAME];
+    let n = rt.arg(k, &mut space).unwrap_or(0);
+    let name = &space[..n];
+    match read_file(rt, name, room) {
+        Ok(got) => Some(got),
+        Err(error) => {
+            unread(err, name, error);
+            None
         }
     }
-    got as isize
 }
 
 // Compares the tables in the files that arguments k and l name. Of a file that is longer than any table only as much is read as shows that it
 // is.
-fn compare_files(k: usize, l: usize, with_equal: bool) {
+fn compare_files(
+    rt: &(impl Env + Files),
+    out: &mut impl Write,
+    err: &mut impl Write,
+    k: usize,
+    l: usize,
+    with_equal: bool,
+) {
     let mut first = [0u8; OVER_TABLE];
     let mut second = [0u8; OVER_TABLE];
-    let got = read_named(k, &mut first);
-    if got < 0 {
+    let Some(n) = read_named(rt, err, k, &mut first) else {
         return;
-    }
-    let also = read_named(l, &mut second);
-    if also < 0 {
+    };
+    let Some(m) = read_named(rt, err, l, &mut second) else {
         return;
-    }
-    let n = io::count(got, &first);
-    let m = io::count(also, &second);
-    if !compare(&first[..n], &second[..m], with_equal) {
-        os::fail(b"differs: output was lost");
+    };
+    if let Err(error) = compare(out, err, &first[..n], &second[..m], with_equal) {
+        fail(err, b"differs: output was lost", error);
     }
 }
 
 // Argument 1 is the word `equal`.
-fn asks_equal() -> bool {
-    let mut word = io::buffer();
-    if os::arg(FIRST_WORD, &mut word) != EQUAL {
-        return false;
+fn asks_equal(env: &impl Env) -> bool {
+    let mut word = [0u8; EQUAL.len()];
+    matches!(env.arg(FIRST_WORD, &mut word), Ok(n) if n == EQUAL.len()) && word == EQUAL
+}
+
+// How many words the command line has, the program's own among them; of more than any mode takes it counts so many as show that.
+fn count_words(env: &impl Env) -> usize {
+    for i in 0..TOO_MANY {
+        if let Err(FillError::NotPresent) = env.arg(i, &mut []) {
+            return i;
+        }
     }
-    if word[0] != b'e' {
-        return false;
-    }
-    if word[1] != b'q' {
-        return false;
-    }
-    if word[2] != b'u' {
-        return false;
-    }
-    if word[3] != b'a' {
-        return false;
-    }
-    word[4] == b'l'
+    TOO_MANY
 }
 
 // The two modes, by the number of words on the command line.
-pub fn run() {
-    let n = os::arg_count();
+pub fn run(rt: &(impl Env + Files), out: &mut impl Write, err: &mut impl Write) {
+    let n = count_words(rt);
     if n == TWO_FILES {
-        compare_files(FIRST_WORD, SECOND_WORD, false);
+        compare_files(rt, out, err, FIRST_WORD, SECOND_WORD, false);
         return;
     }
-    if n == EQUAL_AND_TWO {
-        if asks_equal() {
-            compare_files(SECOND_WORD, THIRD_WORD, true);
-            return;
-        }
+    if n == EQUAL_AND_TWO && asks_equal(rt) {
+        compare_files(rt, out, err, SECOND_WORD, THIRD_WORD, true);
+        return;
     }
     tell(
+        err,
         b"usage: differs [equal] FIRST SECOND (two files with a table each; records count from 0, marks count as numbers do; ",
     );
     tell(
+        err,
         b"`equal` also says whether the trees are equal, in any order of members and whatever their marks)\n",
     );
 }
