@@ -348,8 +348,18 @@ def turn_file(path, fns, muts, said):
     heads = "|".join(map(re.escape, fns))
 
     def after(head, w):
-        named = [p[0] for p in fns[head].row["places"]]
-        return next((named[i] for i, it in enumerate(named) if norm(it) == norm(w)), None)
+        row = fns[head].row
+        named = [p[0] for p in row["places"]]
+        it = next((i for i, it in enumerate(named) if norm(it) == norm(w)), None)
+        if it is None:
+            return None
+        # within an arm only its last place is shown
+        while row["arms"][it]:
+            up = [i for i, p in enumerate(row["places"]) if p[1] == named[it] and row["arms"][i] and row["arms"][i][0] == row["arms"][it][0]]
+            if len(up) != 1:
+                break
+            it = up[0]
+        return named[it]
 
     # the file's own names of places, and those of the other files of the same proof
     places = {}

@@ -25,22 +25,22 @@ abbrev Entry : Type 0
 Entry = tie.Start
 
 abbrev Asked : Type 0
-Asked = tie.After-is-limit
+Asked = tie.After-is_limit
 
 abbrev Limited : Type 0
-Limited = tie.Else1
+Limited = tie.Else-not-is_limit
 
 abbrev Judged : Type 0
-Judged = tie.After-fault-of
+Judged = tie.After-fault_of-f
 
 abbrev Fine : Type 0
-Fine = tie.Else2
+Fine = tie.Else-f-gt0
 
 abbrev OtherJudged : Type 0
-OtherJudged = tie.After-fault-of2
+OtherJudged = tie.After-fault_of-g
 
 abbrev BothFine : Type 0
-BothFine = tie.Else3
+BothFine = tie.Else-g-gt0
 
 abbrev entry_of : Asked → Entry
 entry_of c = c.before.before.before.before
@@ -68,7 +68,7 @@ begun c = start_of (judged_of (fine_of (other_judged_of c)))
 
 -- the limit is known
 known : (c : Limited) → is_limit (entry_of (asked_of c)).args.limit ≡ true
-known c = sym (asked_of c).is-limit.ensures ∙ not-false _ c.if1.false
+known c = sym (asked_of c).is_limit.ensures ∙ c.if-not-is_limit.false
 
 known_then : (c : Judged) → is_limit (start_of c).args.limit ≡ true
 known_then c = known (limited_of c)
@@ -77,22 +77,22 @@ known_both : (c : BothFine) → is_limit (begun c).args.limit ≡ true
 known_both c = known_then (judged_of (fine_of (other_judged_of c)))
 
 -- what the faults say of the tables
-judges : (c : Judged) → let a = (start_of c).args in verdict_of c.fault-of.result ≡ verdict a.limit a.a.now
-judges c = c.fault-of.ensures ∙ c.before.check.ensures
+judges : (c : Judged) → let a = (start_of c).args in verdict_of c.fault_of-f.result ≡ verdict a.limit a.a.now
+judges c = c.fault_of-f.ensures ∙ c.check.ensures
 
 fine : (c : Fine) → let a = (start_of (judged_of c)).args in verdict a.limit a.a.now ≡ accepted
 fine c =
     let judged = judged_of c in
     let a = (start_of judged).args in
-    told_accepted a.limit a.a.now _ _ _ (judges judged) (omega (arith, c.if2.false))
+    told_accepted a.limit a.a.now _ _ _ (judges judged) (omega (arith, c.if-f-gt0.false))
 
-other_judges : (c : OtherJudged) → let a = (start_of (judged_of (fine_of c))).args in verdict_of c.fault-of2.result ≡ verdict a.limit a.b.now
-other_judges c = c.fault-of2.ensures ∙ c.before.check2.ensures
+other_judges : (c : OtherJudged) → let a = (start_of (judged_of (fine_of c))).args in verdict_of c.fault_of-g.result ≡ verdict a.limit a.b.now
+other_judges c = c.fault_of-g.ensures ∙ c.check-2.ensures
 
 other_fine : (c : BothFine) → let a = (begun c).args in verdict a.limit a.b.now ≡ accepted
 other_fine c =
     let a = (begun c).args in
-    told_accepted a.limit a.b.now _ _ _ (other_judges (other_judged_of c)) (omega (arith, c.if3.false))
+    told_accepted a.limit a.b.now _ _ _ (other_judges (other_judged_of c)) (omega (arith, c.if-g-gt0.false))
 
 one_fine : (c : BothFine) → let a = (begun c).args in verdict a.limit a.a.now ≡ accepted
 one_fine c = fine (fine_of (other_judged_of c))
@@ -101,8 +101,8 @@ together : (c : BothFine) → Together (begun c).args.a.now (begun c).args.b.now
 together c =
     let slices = (asked_of (limited_of (judged_of (fine_of (other_judged_of c))))).before.before in
     let a = (begun c).args in
-    both_accepted a.limit a.a.now a.b.now (are_bytes a.a.now slices.before.shared-slice-known.given)
-    (are_bytes a.b.now slices.shared-slice-known2.given) (one_fine c) (other_fine c)
+    both_accepted a.limit a.a.now a.b.now (are_bytes a.a.now slices.shared_slice_known-1.given)
+    (are_bytes a.b.now slices.shared_slice_known-2-1.given) (one_fine c) (other_fine c)
 
 -- a refusal of neither table, and an answer with the list afterwards
 refused : {v w : Verdict} → v ≡ w → answered v 0 0 ≡ answered w 0 0
@@ -111,59 +111,49 @@ refused e = ap (λ (v : Verdict). answered v 0 0) e
 gives_both : {d e : paper.Differed} {list : List ℕ} {whole : paper.Differed × List ℕ} → d ≡ e → (e, list) ≡ whole → (d, list) ≡ whole
 gives_both {list = list} p q = ap (λ (x : paper.Differed). (x, list)) p ∙ q
 
-returns : tie.Need-returns
+returns : tie.Need-returns-then-not-is_limit
 returns c =
-    let other = c.before.before in
-    let asked = other.before in
-    let a = (entry_of asked).args in
-    gives_both (c.answer.ensures ∙ refused c.before.refusal.ensures)
-    (limit_refused a.limit a.a.now a.b.now a.list.now (sym asked.is-limit.ensures ∙ not-true _ other.if1.true))
+    let a = (entry_of c.before.before.before).args in
+    gives_both (c.answer.ensures ∙ refused c.refusal.ensures)
+    (limit_refused a.limit a.a.now a.b.now a.list.now (sym c.is_limit.ensures ∙ c.if-not-is_limit.true))
 
-returns_2 : tie.Need-returns-2
+returns_2 : tie.Need-returns-then-f-gt0
 returns_2 c =
-    let judged = c.before.before.before in
-    let a = (start_of judged).args in
-    gives_both c.answer2.ensures
-    (first_refused a.limit (known_then judged) a.a.now a.b.now a.list.now _ _ _ (judges judged) (omega (arith, c.before.if2.true)))
+    let a = (start_of c.before.before.before).args in
+    gives_both c.answer-then-f-gt0.ensures
+    (first_refused a.limit (known_then c.before.before.before) a.a.now a.b.now a.list.now _ _ _ (judges c.before.before.before) (omega (arith, c.if-f-gt0.true)))
 
-returns_3 : tie.Need-returns-3
+returns_3 : tie.Need-returns-then-g-gt0
 returns_3 c =
-    let judged = c.before.before.before in
-    let one = fine_of judged in
+    let one = fine_of c.before.before.before in
     let a = (start_of (judged_of one)).args in
-    gives_both c.answer3.ensures
-    (second_refused a.limit (known_then (judged_of one)) a.a.now a.b.now a.list.now _ _ _ (fine one) (other_judges judged)
-    (omega (arith, c.before.if3.true)))
+    gives_both c.answer-then-g-gt0.ensures
+    (second_refused a.limit (known_then (judged_of one)) a.a.now a.b.now a.list.now _ _ _ (fine one) (other_judges c.before.before.before)
+    (omega (arith, c.if-g-gt0.true)))
 
-count_pairs_requires : tie.Need-count-pairs-requires
+count_pairs_requires : tie.Need-count_pairs-pairs-requires
 count_pairs_requires c κs = together c
 
-returns_4 : tie.Need-returns-4
+returns_4 : tie.Need-returns-then-list-pairs
 returns_4 c =
-    let short = c.before.before in
-    let both = short.before.before in
-    let a = (begun both).args in
-    let pairs = short.before.count-pairs in
-    gives_both (c.answer4.ensures ∙ refused c.before.refusal2.ensures)
-    (list_refused a.limit (known_both both) a.a.now a.b.now a.list.now (one_fine both) (other_fine both) pairs.result
-    pairs.ensures short.if4.true)
+    let a = (begun c.before.before.before.before).args in
+    let pairs = c.count_pairs-pairs in
+    gives_both (c.answer-then-list-pairs.ensures ∙ refused c.refusal-then-list-pairs.ensures)
+    (list_refused a.limit (known_both c.before.before.before.before) a.a.now a.b.now a.list.now (one_fine c.before.before.before.before) (other_fine c.before.before.before.before) pairs.result
+    pairs.ensures c.if-list-pairs.true)
 
-write_pairs_requires : tie.Need-write-pairs-requires
+write_pairs_requires : tie.Need-write_pairs-requires
 write_pairs_requires c κs =
-    let both = c.before.before.before in
-    (together both, omega (arith, c.before.before.count-pairs.ensures, c.before.if4.false))
+    (together c.before.before.before, omega (arith, c.count_pairs-pairs.ensures, c.if-list-pairs.false))
 
-returns_5 : tie.Need-returns-5
+returns_5 : tie.Need-returns
 returns_5 c =
-    let wrote = c.before.before.before.before in
-    let room = wrote.before.before in
-    let both = room.before.before in
-    let a = (begun both).args in
-    let pairs = room.before.count-pairs in
-    let written = wrote.write-pairs in
-    gives_both (c.answer5.ensures ∙ ap (λ (v : Verdict). answered v 0 pairs.result) c.before.refusal3.ensures)
-    (none_refused a.limit (known_both both) a.a.now a.b.now a.list.now (one_fine both) (other_fine both) pairs.result
-    pairs.ensures room.if4.false written.new.1.1.0 written.ensures)
+    let a = (begun c.before.before.before.before.before.before.before.before).args in
+    let pairs = c.count_pairs-pairs in
+    let written = c.write_pairs in
+    gives_both (c.answer-2.ensures ∙ ap (λ (v : Verdict). answered v 0 pairs.result) c.refusal-2.ensures)
+    (none_refused a.limit (known_both c.before.before.before.before.before.before.before.before) a.a.now a.b.now a.list.now (one_fine c.before.before.before.before.before.before.before.before) (other_fine c.before.before.before.before.before.before.before.before) pairs.result
+    pairs.ensures c.if-list-pairs.false written.new.list written.ensures)
 
 pub differ_spec : {M : Type 1} → statement M
 differ_spec =

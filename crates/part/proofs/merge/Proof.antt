@@ -14,103 +14,97 @@ abbrev Entry : Type 0
 Entry = tie.Start
 
 abbrev Term : Type 0
-Term = tie.After-c
+Term = tie.In-Term
 
 abbrev Merged-term : Type 0
-Merged-term = tie.After-merge-term
+Merged-term = tie.After-merge_term
 
 abbrev Wide : Type 0
-Wide = tie.After-c2
+Wide = tie.In-Wide
 
 abbrev Merged-wide : Type 0
-Merged-wide = tie.After-merge-wide
+Merged-wide = tie.After-merge_wide
 
 abbrev Power : Type 0
-Power = tie.After-c3
+Power = tie.In-Power
 
 abbrev Merged-power : Type 0
-Merged-power = tie.After-merge-power
+Merged-power = tie.After-merge_power
 
 abbrev Number : Type 0
-Number = tie.After-c4
+Number = tie.In-Number
 
 abbrev term_entry : Term → Entry
-term_entry c = c.before.before.before.before
+term_entry c = c.before.before.before
 
 abbrev term_of_lem : Merged-term → Term
-term_of_lem c = c.before.before.before
+term_of_lem c = c.before.before
 
 abbrev wide_entry : Wide → Entry
-wide_entry c = c.before.before.before.before
+wide_entry c = c.before.before.before
 
 abbrev wide_of : Merged-wide → Wide
-wide_of c = c.before.before.before
+wide_of c = c.before.before
 
 abbrev power_entry : Power → Entry
-power_entry c = c.before.before.before.before
+power_entry c = c.before.before.before
 
 abbrev power_of : Merged-power → Power
-power_of c = c.before.before.before
+power_of c = c.before.before
 
-merge_term_requires : tie.Need-merge-term-requires
+merge_term_requires : tie.Need-merge_term-requires
 merge_term_requires c κs =
-    let term = c.before.before in
-    let entry = term_entry term in
-    let q = entry.pre in
-    let shown = subst (λ k. Shows q.flag entry.args.s.now k q.current) term.c.given.1 q.shown in
+    let entry = term_entry c.before in
+    let q = entry.requires in
+    let shown = subst (λ k. Shows q.flag entry.args.s.now k q.current) c.in-Term.is q.shown in
     let one = term_stands _ _ _ q.flag q.current shown in
     record { how = note; one = one.0; other = q.later; one_there = one.1; other_there = q.there; enough = q.enough }
 
-merge_wide_requires : tie.Need-merge-wide-requires
+merge_wide_requires : tie.Need-merge_wide-requires
 merge_wide_requires c κs =
-    let wide = c.before.before in
-    let entry = wide_entry wide in
-    let q = entry.pre in
-    let shown = subst (λ k. Shows q.flag entry.args.s.now k q.current) wide.c2.given.1 q.shown in
+    let entry = wide_entry c.before in
+    let q = entry.requires in
+    let shown = subst (λ k. Shows q.flag entry.args.s.now k q.current) c.in-Wide.is q.shown in
     let one = wide_stands _ _ q.flag q.current shown in
     record { how = note; one = one.0; other = q.later; one_there = one.1; other_there = q.there; enough = q.enough }
 
-merge_power_requires : tie.Need-merge-power-requires
+merge_power_requires : tie.Need-merge_power-requires
 merge_power_requires c κs =
-    let power = c.before.before in
-    let entry = power_entry power in
-    let q = entry.pre in
-    let shown = subst (λ k. Shows q.flag entry.args.s.now k q.current) power.c3.given.1 q.shown in
+    let entry = power_entry c.before in
+    let q = entry.requires in
+    let shown = subst (λ k. Shows q.flag entry.args.s.now k q.current) c.in-Power.is q.shown in
     let one = power_stands _ _ _ _ _ q.flag q.current shown in
     record { how = note; one = one.0; other = q.later; one_there = one.1; other_there = q.there; enough = q.enough }
 
-returns : tie.Need-returns
+returns : tie.Need-returns-in-Term
 returns c =
-    let merged = c.before.before in
-    let is = (term_of_lem merged).c.given.1 in
-    let says = merged.merge-term in (
+    let is = (term_of_lem c.before.before).in-Term.is in
+    let says = c.merge_term in (
       λ b x t h there. of_term _ t says.result _ _ (λ y k. says.ensures.0 y t k there) b x (rw is at h),
       λ p h. says.ensures.1 p (rw is at h),
     )
 
-returns_2 : tie.Need-returns-2
+returns_2 : tie.Need-returns-in-Wide
 returns_2 c =
-    let merged = c.before.before in
-    let is = (wide_of merged).c2.given.1 in
-    let says = merged.merge-wide in (
+    let is = (wide_of c.before.before).in-Wide.is in
+    let says = c.merge_wide in (
       λ b x t h there. of_wide _ t says.result _ (λ y k. says.ensures.0 y t k there) b x (rw is at h),
       λ p h. says.ensures.1 p,
     )
 
-returns_3 : tie.Need-returns-3
+returns_3 : tie.Need-returns-in-Power
 returns_3 c =
-    let merged = c.before.before in
-    let is = (power_of merged).c3.given.1 in
-    let says = merged.merge-power in (
+    let is = (power_of c.before.before).in-Power.is in
+    let says = c.merge_power in (
       λ b x t h there. of_power _ t says.result _ _ _ _ (λ y k. says.ensures.0 y t k there) b x (rw is at h),
       λ p h. says.ensures.1 p (rw is at h),
     )
 
-returns_4 : tie.Need-returns-4
+returns_4 : tie.Need-returns-in-Number
 returns_4 c =
-    let number : Number = c.before.before in
+    let number : Number = c.before.before.before.before.before in
     let is = number.c4.given.1 in
-    let says = c.merge-number in (
+    let says = c.merge_number in (
       λ b x t h there. of_number _ t says.result _ _ _ _ (λ y k. says.ensures.0 y t k there) b x (rw is at h),
       λ p h. says.ensures.1 p,
     )

@@ -24,19 +24,19 @@ abbrev Entry : Type 0
 Entry = tie.Start
 
 abbrev Found : Type 0
-Found = tie.After-base
+Found = tie.After-base-j
 
 abbrev Known : Type 0
 Known = tie.After-kind
 
 abbrev Read : Type 0
-Read = tie.After-exponent
+Read = tie.After-exponent-f
 
 abbrev Multiplied : Type 0
-Multiplied = tie.After-mul
+Multiplied = tie.After-mul-product
 
 abbrev Added : Type 0
-Added = tie.After-add
+Added = tie.After-add-sum
 
 abbrev entry_of : Found → Entry
 entry_of c = c.before.before
@@ -56,73 +56,68 @@ read_by c = c.before.before.before
 -- the later member, once it is read
 later : (c : Read) (t : Tree)
     → let g = (entry_of (found_of (known_of c))).args in
-    let j = (found_of (known_of c)).base.result in
+    let j = (found_of (known_of c)).base-j.result in
     Told note g.s.now g.at t
-    → ShowsNumber c.exponent.result c.before.bits.result (mark_in g.s.now j) (mark_in g.s.now g.at) (factor_of t)
+    → ShowsNumber c.exponent-f.result c.bits-w.result (mark_in g.s.now j) (mark_in g.s.now g.at) (factor_of t)
 later c t there =
     let known = known_of c in
     let found = found_of known in
-    let integer = c.before.before.if1.false in
-    let base = found.base.ensures.0 note t there in
-    let exponent = c.exponent.ensures note t there in
-    number_part _ _ _ found.base.result _ _ _ t there base (omega (arith, known.kind.ensures, integer)) c.before.bits.ensures refl refl
+    let integer = c.if-kind-gt-INTEGER.false in
+    let base = found.base-j.ensures.0 note t there in
+    let exponent = c.exponent-f.ensures note t there in
+    number_part _ _ _ found.base-j.result _ _ _ t there base (omega (arith, known.kind.ensures, integer)) c.bits-w.ensures refl refl
     exponent.0 exponent.1
 
 kind_requires : tie.Need-kind-requires
 kind_requires c κs =
     let q = (entry_of c).requires in
-    record_within (c.base.ensures.0 q.how q.tree q.there)
+    record_within (c.base-j.ensures.0 q.how q.tree q.there)
 
-returns : tie.Need-returns
+returns : tie.Need-returns-then-kind-gt-INTEGER
 returns c =
-    let known = c.before in
-    let found = found_of known in (
+    let found = found_of c.before in (
       λ x t h there.
-          let base = found.base.ensures.0 note t there in
-          number_apart h _ (no_integer base (omega (arith, known.kind.ensures))),
+          let base = found.base-j.ensures.0 note t there in
+          number_apart h _ (no_integer base (omega (arith, c.kind.ensures))),
       λ p. tt,
     )
 
-bits_requires : tie.Need-bits-requires
+bits_requires : tie.Need-bits-w-requires
 bits_requires c κs =
     let found = found_of c.before in
-    let q = (entry_of found).pre in
-    record_within (found.base.ensures.0 q.how q.tree q.there)
+    let q = (entry_of found).requires in
+    record_within (found.base-j.ensures.0 q.how q.tree q.there)
 
-returns_2 : tie.Need-returns-2
+returns_2 : tie.Need-returns-in-Is
 returns_2 c =
-    let multiplied = c.before.before.before in
-    let like = multiplied.before.if2.true in (
-      λ x t h there. number_times h (later (read_of multiplied) t there) like (sym multiplied.mul.ensures ∙ c.before.product.given.1),
+    let like = c.if-e-f.true in (
+      λ x t h there. number_times h (later (read_of c.before) t there) like (sym c.mul-product.ensures ∙ c.in-Is.is),
       λ p. tt,
     )
 
-returns_3 : tie.Need-returns-3
+returns_3 : tie.Need-returns-in-Out
 returns_3 c =
-    let multiplied = c.before.before in
-    let like = multiplied.before.if2.true in (
-      λ x t h there. number_times_over h (later (read_of multiplied) t there) like (sym multiplied.mul.ensures ∙ c.enum_told.given.1),
+    let like = c.if-e-f.true in (
+      λ x t h there. number_times_over h (later (read_of c.before) t there) like (sym c.mul-product.ensures ∙ c.in-Out.is),
       λ p. tt,
     )
 
-returns_4 : tie.Need-returns-4
-returns_4 c = (λ x t h there. number_other h (later c.before.before t there) c.before.if2.false c.if3.true, λ p. tt)
+returns_4 : tie.Need-returns-then-v-w
+returns_4 c = (λ x t h there. number_other h (later c.before.before t there) c.if-e-f.false c.if-v-w.true, λ p. tt)
 
-returns_5 : tie.Need-returns-5
+returns_5 : tie.Need-returns-in-Is-sum
 returns_5 c =
-    let added = c.before.before.before in
-    let apart = added.before.before.if2.false in
-    let like = added.before.if3.false in (
-      λ x t h there. number_raised h (later (read_by added) t there) apart like (sym added.add.ensures ∙ c.before.sum.given.1),
+    let apart = c.if-e-f.false in
+    let like = c.if-v-w.false in (
+      λ x t h there. number_raised h (later (read_by c.before) t there) apart like (sym c.add-sum.ensures ∙ c.in-Is-sum.is),
       λ p. tt,
     )
 
-returns_6 : tie.Need-returns-6
+returns_6 : tie.Need-returns-in-Out-sum
 returns_6 c =
-    let added = c.before.before in
-    let apart = added.before.before.if2.false in
-    let like = added.before.if3.false in (
-      λ x t h there. number_raised_over h (later (read_by added) t there) apart like (sym added.add.ensures ∙ c.enum-told2.given.1),
+    let apart = c.if-e-f.false in
+    let like = c.if-v-w.false in (
+      λ x t h there. number_raised_over h (later (read_by c.before) t there) apart like (sym c.add-sum.ensures ∙ c.in-Out-sum.is),
       λ p. tt,
     )
 

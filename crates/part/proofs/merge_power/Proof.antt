@@ -22,22 +22,22 @@ abbrev Entry : Type 0
 Entry = tie.Start
 
 abbrev Found : Type 0
-Found = tie.After-base
+Found = tie.After-base-j
 
 abbrev Compared : Type 0
-Compared = tie.After-same
+Compared = tie.After-same-found
 
 abbrev Unlike : Type 0
-Unlike = tie.After-enum-told
+Unlike = tie.In-Different
 
 abbrev Alike : Type 0
-Alike = tie.After-enum-told2
+Alike = tie.In-Ends
 
 abbrev Read : Type 0
 Read = tie.After-exponent
 
 abbrev Added : Type 0
-Added = tie.After-add
+Added = tie.After-add-sum
 
 abbrev entry_of : Found → Entry
 entry_of c = c.before.before.before
@@ -46,10 +46,10 @@ abbrev found_of : Compared → Found
 found_of c = c.before.before
 
 abbrev unlike_by : Unlike → Compared
-unlike_by c = c.before.before.before.before
+unlike_by c = c.before.before.before
 
 abbrev alike_by : Alike → Compared
-alike_by c = c.before.before.before.before
+alike_by c = c.before.before.before
 
 -- the current part is x and the later member is t: what is known of their bases, and of the later exponent
 module _ (x : Factor) (t : Tree) where
@@ -60,52 +60,49 @@ module _ (x : Factor) (t : Tree) where
   bases_differ c m =
       let compared = unlike_by c in
       let found = found_of compared in
-      match_differs _ _ (sym (compared.same.ensures note _ _ m.0.sized.there (found.base.ensures.0 note t m.1)) ∙ c.enum_told.given.1)
+      match_differs _ _ (sym (compared.same-found.ensures note _ _ m.0.sized.there (found.base-j.ensures.0 note t m.1)) ∙ c.in-Different.is)
 
   bases_equal : (c : Alike) → Meets (entry_of (found_of (alike_by c))) → equal x.base (factor_of t).base ≡ true
   bases_equal c m =
       let compared = alike_by c in
       let found = found_of compared in
-      (match_ends _ _ _ (sym (compared.same.ensures note _ _ m.0.sized.there (found.base.ensures.0 note t m.1)) ∙ c.enum-told2.given.1)).0
+      (match_ends _ _ _ (sym (compared.same-found.ensures note _ _ m.0.sized.there (found.base-j.ensures.0 note t m.1)) ∙ c.in-Ends.is)).0
 
   raised : (c : Read) → Meets (entry_of (found_of (alike_by c.before))) → Raised (factor_of t) c.exponent.result
   raised c m =
       let read = c.exponent.ensures note t m.1 in
       raised_later t read.0 read.1
 
-same_requires : tie.Need-same-requires
+same_requires : tie.Need-same-found-requires
 same_requires c κs =
-    let found = c.before in
-    let q = (entry_of found).requires in
+    let q = (entry_of c.before).requires in
     record {
       how = q.how;
       one = q.one;
       other = (factor_of q.other).base;
       one_there = q.one_there;
-      other_there = found.base.ensures.0 q.how q.other q.other_there;
+      other_there = c.base-j.ensures.0 q.how q.other q.other_there;
       enough = omega (arith, q.enough, base_size q.other);
     }
 
-returns : tie.Need-returns
+returns : tie.Need-returns-in-Different
 returns c = (λ x t h there. power_apart h _ (bases_differ x t c (h, there)), λ p h. tt)
 
-returns_2 : tie.Need-returns-2
+returns_2 : tie.Need-returns-in-Is
 returns_2 c =
-    let added = c.before.before.before in
-    let read = added.before in (
+    (
       λ x t h there.
-          power_into h _ (raised x t read (h, there)) (bases_equal x t read.before (h, there))
-          (sym added.add.ensures ∙ c.before.sum.given.1),
+          power_into h _ (raised x t c.before.before (h, there)) (bases_equal x t c.before.before.before (h, there))
+          (sym c.add-sum.ensures ∙ c.in-Is.is),
       λ p h. h,
     )
 
-returns_3 : tie.Need-returns-3
+returns_3 : tie.Need-returns-in-Out
 returns_3 c =
-    let added = c.before.before in
-    let read = added.before in (
+    (
       λ x t h there.
-          power_over h _ (raised x t read (h, there)) (bases_equal x t read.before (h, there))
-          (sym added.add.ensures ∙ c.enum-told3.given.1),
+          power_over h _ (raised x t c.before.before (h, there)) (bases_equal x t c.before.before.before (h, there))
+          (sym c.add-sum.ensures ∙ c.in-Out.is),
       λ p h. tt,
     )
 

@@ -11,35 +11,34 @@ use Rattle.part.proofs.PartLaws.{term_apart}
 use Rattle.part.proofs.merge_term.Statement.{statement}
 use Rattle.part.proofs.merge_term.Tie as tie
 
-rests_differ_requires : tie.Need-rests-differ-requires
+rests_differ_requires : tie.Need-rests_differ-requires
 rests_differ_requires c κs =
-    let some = c.before.before.requires in
+    let some = c.requires in
     (some_told some.one_there, some_told some.other_there)
 
-returns : tie.Need-returns
+returns : tie.Need-returns-then-rests_differ
 returns c =
-    let differ = sym c.before.rests-differ.ensures ∙ c.if1.true in (
+    let differ = sym c.rests_differ.ensures ∙ c.if-rests_differ.true in (
       λ x t h there. term_apart x t (ap (λ r. equal r (term_of t).rest) h.rest ∙ rests_unlike h.there there differ),
       λ p h. tt,
     )
 
-returns_2 : tie.Need-returns-2
+returns_2 : tie.Need-returns-then-same_rest
 returns_2 c =
-    let alike = c.before in
-    let same = alike.before.before.before.same_rest in
+    let same = c.same_rest in
     let says = c.add_term.ensures in (
       λ x t h there.
           says.0 x t h there
-          (ap (λ r. equal r (term_of t).rest) h.rest ∙ sym (same.ensures note h.member t h.there there) ∙ alike.if2.true),
+          (ap (λ r. equal r (term_of t).rest) h.rest ∙ sym (same.ensures note h.member t h.there there) ∙ c.if-same_rest.true),
       says.1,
     )
 
-returns_3 : tie.Need-returns-3
+returns_3 : tie.Need-returns
 returns_3 c =
-    let same = c.before.before.before.same_rest in (
+    let same = c.same_rest in (
       λ x t h there.
           term_apart x t
-          (ap (λ r. equal r (term_of t).rest) h.rest ∙ sym (same.ensures note h.member t h.there there) ∙ c.if2.false),
+          (ap (λ r. equal r (term_of t).rest) h.rest ∙ sym (same.ensures note h.member t h.there there) ∙ c.if-same_rest.false),
       λ p h. tt,
     )
 

@@ -9,21 +9,21 @@ use Rattle.part.proofs.PartLaws.{term_apart, wide_over}
 use Rattle.part.proofs.merge_wide.Statement.{statement}
 use Rattle.part.proofs.merge_wide.Tie as tie
 
-returns : tie.Need-returns
+returns : tie.Need-returns-then-same_rest
 returns c =
-    let same = c.before.before.before.same_rest in (
+    let same = c.same_rest in (
       λ x t h there.
           wide_over x t
-          (ap (λ r. equal r (term_of t).rest) h.rest ∙ sym (same.ensures note h.member t h.there there) ∙ c.if1.true) h.wide,
+          (ap (λ r. equal r (term_of t).rest) h.rest ∙ sym (same.ensures note h.member t h.there there) ∙ c.if-same_rest.true) h.wide,
       λ p. tt,
     )
 
-returns_2 : tie.Need-returns-2
+returns_2 : tie.Need-returns
 returns_2 c =
-    let same = c.before.before.before.same_rest in (
+    let same = c.same_rest in (
       λ x t h there.
           term_apart x t
-          (ap (λ r. equal r (term_of t).rest) h.rest ∙ sym (same.ensures note h.member t h.there there) ∙ c.if1.false),
+          (ap (λ r. equal r (term_of t).rest) h.rest ∙ sym (same.ensures note h.member t h.there there) ∙ c.if-same_rest.false),
       λ p. tt,
     )
 

@@ -20,19 +20,19 @@ abbrev Entry : Type 0
 Entry = tie.Start
 
 abbrev Read : Type 0
-Read = tie.After-exponent
+Read = tie.After-exponent-e
 
 abbrev Found : Type 0
-Found = tie.After-base
+Found = tie.After-base-b
 
 abbrev Marked : Type 0
-Marked = tie.After-mark
+Marked = tie.After-mark-m
 
 abbrev Known : Type 0
 Known = tie.After-kind
 
 abbrev Other : Type 0
-Other = tie.After-kind2
+Other = tie.After-kind-2
 
 abbrev entry_of : Read → Entry
 entry_of c = c.before.before.before
@@ -53,60 +53,58 @@ no_integer : (c : Other) (t : Tree)
 no_integer c t there =
     let known = known_of c in
     let found = found_of known in
-    laws.no_integer (found.base.ensures.0 note t there) (omega (arith, known.kind.ensures, c.before.if2.false))
+    laws.no_integer (found.base-b.ensures.0 note t there) (omega (arith, known.kind.ensures, c.if-kind-lt-SYMBOL.false))
 
-term_of_requires : tie.Need-term-of-requires
+term_of_requires : tie.Need-term_of-requires
 term_of_requires c κs =
-    let q = c.before.before.requires in
+    let q = c.requires in
     some_told q.1.there
 
-returns : tie.Need-returns
-returns c = (λ t h. rw c.before.if1.true (c.term_of.ensures.0 t h.there), c.term_of.ensures.1)
+returns : tie.Need-returns-then-terms
+returns c = (λ t h. rw c.if-terms.true (c.term_of.ensures.0 t h.there), c.term_of.ensures.1)
 
-exponent_requires : tie.Need-exponent-requires
+exponent_requires : tie.Need-exponent-e-requires
 exponent_requires c κs =
-    let q = c.before.before.requires in
+    let q = c.requires in
     some_told q.1.there
 
-base_requires : tie.Need-base-requires
+base_requires : tie.Need-base-b-requires
 base_requires c κs =
     let q = (entry_of c).requires in
     some_told q.1.there
 
-mark_requires : tie.Need-mark-requires
+mark_requires : tie.Need-mark-m-requires
 mark_requires c κs =
     let q = (entry_of c.before).requires in
     record_within q.1.there
 
 kind_requires : tie.Need-kind-requires
 kind_requires c κs =
-    let found = c.before in
-    let q = (entry_of found.before).requires in
-    record_within (found.base.ensures.0 note q.0 q.1.there)
+    let q = (entry_of c.before.before).requires in
+    record_within (c.base-b.ensures.0 note q.0 q.1.there)
 
 bits_requires : tie.Need-bits-requires
 bits_requires c κs =
     let found = found_of c.before in
     let q = (entry_of found.before).requires in
-    record_within (found.base.ensures.0 note q.0 q.1.there)
+    record_within (found.base-b.ensures.0 note q.0 q.1.there)
 
-mark_requires_2 : tie.Need-mark-requires-2
+mark_requires_2 : tie.Need-mark-requires
 mark_requires_2 c κs =
     let found = found_of c.before.before in
     let q = (entry_of found.before).requires in
-    record_within (found.base.ensures.0 note q.0 q.1.there)
+    record_within (found.base-b.ensures.0 note q.0 q.1.there)
 
-returns_2 : tie.Need-returns-2
+returns_2 : tie.Need-returns-then-kind-lt-SYMBOL
 returns_2 c =
-    let known = c.before.before.before in
-    let found = found_of known in
+    let found = found_of c.before.before.before in
     let read = found.before in (
       λ t h.
-          let e = read.exponent.ensures note t h.there in
-          let b = found.base.ensures.0 note t h.there in
+          let e = read.exponent-e.ensures note t h.there in
+          let b = found.base-b.ensures.0 note t h.there in
           rw read.before.if1.left
-          (number_part _ _ _ found.base.result _ _ _ t h.there b (omega (arith, known.kind.ensures)) c.before.bits.ensures
-          c.mark2.ensures.0 (marked_of known).mark.ensures.0 e.0 e.1),
+          (number_part _ _ _ found.base-b.result _ _ _ t h.there b (omega (arith, c.kind.ensures)) c.bits.ensures
+          c.mark.ensures.0 (marked_of c.before.before.before).mark-m.ensures.0 e.0 e.1),
       λ p h. tt,
     )
 
@@ -115,36 +113,36 @@ kind_requires_2 c κs =
     let q = (entry_of (found_of c.before).before).requires in
     record_within q.1.there
 
-add_t12 : tie.Need-overflow-add-t12
+add_t12 : tie.Need-overflow_add-result
 add_t12 c =
     let q = (entry_of (found_of (known_of c.before)).before).requires in
     record { fits = omega (arith, record_within q.1.there) }
 
-sub_t13 : tie.Need-overflow-sub-t13
+sub_t13 : tie.Need-overflow_sub-result
 sub_t13 c =
     let q = (entry_of (found_of (known_of c.before)).before).requires in
-    power_two _ _ _ q.0 q.1 (sym c.before.kind2.ensures ∙ c.if3.true)
+    power_two _ _ _ q.0 q.1 (sym c.kind-2.ensures ∙ c.if-kind-eq-POWER.true)
 
-returns_3 : tie.Need-returns-3
+returns_3 : tie.Need-returns-then-kind-eq-POWER
 returns_3 c =
     let marked = marked_of (known_of c.before) in
     let read = marked.before.before in (
       λ t h.
-          let e = read.exponent.ensures note t h.there in
-          let is_power = sym c.before.kind2.ensures ∙ c.if3.true in
-          rw read.before.if1.left (power_part _ _ _ _ t h (no_integer c.before t h.there) e.0 e.1 marked.mark.ensures.0 is_power),
+          let e = read.exponent-e.ensures note t h.there in
+          let is_power = sym c.kind-2.ensures ∙ c.if-kind-eq-POWER.true in
+          rw read.before.if1.left (power_part _ _ _ _ t h (no_integer c.before t h.there) e.0 e.1 marked.mark-m.ensures.0 is_power),
       λ p h. omega arith,
     )
 
-returns_4 : tie.Need-returns-4
+returns_4 : tie.Need-returns
 returns_4 c =
     let marked = marked_of (known_of c.before) in
     let read = marked.before.before in (
       λ t h.
-          let e = read.exponent.ensures note t h.there in
+          let e = read.exponent-e.ensures note t h.there in
           let other = no_integer c.before t h.there in
           rw read.before.if1.left
-          (base_part _ _ _ _ t h other e.0 e.1 marked.mark.ensures.0 (λ k. c.if3.false (c.before.kind2.ensures ∙ k))),
+          (base_part _ _ _ _ t h other e.0 e.1 marked.mark-m.ensures.0 (λ k. c.if-kind-eq-POWER.false (c.kind-2.ensures ∙ k))),
       λ p h. h,
     )
 

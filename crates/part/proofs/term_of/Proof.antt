@@ -12,32 +12,32 @@ use Rattle.part.proofs.PartLaws.{term_part, wide_part}
 use Rattle.part.proofs.term_of.Statement.{statement}
 use Rattle.part.proofs.term_of.Tie as tie
 
-returns : tie.Need-returns
+returns : tie.Need-returns-then-is_whole
 returns c =
-    let whole = sym c.before.is_whole.ensures ∙ c.if1.true in
+    let whole = sym c.is_whole.ensures ∙ c.if-is_whole.true in
     (λ t h. term_part _ _ t h (whole_coefficient h whole), λ p h. h)
 
 kind_requires : tie.Need-kind-requires
-kind_requires c κs = record_within c.before.before.before.requires.there
+kind_requires c κs = record_within c.requires.there
 
 bits_requires : tie.Need-bits-requires
-bits_requires c κs = record_within c.before.before.before.before.before.requires.there
+bits_requires c κs = record_within c.requires.there
 
-returns_2 : tie.Need-returns-2
+returns_2 : tie.Need-returns-then-kind-lt-SYMBOL
 returns_2 c =
-    let k = c.before.before.kind.ensures in
-    let is = c.before.if2.true in
+    let k = c.kind.ensures in
+    let is = c.if-kind-lt-SYMBOL.true in
     (λ t h. term_part _ _ t h (ap Is c.bits.ensures ∙ (term_integer t h (omega arith)).0), λ p h. h)
 
-returns_3 : tie.Need-returns-3
+returns_3 : tie.Need-returns-in-Is
 returns_3 c =
-    let read = c.before.before.before.coefficient in
-    (λ t h. term_part _ _ t h (sym c.before.n.given.1 ∙ read.ensures note t h), λ p h. h)
+    let read = c.coefficient-n in
+    (λ t h. term_part _ _ t h (sym c.in-Is.is ∙ read.ensures note t h), λ p h. h)
 
-returns_4 : tie.Need-returns-4
+returns_4 : tie.Need-returns-in-Out
 returns_4 c =
-    let read = c.before.before.coefficient in
-    (λ t h. wide_part _ _ t h (sym c.enum_told.given.1 ∙ read.ensures note t h), λ p h. h)
+    let read = c.coefficient-n in
+    (λ t h. wide_part _ _ t h (sym c.in-Out.is ∙ read.ensures note t h), λ p h. h)
 
 pub term_of_spec : {M : Type 1} → statement M
 term_of_spec = tie.close (tie.spec
