@@ -102,8 +102,8 @@ returns_3 c =
 
 returns_4 : tie.Need-returns-in-Number
 returns_4 c =
-    let number : Number = c.before.before.before.before.before in
-    let is = number.c4.given.1 in
+    let number : Number = c.before in
+    let is = number.in-Number.is in
     let says = c.merge_number in (
       λ b x t h there. of_number _ t says.result _ _ _ _ (λ y k. says.ensures.0 y t k there) b x (rw is at h),
       λ p h. says.ensures.1 p,

@@ -102,7 +102,7 @@ returns_2 c =
       λ t h.
           let e = read.exponent-e.ensures note t h.there in
           let b = found.base-b.ensures.0 note t h.there in
-          rw read.before.if1.left
+          rw read.before.if-terms.false
           (number_part _ _ _ found.base-b.result _ _ _ t h.there b (omega (arith, c.kind.ensures)) c.bits.ensures
           c.mark.ensures.0 (marked_of c.before.before.before).mark-m.ensures.0 e.0 e.1),
       λ p h. tt,
@@ -130,7 +130,7 @@ returns_3 c =
       λ t h.
           let e = read.exponent-e.ensures note t h.there in
           let is_power = sym c.kind-2.ensures ∙ c.if-kind-eq-POWER.true in
-          rw read.before.if1.left (power_part _ _ _ _ t h (no_integer c.before t h.there) e.0 e.1 marked.mark-m.ensures.0 is_power),
+          rw read.before.if-terms.false (power_part _ _ _ _ t h (no_integer c.before t h.there) e.0 e.1 marked.mark-m.ensures.0 is_power),
       λ p h. omega arith,
     )
 
@@ -141,7 +141,7 @@ returns_4 c =
       λ t h.
           let e = read.exponent-e.ensures note t h.there in
           let other = no_integer c.before t h.there in
-          rw read.before.if1.left
+          rw read.before.if-terms.false
           (base_part _ _ _ _ t h other e.0 e.1 marked.mark-m.ensures.0 (λ k. c.if-kind-eq-POWER.false (c.kind-2.ensures ∙ k))),
       λ p h. h,
     )
