@@ -20,7 +20,7 @@ LET = re.compile(r"\blet (" + N + r") = (" + N + r"(?:\." + N + r")*) in[ \n]")
 # only the proofs whose path has this
 ONLY = os.environ.get("ONLY", "")
 START = ("args", "requires", "ranges", "lifetimes", "utf8", "type_inv", "row", "called", "fresh", "well_formed", "ghost", "decreases")
-WORDS = {"taken": "true", "left": "false", "inv": "invariant", "pre": "requires", "last": "new", "type-inv": "type_inv"}
+WORDS = {"taken": "true", "left": "false", "inv": "invariant", "pre": "requires", "last": "new", "type-inv": "type_inv", "fits": "ranges", "good": "well_formed"}
 
 
 def norm(s):
@@ -123,8 +123,10 @@ class Turner:
     def words(self, fields, place):
         """The fields behind a step: what a `&mut` holds afterwards goes by its name."""
         plain = bool(place) and not re.match(r"(Then|Else|In-loop|After-loop)", place)
-        out = [WORDS.get(f, f) if i == 0 and not (plain and f in ("taken", "left")) and not (f == "last" and place and re.match(r"(At-loop|Joined)", place)) else f for i, f in enumerate(fields)]
+        out = [WORDS.get(f, f) if i == 0 and f not in ("fits", "good") and not (plain and f in ("taken", "left")) and not (f == "last" and place and re.match(r"(At-loop|Joined)", place)) else f for i, f in enumerate(fields)]
         p = self.fn.places[place][1] if place else None
+        if out and out[0] == "kept" and len(out) > 1 and out[1].isdigit():
+            out[0] = "auto"
         if p and out and out[0] in ("new", "auto") and len(out) > 1 and out[1].isdigit() and p[3]:
             k, i = 0, 1
             while i < len(out) and out[i] == "1":
@@ -370,14 +372,21 @@ def turn_file(path, fns, muts, said):
     parts = re.split(r"(?m)^(?=(?:  )?(?:pub |abbrev )*" + N + r"(?: \{[^{}\n]*\}| \([^()\n]*\))* :(?: |$))", text)
     out = []
     wants = {}
-    for m in re.finditer(r"(?m)^(?:  )?(?:pub |abbrev )*(" + N + r") : (?:\(" + N + r" : )?(?:(" + heads + r")\.(" + N + r")|(" + N + r"))", text):
-        it = (m[2], after(m[2], m[3])) if m[2] and not m[3].startswith("Need-") else places.get(m[4])
-        if it and it[1]:
-            wants[m[1]] = it[1]
-    for m in re.finditer(r"(?m)^module _ \(" + N + r" : (" + N + r")\).*\n((?:(?:  .*)?\n)+)", text):
-        if m[1] in places:
-            for w in re.finditer(r"(?m)^  (?:pub |abbrev )*(" + N + r") :", m[2]):
-                wants[w[1]] = places[m[1]][1]
+    place = r"(?:(" + heads + r")\.(" + N + r")|(" + N + r"))"
+
+    def which(head, name, own):
+        it = (head, after(head, name)) if head and not name.startswith("Need-") else places.get(own)
+        return it[1] if it else None
+
+    for m in re.finditer(r"(?m)^(?:  )?(?:pub |abbrev )*(" + N + r") : (?:\(" + N + r" : " + place + r"[^()]*\)|" + place + r"(?: [^→\n()]*)? →)", text):
+        it = which(m[2], m[3], m[4]) if m[2] or m[4] else which(m[5], m[6], m[7])
+        if it:
+            wants[m[1]] = it
+    for m in re.finditer(r"(?m)^module _ \(" + N + r" : " + place + r"[^()]*\).*\n((?:(?:  .*)?\n)+)", text):
+        it = which(m[1], m[2], m[3])
+        if it:
+            for w in re.finditer(r"(?m)^  (?:pub |abbrev )*(" + N + r") :", m[4]):
+                wants[w[1]] = it
     gives = {}
     for m in re.finditer(r"(?m)^(?:  )?(?:pub |abbrev )*(" + N + r") : [^\n]*→ (?:(" + heads + r")\.(" + N + r")|(" + N + r"))(?: [^→\n]*)?$", text):
         it = (m[2], after(m[2], m[3])) if m[2] else places.get(m[4])

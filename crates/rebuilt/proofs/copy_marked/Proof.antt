@@ -10,26 +10,25 @@ use Rattle.rebuilt.proofs.copy_marked.Statement.{statement}
 use Rattle.rebuilt.proofs.copy_marked.Tie as tie
 
 -- where the mark is set, from there where the tree was copied, and the start
-abbrev copied_of : tie.After-set-mark-arg → tie.After-copy-tree
+abbrev copied_of : tie.After-set_mark-arg-1 → tie.After-copy_tree
 copied_of c = c.before.before.before
 
-abbrev start_of : tie.After-copy-tree → tie.Start
+abbrev start_of : tie.After-copy_tree → tie.Start
 start_of c = c.before.before.before.before
 
-set_mark_requires : tie.Need-set-mark-requires
+set_mark_requires : tie.Need-set_mark-requires
 set_mark_requires c κs =
     let copied = copied_of c in
     let start = start_of copied in
-    omega (arith, start.pre.1, start.pre.0.1.size, records_pos start.pre.0.0, copied.copy-tree.kept.0)
+    omega (arith, start.requires.1, start.requires.0.1.size, records_pos start.requires.0.0, copied.copy_tree.auto.out)
 
 returns : tie.Need-returns
 returns c t h =
-    let marked = c.before.before in
-    let copied = copied_of marked.before in
+    let copied = copied_of c.before.before.before in
     let start = start_of copied in
     let g = start.args in
-    mark_put g.out.now _ _ (g.m * 16) _ g.mark t refl (omega (arith, start.pre.1, h.size)) (copied.copy-tree.ensures t h)
-    marked.set-mark.ensures
+    mark_put g.out.now _ _ (g.m * 16) _ g.mark t refl (omega (arith, start.requires.1, h.size)) (copied.copy_tree.ensures t h)
+    c.set_mark.ensures
 
 pub copy_marked_spec : {M : Type 1} → statement M
 copy_marked_spec = tie.close (tie.spec (λ c κs. search rules) set_mark_requires (λ c. search rules) returns)

@@ -27,13 +27,13 @@ abbrev Counted : Type 0
 Counted = tie.After-count
 
 abbrev Copy : Type 0
-Copy = tie.After-copy-bytes-arg
+Copy = tie.After-copy_bytes-arg-1
 
 abbrev Last : Type 0
-Last = tie.After-write-record-arg2
+Last = tie.After-write_record-arg-2-1
 
 abbrev End : Type 0
-End = tie.After-slice-known4
+End = tie.After-slice_known-4-1
 
 abbrev start_of : Counted → tie.Start
 start_of c = c.before.before.before.before
@@ -61,16 +61,16 @@ module _ (c : End) where
 
   light : (μ : ℕ) (f : Forest) → At μ f → let g = start_at.args in Light (lengthened g.mark g.n f)
   light μ f h =
-      let q = start_at.pre.0 in
+      let q = start_at.requires.0 in
       let g = start_at.args in
       subst (λ r. Light (lengthened g.mark g.n r)) (one_product q.2.there h.there) q.3
 
   low : let g = start_at.args in g.m * 16 ≤ length g.out.now
-  low = omega (arith, start_at.pre.1)
+  low = omega (arith, start_at.requires.1)
 
   unclosed_there : (μ : ℕ) (f : Forest) → At μ f
       → let g = start_at.args in
-      c.before.before.write-record2.new.0 ≡ put g.out.now (g.m * 16) (unclosed (lengthened g.mark g.n f))
+      c.write_record-2.new.d ≡ put g.out.now (g.m * 16) (unclosed (lengthened g.mark g.n f))
   unclosed_there μ f h =
       let last = last_of c in
       let copy = copy_of last in
@@ -79,51 +79,49 @@ module _ (c : End) where
       let g = start.args in
       let p = product_at g.s.now g.i g.k f h in
       let size : length (encodes_by note f) ≡ (g.k - 1) * 16 = omega (arith, encodes_by_length note f, p.size) in
-      longer_written g.out.now _ _ _ g.m g.n start.fits.n.fits g.mark f _ g.k _
-      (omega (arith, counted.count.ensures.0, p.counted)) p.size refl start.pre.1
-      copy.before.before.before.write-record.ensures
+      longer_written g.out.now _ _ _ g.m g.n start.ranges.n.fits g.mark f _ g.k _
+      (omega (arith, counted.count.ensures.0, p.counted)) p.size refl start.requires.1
+      copy.write_record.ensures
       (copied _ _ g.s.now ((g.m + 1) * 16) (g.i + 1) ((g.k - 1) * 16) (encodes_by note f) p.stand size
-      last.before.before.before.copy-bytes.ensures)
-      c.before.before.write-record2.ensures
+      last.copy_bytes.ensures)
+      c.write_record-2.ensures
 
 count_requires : tie.Need-count-requires
 count_requires c κs = omega (arith, asked c.before.before.before)
 
-add_copy_bytes_2 : tie.Need-overflow-add-copy-bytes-2
+add_copy_bytes_2 : tie.Need-overflow_add-i
 add_copy_bytes_2 c = record { fits = omega (arith, asked (start_of (counted_of c))) }
 
-mul_copy_bytes_2 : tie.Need-overflow-mul-copy-bytes-2
+mul_copy_bytes_2 : tie.Need-overflow_mul-i
 mul_copy_bytes_2 c = record { fits = omega (arith, asked (start_of (counted_of c))) }
 
-sub_copy_bytes : tie.Need-overflow-sub-copy-bytes
+sub_copy_bytes : tie.Need-overflow_sub-k
 sub_copy_bytes c = omega (arith, asked (start_of (counted_of c)))
 
-copy_bytes_requires : tie.Need-copy-bytes-requires
+copy_bytes_requires : tie.Need-copy_bytes-requires
 copy_bytes_requires c κs =
     let start = start_of (counted_of c) in
     let p = asked start in
-    let room = start.pre.1 in
-    let kept = c.before.before.before.write-record.auto.0 in
+    let room = start.requires.1 in
+    let kept = c.write_record.auto.d in
     (omega arith, omega arith)
 
-write_record_requires_2 : tie.Need-write-record-requires-2
+write_record_requires_2 : tie.Need-write_record-requires-2
 write_record_requires_2 c κs =
     let copy = copy_of c in
     let start = start_of (counted_of copy) in
-    let kept = copy.before.before.before.write-record.kept.0 in
-    let kept-2 = c.before.before.before.copy-bytes.auto.0 in
-    omega (arith, asked start, start.pre.1)
+    let kept = copy.write_record.auto.d in
+    let kept-2 = c.copy_bytes.auto.dst in
+    omega (arith, asked start, start.requires.1)
 
 close_requires : tie.Need-close-requires
 close_requires c κs =
-    let known = c.before in
-    let q = (start_at known).requires.0 in
-    (_, put_closable _ (light known q.0 q.1 q.2) (product_node _ _) _ _ _ (low known) (unclosed_there known q.0 q.1 q.2))
+    let q = (start_at c.before).requires.0 in
+    (_, put_closable _ (light c.before q.0 q.1 q.2) (product_node _ _) _ _ _ (low c.before) (unclosed_there c.before q.0 q.1 q.2))
 
 returns : tie.Need-returns
 returns c μ f h =
-    let known = c.before.before.before.before in
-    put_closed _ (light known μ f h) (product_node _ _) _ _ _ (low known) (unclosed_there known μ f h) _ c.before.before.close.ensures
+    put_closed _ (light c.before.before.before.before μ f h) (product_node _ _) _ _ _ (low c.before.before.before.before) (unclosed_there c.before.before.before.before μ f h) _ c.close.ensures
 
 pub write_longer_spec : {M : Type 1} → statement M
 write_longer_spec =

@@ -14,17 +14,17 @@ use borrow.Author.Rules.{rules}
 use Rattle.rebuilt.proofs.write_part.Statement.{statement}
 use Rattle.rebuilt.proofs.write_part.Tie as tie
 
-abbrev start_of : tie.After-shared-slice-known → tie.Start
+abbrev start_of : tie.After-shared_slice_known-1 → tie.Start
 start_of c = c.before.before
 
 -- from the end of each arm, its call
-abbrev term_of_lem : tie.After-slice-known2 → tie.After-write-term-arg
+abbrev term_of_lem : tie.After-slice_known-in-Term-1 → tie.After-write_term-arg-1
 term_of_lem c = c.before.before.before
 
-abbrev power_of : tie.After-slice-known3 → tie.After-write-power-arg
+abbrev power_of : tie.After-slice_known-in-Power-1 → tie.After-write_power-arg-1
 power_of c = c.before.before.before
 
-abbrev number_of : tie.After-slice-known4 → tie.After-write-number-arg
+abbrev number_of : tie.After-slice_known-in-Number-1 → tie.After-write_number-arg-1
 number_of c = c.before.before.before
 
 -- where the member that the part becomes is y, there is room for y, and an answer for y is the answer
@@ -36,57 +36,54 @@ module _ (c : tie.Start) where
       → WrittenIs y c.args.out.now out' c.args.m r → WrittenIs (join b x) c.args.out.now out' c.args.m r
   answered b x out' r y e = subst (λ (y : Tree × Bool). WrittenIs y c.args.out.now out' c.args.m r) (sym e)
 
-write_term_requires : tie.Need-write-term-requires
+write_term_requires : tie.Need-write_term-requires
 write_term_requires c κs =
-    let form = c.before.before in
-    let start = start_of form.before.before in
-    let q = start.pre in
-    let t = a_term start.args.s.now form.c.given.1 q.0 q.1 q.2 in
+    let start = start_of c.before.before in
+    let q = start.requires in
+    let t = a_term start.args.s.now c.in-Term.is q.0 q.1 q.2 in
     (t.0, t.1, fitting start _ t.2)
 
-write_power_requires : tie.Need-write-power-requires
+write_power_requires : tie.Need-write_power-requires
 write_power_requires c κs =
-    let form = c.before.before in
-    let start = start_of form.before.before in
-    let q = start.pre in
-    let t = a_power start.args.s.now form.c2.given.1 q.0 q.1 q.2 in
+    let start = start_of c.before.before in
+    let q = start.requires in
+    let t = a_power start.args.s.now c.in-Power.is q.0 q.1 q.2 in
     (t.0, t.1, fitting start _ t.2)
 
-write_number_requires : tie.Need-write-number-requires
+write_number_requires : tie.Need-write_number-requires
 write_number_requires c κs =
-    let form = c.before.before in
-    let start = start_of form.before.before in
-    let q = start.pre in
-    let t = a_number start.args.s.now form.c3.given.1 q.0 q.1 q.2 in
+    let start = start_of c.before.before in
+    let q = start.requires in
+    let t = a_number start.args.s.now c.in-Number.is q.0 q.1 q.2 in
     (t.0, t.1, fitting start _ t.2)
 
-returns : tie.Need-returns
+returns : tie.Need-returns-in-Term
 returns c b x h =
-    let form = (term_of_lem c).before.before in
+    let form = (term_of_lem c).before.before.before.before.before in
     let start = start_of form.before.before in
-    let w = c.before.before.write-term in
+    let w = c.write_term in
     let t = a_term start.args.s.now form.c.given.1 b x h in
-    answered start b x w.new.0 w.result _ t.2 (w.ensures t.0 t.1)
+    answered start b x w.new.out w.result _ t.2 (w.ensures t.0 t.1)
 
 -- a term out of range
-returns_2 : tie.Need-returns-2
-returns_2 c b x h = (a_wide c.before.before.before.before.args.s.now c.enum_told.given.1 b x h, refl)
+returns_2 : tie.Need-returns-in-Wide
+returns_2 c b x h = (a_wide c.args.s.now c.in-Wide.is b x h, refl)
 
-returns_3 : tie.Need-returns-3
+returns_3 : tie.Need-returns-in-Power
 returns_3 c b x h =
-    let form = (power_of c).before.before in
+    let form = (power_of c).before.before.before.before.before in
     let start = start_of form.before.before in
-    let w = c.before.before.write-power in
+    let w = c.write_power in
     let t = a_power start.args.s.now form.c2.given.1 b x h in
-    answered start b x w.new.0 w.result _ t.2 (w.ensures t.0 t.1)
+    answered start b x w.new.out w.result _ t.2 (w.ensures t.0 t.1)
 
-returns_4 : tie.Need-returns-4
+returns_4 : tie.Need-returns-in-Number
 returns_4 c b x h =
-    let form = (number_of c).before.before in
+    let form = (number_of c).before.before.before.before.before in
     let start = start_of form.before.before in
-    let w = c.before.before.write-number in
+    let w = c.write_number in
     let t = a_number start.args.s.now form.c3.given.1 b x h in
-    answered start b x w.new.0 w.result _ t.2 (w.ensures t.0 t.1)
+    answered start b x w.new.out w.result _ t.2 (w.ensures t.0 t.1)
 
 pub write_part_spec : {M : Type 1} → statement M
 write_part_spec =

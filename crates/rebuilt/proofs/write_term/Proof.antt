@@ -25,21 +25,21 @@ use Rattle.rebuilt.proofs.write_term.Tie as tie
 
 -- places on the way through the code: where the rest is known, and from there the start; and from each answer back to where the rest is known
 abbrev Known : Type 0
-Known = tie.After-rest-of
+Known = tie.After-rest_of-rest
 
-abbrev mark_of : Known → tie.After-mark
+abbrev mark_of : Known → tie.After-mark-mark
 mark_of c = c.before
 
 abbrev start_of : Known → tie.Start
 start_of c = (mark_of c).before.before.before
 
-abbrev one_of : tie.After-slice-known2 → tie.After-enum-told
+abbrev one_of : tie.After-slice_known-in-One-1 → tie.In-One
 one_of c = c.before.before.before.before
 
-abbrev at_of : tie.After-slice-known3 → tie.After-write-times-arg
+abbrev at_of : tie.After-slice_known-in-At-1 → tie.After-write_times-arg-1
 at_of c = c.before.before.before
 
-abbrev without_of : tie.After-slice-known4 → tie.After-write-without-arg
+abbrev without_of : tie.After-slice_known-in-Others-1 → tie.After-write_without-arg-1
 without_of c = c.before.before.before
 
 -- ---- any term that n and the member at record i show: what its rest is, by the answer r; and it becomes n times its rest
@@ -50,20 +50,20 @@ module _ (c : Known) where
   abbrev rest : {x : Term} → Shown x → Tree
   rest h = (term_of h.member).rest
 
-  stands_for_lem : {x : Term} (h : Shown x) (r : Rest) → c.rest_of.result ≡ r
+  stands_for_lem : {x : Term} (h : Shown x) (r : Rest) → c.rest_of-rest.result ≡ r
       → let g = (start_of c).args in StandsFor note g.s.now g.i r (rest h)
   stands_for_lem h r e =
-      let g = (start_of c).args in subst (λ (r : Rest). StandsFor note g.s.now g.i r (rest h)) e (c.rest_of.ensures.0 note h.member h.there)
+      let g = (start_of c).args in subst (λ (r : Rest). StandsFor note g.s.now g.i r (rest h)) e (c.rest_of-rest.ensures.0 note h.member h.there)
 
   -- the mark that was read is the member's
   abbrev μ : ℕ
-  μ = (mark_of c).mark.result
+  μ = (mark_of c).mark-mark.result
 
   is_mark : let g = (start_of c).args in μ ≡ mark_in g.s.now g.i
-  is_mark = (mark_of c).mark.ensures.0
+  is_mark = (mark_of c).mark-mark.ensures.0
 
   mark_fits : μ < 65536
-  mark_fits = (mark_of c).mark.ensures.1
+  mark_fits = (mark_of c).mark-mark.ensures.1
 
   answered : {x : Term} (h : Shown x) (out' : List ℕ) (r : Written)
       → let g = (start_of c).args in
@@ -78,57 +78,53 @@ module _ (c : Known) where
   fitting : let g = (start_of c).args in Fitting (timed μ g.n (rest asked)) g.out.now g.m
   fitting =
       let start = start_of c in
-      subst (λ (x : Tree × Bool). Fitting x start.args.out.now start.args.m) (from_term_lem asked is_mark) start.pre.2
+      subst (λ (x : Tree × Bool). Fitting x start.args.out.now start.args.m) (from_term_lem asked is_mark) start.requires.2
 
-mark_requires : tie.Need-mark-requires
-mark_requires c κs = record_within c.before.before.requires.1.there
+mark_requires : tie.Need-mark-mark-requires
+mark_requires c κs = record_within c.requires.1.there
 
-rest_of_requires : tie.Need-rest-of-requires
-rest_of_requires c κs = some_told c.before.before.before.requires.1.there
+rest_of_requires : tie.Need-rest_of-rest-requires
+rest_of_requires c κs = some_told c.requires.1.there
 
 -- ---- the rest is 1
-write_record_requires : tie.Need-write-record-requires
+write_record_requires : tie.Need-write_record-requires
 write_record_requires c κs =
-    let q = (start_of c.before.before.before).requires in
+    let q = (start_of c.before.before).requires in
     omega (arith, records_pos (from_term q.0).0, q.2.room)
 
 -- ---- the rest is a tree at a record
-write_times_requires : tie.Need-write-times-requires
+write_times_requires : tie.Need-write_times-requires
 write_times_requires c κs =
-    let answer = c.before.before in
-    let known = answer.before.before in
-    let stands = stands_for_lem known (asked known) _ answer.rest.given.1 in
-    (mark_fits known, (rest known (asked known), stands.0, fitting known, stands.1))
+    let stands = stands_for_lem c.before.before (asked c.before.before) _ c.in-At.is in
+    (mark_fits c.before.before, (rest c.before.before (asked c.before.before), stands.0, fitting c.before.before, stands.1))
 
 -- ---- the rest is a product without one of its members
-write_without_requires : tie.Need-write-without-requires
+write_without_requires : tie.Need-write_without-requires
 write_without_requires c κs =
-    let answer = c.before.before in
-    let known = answer.before.before in
-    (mark_fits known, (rest known (asked known), (stands_for_lem known (asked known) _ answer.rest2.given.1).1, fitting known))
+    (mark_fits c.before.before, (rest c.before.before (asked c.before.before), (stands_for_lem c.before.before (asked c.before.before) _ c.in-Others.is).1, fitting c.before.before))
 
 -- ---- the answers
-returns : tie.Need-returns
+returns : tie.Need-returns-in-One
 returns c x h =
     let answer = one_of c in
-    let known = answer.before.before in
+    let known = answer.before in
     let g = (start_of known).args in
-    written (unit_becomes h (is_mark known) (stands_for_lem known h _ answer.enum_told.given.1).1) g.out.now g.m _ _ refl
-    (integer_written g.out.now _ (g.m * 16) (μ known) g.n h.bits c.before.before.write-record.ensures)
+    written (unit_becomes h (is_mark known) (stands_for_lem known h _ answer.in-One.is).1) g.out.now g.m _ _ refl
+    (integer_written g.out.now _ (g.m * 16) (μ known) g.n h.bits c.write_record.ensures)
 
-returns_2 : tie.Need-returns-2
+returns_2 : tie.Need-returns-in-At
 returns_2 c x h =
-    let answer = (at_of c).before.before in
+    let answer = (at_of c).before.before.before.before.before.before.before in
     let known = answer.before.before in
-    let w = c.before.before.write-times in
-    answered known h w.new.0 w.result (w.ensures (rest known h) (stands_for_lem known h _ answer.rest.given.1).0)
+    let w = c.write_times in
+    answered known h w.new.out w.result (w.ensures (rest known h) (stands_for_lem known h _ answer.rest.given.1).0)
 
-returns_3 : tie.Need-returns-3
+returns_3 : tie.Need-returns-in-Others
 returns_3 c x h =
-    let answer = (without_of c).before.before in
+    let answer = (without_of c).before.before.before.before.before.before.before in
     let known = answer.before.before in
-    let w = c.before.before.write-without in
-    answered known h w.new.0 w.result (w.ensures (rest known h) (stands_for_lem known h _ answer.rest2.given.1).1)
+    let w = c.write_without in
+    answered known h w.new.out w.result (w.ensures (rest known h) (stands_for_lem known h _ answer.rest2.given.1).1)
 
 pub write_term_spec : {M : Type 1} → statement M
 write_term_spec =

@@ -51,66 +51,64 @@ module _ (c : tie.Start) where
   as_many t h = ap records (lessened_once h is_asked)
 
 -- ---- with n = 1: the test, from there the start, and the answer
-abbrev one_start : tie.Then1 → tie.Start
+abbrev one_start : tie.Then-n-eq1 → tie.Start
 one_start c = c.before.before.before
 
-module _ (c : tie.Then1) where
+module _ (c : tie.Then-n-eq1) where
   one : (t : Tree) → Is (one_start c) t
       → let g = (one_start c).args in
       Becomes (timed g.mark g.n t) (marked g.mark t) (records t)
-  one t h = one_becomes _ _ t refl c.if1.true
+  one t h = one_becomes _ _ t refl c.if-n-eq1.true
 
   one_room : Room (one_start c) (records (asked (one_start c)))
   one_room =
       let start = one_start c in
-      room (one (asked start) (is_asked start)) start.args.out.now start.args.m start.pre.1.2
+      room (one (asked start) (is_asked start)) start.args.out.now start.args.m start.requires.1.2
 
   one_light : (t : Tree) → Is (one_start c) t → Light (marked (one_start c).args.mark t)
   one_light t h =
       let start = one_start c in
       let g = start.args in
-      (marked_wf g.mark t start.pre.0 h.wf, light (one t h) g.out.now g.m (fits start t h))
+      (marked_wf g.mark t start.requires.0 h.wf, light (one t h) g.out.now g.m (fits start t h))
 
 -- ---- with any other n
-abbrev more_start : tie.Else1 → tie.Start
+abbrev more_start : tie.Else-n-eq1 → tie.Start
 more_start c = c.before.before.before
 
-module _ (c : tie.Else1) where
+module _ (c : tie.Else-n-eq1) where
   longer : (t : Tree) (h : Is (more_start c) t)
       → let n = (more_start c).args.n in
       let μ = (more_start c).args.mark in
       Becomes (timed μ n t) (product μ (of_list (to_list (of_list (others h.members)) ++ (integer μ (signed n) ∷ [])))) (records t + 1)
-  longer t h = longer_becomes _ _ t refl (more_start c).ranges.n.fits c.if1.false h.left
+  longer t h = longer_becomes _ _ t refl (more_start c).ranges.n.fits c.if-n-eq1.false h.left
 
   longer_room : Room (more_start c) (records (asked (more_start c)) + 1)
   longer_room =
       let start = more_start c in
-      room (longer (asked start) (is_asked start)) start.args.out.now start.args.m start.pre.1.2
+      room (longer (asked start) (is_asked start)) start.args.out.now start.args.m start.requires.1.2
 
   longer_light : (t : Tree) (h : Is (more_start c) t)
       → let g = (more_start c).args in Light (lengthened g.mark g.n (of_list (others h.members)))
   longer_light t h =
       let start = more_start c in
       let g = start.args in
-      (left_longer_wf h g.mark g.n start.pre.0 start.fits.n.fits, light (longer t h) g.out.now g.m (fits start t h))
+      (left_longer_wf h g.mark g.n start.requires.0 start.ranges.n.fits, light (longer t h) g.out.now g.m (fits start t h))
 
-write_record_requires : tie.Need-write-record-requires
+write_record_requires : tie.Need-write_record-requires
 write_record_requires c κs = omega (arith, one_room c.before, left_records (is_asked (one_start c.before)))
 
-copy_others_requires : tie.Need-copy-others-requires
+copy_others_requires : tie.Need-copy_others-end-requires
 copy_others_requires c κs =
-    let wrote = c.before.before.before in
-    let test = wrote.before.before in
-    let h = is_asked (one_start test) in
-    (h.mark, h.members, h.whole, omega (arith, one_room test, left_records h, wrote.write-record.auto.0))
+    let h = is_asked (one_start c.before.before.before.before.before) in
+    (h.mark, h.members, h.whole, omega (arith, one_room c.before.before.before.before.before, left_records h, c.write_record.auto.d))
 
 -- where the members were copied: the product as it stands there, before it is closed
-module _ (c : tie.After-copy-others) where
-  abbrev one_test : tie.Then1
+module _ (c : tie.After-copy_others-end) where
+  abbrev one_test : tie.Then-n-eq1
   one_test = c.before.before.before.before.before.before
 
   unclosed_one : (t : Tree) → Is (one_start one_test) t
-      → let g = (one_start one_test).args in c.copy-others.new.0 ≡ put g.out.now (g.m * 16) (unclosed (marked g.mark t))
+      → let g = (one_start one_test).args in c.copy_others-end.new.0 ≡ put g.out.now (g.m * 16) (unclosed (marked g.mark t))
   unclosed_one t h =
       let start = one_start one_test in
       let g = start.args in
@@ -120,101 +118,93 @@ module _ (c : tie.After-copy-others) where
 
 close_requires : tie.Need-close-requires
 close_requires c κs =
-    let called = c.before.before.before in
-    let test = one_test called in
+    let test = one_test c.before.before.before in
     let start = one_start test in
     let t = asked start in
     let h = is_asked start in
-    (_, put_closable _ (one_light test t h) (left_node h _) _ _ _ (low start) (unclosed_one called t h))
+    (_, put_closable _ (one_light test t h) (left_node h _) _ _ _ (low start) (unclosed_one c.before.before.before t h))
 
-returns : tie.Need-returns
+returns : tie.Need-returns-then-n-eq1
 returns c t h =
-    let called = c.before.before.before.before.before.before in
-    let test = one_test called in
+    let test = one_test c.before.before.before.before.before.before in
     let start = one_start test in
     let g = start.args in
-    let copy = called.copy-others.ensures h.mark h.members h.whole in
+    let copy = c.copy_others-end.ensures h.mark h.members h.whole in
     written (one test t h) g.out.now g.m _ _ (copy.0 ∙ omega (arith, left_records h))
-    (put_closed _ (one_light test t h) (left_node h _) _ _ _ (low start) (unclosed_one called t h) _
-    c.before.before.close.ensures)
+    (put_closed _ (one_light test t h) (left_node h _) _ _ _ (low start) (unclosed_one c.before.before.before.before.before.before t h) _
+    c.close.ensures)
 
-add_write_record : tie.Need-overflow-add-write-record
+add_write_record : tie.Need-overflow_add-many
 add_write_record c =
-    let test = c.before in
-    record { fits = omega (arith, longer_room test, left_many (is_asked (more_start test))) }
+    record { fits = omega (arith, longer_room c.before, left_many (is_asked (more_start c.before))) }
 
-write_record_requires_2 : tie.Need-write-record-requires-2
+write_record_requires_2 : tie.Need-write_record-requires-2
 write_record_requires_2 c κs = omega (arith, longer_room c.before, left_records (is_asked (more_start c.before)))
 
-copy_others_requires_2 : tie.Need-copy-others-requires-2
+copy_others_requires_2 : tie.Need-copy_others-e-requires
 copy_others_requires_2 c κs =
-    let wrote = c.before.before.before in
-    let test = wrote.before.before in
-    let h = is_asked (more_start test) in
-    (h.mark, h.members, h.whole, omega (arith, longer_room test, left_records h, wrote.write-record2.auto.0))
+    let h = is_asked (more_start c.before.before.before.before.before) in
+    (h.mark, h.members, h.whole, omega (arith, longer_room c.before.before.before.before.before, left_records h, c.write_record-2.auto.d))
 
 -- where the members were copied: the record after them
 abbrev Copied : Type 0
-Copied = tie.After-copy-others2
+Copied = tie.After-copy_others-e
 
-abbrev wrote_of : Copied → tie.After-write-record2
+abbrev wrote_of : Copied → tie.After-write_record-2
 wrote_of c = c.before.before.before.before
 
-abbrev more_of : Copied → tie.Else1
+abbrev more_of : Copied → tie.Else-n-eq1
 more_of c = (wrote_of c).before.before
 
-copied_to : (c : Copied) (t : Tree) → Is (more_start (more_of c)) t → c.copy-others2.result ≡ (more_start (more_of c)).args.m + records t
-copied_to c t h = (c.copy-others2.ensures h.mark h.members h.whole).0 ∙ omega (arith, left_records h)
+copied_to : (c : Copied) (t : Tree) → Is (more_start (more_of c)) t → c.copy_others-e.result ≡ (more_start (more_of c)).args.m + records t
+copied_to c t h = (c.copy_others-e.ensures h.mark h.members h.whole).0 ∙ omega (arith, left_records h)
 
-write_record_requires_3 : tie.Need-write-record-requires-3
+write_record_requires_3 : tie.Need-write_record-requires-3
 write_record_requires_3 c κs =
-    let copied = c.before.before.before in
-    let start = more_start (more_of copied) in
-    let to = copied_to copied (asked start) (is_asked start) in
-    omega (arith, to, longer_room (more_of copied), copied.copy-others2.auto.0, (wrote_of copied).write-record2.auto.0)
+    let start = more_start (more_of c.before.before.before) in
+    let to = copied_to c.before.before.before (asked start) (is_asked start) in
+    omega (arith, to, longer_room (more_of c.before.before.before), c.copy_others-e.auto.out, (wrote_of c.before.before.before).write_record-2.auto.d)
 
 -- where the coefficient was written: likewise
-module _ (c : tie.After-write-record3) where
+module _ (c : tie.After-write_record-3) where
   abbrev copied_before : Copied
   copied_before = c.before.before.before.before
 
   unclosed_longer : (t : Tree) (h : Is (more_start (more_of copied_before)) t)
       → let g = (more_start (more_of copied_before)).args in
-      c.write-record3.new.0 ≡ put g.out.now (g.m * 16) (unclosed (lengthened g.mark g.n (of_list (others h.members))))
+      c.write_record-3.new.d ≡ put g.out.now (g.m * 16) (unclosed (lengthened g.mark g.n (of_list (others h.members))))
   unclosed_longer t h =
       let copied = copied_before in
       let test = more_of copied in
       let start = more_start test in
       let g = start.args in
-      let copy = copied.copy-others2.ensures h.mark h.members h.whole in
-      left_longer_written h g.out.now _ _ g.m g.mark copy.1 _ g.n _ start.fits.n.fits (copied_to copied t h)
-      (omega (arith, longer_room test, as_many start t h)) (wrote_of copied).write-record2.ensures c.write-record3.ensures
+      let copy = copied.copy_others-e.ensures h.mark h.members h.whole in
+      left_longer_written h g.out.now _ _ g.m g.mark copy.1 _ g.n _ start.ranges.n.fits (copied_to copied t h)
+      (omega (arith, longer_room test, as_many start t h)) (wrote_of copied).write_record-2.ensures c.write_record-3.ensures
 
 close_requires_2 : tie.Need-close-requires-2
 close_requires_2 c κs =
-    let wrote = c.before.before.before in
-    let test = more_of (copied_before wrote) in
+    let test = more_of (copied_before c.before.before.before) in
     let start = more_start test in
     let t = asked start in
     let h = is_asked start in
-    (_, put_closable _ (longer_light test t h) (product_node _ _) _ _ _ (low start) (unclosed_longer wrote t h))
+    (_, put_closable _ (longer_light test t h) (product_node _ _) _ _ _ (low start) (unclosed_longer c.before.before.before t h))
 
-add_t22 : tie.Need-overflow-add-t22
+add_t22 : tie.Need-overflow_add-result
 add_t22 c =
     let copied = copied_before c.before.before.before.before.before.before in
     let start = more_start (more_of copied) in
     record { fits = omega (arith, copied_to copied (asked start) (is_asked start), longer_room (more_of copied)) }
 
-returns_2 : tie.Need-returns-2
+returns_2 : tie.Need-returns
 returns_2 c t h =
-    let wrote = c.before.before.before.before.before.before in
-    let copied = copied_before wrote in
+    let copied = copied_before c.before.before.before.before.before.before in
     let test = more_of copied in
     let start = more_start test in
     let g = start.args in
     written (longer test t h) g.out.now g.m _ _ (omega (arith, copied_to copied t h))
-    (put_closed _ (longer_light test t h) (product_node _ _) _ _ _ (low start) (unclosed_longer wrote t h) _
-    c.before.before.close2.ensures)
+    (put_closed _ (longer_light test t h) (product_node _ _) _ _ _ (low start) (unclosed_longer c.before.before.before.before.before.before t h) _
+    c.close-2.ensures)
 
 pub write_without_spec : {M : Type 1} → statement M
 write_without_spec =
