@@ -115,12 +115,12 @@ loop_again c =
     let past = c.skip_tree-e in
     ⊎_elim
     (λ w.
-    let copy = w.out-is in
+    let copy = w.copy_tree in
     let size : (t : Tree) → Told note (entry_of (head_of c.before.before.before)).args.s.now l.at t → past.result - l.at ≡ records t =
     λ t h. omega (arith, past.ensures note t h) in (
-      ap length w.out-is ∙ copy.kept.0 ∙ l.invariant.0,
+      ap length w.out-is ∙ copy.auto.out ∙ l.invariant.0,
       λ μ f h r. rw (w.out-is, w.to-is)
-          (copying_more (l.invariant.1 μ f h r) more (omega (arith, kind, w.if-kind-gt-INTEGER.true)) r copy.last.0 past.result (past.ensures note)
+          (copying_more (l.invariant.1 μ f h r) more (omega (arith, kind, w.if-kind-gt-INTEGER.true)) r copy.new.out past.result (past.ensures note)
           (λ t g. copy.ensures t (sized _ _ _ t g (size t g)))),
     ))
     (λ w. (

@@ -17,16 +17,6 @@ use Rattle.rebuilt.proofs.write_part.Tie as tie
 abbrev start_of : tie.After-shared_slice_known-1 → tie.Start
 start_of c = c.before.before
 
--- from the end of each arm, its call
-abbrev term_of_lem : tie.After-slice_known-in-Term-1 → tie.After-write_term-arg-1
-term_of_lem c = c.before.before.before
-
-abbrev power_of : tie.After-slice_known-in-Power-1 → tie.After-write_power-arg-1
-power_of c = c.before.before.before
-
-abbrev number_of : tie.After-slice_known-in-Number-1 → tie.After-write_number-arg-1
-number_of c = c.before.before.before
-
 -- where the member that the part becomes is y, there is room for y, and an answer for y is the answer
 module _ (c : tie.Start) where
   fitting : (y : Tree × Bool) → join c.requires.0 c.requires.1 ≡ y → Fitting y c.args.out.now c.args.m
@@ -59,10 +49,9 @@ write_number_requires c κs =
 
 returns : tie.Need-returns-in-Term
 returns c b x h =
-    let form = (term_of_lem c).before.before.before.before.before in
-    let start = start_of form.before.before in
+    let start = c.before.before.before.before.before.before.before in
     let w = c.write_term in
-    let t = a_term start.args.s.now form.c.given.1 b x h in
+    let t = a_term start.args.s.now c.in-Term.is b x h in
     answered start b x w.new.out w.result _ t.2 (w.ensures t.0 t.1)
 
 -- a term out of range
@@ -71,18 +60,16 @@ returns_2 c b x h = (a_wide c.args.s.now c.in-Wide.is b x h, refl)
 
 returns_3 : tie.Need-returns-in-Power
 returns_3 c b x h =
-    let form = (power_of c).before.before.before.before.before in
-    let start = start_of form.before.before in
+    let start = c.before.before.before.before.before.before.before in
     let w = c.write_power in
-    let t = a_power start.args.s.now form.c2.given.1 b x h in
+    let t = a_power start.args.s.now c.in-Power.is b x h in
     answered start b x w.new.out w.result _ t.2 (w.ensures t.0 t.1)
 
 returns_4 : tie.Need-returns-in-Number
 returns_4 c b x h =
-    let form = (number_of c).before.before.before.before.before in
-    let start = start_of form.before.before in
+    let start = c.before.before.before.before.before.before.before in
     let w = c.write_number in
-    let t = a_number start.args.s.now form.c3.given.1 b x h in
+    let t = a_number start.args.s.now c.in-Number.is b x h in
     answered start b x w.new.out w.result _ t.2 (w.ensures t.0 t.1)
 
 pub write_part_spec : {M : Type 1} → statement M

@@ -114,17 +114,15 @@ returns c x h =
 
 returns_2 : tie.Need-returns-in-At
 returns_2 c x h =
-    let answer = (at_of c).before.before.before.before.before.before.before in
-    let known = answer.before.before in
+    let known = c.before.before.before.before.before in
     let w = c.write_times in
-    answered known h w.new.out w.result (w.ensures (rest known h) (stands_for_lem known h _ answer.rest.given.1).0)
+    answered known h w.new.out w.result (w.ensures (rest known h) (stands_for_lem known h _ c.in-At.is).0)
 
 returns_3 : tie.Need-returns-in-Others
 returns_3 c x h =
-    let answer = (without_of c).before.before.before.before.before.before.before in
-    let known = answer.before.before in
+    let known = c.before.before.before.before.before in
     let w = c.write_without in
-    answered known h w.new.out w.result (w.ensures (rest known h) (stands_for_lem known h _ answer.rest2.given.1).1)
+    answered known h w.new.out w.result (w.ensures (rest known h) (stands_for_lem known h _ c.in-Others.is).1)
 
 pub write_term_spec : {M : Type 1} → statement M
 write_term_spec =

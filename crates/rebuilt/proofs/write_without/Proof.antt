@@ -108,13 +108,13 @@ module _ (c : tie.After-copy_others-end) where
   one_test = c.before.before.before.before.before.before
 
   unclosed_one : (t : Tree) → Is (one_start one_test) t
-      → let g = (one_start one_test).args in c.copy_others-end.new.0 ≡ put g.out.now (g.m * 16) (unclosed (marked g.mark t))
+      → let g = (one_start one_test).args in c.copy_others-end.new.out ≡ put g.out.now (g.m * 16) (unclosed (marked g.mark t))
   unclosed_one t h =
       let start = one_start one_test in
       let g = start.args in
-      let copy = c.copy-others.ensures h.mark h.members h.whole in
+      let copy = c.copy_others-end.ensures h.mark h.members h.whole in
       left_written h g.out.now _ _ g.m g.mark copy.1 (omega (arith, one_room one_test, as_many start t h))
-      c.before.before.before.before.write-record.ensures
+      c.write_record.ensures
 
 close_requires : tie.Need-close-requires
 close_requires c κs =
