@@ -18,7 +18,7 @@ abbrev Start : Type 0
 Start = tie.After-read2
 
 abbrev Skipped : Type 0
-Skipped = tie.After-skip-tree
+Skipped = tie.After-skip_tree
 
 abbrev entry_of : Start → Entry
 entry_of c = c.before.before
@@ -31,23 +31,23 @@ member : (c : Skipped) (t : Tree)
     → let start = start_of c in
     let g = (entry_of start).args in
     let at = g.p + start.read2.result in
-    Listed g.terms g.s.now g.p g.i t → Sized g.s.now at (c.skip-tree.result - at) t
+    Listed g.terms g.s.now g.p g.i t → Sized g.s.now at (c.skip_tree.result - at) t
 member c t h =
     let there = entry_there h _ (start_of c).read2.ensures.0 in
-    record { there = there; size = omega (arith, c.skip-tree.ensures note t there) }
+    record { there = there; size = omega (arith, c.skip_tree.ensures note t there) }
 
-add_start : tie.Need-overflow-add-start
+add_start : tie.Need-overflow_add-start
 add_start c = record { fits = omega (arith, record_within (entry_of c).requires.1.there, c.read2.ensures.0) }
 
-skip_tree_requires : tie.Need-skip-tree-requires
+skip_tree_requires : tie.Need-skip_tree-requires
 skip_tree_requires c κs = some_told (entry_there (entry_of c).requires.1 _ c.read2.ensures.0)
 
-sub_part_of : tie.Need-overflow-sub-part-of
+sub_part_of : tie.Need-overflow_sub-skip_tree
 sub_part_of c =
     let q = (entry_of (start_of c)).requires in
-    omega (arith, c.skip-tree.ensures note q.0 (entry_there q.1 _ (start_of c).read2.ensures.0))
+    omega (arith, c.skip_tree.ensures note q.0 (entry_there q.1 _ (start_of c).read2.ensures.0))
 
-part_of_requires : tie.Need-part-of-requires
+part_of_requires : tie.Need-part_of-requires
 part_of_requires c κs =
     let q = (entry_of (start_of c)).requires in
     (q.0, member c q.0 q.1)

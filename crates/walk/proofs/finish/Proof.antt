@@ -22,10 +22,10 @@ abbrev Entry : Type 0
 Entry = tie.Start
 
 abbrev Kept : Type 0
-Kept = tie.After-keep
+Kept = tie.After-keep-kept
 
 abbrev Wrote : Type 0
-Wrote = tie.After-write-part
+Wrote = tie.After-write_part-w
 
 abbrev entry_of : Kept → Entry
 entry_of c = c.before.before.before.before
@@ -48,26 +48,24 @@ itself c {t = t} h k =
 -- the answer for the turn of the member t
 answered : (c : Kept) {x : Like (entry_of c).args.terms} {t : Tree} → Turns (entry_of c) x t
     → let g = (entry_of c).args in
-    KeptIs (g.alone && stays g.terms t) t g.out.now c.keep.new.0 g.e c.keep.result
-answered c {t = t} h = c.keep.ensures t h.entry
+    KeptIs (g.alone && stays g.terms t) t g.out.now c.keep-kept.new.out g.e c.keep-kept.result
+answered c {t = t} h = c.keep-kept.ensures t h.entry
 
-keep_requires : tie.Need-keep-requires
+keep_requires : tie.Need-keep-kept-requires
 keep_requires c κs =
-    let start = c.before.before.before in
-    let f = start.requires in
+    let f = c.requires in
     record {
       member = f.member;
       entry = f.turned.entry;
       low = f.low;
-      room = λ k. omega (arith, f.fitting.room, ap (λ (y : Tree × Bool). records y.0) (itself start f.turned k));
+      room = λ k. omega (arith, f.fitting.room, ap (λ (y : Tree × Bool). records y.0) (itself c.before.before.before f.turned k));
     }
 
-returns : tie.Need-returns
+returns : tie.Need-returns-then-kept-gt0
 returns c x t h =
-    let kept = c.before.before.before in
-    let g = (entry_of kept).args in
-    let k = kept_where (g.alone && stays g.terms t) t _ _ g.e _ (answered kept h) c.if1.true in
-    let is = itself (entry_of kept) h k.0 in
+    let g = (entry_of c.before.before.before).args in
+    let k = kept_where (g.alone && stays g.terms t) t _ _ g.e _ (answered c.before.before.before h) c.if-kept-gt0.true in
+    let is = itself (entry_of c.before.before.before) h k.0 in
     let tree = ap (λ (y : Tree × Bool). y.0) is in (
       k.0,
       tree,
@@ -78,38 +76,34 @@ returns c x t h =
       ),
     )
 
-write_part_requires : tie.Need-write-part-requires
+write_part_requires : tie.Need-write_part-w-requires
 write_part_requires c κs =
-    let kept = c.before.before.before.before in
-    let start = entry_of kept in
-    let f = start.pre in
+    let start = entry_of c.before.before.before.before in
+    let f = start.requires in
     let g = start.args in
-    let n = new_where (g.alone && stays g.terms f.member) f.member _ _ g.e _ (answered kept f.turned) c.before.if1.false in
+    let n = new_where (g.alone && stays g.terms f.member) f.member _ _ g.e _ (answered c.before.before.before.before f.turned) c.if-kept-gt0.false in
     (g.terms, f.current, f.turned.shown, subst (λ o. Fitting (join g.terms f.current) o g.e) (sym n.1) f.fitting)
 
--- ---- it was not kept
+-- ---- it was not c.before.before.before.before
 module _ (c : Wrote) {x : Like (entry_of (kept_of c)).args.terms} {t : Tree} (h : Turns (entry_of (kept_of c)) x t) where
-  new : let g = (entry_of (kept_of c)).args in ((g.alone && stays g.terms t) ≡ false) × ((kept_of c).keep.new.0 ≡ g.out.now)
-  new = let g = (entry_of (kept_of c)).args in new_where (g.alone && stays g.terms t) t _ _ g.e _ (answered (kept_of c) h) c.before.before.if1.false
+  new : let g = (entry_of (kept_of c)).args in ((g.alone && stays g.terms t) ≡ false) × ((kept_of c).keep-kept.new.out ≡ g.out.now)
+  new = let g = (entry_of (kept_of c)).args in new_where (g.alone && stays g.terms t) t _ _ g.e _ (answered (kept_of c) h) c.if-kept-gt0.false
 
-  told : (r : Answer) → c.write-part.result ≡ r
+  told : (r : Answer) → c.write_part-w.result ≡ r
       → let g = (entry_of (kept_of c)).args in
-      WrittenIs (join g.terms x) g.out.now c.write-part.new.0 g.e r
+      WrittenIs (join g.terms x) g.out.now c.write_part-w.new.out g.e r
   told r is =
       let g = (entry_of (kept_of c)).args in
-      subst (λ o. WrittenIs (join g.terms x) o c.write-part.new.0 g.e r) new.1
-      (subst (WrittenIs (join g.terms x) (kept_of c).keep.new.0 c.write-part.new.0 g.e) is (c.write-part.ensures g.terms x h.shown))
+      subst (λ o. WrittenIs (join g.terms x) o c.write_part-w.new.out g.e r) new.1
+      (subst (WrittenIs (join g.terms x) (kept_of c).keep-kept.new.out c.write_part-w.new.out g.e) is (c.write_part-w.ensures g.terms x h.shown))
 
-returns_2 : tie.Need-returns-2
+returns_2 : tie.Need-returns-in-To
 returns_2 c x t h =
-    let wrote = c.before.before.before.before.before in
-    let answer = c.before.w.given in
-    ((new wrote h).0, told wrote h (To answer.0.0) answer.1)
+    ((new c.before.before.before h).0, told c.before.before.before h (To c.in-To.x) c.in-To.is)
 
-returns_3 : tie.Need-returns-3
+returns_3 : tie.Need-returns-in-Over
 returns_3 c x t h =
-    let wrote = c.before.before.before.before in
-    ((new wrote h).0, told wrote h Over c.enum_told.given.1)
+    ((new c.before.before.before h).0, told c.before.before.before h Over c.in-Over.is)
 
 pub finish_spec : {M : Type 1} → statement M
 finish_spec =

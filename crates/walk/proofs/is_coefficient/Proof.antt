@@ -24,36 +24,34 @@ abbrev kinded_of : Numbered → Kinded
 kinded_of c = c.before.before
 
 kind_requires : tie.Need-kind-requires
-kind_requires c κs = record_within c.before.requires.there
+kind_requires c κs = record_within c.requires.there
 
-returns : tie.Need-returns
-returns c how t h = sym ((other_at t h (omega (arith, c.before.kind.ensures, c.if1.true))).1 _)
+returns : tie.Need-returns-then-kind-gt-INTEGER
+returns c how t h = sym ((other_at t h (omega (arith, c.kind.ensures, c.if-kind-gt-INTEGER.true))).1 _)
 
 bits_requires : tie.Need-bits-requires
 bits_requires c κs = record_within (entry_of c.before).requires.there
 
-returns_2 : tie.Need-returns-2
+returns_2 : tie.Need-returns-then-bits-eq1
 returns_2 c how t h =
-    let numbered = c.before in
-    let kinded = kinded_of numbered in
+    let kinded = kinded_of c.before in
     let g = (entry_of kinded).args in
-    let one = eq-eqb _ 1 (sym numbered.bits.ensures ∙ c.if2.true) in
+    let one = eq-eqb _ 1 (sym c.bits.ensures ∙ c.if-bits-eq1.true) in
     sym
-    (coefficient_at g.mark t h (omega (arith, kinded.kind.ensures, numbered.before.if1.false))
+    (coefficient_at g.mark t h (omega (arith, kinded.kind.ensures, c.if-kind-gt-INTEGER.false))
     ∙ ap (λ b. not b && eqb (mark_in g.s.now g.i) g.mark) one)
 
 mark_requires : tie.Need-mark-requires
 mark_requires c κs = record_within (entry_of (kinded_of c.before)).requires.there
 
-returns_3 : tie.Need-returns-3
+returns_3 : tie.Need-returns
 returns_3 c how t h =
-    let numbered = c.before.before in
-    let kinded = kinded_of numbered in
+    let kinded = kinded_of c.before.before in
     let g = (entry_of kinded).args in
-    let other = ne_eqb _ 1 (λ e. c.before.if2.false (numbered.bits.ensures ∙ e)) in
+    let other = ne_eqb _ 1 (λ e. c.if-bits-eq1.false (c.bits.ensures ∙ e)) in
     ap (λ m. eqb m g.mark) c.mark.ensures.0
     ∙ sym
-    (coefficient_at g.mark t h (omega (arith, kinded.kind.ensures, numbered.before.if1.false))
+    (coefficient_at g.mark t h (omega (arith, kinded.kind.ensures, c.if-kind-gt-INTEGER.false))
     ∙ ap (λ b. not b && eqb (mark_in g.s.now g.i) g.mark) other)
 
 pub is_coefficient_spec : {M : Type 1} → statement M

@@ -14,20 +14,19 @@ Read = tie.After-read2
 abbrev entry_of : Read → tie.Start
 entry_of c = c.before.before.before
 
-add_start : tie.Need-overflow-add-start
+add_start : tie.Need-overflow_add-start
 add_start c = record { fits = omega (arith, record_within (entry_there (entry_of c).requires.1 _ c.read2.ensures.0)) }
 
 stays_requires : tie.Need-stays-requires
 stays_requires c κs = some_told (entry_there (entry_of c).requires.1 _ c.read2.ensures.0)
 
-returns : tie.Need-returns
+returns : tie.Need-returns-then-alone
 returns c t h =
-    let read = c.before in
-    c.stays.ensures note t (entry_there h _ read.read2.ensures.0)
-    ∙ ap (λ b. b && stays (entry_of read).args.terms t) (sym read.before.if1.true)
+    c.stays.ensures note t (entry_there h _ c.read2.ensures.0)
+    ∙ ap (λ b. b && stays (entry_of c.before).args.terms t) (sym c.if-alone.true)
 
-returns_2 : tie.Need-returns-2
-returns_2 c t h = ap (λ b. b && stays c.before.before.args.terms t) (sym c.if1.false)
+returns_2 : tie.Need-returns
+returns_2 c t h = ap (λ b. b && stays c.args.terms t) (sym c.if-alone.false)
 
 pub is_kept_spec : {M : Type 1} → statement M
 is_kept_spec =

@@ -20,13 +20,13 @@ abbrev Entry : Type 0
 Entry = tie.Start
 
 abbrev Asked : Type 0
-Asked = tie.After-is-kept
+Asked = tie.After-is_kept
 
 abbrev Read : Type 0
 Read = tie.After-read2
 
 abbrev Skipped : Type 0
-Skipped = tie.After-skip-tree
+Skipped = tie.After-skip_tree
 
 abbrev entry_of : Asked → Entry
 entry_of c = c.before.before.before
@@ -50,15 +50,15 @@ module _ (c : Read) {t : Tree} (h : Is (entry_of (asked_of c)) t) where
   there = entry_there h _ c.read2.ensures.0
 
   kept : let g = (entry_of (asked_of c)).args in (g.alone && stays g.terms t) ≡ true
-  kept = sym ((asked_of c).is-kept.ensures t h) ∙ c.before.if1.true
+  kept = sym ((asked_of c).is_kept.ensures t h) ∙ c.if-is_kept.true
 
 -- its records, and the room for them
 module _ (c : Skipped) where
   abbrev k : ℕ
-  k = let read = read_of c in c.skip-tree.result - ((start_of c).args.p + read.read2.result)
+  k = let read = read_of c in c.skip_tree.result - ((start_of c).args.p + read.read2.result)
 
   size : {t : Tree} → Is (start_of c) t → k ≡ records t
-  size {t = t} h = omega (arith, c.skip-tree.ensures note t (there (read_of c) h))
+  size {t = t} h = omega (arith, c.skip_tree.ensures note t (there (read_of c) h))
 
   abbrev its : Is (start_of c) (start_of c).requires.member
   its = (start_of c).requires.entry
@@ -69,48 +69,46 @@ module _ (c : Skipped) where
   room : let g = (start_of c).args in (g.e + k) * 16 ≤ length g.out.now
   room = omega (arith, size its, (start_of c).requires.room (kept (read_of c) its))
 
-add_start : tie.Need-overflow-add-start
+add_start : tie.Need-overflow_add-start
 add_start c = record { fits = omega (arith, record_within (there c (entry_of (asked_of c)).requires.entry)) }
 
-skip_tree_requires : tie.Need-skip-tree-requires
+skip_tree_requires : tie.Need-skip_tree-requires
 skip_tree_requires c κs = some_told (there c (entry_of (asked_of c)).requires.entry)
 
-sub_k : tie.Need-overflow-sub-k
-sub_k c = omega (arith, c.skip-tree.ensures note _ (there (read_of c) (its c)))
+sub_k : tie.Need-overflow_sub-k
+sub_k c = omega (arith, c.skip_tree.ensures note _ (there (read_of c) (its c)))
 
-mul_copy_bytes : tie.Need-overflow-mul-copy-bytes
+mul_copy_bytes : tie.Need-overflow_mul-e
 mul_copy_bytes c = record { fits = omega (arith, room c.before) }
 
-mul_copy_bytes_2 : tie.Need-overflow-mul-copy-bytes-2
+mul_copy_bytes_2 : tie.Need-overflow_mul-start
 mul_copy_bytes_2 c = record { fits = omega (arith, within c.before) }
 
-mul_copy_bytes_3 : tie.Need-overflow-mul-copy-bytes-3
+mul_copy_bytes_3 : tie.Need-overflow_mul-k
 mul_copy_bytes_3 c = record { fits = omega (arith, within c.before) }
 
-copy_bytes_requires : tie.Need-copy-bytes-requires
+copy_bytes_requires : tie.Need-copy_bytes-requires
 copy_bytes_requires c κs =
-    let skipped = c.before in
-    (omega (arith, room skipped), omega (arith, within skipped))
+    (omega (arith, room c.before), omega (arith, within c.before))
 
-add_result : tie.Need-overflow-add-result
+add_result : tie.Need-overflow_add-result
 add_result c = record { fits = omega (arith, room c.before.before.before.before) }
 
-returns : tie.Need-returns
+returns : tie.Need-returns-then-is_kept
 returns c t h =
-    let skipped = c.before.before.before.before in
-    let read = read_of skipped in
-    let g = (start_of skipped).args in
-    let n = size skipped h in
-    subst (λ b. KeptIs b t g.out.now c.before.before.copy-bytes.new.0 g.e (g.e + k skipped)) (sym (kept read h)) (
+    let read = read_of c.before.before.before.before in
+    let g = (start_of c.before.before.before.before).args in
+    let n = size c.before.before.before.before h in
+    subst (λ b. KeptIs b t g.out.now c.copy_bytes.new.dst g.e (g.e + k c.before.before.before.before)) (sym (kept read h)) (
       omega (arith, n),
-      copied g.out.now _ g.work.now (g.e * 16) (g.p + read.read2.result) (k skipped * 16) (encode_by note t) (there read h).stands
-          (omega (arith, encode_by_length note t, n)) c.before.before.copy-bytes.ensures,
+      copied g.out.now _ g.work.now (g.e * 16) (g.p + read.read2.result) (k c.before.before.before.before * 16) (encode_by note t) (there read h).stands
+          (omega (arith, encode_by_length note t, n)) c.copy_bytes.ensures,
     )
 
-returns_2 : tie.Need-returns-2
+returns_2 : tie.Need-returns
 returns_2 c t h =
     let g = (entry_of c.before).args in
-    subst (λ b. KeptIs b t g.out.now g.out.now g.e 0) (sym (sym (c.before.is-kept.ensures t h) ∙ c.if1.false)) (refl, refl)
+    subst (λ b. KeptIs b t g.out.now g.out.now g.e 0) (sym (sym (c.is_kept.ensures t h) ∙ c.if-is_kept.false)) (refl, refl)
 
 pub keep_spec : {M : Type 1} → statement M
 keep_spec =

@@ -7,29 +7,26 @@ use Rattle.walk.proofs.keep_lone.Tie as tie
 
 keep_requires : tie.Need-keep-requires
 keep_requires c κs =
-    let asked = c.before.before in
-    let k = asked.before.before.before.requires in
-    let is = sym asked.is-lone.ensures ∙ c.before.if1.true in
+    let k = c.requires in
+    let is = sym c.is_lone.ensures ∙ c.if-is_lone.true in
     record {
       member = k.member;
       entry = k.entry;
       low = k.low;
-      room = λ q. k.room (ap (λ b. b && stays asked.before.before.before.args.terms k.member) is ∙ q);
+      room = λ q. k.room (ap (λ b. b && stays c.args.terms k.member) is ∙ q);
     }
 
-returns : tie.Need-returns
+returns : tie.Need-returns-then-is_lone
 returns c t h =
-    let asked = c.before.before.before.before.before in
-    let g = asked.before.before.before.args in
-    let is = sym asked.is-lone.ensures ∙ c.before.before.before.before.if1.true in
-    subst (λ b. KeptIs (b && stays g.terms t) t g.out.now c.before.before.keep.new.0 g.e c.before.before.keep.result) (sym is)
-    (c.before.before.keep.ensures t h)
+    let g = c.args in
+    let is = sym c.is_lone.ensures ∙ c.if-is_lone.true in
+    subst (λ b. KeptIs (b && stays g.terms t) t g.out.now c.keep.new.out g.e c.keep.result) (sym is)
+    (c.keep.ensures t h)
 
-returns_2 : tie.Need-returns-2
+returns_2 : tie.Need-returns
 returns_2 c t h =
-    let asked = c.before in
-    let g = asked.before.before.before.args in
-    let is = sym asked.is-lone.ensures ∙ c.if1.false in
+    let g = c.args in
+    let is = sym c.is_lone.ensures ∙ c.if-is_lone.false in
     subst (λ b. KeptIs (b && stays g.terms t) t g.out.now g.out.now g.e 0) (sym is) (refl, refl)
 
 pub keep_lone_spec : {M : Type 1} → statement M

@@ -18,10 +18,10 @@ record Inv (work₀ : List ℕ) (p : ℕ) (terms : Bool) (n : ℕ) (work : List 
   most : k ≤ n
   state : (f : Forest) → Listable work₀ p f → Listing terms work₀ work p n f at k
 
-abbrev invariant_loop : tie.invariant-loop
+abbrev invariant_loop : tie.invariant-loop-k
 invariant_loop work₀ p terms n at₀ k₀ work at k = Inv work₀ p terms n work at k
 
-abbrev decreases_loop : tie.decreases-loop
+abbrev decreases_loop : tie.decreases-loop-k
 decreases_loop work₀ p terms n at₀ k₀ work at k = n - k
 
 -- places on the way through the code, and from each the one before it: the entry, after the members were counted, the head of the loop,
@@ -31,43 +31,43 @@ abbrev Entry : Type 0
 Entry = tie.Start invariant_loop decreases_loop
 
 abbrev Counted : Type 0
-Counted = tie.After-count invariant_loop decreases_loop
+Counted = tie.After-count-n invariant_loop decreases_loop
 
 abbrev Head : Type 0
-Head = tie.At-loop invariant_loop decreases_loop
+Head = tie.At-loop-k invariant_loop decreases_loop
 
 abbrev Passing : Type 0
-Passing = tie.In-loop invariant_loop decreases_loop
+Passing = tie.In-loop-k invariant_loop decreases_loop
 
 abbrev Noted : Type 0
-Noted = tie.After-note-at invariant_loop decreases_loop
+Noted = tie.After-note_at-v invariant_loop decreases_loop
 
 abbrev Kinded : Type 0
 Kinded = tie.After-kind invariant_loop decreases_loop
 
 abbrev Keyed : Type 0
-Keyed = tie.After-part-key invariant_loop decreases_loop
+Keyed = tie.After-part_key-key invariant_loop decreases_loop
 
 abbrev Halved : Type 0
-Halved = tie.After-key-of invariant_loop decreases_loop
+Halved = tie.After-key_of invariant_loop decreases_loop
 
 abbrev Wrote : Type 0
-Wrote = tie.After-write-entry invariant_loop decreases_loop
+Wrote = tie.After-write_entry invariant_loop decreases_loop
 
 abbrev Measured : Type 0
-Measured = tie.After-records-of invariant_loop decreases_loop
+Measured = tie.After-records_of-at invariant_loop decreases_loop
 
 abbrev entry_of : Counted → Entry
-entry_of c = c.before.before.before
+entry_of c = c.before.before
 
 abbrev counted_of : Head → Counted
 counted_of c = c.before
 
 abbrev passing_of : Noted → Passing
-passing_of c = c.before.before
+passing_of c = c.before
 
 abbrev noted_of : Kinded → Noted
-noted_of c = c.before.before
+noted_of c = c.before
 
 abbrev kinded_of : Keyed → Kinded
 kinded_of c = c.before
@@ -93,9 +93,9 @@ record Bounds (p n : ℕ) (work : List ℕ) : Type 0 where
 bounds : (c : Head) {f : Forest}
     → let counted = counted_of c in
     let g = (entry_of counted).args in
-    Listable g.work.now g.p f → Bounds g.p counted.count.result c.loop.work
+    Listable g.work.now g.p f → Bounds g.p counted.count-n.result c.loop-k.work
 bounds c h =
-    record { low = omega (arith, h.low, (counted_of c).count.ensures.0); within = omega (arith, h.within, c.loop.invariant.long) }
+    record { low = omega (arith, h.low, (counted_of c).count-n.ensures.0); within = omega (arith, h.within, c.loop-k.invariant.long) }
 
 -- the members f are to be listed
 abbrev Members : Passing → Forest → Type 0
@@ -106,24 +106,24 @@ module _ (c : Passing) {f : Forest} (h : Members c f) where
   state :
       let counted = counted_of c.before in
       let g = (entry_of counted).args in
-      let u = c.before.loop in
-      Listing g.terms g.work.now u.work g.p counted.count.result f u.at u.k
-  state = c.before.loop.invariant.state f h
+      let u = c.loop-k in
+      Listing g.terms g.work.now u.work g.p counted.count-n.result f u.at u.k
+  state = c.loop-k.invariant.state f h
 
   abbrev next :
-      let u = c.before.loop in
-      FirstOf note u.work u.at ((counted_of c.before).count.result - u.k) state.others
-  next = head state c.loop-test.true
+      let u = c.loop-k in
+      FirstOf note u.work u.at ((counted_of c.before).count-n.result - u.k) state.others
+  next = head state c.loop-k-test.true
 
-  there : let u = c.before.loop in TreeBy note u.work u.at next.tree
-  there = told_noted next.there (head_light state c.loop-test.true h.light)
+  there : let u = c.loop-k in TreeBy note u.work u.at next.tree
+  there = told_noted next.there (head_light state c.loop-k-test.true h.light)
 
 -- its kind and its note are known
 known : (c : Kinded) {f : Forest}
     → let noted = noted_of c in
     let passing = passing_of noted in
-    let u = passing.before.loop in
-    (h : Members passing f) → Known u.work u.at c.kind.result noted.note-at.result (next passing h).tree
+    let u = passing.loop-k in
+    (h : Members passing f) → Known u.work u.at c.kind.result noted.note_at-v.result (next passing h).tree
 known c h =
     let noted = noted_of c in
     let passing = passing_of noted in
@@ -131,7 +131,7 @@ known c h =
     record {
       there = there passing h;
       kind_known = c.kind.ensures ∙ kind_number_lem t.there;
-      note_known = noted.note-at.ensures t.tree (there passing h);
+      note_known = noted.note_at-v.ensures t.tree (there passing h);
     }
 
 -- and the 15 bits of its part's key
@@ -143,88 +143,87 @@ key_is : (c : Halved) {f : Forest}
 unfolding short_key
 key_is c h =
     let keyed = keyed_of c in
-    ap (λ x. x % 32768) c.key_of.ensures ∙ ap short_key (keyed.part-key.ensures (next (around keyed) h).tree (known (kinded_of keyed) h))
+    ap (λ x. x % 32768) c.key_of.ensures ∙ ap short_key (keyed.part_key-key.ensures (next (around keyed) h).tree (known (kinded_of keyed) h))
 
 -- the members that are listed on entry
-members : (c : Passing) → Members c (entry_of (counted_of c.before)).pre.0
-members c = (entry_of (counted_of c.before)).pre.1
+members : (c : Passing) → Members c (entry_of (counted_of c.before)).requires.0
+members c = (entry_of (counted_of c.before)).requires.1
 
-room : (c : Passing) → c.before.loop.k * 4 + 4 ≤ length c.before.loop.work
+room : (c : Passing) → c.loop-k.k * 4 + 4 ≤ length c.loop-k.work
 room c =
-    let b = bounds c.before (entry_of (counted_of c.before)).pre.1 in
-    omega (arith, b.low, b.within, c.loop-test.true)
+    let b = bounds c.before (entry_of (counted_of c.before)).requires.1 in
+    omega (arith, b.low, b.within, c.loop-k-test.true)
 
-count_requires : tie.Need-count-requires invariant_loop decreases_loop
+count_requires : tie.Need-count-n-requires invariant_loop decreases_loop
 count_requires c κs =
-    let q = c.before.before.requires in
+    let q = c.requires in
     omega (arith, q.1.within)
 
-add_at : tie.Need-overflow-add-at invariant_loop decreases_loop
+add_at : tie.Need-overflow_add-at invariant_loop decreases_loop
 add_at c = record { fits = omega (arith, (entry_of c).requires.1.within) }
 
-loop_holds : tie.Need-loop-init invariant_loop decreases_loop
-loop_holds c = record { long = refl; most = omega arith; state = λ f h. listing_begins _ h c.count.ensures.0 }
+loop_holds : tie.Need-loop-k-init invariant_loop decreases_loop
+loop_holds c = record { long = refl; most = omega arith; state = λ f h. listing_begins _ h c.count-n.ensures.0 }
 
-note_at_requires : tie.Need-note-at-requires invariant_loop decreases_loop
+note_at_requires : tie.Need-note_at-v-requires invariant_loop decreases_loop
 note_at_requires c κs =
-    let h = members c.before in
-    ((next c.before h).tree, there c.before h)
+    let h = members c in
+    ((next c h).tree, there c h)
 
 kind_requires : tie.Need-kind-requires invariant_loop decreases_loop
 kind_requires c κs =
-    let passing = passing_of c.before in
+    let passing = passing_of c in
     record_within (next passing (members passing)).there
 
-part_key_requires : tie.Need-part-key-requires invariant_loop decreases_loop
+part_key_requires : tie.Need-part_key-key-requires invariant_loop decreases_loop
 part_key_requires c κs =
     let passing = passing_of (noted_of c) in
     let h = members passing in
     ((next passing h).tree, known c h)
 
-sub_write_entry : tie.Need-overflow-sub-write-entry invariant_loop decreases_loop
+sub_write_entry : tie.Need-overflow_sub-at invariant_loop decreases_loop
 sub_write_entry c =
     let passing = around c.before in
     omega (arith, (state passing (members passing)).past)
 
-write_entry_requires : tie.Need-write-entry-requires invariant_loop decreases_loop
+write_entry_requires : tie.Need-write_entry-requires invariant_loop decreases_loop
 write_entry_requires c κs = room (around (keyed_of c))
 
-add_at_2 : tie.Need-overflow-add-at-2 invariant_loop decreases_loop
+add_at_2 : tie.Need-overflow_add-at-in-loop-k invariant_loop decreases_loop
 add_at_2 c =
     let passing = around (keyed_of (halved_of (wrote_of c))) in
-    record { fits = omega (arith, record_within (next passing (members passing)).there, c.records-of.ensures) }
+    record { fits = omega (arith, record_within (next passing (members passing)).there, c.records_of-at.ensures) }
 
-add_k : tie.Need-overflow-add-k invariant_loop decreases_loop
+add_k : tie.Need-overflow_add-k invariant_loop decreases_loop
 add_k c = record { fits = omega (arith, room (around (keyed_of (halved_of (wrote_of c))))) }
 
-loop_again : tie.Need-loop-preserved invariant_loop decreases_loop
+loop_again : tie.Need-loop-k-preserved invariant_loop decreases_loop
 loop_again c =
     let wrote = wrote_of c in
     let halved = halved_of wrote in
     let keyed = keyed_of halved in
     let noted = noted_of (kinded_of keyed) in
     let passing = around keyed in
-    let u = passing.before.loop.inv in
-    let less = passing.loop-test.taken in
+    let u = passing.loop-k.invariant in
+    let less = passing.loop-k-test.true in
     record {
-      long = wrote.write-entry.kept.0 ∙ u.long;
+      long = wrote.write_entry.auto.work ∙ u.long;
       most = omega (arith, less);
       state = λ f h.
           let t = next passing h in
           let b = bounds passing.before h in
-          let note-is = noted.note-at.ensures t.tree (there passing h) in
-          listing_more (state passing h) less _ _ _ (omega (arith, c.records-of.ensures, note-is, note_size t.tree t.there.few))
+          let note-is = noted.note_at-v.ensures t.tree (there passing h) in
+          listing_more (state passing h) less _ _ _ (omega (arith, c.records_of-at.ensures, note-is, note_size t.tree t.there.few))
           (key_is halved h) h.stand.few
-          b.low b.within wrote.write-entry.ensures;
+          b.low b.within wrote.write_entry.ensures;
     }
 
 returns : tie.Need-returns invariant_loop decreases_loop
 returns c =
-    let here = c.before in
-    let u = here.loop.invariant in
+    let u = c.loop-k.invariant in
     λ f h.
-    let b = bounds here h in
-    listing_ends (u.state f h) c.loop-test.false u.most (counted_of here).count.ensures.0 b.low b.within
+    let b = bounds c.before h in
+    listing_ends (u.state f h) c.loop-k-test.false u.most (counted_of c.before).count-n.ensures.0 b.low b.within
 
 pub list_members_spec : {M : Type 1} → statement M
 list_members_spec =

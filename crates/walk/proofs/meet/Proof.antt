@@ -17,7 +17,7 @@ abbrev Keyed : Type 0
 Keyed = tie.After-read2
 
 abbrev Read : Type 0
-Read = tie.After-read22
+Read = tie.After-read2-2
 
 abbrev Merged : Type 0
 Merged = tie.After-merge
@@ -31,32 +31,30 @@ keyed_of c = c.before.before
 abbrev read_of : Merged → Read
 read_of c = c.before.before
 
-returns : tie.Need-returns
+returns : tie.Need-returns-then-read2-key
 returns c =
-    let key = c.before.read2 in
-    (λ b x t h keyed entry. apart_by_key b x t (λ e. c.if1.true (ap (λ x. x % 32768) key.ensures.0 ∙ entry.key ∙ e ∙ sym keyed)), λ h. tt)
+    let key = c.read2 in
+    (λ b x t h keyed entry. apart_by_key b x t (λ e. c.if-read2-key.true (ap (λ x. x % 32768) key.ensures.0 ∙ entry.key ∙ e ∙ sym keyed)), λ h. tt)
 
-add_start : tie.Need-overflow-add-start
-add_start c = record { fits = omega (arith, record_within (entry_of (keyed_of c)).requires.entry.there, c.read22.ensures.0) }
+add_start : tie.Need-overflow_add-start
+add_start c = record { fits = omega (arith, record_within (entry_of (keyed_of c)).requires.entry.there, c.read2-2.ensures.0) }
 
 merge_requires : tie.Need-merge-requires
 merge_requires c κs =
-    let read = c.before in
-    let q = (entry_of (keyed_of read)).requires in
+    let q = (entry_of (keyed_of c.before)).requires in
     record {
       flag = q.flag;
       current = q.current;
       later = q.later;
       shown = q.shown;
-      there = entry_there q.entry _ read.read22.ensures.0;
+      there = entry_there q.entry _ c.read2-2.ensures.0;
       enough = q.enough;
     }
 
-returns_2 : tie.Need-returns-2
+returns_2 : tie.Need-returns
 returns_2 c =
-    let merged = c.before.before in
-    let start = (read_of merged).read22 in
-    let says = merged.merge.ensures in
+    let start = (read_of c.before.before).read2-2 in
+    let says = c.merge.ensures in
     (λ b x t h keyed entry. says.0 b x t h (entry_there entry _ start.ensures.0), says.1 _)
 
 pub meet_spec : {M : Type 1} → statement M

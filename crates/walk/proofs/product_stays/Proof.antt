@@ -22,7 +22,7 @@ abbrev Counted : Type 0
 Counted = tie.After-count
 
 abbrev Second : Type 0
-Second = tie.After-kind2
+Second = tie.After-kind-k
 
 abbrev entry_of : First → Entry
 entry_of c = c.before.before
@@ -38,7 +38,7 @@ start_of c = entry_of (first_of (counted_of c))
 
 -- the first member is an integer
 begins : (c : Counted) → let g = (entry_of (first_of c)).args in kind g.s.now (g.i + 1) < 1
-begins c = omega (arith, (first_of c).kind.ensures, c.before.if1.false)
+begins c = omega (arith, (first_of c).kind.ensures, c.if-kind-gt-INTEGER.false)
 
 -- what is told of the product, by its two members
 told : (c : Second) {how : Tree → ℕ} {μ : ℕ} {f : Forest}
@@ -47,68 +47,60 @@ told : (c : Second) {how : Tree → ℕ} {μ : ℕ} {f : Forest}
     → product_stays μ (to_list f) ≡ (b && is_coefficient μ (head h).tree)
 told c {μ = μ} h b e =
     let counted = counted_of c in
-    two_stay h (begins counted) (omega (arith, counted.count.ensures.0, c.before.if2.false)) ∙ ap (λ b. b && is_coefficient μ (head h).tree) e
+    two_stay h (begins counted) (omega (arith, counted.count.ensures.0, c.if-count-gt-PAIR.false)) ∙ ap (λ b. b && is_coefficient μ (head h).tree) e
 
-add_kind : tie.Need-overflow-add-kind
-add_kind c = record { fits = omega (arith, record_within c.before.requires.there) }
+add_kind : tie.Need-overflow_add-i
+add_kind c = record { fits = omega (arith, record_within c.requires.there) }
 
 kind_requires : tie.Need-kind-requires
-kind_requires c κs = record_within (head c.before.requires.there).there
+kind_requires c κs = record_within (head c.requires.there).there
 
-returns : tie.Need-returns
+returns : tie.Need-returns-then-kind-gt-INTEGER
 returns c how μ f h =
-    let first = c.before.before in
-    c.last-stays.ensures how μ f h ∙ sym (no_first h (omega (arith, first.kind.ensures, c.before.if1.true)))
+    c.last_stays.ensures how μ f h ∙ sym (no_first h (omega (arith, c.kind.ensures, c.if-kind-gt-INTEGER.true)))
 
 count_requires : tie.Need-count-requires
 count_requires c κs = record_within (entry_of c.before).requires.there
 
-returns_2 : tie.Need-returns-2
-returns_2 c how μ f h = sym (too_many h (begins c.before) (omega (arith, c.before.count.ensures.0, c.if2.true)))
+returns_2 : tie.Need-returns-then-count-gt-PAIR
+returns_2 c how μ f h = sym (too_many h (begins c.before) (omega (arith, c.count.ensures.0, c.if-count-gt-PAIR.true)))
 
-add_kind_2 : tie.Need-overflow-add-kind-2
+add_kind_2 : tie.Need-overflow_add-i-2
 add_kind_2 c =
-    let counted = c.before in
-    record { fits = omega (arith, record_within (second_there (entry_of (first_of counted)).requires.there (begins counted))) }
+    record { fits = omega (arith, record_within (second_there (entry_of (first_of c.before)).requires.there (begins c.before))) }
 
-kind_requires_2 : tie.Need-kind-requires-2
+kind_requires_2 : tie.Need-kind-k-requires
 kind_requires_2 c κs =
-    let counted = c.before in
-    record_within (second_there (entry_of (first_of counted)).requires.there (begins counted))
+    record_within (second_there (entry_of (first_of c.before)).requires.there (begins c.before))
 
-returns_3 : tie.Need-returns-3
+returns_3 : tie.Need-returns-then-k-lt-SYMBOL
 returns_3 c how μ f h =
-    let two = c.before in
-    let u = second_there h (begins (counted_of two)) in
-    sym (told two h _ (integer_at (second h).tree u (omega (arith, two.kind2.ensures, c.if3.true))).2)
+    let u = second_there h (begins (counted_of c.before)) in
+    sym (told c.before h _ (integer_at (second h).tree u (omega (arith, c.kind-k.ensures, c.if-k-lt-SYMBOL.true))).2)
 
-returns_4 : tie.Need-returns-4
+returns_4 : tie.Need-returns-then-k-eq-PRODUCT
 returns_4 c how μ f h =
-    let two = c.before.before in
-    let u = second_there h (begins (counted_of two)) in
-    sym (told two h _ (product_at (second h).tree u (sym two.kind2.ensures ∙ c.if4.true)))
+    let u = second_there h (begins (counted_of c.before.before)) in
+    sym (told c.before.before h _ (product_at (second h).tree u (sym c.kind-k.ensures ∙ c.if-k-eq-PRODUCT.true)))
 
-add_is_coefficient : tie.Need-overflow-add-is-coefficient
+add_is_coefficient : tie.Need-overflow_add-i-3
 add_is_coefficient c = record { fits = omega (arith, record_within (start_of c.before.before).requires.there) }
 
 mark_requires : tie.Need-mark-requires
 mark_requires c κs = record_within (start_of c.before.before).requires.there
 
-is_coefficient_requires : tie.Need-is-coefficient-requires
+is_coefficient_requires : tie.Need-is_coefficient-requires
 is_coefficient_requires c κs = some_told (head (start_of c.before.before.before).requires.there).there
 
-returns_5 : tie.Need-returns-5
+returns_5 : tie.Need-returns
 unfolding mark_of
 returns_5 c how μ f h =
-    let marked = c.before in
-    let other = marked.before in
-    let two = other.before.before in
-    let u = second_there h (begins (counted_of two)) in
-    let known = two.kind2.ensures in
-    let rest = rest_at (second h).tree u (omega (arith, known, other.before.if3.false)) (λ e. other.if4.false (known ∙ e)) in
-    c.is-coefficient.ensures how (head h).tree (head h).there
-    ∙ ap (λ m. is_coefficient m (head h).tree) (marked.mark.ensures.0 ∙ mark_number h)
-    ∙ sym (told two h _ rest)
+    let u = second_there h (begins (counted_of c.before.before.before.before)) in
+    let known = c.kind-k.ensures in
+    let rest = rest_at (second h).tree u (omega (arith, known, c.if-k-lt-SYMBOL.false)) (λ e. c.if-k-eq-PRODUCT.false (known ∙ e)) in
+    c.is_coefficient.ensures how (head h).tree (head h).there
+    ∙ ap (λ m. is_coefficient m (head h).tree) (c.mark.ensures.0 ∙ mark_number h)
+    ∙ sym (told c.before.before.before.before h _ rest)
 
 pub product_stays_spec : {M : Type 1} → statement M
 product_stays_spec =

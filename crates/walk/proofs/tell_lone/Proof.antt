@@ -9,20 +9,20 @@ use Rattle.walk.proofs.tell_lone.Statement.{statement}
 use Rattle.walk.proofs.tell_lone.Tie as tie
 
 -- what is told by the keys
-by_keys : (c : tie.After-tell-lone)
-    → let g = c.before.before.before.before.before.args in
-    let t = c.tell-lone in
-    AfterKeys g.out.now t.new.0 g.work.now t.new.1.0 g.d g.n t.result
+by_keys : (c : tie.After-tell_lone)
+    → let g = c.args in
+    let t = c.tell_lone in
+    AfterKeys g.out.now t.new.out g.work.now t.new.work g.d g.n t.result
 by_keys c =
-    let q = c.before.before.before.before.before.requires in
-    after_telling _ _ _ _ _ _ _ q.2 (omega (arith, q.0.1.low, q.0.1.within)) c.tell-lone.ensures
+    let q = c.requires in
+    after_telling _ _ _ _ _ _ _ q.2 (omega (arith, q.0.1.low, q.0.1.within)) c.tell_lone.ensures
 
-tell_lone_requires : tie.Need-tell-lone-requires
-tell_lone_requires c κs = let q = c.before.before.before.before.requires in (q.1, omega (arith, q.0.1.low, q.0.1.within), q.2)
+tell_lone_requires : tie.Need-tell_lone-requires
+tell_lone_requires c κs = let q = c.requires in (q.1, omega (arith, q.0.1.low, q.0.1.within), q.2)
 
-returns : tie.Need-returns
+returns : tie.Need-returns-then-not-tell_lone
 returns c =
-    let told = c.before.before.before.before.before.tell-lone in
+    let told = c.tell_lone in
     let k = by_keys c.before.before.before.before.before in
     record {
       long = k.long;
@@ -31,26 +31,23 @@ returns c =
       lonely = λ e. absurd (true_not_false e refl);
     }
 
-tell_numbers_requires : tie.Need-tell-numbers-requires
+tell_numbers_requires : tie.Need-tell_numbers-requires
 tell_numbers_requires c κs =
-    let keyed = c.before.before.before.before.before.before.before in
-    let start = keyed.before.before.before.before.before in
-    let q = start.requires in
-    let g = start.args in
-    let told = keyed.tell-lone in
-    let k = by_keys keyed in
-    let is = not-false told.result c.before.before.if1.false in
-    let few = subst (LoneTold g.out.now told.new.0 g.work.now told.new.1.0 g.d g.n) is told.ensures in
+    let q = c.requires in
+    let g = c.args in
+    let told = c.tell_lone in
+    let k = by_keys c.before.before.before.before.before.before.before in
+    let is = c.if-not-tell_lone.false in
+    let few = subst (LoneTold g.out.now told.new.out g.work.now told.new.work g.d g.n) is told.ensures in
     ((q.0.0, listed_still (keys_only k) q.0.1), omega (arith, few.0), q.1, omega (arith, q.2, k.long))
 
-returns_2 : tie.Need-returns-2
+returns_2 : tie.Need-returns
 returns_2 c =
-    let keyed = c.before.before.before.before.before.before.before.before.before.before.before.before in
-    let g = keyed.before.before.before.before.before.args in
-    let told = keyed.tell-lone in
-    let is = not-false told.result c.before.before.before.before.before.before.before.if1.false in
-    told_after (subst (AfterKeys g.out.now told.new.0 g.work.now told.new.1.0 g.d g.n) is (by_keys keyed))
-    c.before.before.before.before.tell-numbers.ensures
+    let g = c.args in
+    let told = c.tell_lone in
+    let is = c.if-not-tell_lone.false in
+    told_after (subst (AfterKeys g.out.now told.new.out g.work.now told.new.work g.d g.n) is (by_keys c.before.before.before.before.before.before.before.before.before.before.before.before))
+    c.tell_numbers.ensures
 
 pub tell_lone_spec : {M : Type 1} → statement M
 tell_lone_spec =

@@ -20,38 +20,35 @@ walkable {b} {o} {w} {w₁} {d} {p} {f} h k n e =
 
 -- the place after the members were listed, and from it the entry
 abbrev Filled : Type 0
-Filled = tie.After-list-members
+Filled = tie.After-list_members
 
 abbrev entry_of : Filled → tie.Start
-entry_of c = c.before.before.before.before.before.before
+entry_of c = c.before.before.before.before.before
 
 -- the members f are to be walked over, and are listed
 abbrev Members : Filled → Forest → Type 0
 Members c f = let g = (entry_of c).args in Standing g.out.now g.work.now g.d g.p f
 
 listed : (c : Filled) {f : Forest} → Members c f
-    → let g = (entry_of c).args in ListedIs g.terms g.work.now c.list-members.new.0 g.p f
-listed c h = c.list-members.ensures _ h.listable
+    → let g = (entry_of c).args in ListedIs g.terms g.work.now c.list_members.new.work g.p f
+listed c h = c.list_members.ensures _ h.listable
 
-count_requires : tie.Need-count-requires
-count_requires c κs = omega (arith, c.before.before.before.requires.1.listable.within)
+count_requires : tie.Need-count-n-requires
+count_requires c κs = omega (arith, c.requires.1.listable.within)
 
-list_members_requires : tie.Need-list-members-requires
-list_members_requires c κs = let q = c.before.before.before.before.before.requires in (q.0, q.1.listable)
+list_members_requires : tie.Need-list_members-requires
+list_members_requires c κs = let q = c.requires in (q.0, q.1.listable)
 
 walk_requires : tie.Need-walk-requires
 walk_requires c κs =
-    let list = c.before.before.before.before in
-    let h = (entry_of list).requires.1 in
-    (_, walkable h (listed list h) _ list.before.before.count.ensures.0)
+    let h = (entry_of c.before.before.before.before).requires.1 in
+    (_, walkable h (listed c.before.before.before.before h) _ c.count-n.ensures.0)
 
 returns : tie.Need-returns
 returns c =
-    let walk = c.before.before.before.before in
-    let list = walk.before.before.before.before.before in
     λ f h.
-    let k = listed list h in
-    let v = walk.walk.ensures (to_list f) (walkable h k _ list.before.before.count.ensures.0) in
+    let k = listed c.before.before.before.before.before.before.before.before.before h in
+    let v = c.walk.ensures (to_list f) (walkable h k _ c.count-n.ensures.0) in
     record { answers = v.answers; pending = v.pending ∙ k.pending; done = v.done }
 
 pub walk_members_spec : {M : Type 1} → statement M

@@ -9,7 +9,7 @@ use Rattle.walk.proofs.write_entry.Tie as tie
 
 returns : tie.Need-returns
 unfolding entry_of bytes part
-returns c = c.before.before.copy-bytes.ensures
+returns c = c.copy_bytes.ensures
 
 pub write_entry_spec : {M : Type 1} → statement M
 write_entry_spec =

@@ -6,54 +6,52 @@ use Rattle.walk.proofs.LoneLaws.{counted_none, counted_turn}
 use Rattle.walk.proofs.lone.count_flags.Statement.{statement}
 use Rattle.walk.proofs.lone.count_flags.Tie as tie
 
-abbrev invariant_loop : tie.invariant-loop
+abbrev invariant_loop : tie.invariant-loop-k
 invariant_loop out₀ work at n k₀ out k = (k ≤ n) × (length out ≡ length out₀) × (out ≡ counted out₀ work at n k)
 
-abbrev decreases_loop : tie.decreases-loop
+abbrev decreases_loop : tie.decreases-loop-k
 decreases_loop out₀ work at n k₀ out k = n - k
 
-loop_holds : tie.Need-loop-init invariant_loop decreases_loop
+loop_holds : tie.Need-loop-k-init invariant_loop decreases_loop
 loop_holds c = (omega arith, refl, sym (counted_none _ _ _ _))
 
 -- its flag lies in `out`
 abbrev Counting : Type 0
-Counting = tie.After-flag-of invariant_loop decreases_loop
+Counting = tie.After-flag_of invariant_loop decreases_loop
 
 fits : (c : Counting)
-    → let here = c.before.before in
-    here.before.before.before.args.at + c.flag-of.result < length here.loop.out
+    →    c.args.at + c.flag_of.result < length c.loop-k.out
 fits c =
     let here = c.before.before in
-    omega (arith, here.before.before.before.requires.2, here.loop.invariant.1, c.flag-of.ensures.1)
+    omega (arith, c.requires.2, c.loop-k.invariant.1, c.flag_of.ensures.1)
 
-flag_of_requires : tie.Need-flag-of-requires invariant_loop decreases_loop
-flag_of_requires c κs = let q = c.before.before.before.before.requires in (c.loop-test.true, q.0, q.1)
+flag_of_requires : tie.Need-flag_of-requires invariant_loop decreases_loop
+flag_of_requires c κs = let q = c.requires in (c.loop-k-test.true, q.0, q.1)
 
-add_a : tie.Need-overflow-add-a invariant_loop decreases_loop
+add_a : tie.Need-overflow_add-a invariant_loop decreases_loop
 add_a c =
     let b = fits c in
     record { fits = omega arith }
 
-slice_read_more : tie.Need-slice-read-more invariant_loop decreases_loop
+slice_read_more : tie.Need-bounds-out-a invariant_loop decreases_loop
 slice_read_more c = fits c.before
 
-slice_write_out : tie.Need-slice-write-out invariant_loop decreases_loop
+slice_write_out : tie.Need-bounds-out-a-in-loop-k invariant_loop decreases_loop
 slice_write_out c = fits c.before.before
 
-loop_again : tie.Need-loop-preserved invariant_loop decreases_loop
+loop_again : tie.Need-loop-k-preserved invariant_loop decreases_loop
 loop_again c =
-    let counting = c.before.before in
-    let v = counting.before.before.loop.invariant in (
+    let v = c.loop-k.invariant in (
       omega arith,
       simp length-set v.1,
-      counted_turn _ _ _ _ _ _ _ _ v.2 counting.flag-of.ensures.0 c.more.ensures,
+      counted_turn _ _ _ _ _ _ _ _ v.2 c.flag_of.ensures.0 c.more.ensures,
     )
 
-same_length : tie.Need-same-length invariant_loop decreases_loop
-same_length c = c.before.loop.invariant.1
+same_length : tie.Need-shape_of-out invariant_loop decreases_loop
+same_length c = c.loop-k.invariant.1
 
 returns : tie.Need-returns invariant_loop decreases_loop
-returns c = let e : c.before.loop.k ≡ c.before.before.before.before.args.n = omega arith in rw e at c.before.loop.invariant.2
+returns c = let e : c.loop-k.k ≡ c.args.n = omega arith in rw e at c.loop-k.invariant.2
 
 pub count_flags_spec : {M : Type 1} → statement M
 count_flags_spec =

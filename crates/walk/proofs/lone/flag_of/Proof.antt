@@ -11,14 +11,13 @@ few x n h =
     let m : x % 32768 * n ≤ 32767 * n = mul-le-mul_right n (omega arith) in
     omega arith
 
-mul_result : tie.Need-overflow-mul-result
-mul_result c = let entry = c.before.before in record { fits = omega (arith, few c.read2.result entry.args.n (omega (arith, entry.requires.1))) }
+mul_result : tie.Need-overflow_mul-result
+mul_result c = record { fits = omega (arith, few c.read2.result c.args.n (omega (arith, c.requires.1))) }
 
 returns : tie.Need-returns
 unfolding entry_flag
 returns c =
-    let entry = c.before.before in
-    (ap (λ x. x % 32768 * entry.args.n / 2048) c.read2.ensures.0, flag_of_bits (c.read2.result % 32768) _ (omega arith) (omega (arith, entry.requires.0)))
+    (ap (λ x. x % 32768 * c.args.n / 2048) c.read2.ensures.0, flag_of_bits (c.read2.result % 32768) _ (omega arith) (omega (arith, c.requires.0)))
 
 pub flag_of_spec : {M : Type 1} → statement M
 flag_of_spec = tie.close (tie.spec (λ c. search rules) (λ c. search rules) (λ c κs. search rules) mul_result returns)

@@ -6,73 +6,70 @@ use Rattle.walk.proofs.LoneLaws.{marked_none, marked_turn}
 use Rattle.walk.proofs.lone.mark_lone.Statement.{statement}
 use Rattle.walk.proofs.lone.mark_lone.Tie as tie
 
-abbrev invariant_loop : tie.invariant-loop
+abbrev invariant_loop : tie.invariant-loop-k
 invariant_loop work₀ out at n k₀ work k = (k ≤ n) × (length work ≡ length work₀) × (work ≡ marked work₀ out at n k)
 
-abbrev decreases_loop : tie.decreases-loop
+abbrev decreases_loop : tie.decreases-loop-k
 decreases_loop work₀ out at n k₀ work k = n - k
 
-loop_holds : tie.Need-loop-init invariant_loop decreases_loop
+loop_holds : tie.Need-loop-k-init invariant_loop decreases_loop
 loop_holds c = (omega arith, refl, sym (marked_none _ _ _ _))
 
 -- its flag lies in `out`, and its high byte in `work`
 abbrev Flagged : Type 0
-Flagged = tie.After-flag-of invariant_loop decreases_loop
+Flagged = tie.After-flag_of invariant_loop decreases_loop
 
 fits : (c : Flagged)
-    → let here = c.before.before.before in
-    let g = here.before.before.before.args in
-    (g.at + c.flag-of.result < length g.out.now) × (here.loop.k * 4 + 3 < length here.loop.work)
+    →    let g = c.args in
+    (g.at + c.flag_of.result < length g.out.now) × (c.loop-k.k * 4 + 3 < length c.loop-k.work)
 fits c =
     let here = c.before.before.before in
-    let q = here.before.before.before.requires in
-    let less = c.before.before.loop-test.true in
-    (omega (arith, q.2, c.flag-of.ensures.1), omega (arith, q.1, here.loop.invariant.1))
+    let q = c.requires in
+    let less = c.loop-k-test.true in
+    (omega (arith, q.2, c.flag_of.ensures.1), omega (arith, q.1, c.loop-k.invariant.1))
 
-flag_of_requires : tie.Need-flag-of-requires invariant_loop decreases_loop
+flag_of_requires : tie.Need-flag_of-requires invariant_loop decreases_loop
 flag_of_requires c κs =
-    let here = c.before.before in
-    let q = here.before.before.before.requires in
-    (c.before.loop-test.true, q.0, omega (arith, q.1, here.loop.invariant.1))
+    let q = c.requires in
+    (c.loop-k-test.true, q.0, omega (arith, q.1, c.loop-k.invariant.1))
 
-add_a : tie.Need-overflow-add-a invariant_loop decreases_loop
+add_a : tie.Need-overflow_add-a invariant_loop decreases_loop
 add_a c =
     let b = fits c in
     record { fits = omega arith }
 
-mul_b : tie.Need-overflow-mul-b invariant_loop decreases_loop
+mul_b : tie.Need-overflow_mul-b invariant_loop decreases_loop
 mul_b c =
     let b = fits c in
     record { fits = omega arith }
 
-add_b : tie.Need-overflow-add-b invariant_loop decreases_loop
+add_b : tie.Need-overflow_add-b invariant_loop decreases_loop
 add_b c =
     let b = fits c in
     record { fits = omega arith }
 
-slice_read_lone_byte : tie.Need-slice-read-lone-byte invariant_loop decreases_loop
+slice_read_lone_byte : tie.Need-bounds-work-b invariant_loop decreases_loop
 slice_read_lone_byte c = (fits c.before).1
 
-shared_slice_read_lone_byte : tie.Need-shared-slice-read-lone-byte invariant_loop decreases_loop
+shared_slice_read_lone_byte : tie.Need-bounds-out-a invariant_loop decreases_loop
 shared_slice_read_lone_byte c = (fits c.before.before).0
 
-slice_write_work : tie.Need-slice-write-work invariant_loop decreases_loop
+slice_write_work : tie.Need-bounds-work-b-in-loop-k invariant_loop decreases_loop
 slice_write_work c = (fits c.before.before.before).1
 
-loop_again : tie.Need-loop-preserved invariant_loop decreases_loop
+loop_again : tie.Need-loop-k-preserved invariant_loop decreases_loop
 loop_again c =
-    let flagged = c.before.before.before in
-    let v = flagged.before.before.before.loop.invariant in (
+    let v = c.loop-k.invariant in (
       omega arith,
       simp length-set v.1,
-      marked_turn _ _ _ _ _ _ _ _ v.2 flagged.flag-of.ensures.0 c.lone-byte.ensures,
+      marked_turn _ _ _ _ _ _ _ _ v.2 c.flag_of.ensures.0 c.lone_byte.ensures,
     )
 
-same_length : tie.Need-same-length invariant_loop decreases_loop
-same_length c = c.before.loop.invariant.1
+same_length : tie.Need-shape_of-work invariant_loop decreases_loop
+same_length c = c.loop-k.invariant.1
 
 returns : tie.Need-returns invariant_loop decreases_loop
-returns c = let e : c.before.loop.k ≡ c.before.before.before.before.args.n = omega arith in rw e at c.before.loop.invariant.2
+returns c = let e : c.loop-k.k ≡ c.args.n = omega arith in rw e at c.loop-k.invariant.2
 
 pub mark_lone_spec : {M : Type 1} → statement M
 mark_lone_spec =

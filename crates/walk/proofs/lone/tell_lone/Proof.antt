@@ -5,13 +5,12 @@ use Rattle.walk.proofs.LoneLaws.{flags_there}
 use Rattle.walk.proofs.lone.tell_lone.Statement.{statement}
 use Rattle.walk.proofs.lone.tell_lone.Tie as tie
 
-returns_2 : tie.Need-returns-2
+returns_2 : tie.Need-returns
 returns_2 c =
-    let counted-at = c.before.before.before.before.before.before.before in
-    let cleared = counted-at.before.before.before.before.before in (
+    (
       omega arith,
-      flags_there _ _ _ _ _ _ cleared.clear.ensures counted-at.count-flags.ensures,
-      c.before.before.mark-lone.ensures,
+      flags_there _ _ _ _ _ _ c.clear.ensures c.count_flags.ensures,
+      c.mark_lone.ensures,
     )
 
 pub tell_lone_spec : {M : Type 1} → statement M

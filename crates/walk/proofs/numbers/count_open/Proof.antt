@@ -3,10 +3,10 @@ use Rattle.std.proofs.Common.{◌-◌, ◌≤◌, rules}
 use Rattle.walk.proofs.numbers.count_open.Statement.{statement}
 use Rattle.walk.proofs.numbers.count_open.Tie as tie
 
-abbrev invariant_loop : tie.invariant-loop
+abbrev invariant_loop : tie.invariant-loop-k
 invariant_loop work n many₀ k₀ many k = (many ≤ k) × (k ≤ n)
 
-abbrev decreases_loop : tie.decreases-loop
+abbrev decreases_loop : tie.decreases-loop-k
 decreases_loop work n many₀ k₀ many k = n - k
 
 pub count_open_spec : {M : Type 1} → statement M

@@ -6,12 +6,12 @@ use Rattle.walk.proofs.NumbersLaws.{filled_free, filled_taken}
 use Rattle.walk.proofs.numbers.fill.Statement.{statement}
 use Rattle.walk.proofs.numbers.fill.Tie as tie
 
-returns : tie.Need-returns
+returns : tie.Need-returns-then-x-lt1
 unfolding bytes part
-returns c = c.before.before.copy-bytes.ensures ∙ filled_free _ _ _ _ c.before.before.before.before.before.if1.true
+returns c = c.copy_bytes.ensures ∙ filled_free _ _ _ _ c.if-x-lt1.true
 
-returns_2 : tie.Need-returns-2
-returns_2 c = filled_taken _ _ _ _ (omega (arith, c.if1.false))
+returns_2 : tie.Need-returns-else-x-lt1
+returns_2 c = filled_taken _ _ _ _ (omega (arith, c.if-x-lt1.false))
 
 pub fill_spec : {M : Type 1} → statement M
 fill_spec =

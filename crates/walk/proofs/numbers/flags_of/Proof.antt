@@ -7,61 +7,61 @@ use Rattle.walk.proofs.NumbersLaws.{bits_word, integer_seen, other_seen, term_fl
 use Rattle.walk.proofs.numbers.flags_of.Statement.{statement}
 use Rattle.walk.proofs.numbers.flags_of.Tie as tie
 
-returns : tie.Need-returns
+returns : tie.Need-returns-then-terms
 returns c =
-    let g = c.before.before.before.before.args in
-    let r = c.place.result in (
-      omega (arith, c.place.ensures.1),
-      omega (arith, c.place.ensures.1),
+    let g = c.args in
+    let r = c.place-a.result in (
+      omega (arith, c.place-a.ensures.1),
+      omega (arith, c.place-a.ensures.1),
       λ how t h.
-          subst (λ b. (r ≡ first_flag b g.f g.m t) × (r ≡ second_flag b g.f g.m t)) (sym c.before.before.if1.true)
-          (term_flags g.f g.m _ r t (c.before.rest-spread.ensures how t h) c.place.ensures.0),
+          subst (λ b. (r ≡ first_flag b g.f g.m t) × (r ≡ second_flag b g.f g.m t)) (sym c.if-terms.true)
+          (term_flags g.f g.m _ r t (c.rest_spread.ensures how t h) c.place-a.ensures.0),
     )
 
 kind_requires : tie.Need-kind-requires
 kind_requires c κs =
-    let some = c.before.before.before.requires.0 in
-    record_within (c.base.ensures.0 some.how some.tree some.there)
+    let some = c.requires.0 in
+    record_within (c.base-b.ensures.0 some.how some.tree some.there)
 
 bits_requires : tie.Need-bits-requires
 bits_requires c κs =
-    let some = c.before.before.before.before.before.before.before.requires.0 in
-    record_within (c.before.before.before.before.base.ensures.0 some.how some.tree some.there)
+    let some = c.requires.0 in
+    record_within (c.base-b.ensures.0 some.how some.tree some.there)
 
-returns_2 : tie.Need-returns-2
+returns_2 : tie.Need-returns-then-kind-lt-SYMBOL
 returns_2 c =
-    let g = c.before.before.before.before.before.before.before.before.before.args in
-    let x = c.before.before.place2 in
-    let y = c.place3 in
-    let kinded = c.before.before.before.before.before in (
+    let g = c.args in
+    let x = c.place-x in
+    let y = c.place-y in
+    (
       omega (arith, x.ensures.1),
       omega (arith, y.ensures.1),
       λ how t h.
-          let there = kinded.before.base.ensures.0 how t h in
-          let number = integer_seen (factor_of t).base there kinded.kind.result kinded.kind.ensures c.before.before.before.before.if2.true in
+          let there = c.base-b.ensures.0 how t h in
+          let number = integer_seen (factor_of t).base there c.kind.result c.kind.ensures c.if-kind-lt-SYMBOL.true in
           subst (λ b. (x.result ≡ first_flag b g.f g.m t) × (4 * g.m + y.result ≡ second_flag b g.f g.m t))
-          (sym kinded.before.before.if1.false)
-          (number_flags g.f g.m _ _ x.result y.result t number (c.before.before.before.exponent.ensures how t h).0
-          (c.before.bits.ensures ∙ bits_word (factor_of t).base there number) x.ensures.0 y.ensures.0),
+          (sym c.if-terms.false)
+          (number_flags g.f g.m _ _ x.result y.result t number (c.exponent.ensures how t h).0
+          (c.bits.ensures ∙ bits_word (factor_of t).base there number) x.ensures.0 y.ensures.0),
     )
 
 spread_requires : tie.Need-spread-requires
 spread_requires c κs =
-    let some = c.before.before.before.before.before.requires.0 in
-    some_told (c.before.before.base.ensures.0 some.how some.tree some.there)
+    let some = c.requires.0 in
+    some_told (c.base-b.ensures.0 some.how some.tree some.there)
 
-returns_3 : tie.Need-returns-3
+returns_3 : tie.Need-returns
 returns_3 c =
-    let g = c.before.before.before.before.before.before.before.args in
-    let r = c.place4.result in
-    let kinded = c.before.before.before in (
-      omega (arith, c.place4.ensures.1),
-      omega (arith, c.place4.ensures.1),
+    let g = c.args in
+    let r = c.place-a-2.result in
+    (
+      omega (arith, c.place-a-2.ensures.1),
+      omega (arith, c.place-a-2.ensures.1),
       λ how t h.
-          let there = kinded.before.base.ensures.0 how t h in
-          let other = other_seen (factor_of t).base there kinded.kind.result kinded.kind.ensures (omega (arith, c.before.before.if2.false)) in
-          subst (λ b. (r ≡ first_flag b g.f g.m t) × (r ≡ second_flag b g.f g.m t)) (sym kinded.before.before.if1.false)
-          (other_flags g.f g.m _ r t other (c.before.spread.ensures how (factor_of t).base there) c.place4.ensures.0),
+          let there = c.base-b.ensures.0 how t h in
+          let other = other_seen (factor_of t).base there c.kind.result c.kind.ensures (omega (arith, c.if-kind-lt-SYMBOL.false)) in
+          subst (λ b. (r ≡ first_flag b g.f g.m t) × (r ≡ second_flag b g.f g.m t)) (sym c.if-terms.false)
+          (other_flags g.f g.m _ r t other (c.spread.ensures how (factor_of t).base there) c.place-a-2.ensures.0),
     )
 
 pub flags_of_spec : {M : Type 1} → statement M

@@ -7,16 +7,16 @@ use Rattle.walk.proofs.NumbersLaws.{place_lt}
 use Rattle.walk.proofs.numbers.place.Statement.{statement}
 use Rattle.walk.proofs.numbers.place.Tie as tie
 
-mul_result : tie.Need-overflow-mul-result
-mul_result c = record { fits = scaled c.wrapping-mul.result (wrapped _ _ c.wrapping-mul.ensures) _ c.before.before.requires.1 }
+mul_result : tie.Need-overflow_mul-result
+mul_result c = record { fits = scaled c.wrapping_mul-x.result (wrapped _ _ c.wrapping_mul-x.ensures) _ c.requires.1 }
 
 returns : tie.Need-returns
 unfolding place_of
 returns c =
-    let g = c.before.before.args in
-    let product = c.wrapping-mul.ensures ∙ ap (λ y. y * g.f % modulus) c.before.stirred.ensures in
+    let g = c.args in
+    let product = c.wrapping_mul-x.ensures ∙ ap (λ y. y * g.f % modulus) c.stirred.ensures in
     let is = ap (λ y. y / 4294967296 * g.n / 4294967296) product in
-    (is, subst (λ x. x < g.n) (sym is) (place_lt g.f g.n g.v c.before.before.requires.0))
+    (is, subst (λ x. x < g.n) (sym is) (place_lt g.f g.n g.v c.requires.0))
 
 pub place_spec : {M : Type 1} → statement M
 place_spec = tie.close (tie.spec (λ c κs. search rules) (λ c κs. search rules) mul_result returns)

@@ -8,33 +8,28 @@ use Rattle.walk.proofs.NumbersLaws.{both_filled}
 use Rattle.walk.proofs.numbers.put.Statement.{statement}
 use Rattle.walk.proofs.numbers.put.Tie as tie
 
-add_flags_of : tie.Need-overflow-add-flags-of
-add_flags_of c = record { fits = omega (arith, record_within c.before.before.before.before.requires.0.0.1.there, c.before.read2.ensures.0) }
+add_flags_of : tie.Need-overflow_add-round
+add_flags_of c = record { fits = omega (arith, record_within c.requires.0.0.1.there, c.read2.ensures.0) }
 
-flags_of_requires : tie.Need-flags-of-requires
+flags_of_requires : tie.Need-flags_of-v-requires
 flags_of_requires c κs =
-    let q = c.before.before.before.before.requires in
-    (some_told (entry_there q.0.0.1 _ c.before.read2.ensures.0), q.1.0, q.1.1)
+    let q = c.requires in
+    (some_told (entry_there q.0.0.1 _ c.read2.ensures.0), q.1.0, q.1.1)
 
 returns : tie.Need-returns
 returns c =
-    let one = c.before.before.before.before.before.before in
-    let second = one.before.before in
-    let first = second.before.before in
-    let flagged = first.before.before.before.before in
-    let start = flagged.before.before.before.before.before in
-    let g = start.args in
+    let g = c.args in
     let r = g.round in
-    let q = start.requires in
-    let v = flagged.flags_of in
-    let x = first.read22 in
-    let y = second.read23 in
+    let q = c.requires in
+    let v = c.flags_of-v in
+    let x = c.read2-x in
+    let y = c.read2-y in
     λ t e.
-    let is = v.ensures.2 note t (entry_there e _ flagged.before.before.read2.ensures.0) in
+    let is = v.ensures.2 note t (entry_there e _ c.read2.ensures.0) in
     subst (λ (o : List ℕ). Put r.terms g.out.now o g.at g.k r.m r.f t x.result y.result)
     (sym
-    (c.before.before.fill2.ensures
-    ∙ ap (λ (o : List ℕ). filled o (g.at + v.result.second * 2) y.result g.k) one.fill.ensures
+    (c.fill-2.ensures
+    ∙ ap (λ (o : List ℕ). filled o (g.at + v.result.second * 2) y.result g.k) c.fill.ensures
     ∙ ap (λ z. filled (filled g.out.now (g.at + z * 2) x.result g.k) (g.at + v.result.second * 2) y.result g.k) is.0
     ∙ ap (λ z. filled (filled g.out.now (g.at + first_flag r.terms r.f r.m t * 2) x.result g.k) (g.at + z * 2) y.result g.k) is.1))
     (both_filled r.terms g.out.now g.at g.k r.m r.f t x.result y.result q.0.2 q.1.2 x.ensures.1 y.ensures.1

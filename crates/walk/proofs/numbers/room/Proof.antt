@@ -3,10 +3,10 @@ use Rattle.std.proofs.Common.{arith, rules}
 use Rattle.walk.proofs.numbers.room.Statement.{statement}
 use Rattle.walk.proofs.numbers.room.Tie as tie
 
-returns : tie.Need-returns
+returns : tie.Need-returns-then-n-w
 returns c = (omega arith, omega arith)
 
-returns_2 : tie.Need-returns-2
+returns_2 : tie.Need-returns
 returns_2 c = (omega arith, omega arith)
 
 pub room_spec : {M : Type 1} → statement M

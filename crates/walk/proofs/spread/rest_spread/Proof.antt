@@ -6,23 +6,23 @@ use Rattle.walk.proofs.SpreadLaws.{rest_integer, rest_product, rest_other}
 use Rattle.walk.proofs.spread.rest_spread.Statement.{statement}
 use Rattle.walk.proofs.spread.rest_spread.Tie as tie
 
-kind_requires : tie.Need-kind-requires
-kind_requires c κs = record_within c.before.requires.there
+kind_requires : tie.Need-kind-k-requires
+kind_requires c κs = record_within c.requires.there
 
-returns : tie.Need-returns
-returns c = λ how t h. rest_integer t h (omega (arith, c.before.kind.ensures, c.if1.true))
+returns : tie.Need-returns-then-k-lt-SYMBOL
+returns c = λ how t h. rest_integer t h (omega (arith, c.kind-k.ensures, c.if-k-lt-SYMBOL.true))
 
-others_spread_requires : tie.Need-others-spread-requires
-others_spread_requires c κs = some_product c.before.before.before.before.requires (sym c.before.before.kind.ensures ∙ c.if2.true)
+others_spread_requires : tie.Need-others_spread-requires
+others_spread_requires c κs = some_product c.requires (sym c.kind-k.ensures ∙ c.if-k-eq-PRODUCT.true)
 
-returns_2 : tie.Need-returns-2
+returns_2 : tie.Need-returns-then-k-eq-PRODUCT
 returns_2 c = λ how t h.
-    rest_product t h (sym c.before.before.before.kind.ensures ∙ c.before.if2.true) _ (c.others-spread.ensures how)
+    rest_product t h (sym c.kind-k.ensures ∙ c.if-k-eq-PRODUCT.true) _ (c.others_spread.ensures how)
 
-returns_3 : tie.Need-returns-3
+returns_3 : tie.Need-returns
 returns_3 c = λ how t h.
-    let k = c.before.before.before.kind.ensures in
-    rest_other t h (omega (arith, k, c.before.before.if1.false)) (λ e. c.before.if2.false (k ∙ e)) _ (c.spread.ensures how t h)
+    let k = c.kind-k.ensures in
+    rest_other t h (omega (arith, k, c.if-k-lt-SYMBOL.false)) (λ e. c.if-k-eq-PRODUCT.false (k ∙ e)) _ (c.spread.ensures how t h)
 
 pub rest_spread_spec : {M : Type 1} → statement M
 rest_spread_spec =

@@ -5,19 +5,19 @@ use Rattle.walk.proofs.SpreadLaws.{leaf_share, product_share, head_share}
 use Rattle.walk.proofs.spread.share.Statement.{statement}
 use Rattle.walk.proofs.spread.share.Tie as tie
 
-returns : tie.Need-returns
+returns : tie.Need-returns-then-k-lt-SUM
 returns c =
-    let k = c.before.before.before.before.kind in
-    let v = c.before.before.bits in
+    let k = c.kind-k in
+    let v = c.bits in
     c.stirred.ensures
-    ∙ ap stirred c.before.wrapping-add-u64.ensures
-    ∙ leaf_share _ _ k.result k.ensures v.result v.ensures c.before.before.before.if1.true
+    ∙ ap stirred c.wrapping_add_u64.ensures
+    ∙ leaf_share _ _ k.result k.ensures v.result v.ensures c.if-k-lt-SUM.true
 
-returns_2 : tie.Need-returns-2
-returns_2 c = product_share _ _ c.before.before.kind.result c.before.before.kind.ensures c.if2.true
+returns_2 : tie.Need-returns-then-k-eq-PRODUCT
+returns_2 c = product_share _ _ c.kind-k.result c.kind-k.ensures c.if-k-eq-PRODUCT.true
 
-returns_3 : tie.Need-returns-3
-returns_3 c = head_share _ _ c.before.before.kind.result c.before.before.kind.ensures (omega (arith, c.before.if1.false)) c.if2.false
+returns_3 : tie.Need-returns
+returns_3 c = head_share _ _ c.kind-k.result c.kind-k.ensures (omega (arith, c.if-k-lt-SUM.false)) c.if-k-eq-PRODUCT.false
 
 pub share_spec : {M : Type 1} → statement M
 share_spec =

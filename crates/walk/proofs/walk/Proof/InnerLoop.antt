@@ -23,16 +23,16 @@ abbrev state : (c : Facing)
     State c.before (members entry) entry.args.out.now entry.args.work.now
 state c =
     let entry = entry_of (around c.before) in
-    within c.before (members entry) entry.pre.1
+    within c.before (members entry) entry.requires.1
 
 abbrev later : (c : Facing)
-    → let s = c.before.loop in
+    → let s = c.loop-j in
     let g = (entry_of (around c.before)).args in
     Head g.terms s.work g.p s.j (state c).left
-later c = next (state c) c.loop-test.true
+later c = next (state c) c.loop-j-test.true
 
-pub ticks_fit : (c : Facing) → (around c.before).walk.e * 16 + records (later c).tree ≤ length c.before.loop.out
-ticks_fit c = omega (arith, (bounds c.before).room, enough (state c) c.loop-test.true)
+pub ticks_fit : (c : Facing) → (around c.before).walk.e * 16 + records (later c).tree ≤ length c.loop-j.out
+ticks_fit c = omega (arith, (bounds c.before).room, enough (state c) c.loop-j-test.true)
 
 -- ---- after it was met
 module _ (c : Met) where
@@ -44,142 +44,137 @@ module _ (c : Met) where
   front = (around here).walk.e * 16
 
   abbrev pub ticks : List ℕ
-  ticks = c.meet.new.1.1.1.1.1.0
+  ticks = c.meet-met.new.ticks
 
   abbrev pub marked : List ℕ
-  marked = put_mid front (length here.loop.out - front) here.loop.out ticks
+  marked = put_mid front (length here.loop-j.out - front) here.loop-j.out ticks
 
-  pub ticks_behind : take front marked ≡ take front here.loop.out
-  ticks_behind = take_put front (length here.loop.out - front) here.loop.out ticks (omega (arith, ticks_fit (facing_of c)))
+  pub ticks_behind : take front marked ≡ take front here.loop-j.out
+  ticks_behind = take_put front (length here.loop-j.out - front) here.loop-j.out ticks (omega (arith, ticks_fit (facing_of c)))
 
-  pub ticks_length : length marked ≡ length here.loop.out
-  ticks_length = same_len_mid front (length here.loop.out - front) here.loop.out ticks c.meet.auto.1.1.1.1.1.0
+  pub ticks_length : length marked ≡ length here.loop-j.out
+  ticks_length = same_len_mid front (length here.loop-j.out - front) here.loop-j.out ticks c.meet-met.auto.ticks
 
   -- what the answer r says of the current part and the member that it met, in any state that the turn may be in; and where the part stands
   module _ {l : List Tree} {o w : List ℕ} (z : State here l o w) where
-    pub told : (r : Merged) → c.meet.result ≡ r
+    pub told : (r : Merged) → c.meet-met.result ≡ r
         → let terms = (entry_of (around here)).args.terms in
-        MergedIs terms here.loop.work z.current (split terms (next z (facing_of c).loop-test.true).tree) r
+        MergedIs terms here.loop-j.work z.current (split terms (next z (facing_of c).loop-test.true).tree) r
     told r is =
         let terms = (entry_of (around here)).args.terms in
         let y = next z (facing_of c).loop-test.true in
         subst (MergedIs terms here.loop.work z.current (split terms y.tree)) is
-        (c.meet.ensures.0 terms z.current y.tree z.shown z.keyed y.entry)
+        (c.meet-met.ensures.0 terms z.current y.tree z.shown z.keyed y.entry)
 
-    pub told_from : (r : Merged) → c.meet.result ≡ r → IntoFrom (entry_of (around here)).args.p r
-    told_from r is = subst (IntoFrom (entry_of (around here)).args.p) is (c.meet.ensures.1 z.place)
+    pub told_from : (r : Merged) → c.meet-met.result ≡ r → IntoFrom (entry_of (around here)).args.p r
+    told_from r is = subst (IntoFrom (entry_of (around here)).args.p) is (c.meet-met.ensures.1 z.place)
 
 -- ---- after it was taken up and removed: the last member stands in its place
 last_moves_in : (c : Removed)
-    → let s = (facing_of (met_of c)).before.loop in
-    c.remove.new.0 ≡ put s.work (s.j * 4) (part s.work ((s.n - 1) * 4) 4)
-last_moves_in c = c.remove.ensures.0
+    → let s = (facing_of (met_of c)).before.loop-j in
+    c.remove-j.new.work ≡ put s.work (s.j * 4) (part s.work ((s.n - 1) * 4) 4)
+last_moves_in c = c.remove-j.ensures.0
 
 -- ---- the needs
-pub mul_a : tie.Need-overflow-mul-a Inv-loop μ_loop Inv-walk μ_walk
+pub mul_a : tie.Need-overflow_mul-a Inv-loop μ_loop Inv-walk μ_walk
 mul_a c = record { fits = omega (arith, ticks_fit c) }
 
-pub sub_meet : tie.Need-overflow-sub-meet Inv-loop μ_loop Inv-walk μ_walk
-sub_meet c = omega (arith, ticks_fit c.before)
+pub sub_meet : tie.Need-slice_bounds-meet-count Inv-loop μ_loop Inv-walk μ_walk
+sub_meet c = omega (arith, ticks_fit c)
 
-pub part_meet_start : tie.Need-slice-bounds-meet-start Inv-loop μ_loop Inv-walk μ_walk
-part_meet_start c = omega (arith, ticks_fit c.before)
+pub part_meet_start : tie.Need-slice_bounds-meet-start Inv-loop μ_loop Inv-walk μ_walk
+part_meet_start c = omega (arith, ticks_fit c)
 
-pub part_meet_end : tie.Need-slice-bounds-meet-end Inv-loop μ_loop Inv-walk μ_walk
-part_meet_end c = omega (arith, ticks_fit c.before)
+pub part_meet_end : tie.Need-slice_bounds-meet-end Inv-loop μ_loop Inv-walk μ_walk
+part_meet_end c = omega (arith, ticks_fit c)
 
-pub meet_requires : tie.Need-meet-requires Inv-loop μ_loop Inv-walk μ_walk
+pub meet_requires : tie.Need-meet-met-requires Inv-loop μ_loop Inv-walk μ_walk
 meet_requires c κs =
-    let facing = c.before.before in
-    let b = bounds facing.before in
-    let v = state facing in
-    let x = later facing in
-    let big = ticks_fit facing in
+    let b = bounds c.before.before.before in
+    let v = state c.before in
+    let x = later c.before in
+    let big = ticks_fit c.before in
     record {
-      flag = (entry_of (around facing.before)).args.terms;
+      flag = (entry_of (around c.before.before.before)).args.terms;
       current = v.current;
       later = x.tree;
       shown = v.shown;
       keyed = v.keyed;
       entry = x.entry;
-      low = omega (arith, b.low, b.high, b.few, facing.loop-test.true);
+      low = omega (arith, b.low, b.high, b.few, c.loop-j-test.true);
       enough = simp (length-take, length-drop) (omega arith);
     }
 
-pub enum_told : tie.Need-enum-told Inv-loop μ_loop Inv-walk μ_walk
+pub enum_told : tie.Need-enum_told-1 Inv-loop μ_loop Inv-walk μ_walk
 enum_told c = search rules
 
-pub add_j_2 : tie.Need-overflow-add-j-2 Inv-loop μ_loop Inv-walk μ_walk
+pub add_j_2 : tie.Need-overflow_add-j-in-Apart Inv-loop μ_loop Inv-walk μ_walk
 add_j_2 c =
-    let facing = facing_of c.before.before.before.before in
+    let facing = facing_of c.before.before.before in
     let b = bounds facing.before in
     record { fits = omega (arith, b.low, b.high, b.few, facing.loop-test.taken) }
 
-pub loop_less : tie.Need-loop-smaller Inv-loop μ_loop Inv-walk μ_walk
+pub loop_less : tie.Need-loop-j-smaller-in-Apart Inv-loop μ_loop Inv-walk μ_walk
 loop_less c = search rules
 
 -- the member is passed by
-pub loop_again : tie.Need-loop-preserved Inv-loop μ_loop Inv-walk μ_walk
+pub loop_again : tie.Need-loop-j-preserved-in-Apart Inv-loop μ_loop Inv-walk μ_walk
 loop_again c =
-    let met = c.before.before.before.before in
-    let facing = facing_of met in
-    let v = facing.before.loop.inv in
+    let facing = facing_of c.before.before.before in
+    let v = facing.before.loop-j.invariant in
     record {
-      long = ticks_length met ∙ v.long;
+      long = ticks_length c.before.before.before ∙ v.long;
       wide = v.wide;
       few = v.few;
       calm = v.calm;
       lonely = v.lonely;
       state = λ l o w h.
           let z = v.state l o w h in
-          inner_apart z facing.loop-test.taken _ (ticks_behind met) (told met z Apart c.enum_told.given.1);
+          inner_apart z facing.loop-test.taken _ (ticks_behind c.before.before.before) (told c.before.before.before z Apart c.in-Apart.is);
     }
 
-pub enum_known_met : tie.Need-enum-known-met Inv-loop μ_loop Inv-walk μ_walk
+pub enum_known_met : tie.Need-enum_known-met Inv-loop μ_loop Inv-walk μ_walk
 enum_known_met c = search rules
 
-pub sub_n : tie.Need-overflow-sub-n Inv-loop μ_loop Inv-walk μ_walk
+pub sub_n : tie.Need-overflow_sub-n Inv-loop μ_loop Inv-walk μ_walk
 sub_n c = search rules
 
-pub remove_requires : tie.Need-remove-requires Inv-loop μ_loop Inv-walk μ_walk
+pub remove_requires : tie.Need-remove-j-requires Inv-loop μ_loop Inv-walk μ_walk
 remove_requires c κs =
-    let facing = facing_of c.before.before.before.before.before.before in
+    let facing = facing_of c.before.before.before.before in
     let b = bounds facing.before in
     let less = facing.loop-test.taken in
     (omega arith, omega (arith, b.low, b.high, b.few))
 
-pub loop_less_2 : tie.Need-loop-smaller-2 Inv-loop μ_loop Inv-walk μ_walk
+pub loop_less_2 : tie.Need-loop-j-smaller Inv-loop μ_loop Inv-walk μ_walk
 loop_less_2 c =
-    let removed = c.before.before in
-    omega (arith, removed.remove.ensures.1, (facing_of (met_of removed)).loop-test.taken)
+    omega (arith, c.remove-j.ensures.1, (facing_of (met_of c.before.before)).loop-test.taken)
 
 -- the member is taken up, and the last one is the next to be met
-pub loop_again_2 : tie.Need-loop-preserved-2 Inv-loop μ_loop Inv-walk μ_walk
+pub loop_again_2 : tie.Need-loop-j-preserved Inv-loop μ_loop Inv-walk μ_walk
 loop_again_2 c =
-    let removed = c.before.before in
-    let met = met_of removed in
+    let met = met_of c.before.before in
     let facing = facing_of met in
     let less = facing.loop-test.taken in
     let b = bounds facing.before in
-    let v = facing.before.loop.inv in
+    let v = facing.before.loop.invariant in
     let g = (entry_of (around facing.before)).args in
-    let answer = removed.before.before.before.met.given in
     record {
       long = ticks_length met ∙ v.long;
-      wide = removed.remove.auto.0 ∙ v.wide;
+      wide = c.remove-j.auto.work ∙ v.wide;
       few = omega (arith, v.few);
       calm = v.calm;
       lonely = λ q t.
-          lonely_moves _ _ _ _ (omega arith) (omega (arith, b.low, b.high, b.few)) (last_moves_in removed) _ _ (omega (arith, b.low, b.few))
+          lonely_moves _ _ _ _ (omega arith) (omega (arith, b.low, b.high, b.few)) (last_moves_in c.before.before) _ _ (omega (arith, b.low, b.few))
           (subst (Lonely g.terms facing.before.loop.work g.p) (omega arith) (v.lonely q t));
       state = λ l o w h.
           let z = v.state l o w h in
-          let into = told met z (Into answer.0.0) answer.1 in
-          let place = told_from met z (Into answer.0.0) answer.1 in
-          rw removed.remove.ensures.1
+          let into = told met z (Into c.in-Into.x) c.in-Into.is in
+          let place = told_from met z (Into c.in-Into.x) c.in-Into.is in
+          rw c.remove-j.ensures.1
           (inner_into z less _ _ _ into.0 (ticks_behind met) into.1 into.2 place (omega (arith, b.low, b.few)) b.high
-          (last_moves_in removed));
+          (last_moves_in c.before.before));
     }
 
-pub enum_told_2 : tie.Need-enum-told-2 Inv-loop μ_loop Inv-walk μ_walk
+pub enum_told_2 : tie.Need-enum_told-in-Over Inv-loop μ_loop Inv-walk μ_walk
 enum_told_2 c = search rules

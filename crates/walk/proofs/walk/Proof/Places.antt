@@ -47,12 +47,12 @@ pub record InnerInv (out₀ work₀ : List ℕ) (d p count : ℕ) (terms told : 
   pub state : (l : List Tree) (o w : List ℕ)
       → Inner terms l o w d p count out₀ work₀ n₀ i e late new f c₀ key had j₀ → Inner terms l o w d p count out work n i e late new f c key had j
 
-abbrev pub Inv-loop : tie.invariant-loop
+abbrev pub Inv-loop : tie.invariant-loop-j
 Inv-loop out₀ work₀ d p count terms told n₀ i e late over₀ new f high x c₀ key had j₀ out work n over c j =
     InnerInv out₀ work₀ d p count terms told n₀ i e late over₀ new f c₀ key had j₀ out work n over c j
 
 -- the members that the current one has still to meet
-abbrev pub μ_loop : tie.decreases-loop
+abbrev pub μ_loop : tie.decreases-loop-j
 μ_loop out₀ work₀ d p count terms told n₀ i e late over₀ new f high x c₀ key had j₀ out work n over c j = n - j
 
 -- ---- places on the way through the code, and from each the one before it: the entry; after it was told which members are alone with
@@ -63,37 +63,37 @@ abbrev pub Entry : Type 0
 Entry = tie.Start Inv-loop μ_loop Inv-walk μ_walk
 
 abbrev pub Told : Type 0
-Told = tie.After-tell-lone Inv-loop μ_loop Inv-walk μ_walk
+Told = tie.After-tell_lone-told Inv-loop μ_loop Inv-walk μ_walk
 
 abbrev pub Turn : Type 0
 Turn = tie.At-walk Inv-loop μ_loop Inv-walk μ_walk
 
 abbrev pub Begun : Type 0
-Begun = tie.After-current Inv-loop μ_loop Inv-walk μ_walk
+Begun = tie.After-current-c Inv-loop μ_loop Inv-walk μ_walk
 
 abbrev pub Keyed : Type 0
-Keyed = tie.After-read2 Inv-loop μ_loop Inv-walk μ_walk
+Keyed = tie.After-read2-key Inv-loop μ_loop Inv-walk μ_walk
 
 abbrev pub Looked : Type 0
-Looked = tie.After-keep-lone Inv-loop μ_loop Inv-walk μ_walk
+Looked = tie.After-keep_lone-x Inv-loop μ_loop Inv-walk μ_walk
 
 abbrev pub Within : Type 0
-Within = tie.At-loop Inv-loop μ_loop Inv-walk μ_walk
+Within = tie.At-loop-j Inv-loop μ_loop Inv-walk μ_walk
 
 abbrev pub Facing : Type 0
-Facing = tie.In-loop Inv-loop μ_loop Inv-walk μ_walk
+Facing = tie.In-loop-j Inv-loop μ_loop Inv-walk μ_walk
 
 abbrev pub Met : Type 0
-Met = tie.After-meet Inv-loop μ_loop Inv-walk μ_walk
+Met = tie.After-meet-met Inv-loop μ_loop Inv-walk μ_walk
 
 abbrev pub Removed : Type 0
-Removed = tie.After-remove Inv-loop μ_loop Inv-walk μ_walk
+Removed = tie.After-remove-j Inv-loop μ_loop Inv-walk μ_walk
 
 abbrev pub Turned : Type 0
-Turned = tie.After-loop Inv-loop μ_loop Inv-walk μ_walk
+Turned = tie.After-loop-j Inv-loop μ_loop Inv-walk μ_walk
 
 abbrev pub Finished : Type 0
-Finished = tie.After-finish Inv-loop μ_loop Inv-walk μ_walk
+Finished = tie.After-finish-w Inv-loop μ_loop Inv-walk μ_walk
 
 abbrev pub Left : Type 0
 Left = tie.Left-walk Inv-loop μ_loop Inv-walk μ_walk
@@ -108,32 +108,32 @@ abbrev pub entry_of : Turn → Entry
 entry_of c = asked_of (told_of c)
 
 abbrev pub around_looked : Looked → Turn
-around_looked c = c.before.before.before.before.before
+around_looked c = c.before.before.before.before
 
 abbrev pub looked_of : Begun → Looked
-looked_of c = c.before.before.before.before.before
+looked_of c = c.before.before.before.before
 
 abbrev pub turn_of_lem : Begun → Turn
 turn_of_lem c = around_looked (looked_of c)
 
 -- a member is left whose turn it is
 pub left_one : (c : Looked) → let u = (around_looked c).walk in u.i < u.n
-left_one c = c.before.before.before.before.walk-test.true
+left_one c = c.walk-test.true
 
 abbrev pub begun_of : Keyed → Begun
-begun_of c = c.before.before
+begun_of c = c.before
 
 abbrev pub keyed_of : Within → Keyed
 keyed_of c = c.before
 
 abbrev pub facing_of : Met → Facing
-facing_of c = c.before.before.before
+facing_of c = c.before.before
 
 abbrev pub met_of : Removed → Met
-met_of c = c.before.before.before.before.before.before.before
+met_of c = c.before.before.before.before.before
 
 abbrev pub turned_of : Finished → Turned
-turned_of c = c.before.before.before
+turned_of c = c.before.before
 
 -- the outer loop's head, seen from the inner one's
 abbrev pub around : Within → Turn
@@ -143,17 +143,17 @@ around c = turn_of_lem (begun_of (keyed_of c))
 abbrev pub asked : Looked → Tree → Bool
 asked c t =
     let turn = around_looked c in
-    is_lone (get_or turn.walk.work (turn.walk.i * 4 + 3) 0) (told_of turn).tell-lone.result && stays (entry_of turn).args.terms t
+    is_lone (get_or turn.walk.work (turn.walk.i * 4 + 3) 0) (told_of turn).tell_lone-told.result && stays (entry_of turn).args.terms t
 
 -- where it was not, nothing was written
 pub not_kept : (c : Begun) (t : Tree)
     → let kept = looked_of c in
     let u = (around_looked kept).walk in
     let g = (entry_of (around_looked kept)).args in
-    EntryOf g.terms u.work g.p u.i t → kept.keep-lone.last.0 ≡ u.out
+    EntryOf g.terms u.work g.p u.i t → kept.keep_lone-x.new.out ≡ u.out
 not_kept c t e =
     let kept = looked_of c in
-    (new_where (asked kept t) t _ _ (around_looked kept).walk.e _ (kept.keep-lone.ensures t e) c.before.before.if1.false).1
+    (new_where (asked kept t) t _ _ (around_looked kept).walk.e _ (kept.keep_lone-x.ensures t e) c.if-x-gt0.false).1
 
 -- ---- the state within a turn
 abbrev pub State : Within → List Tree → List ℕ → List ℕ → Type 0
@@ -161,9 +161,9 @@ State c l o w =
     let turn = around c in
     let g = (entry_of turn).args in
     let u = turn.walk in
-    let s = c.loop in
+    let s = c.loop-j in
     Inner g.terms l o w g.d g.p g.count s.out s.work s.n u.i u.e u.late u.new u.f s.c
-    ((keyed_of c).read2.result % 32768) u.n s.j
+    ((keyed_of c).read2-key.result % 32768) u.n s.j
 
 -- ---- the bounds: `out` has room behind record d for all that the members l may become, and the entries stand before record p of `work`
 pub record Bounds (l : List Tree) (d p count : ℕ) (out work : List ℕ) (n : ℕ) : Type 0 where
@@ -193,9 +193,9 @@ entry_bounds c =
 -- ---- what is told of the members that are alone with their keys
 pub telling_of : (c : Told)
     → let g = (asked_of c).args in
-    let t = c.tell-lone in
-    AfterTelling g.terms g.out.now t.new.0 g.work.now t.new.1.0 g.d g.p g.count t.result
-telling_of c = c.tell-lone.ensures
+    let t = c.tell_lone-told in
+    AfterTelling g.terms g.out.now t.new.out g.work.now t.new.work g.d g.p g.count t.result
+telling_of c = c.tell_lone-told.ensures
 
 -- the state between two turns, for the members l that are listed
 pub between : (c : Turn) (l : List Tree)
@@ -226,13 +226,13 @@ turn_bounds c =
 pub bounds : (c : Within)
     → let entry = entry_of (around c) in
     let g = entry.args in
-    let s = c.loop in
+    let s = c.loop-j in
     Bounds (members entry) g.d g.p g.count s.out s.work s.n
 bounds c =
     let b = turn_bounds (around c) in
-    let v = c.loop.invariant in
+    let v = c.loop-j.invariant in
     record {
-      room = omega (arith, b.room, v.long, (looked_of (begun_of (keyed_of c))).keep-lone.kept.0);
+      room = omega (arith, b.room, v.long, (looked_of (begun_of (keyed_of c))).keep_lone-x.kept.0);
       light = b.light;
       low = b.low;
       high = omega (arith, b.high, v.wide);
@@ -247,16 +247,16 @@ pub carried : (c : Within) (l : List Tree) (o w : List ℕ)
     let u = turn.walk in
     Outer g.terms l o w g.d g.p g.count u.out u.work u.n u.i u.e u.late u.new u.f → State c l o w
 carried c l o w v =
-    let key = (keyed_of c).read2 in
+    let key = (keyed_of c).read2-key in
     let begun = begun_of (keyed_of c) in
     let kept = looked_of begun in
     let u = (around_looked kept).walk in
     let g = (entry_of (around_looked kept)).args in
     let less = left_one kept in
     let t = first v less in
-    let part = begun.current in
+    let part = begun.current-c in
     let keyed = ap (λ x. x % 32768) key.ensures.0 in
-    c.loop.invariant.state l o w
+    c.loop-j.invariant.state l o w
     (subst
     (λ y.
     Inner g.terms l o w g.d g.p g.count y u.work u.n u.i u.e u.late u.new u.f part.result

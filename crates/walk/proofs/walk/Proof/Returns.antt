@@ -26,25 +26,25 @@ record Leaves (terms : Bool) (out₀ work₀ : List ℕ) (d p count : ℕ) (out 
 
 left : (c : Left)
     → let g = (entry_of c.before).args in
-    let u = c.before.walk in
+    let u = c.walk in
     let x = c.walk-test in
     Leaves g.terms g.out.now g.work.now g.d g.p g.count x.out x.work x.n u.i u.e u.late x.over u.new u.f
 left c =
     let g = (entry_of c.before).args in
-    let v = c.before.walk.invariant in
+    let v = c.walk.invariant in
     let t = telling_of (told_of c.before) in
     ⊎_elim
     -- the test failed: nothing changed since the loop's head
     (λ a.
-    let out_is = a.1 in
-    let work_is = a.2 in
-    let n-is = a.3 in
-    let over-is = a.4 in
+    let out_is = a.out-is in
+    let work_is = a.work-is in
+    let n-is = a.n-is in
+    let over-is = a.over-is in
     record {
       long = ap length out_is ∙ v.long ∙ t.long;
       wide = ap length work_is ∙ v.wide ∙ t.only.wide;
       burst = λ y. absurd (true_not_false y (over-is ∙ v.calm));
-      ended = λ y. omega (arith, a.0.left, n-is);
+      ended = λ y. omega (arith, a.walk-test.false, n-is);
       state = λ y l h. rw (out_is, work_is, n-is) (between c.before l h);
     })
     -- the label's break, behind the comparison that `a` leads to
@@ -52,32 +52,32 @@ left c =
     let looked : Looked =
     record {
       before = record {
-        before = record { before = record { before = record { before = c.before; walk-test = a.0 }; slice-known5 = a.1 }; keep-lone-arg = a.2 };
-        keep-lone-arg2 = a.3;
+        before = record { before = record { before = record { before = c.before; walk-test = a.out-is }; slice-known5 = a.out-is }; keep-lone-arg = a.out-is };
+        keep-lone-arg2 = a.out-is;
       };
-      keep-lone = a.4;
+      keep-lone = a.out-is;
     } in
     let begun : Begun =
     record {
       before = record {
-        before = record { before = record { before = record { before = looked; out2 = a.5 }; slice-known6 = a.6 }; if1 = a.7 };
-        current-arg = a.8;
+        before = record { before = record { before = record { before = looked; out2 = a.out-is }; slice-known6 = a.out-is }; if1 = a.out-is };
+        current-arg = a.out-is;
       };
-      current = a.9;
+      current = a.out-is;
     } in
     let inside : Within =
-    record { before = record { before = record { before = begun; read2-arg = a.10 }; read2 = a.11 }; loop = a.12 } in
+    record { before = record { before = record { before = begun; read2-arg = a.out-is }; read2 = a.out-is }; loop = a.out-is } in
     let met : Met =
     record {
-      before = record { before = record { before = record { before = inside; loop-test = a.13 }; meet-arg = a.14 }; meet-arg2 = a.15 };
-      meet = a.16;
+      before = record { before = record { before = record { before = inside; loop-test = a.out-is }; meet-arg = a.out-is }; meet-arg2 = a.out-is };
+      meet = a.out-is;
     } in
     let facing = facing_of met in
-    let w = facing.before.loop.inv in
-    let answer-is = a.20.given.1 in
-    let out_is = a.21 in
-    let work_is = a.22 in
-    let over-is = a.24 in
+    let w = facing.before.loop.invariant in
+    let answer-is = a.in-Over.is in
+    let out_is = a.out-is in
+    let work_is = a.work-is in
+    let over-is = a.over-is in
     record {
       long = ap length out_is ∙ ticks_length met ∙ w.long ∙ looked.keep-lone.kept.0 ∙ v.long ∙ t.long;
       wide = ap length work_is ∙ w.wide ∙ v.wide ∙ t.only.wide;
@@ -93,12 +93,12 @@ left c =
       ended = λ y. absurd (true_not_false over-is y);
       state = λ y. absurd (true_not_false over-is y);
     })
-    c.walk-test.branch
+    c.walk-test.branch-raw
 
 -- where the test failed: the state is that of the walk's end, and the answer that its numbers give says so
 answered : (c : Left) (r : Walked) (l : List Tree)
     → let g = (entry_of c.before).args in
-    let u = c.before.walk in
+    let u = c.walk in
     let x = c.walk-test in
     Walkable g.terms g.out.now g.work.now g.d g.p g.count l → x.over ≡ false
     → r ≡ answer_of g.count x.n u.e u.late u.new u.f
@@ -114,23 +114,23 @@ answered c r l h calm is =
     }
 
 -- ---- the needs
-pub same_length : tie.Need-same-length Inv-loop μ_loop Inv-walk μ_walk
+pub same_length : tie.Need-shape_of-out-then-over Inv-loop μ_loop Inv-walk μ_walk
 same_length c = (left c.before).long
 
-pub same_length_2 : tie.Need-same-length-2 Inv-loop μ_loop Inv-walk μ_walk
+pub same_length_2 : tie.Need-shape_of-work-then-over Inv-loop μ_loop Inv-walk μ_walk
 same_length_2 c = (left c.before).wide
 
-pub returns : tie.Need-returns Inv-loop μ_loop Inv-walk μ_walk
-returns c = (left c.before).burst c.if2.true
+pub returns : tie.Need-returns-then-over Inv-loop μ_loop Inv-walk μ_walk
+returns c = (left c.before).burst c.if-over.true
 
 pub answer_requires : tie.Need-answer-requires Inv-loop μ_loop Inv-walk μ_walk
 answer_requires c κs = search rules
 
-pub same_length_3 : tie.Need-same-length-3 Inv-loop μ_loop Inv-walk μ_walk
+pub same_length_3 : tie.Need-shape_of-out Inv-loop μ_loop Inv-walk μ_walk
 same_length_3 c = (left c.before.before).long
 
-pub same_length_4 : tie.Need-same-length-4 Inv-loop μ_loop Inv-walk μ_walk
+pub same_length_4 : tie.Need-shape_of-work Inv-loop μ_loop Inv-walk μ_walk
 same_length_4 c = (left c.before.before).wide
 
-pub returns_2 : tie.Need-returns-2 Inv-loop μ_loop Inv-walk μ_walk
-returns_2 c l h = answered c.before.before _ l h c.before.if2.false c.answer.ensures
+pub returns_2 : tie.Need-returns Inv-loop μ_loop Inv-walk μ_walk
+returns_2 c l h = answered c.before.before _ l h c.if-over.false c.answer.ensures
