@@ -521,7 +521,7 @@ fn follow(text: &&[u8], out: &mut &mut [u8], st: &mut [usize; CELLS], c: usize, 
         → Followed 3 text.now.now c m out.old.now st.old out.new.now st.new result)
         × (kind_of st.old ≡ 4
         → RaiseIs text.now.now out.old.now st.old c m out.new.now st.new result) }
-    ensures name_unchanged { (out.new.name ≡ out.old.name) × (length out.new.now ≡ length out.old.now) }
+    ensures name_unchanged { (out.new.ghost_name ≡ out.old.ghost_name) × (length out.new.now ≡ length out.old.now) }
 {
     let k = st[KIND];
     if k < PRODUCT {
@@ -540,7 +540,7 @@ fn sum(text: &&[u8], out: &mut &mut [u8], st: &mut [usize; CELLS]) -> u8
     ensures left { Left st.old st.new × (first_of st.new ≡ record_in st.old)
         × ReadFrom text.now.now (λ n s. bared (read_sum (read_cut n) s)) out.old.now st.old out.new.now
         st.new result }
-    ensures name_unchanged { (out.new.name ≡ out.old.name) × (length out.new.now ≡ length out.old.now) }
+    ensures name_unchanged { (out.new.ghost_name ≡ out.old.ghost_name) × (length out.new.now ≡ length out.old.now) }
 {
     let d = st[RECORD];
     let mut c: usize = 0;
@@ -563,7 +563,7 @@ fn product(text: &&[u8], out: &mut &mut [u8], st: &mut [usize; CELLS]) -> u8
     ensures left { Left st.old st.new
         × ReadFrom text.now.now (λ n s. read_product (read_cut n) s) out.old.now st.old out.new.now
         st.new result }
-    ensures name_unchanged { (out.new.name ≡ out.old.name) × (length out.new.now ≡ length out.old.now) }
+    ensures name_unchanged { (out.new.ghost_name ≡ out.old.ghost_name) × (length out.new.now ≡ length out.old.now) }
 {
     let d = st[RECORD];
     let mut c: usize = 0;
@@ -587,7 +587,7 @@ fn power(text: &&[u8], out: &mut &mut [u8], st: &mut [usize; CELLS]) -> u8
     ensures left { Left st.old st.new
         × ReadFrom text.now.now (λ n s. read_power (read_cut n) s) out.old.now st.old out.new.now
         st.new result }
-    ensures name_unchanged { (out.new.name ≡ out.old.name) × (length out.new.now ≡ length out.old.now) }
+    ensures name_unchanged { (out.new.ghost_name ≡ out.old.ghost_name) × (length out.new.now ≡ length out.old.now) }
 {
     let w = st[WEIGHT];
     if enters(text, st) {
