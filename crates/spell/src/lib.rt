@@ -115,7 +115,7 @@ fn joined_at(s: &&[u8], out: &mut &mut [u8], st: &mut [usize; CELLS], n: usize, 
     ensures st_len { (length st.new ≡ 2)
         × ((p : Place) (f : Forest) → least ≡ least_rank p → TreesIn s.now.now (next_in st.old) n f
         → Passed st.old (recordses f) (joined p sign f) out.old.now out.new.now st.new) }
-    ensures name_unchanged { (out.new.name ≡ out.old.name) × (length out.new.now ≡ length out.old.now) }
+    ensures name_unchanged { (out.new.ghost_name ≡ out.old.ghost_name) × (length out.new.now ≡ length out.old.now) }
 {
     member_at(s, out, st, least);
     let mut left = n - 1;
@@ -133,7 +133,7 @@ fn member_at(s: &&[u8], out: &mut &mut [u8], st: &mut [usize; CELLS], least: u8)
         × Roomy s.now.now (next_in st.old) (end_in st.old) }
     ensures st_len { (length st.new ≡ 2) × ((p : Place) (t : Tree) → least ≡ least_rank p → TreeIn s.now.now (next_in st.old) t
         → Passed st.old (records t) (enclosed (needs p t) (text t)) out.old.now out.new.now st.new) }
-    ensures name_unchanged { (out.new.name ≡ out.old.name) × (length out.new.now ≡ length out.old.now) }
+    ensures name_unchanged { (out.new.ghost_name ≡ out.old.ghost_name) × (length out.new.now ≡ length out.old.now) }
 {
     if rank_at(*s, st[NEXT]) < least {
         tree_at(s, out, st);
@@ -151,7 +151,7 @@ fn tree_at(s: &&[u8], out: &mut &mut [u8], st: &mut [usize; CELLS])
     requires { Cells s.now.now st.old × SomeTree s.now.now (next_in st.old) × Roomy s.now.now (next_in st.old) (end_in st.old - 1) }
     ensures st_len { (length st.new ≡ 2) × ((t : Tree) → TreeIn s.now.now (next_in st.old) t
         → Passed st.old (records t) (text t) out.old.now out.new.now st.new) }
-    ensures name_unchanged { (out.new.name ≡ out.old.name) × (length out.new.now ≡ length out.old.now) }
+    ensures name_unchanged { (out.new.ghost_name ≡ out.old.ghost_name) × (length out.new.now ≡ length out.old.now) }
 {
     let i = st[NEXT];
     let k = record::kind(*s, i);
