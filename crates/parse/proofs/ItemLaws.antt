@@ -1,7 +1,7 @@
 -- Items in parentheses, and items raised to a power. What a tree is read as tells what the group and the power are read as.
 use Prim.Native.Nat.{ℕ, zero, suc, ◌+◌, ◌-◌, ◌*◌, ◌^◌, ◌≤◌, ◌<◌}
 use mathlib.Core.Path.{◌≡◌, refl, sym, ap, ◌∙◌, subst}
-use mathlib.Core.Bool.{Bool, true, false, cond, not}
+use mathlib.Core.Bool.{Bool, true, false, cond}
 use mathlib.Core.List.{List}
 use mathlib.Core.Option.{none, some}
 use native.Mathlib.Omega.{arith}
@@ -238,13 +238,13 @@ module _ (s : List ℕ) (at : ℕ) (o : Reading paper.Item) where
       }
 
 -- ---- the sign after an item, and the place of a member
-pub after_no : (s : List ℕ) (i : Item) (n c : ℕ) (r : Bool) → n ≡ next_of i → r ≡ begins c (drop n s) → not r ≡ true → begins c (drop (next_of i) s) ≡ false
-after_no s i n c true e q h = never h
+pub after_no : (s : List ℕ) (i : Item) (n c : ℕ) (r : Bool) → n ≡ next_of i → r ≡ begins c (drop n s) → r ≡ false → begins c (drop (next_of i) s) ≡ false
+after_no s i n c true e q h = never (sym h)
 after_no s i n c false e q h = ap (λ (x : ℕ). begins c (drop x s)) (sym e) ∙ sym q
 
-pub after_yes : (s : List ℕ) (i : Item) (n c : ℕ) (r : Bool) → n ≡ next_of i → r ≡ begins c (drop n s) → not r ≡ false → begins c (drop (next_of i) s) ≡ true
+pub after_yes : (s : List ℕ) (i : Item) (n c : ℕ) (r : Bool) → n ≡ next_of i → r ≡ begins c (drop n s) → r ≡ true → begins c (drop (next_of i) s) ≡ true
 after_yes s i n c true e q h = ap (λ (x : ℕ). begins c (drop x s)) (sym e) ∙ sym q
-after_yes s i n c false e q h = never (sym h)
+after_yes s i n c false e q h = never h
 
 abbrev pub Placed : List ℕ → ℕ → ℕ → Member → Type 0
 Placed s d n Unfit = Unit {0}

@@ -1,7 +1,7 @@
 -- A turn of the loops of `sum` and `product`, once for both: what the member that was read makes of it, and the numbers in the cells.
 use Prim.Native.Nat.{ℕ, zero, suc, ◌+◌, ◌-◌, ◌*◌, ◌^◌, ◌≤◌, ◌<◌}
 use mathlib.Core.Path.{◌≡◌, refl, sym, ap, ◌∙◌, subst}
-use mathlib.Core.Bool.{Bool, true, false, not}
+use mathlib.Core.Bool.{Bool, true, false}
 use mathlib.Core.List.{List, [], ◌∷◌}
 use mathlib.Core.Option.{none, some-injective}
 use native.Mathlib.Omega.{arith}
@@ -26,15 +26,6 @@ use Rattle.parse.specs.Joined.{Nodes, Kind, Going, Start, On, Turn, whole, Gives
 use Rattle.parse.specs.Joined.{Read, AfterAsks, weight_of, record_after, lone_in, place_in, record_in, weight_in, first_of, Followed, level_in}
 use Rattle.parse.proofs.ItemLaws.{FitIs, Misfit, member, stands_sized}
 use Rattle.parse.proofs.JoinLaws.{first_misfit, begin_going, member_misfit, one_going, same_first, all_read}
-
--- ---- answers that are Bools
-pub no_sign : (r b : Bool) → r ≡ b → not r ≡ true → b ≡ false
-no_sign true b e h = never h
-no_sign false b e h = sym e
-
-pub a_sign : (r b : Bool) → r ≡ b → not r ≡ false → b ≡ true
-a_sign true b e h = sym e
-a_sign false b e h = never (sym h)
 
 -- ---- six cells
 record Six (st : List ℕ) : Type 0 where
@@ -178,14 +169,14 @@ fits_grouped p (Grouped k e v q) m w st g h = subst (λ (y : ℕ). FitsIs p (Gro
     go true y = subst (FitsIs p (Grouped k e v q)) (sym (lt-leb p k (ltb-true k p y))) (rw y)
     go false y = subst (FitsIs p (Grouped k e v q)) (sym (le-leb p k (ltb-false k p y))) (rw y)
 
-pub fit_yes : (m p : ℕ) (r : Bool) → ((i : Item) (w : ℕ) (st : List ℕ) → Gives i m w st → FitsIs p i r) → not r ≡ false
+pub fit_yes : (m p : ℕ) (r : Bool) → ((i : Item) (w : ℕ) (st : List ℕ) → Gives i m w st → FitsIs p i r) → r ≡ true
     → (i : Item) (w : ℕ) (st : List ℕ) → Gives i m w st → FitsIs p i true
 fit_yes m p true f e = f
-fit_yes m p false f e = never (sym e)
+fit_yes m p false f e = never e
 
-pub fit_no : (m p : ℕ) (r : Bool) → ((i : Item) (w : ℕ) (st : List ℕ) → Gives i m w st → FitsIs p i r) → not r ≡ true
+pub fit_no : (m p : ℕ) (r : Bool) → ((i : Item) (w : ℕ) (st : List ℕ) → Gives i m w st → FitsIs p i r) → r ≡ false
     → (i : Item) (w : ℕ) (st : List ℕ) → Gives i m w st → FitsIs p i false
-fit_no m p true f e = never e
+fit_no m p true f e = never (sym e)
 fit_no m p false f e = f
 
 pub lone_not : (x : ℕ) (i : Item) (m w : ℕ) (st : List ℕ) → Gives i m w st → x < 3 → 4 < m → Gives (lone_in x i) 0 w st

@@ -1,9 +1,9 @@
 -- The reader's answer, case by case: refused by 14, 3 or 6, or the records of the text's tree at the front of the area; and what the verdict
 -- on the text tells of its tree.
 use Prim.Native.Nat.{ℕ, ◌+◌, ◌-◌, ◌*◌, ◌<◌, ◌≤◌}
-use mathlib.Core.Path.{◌≡◌, refl, sym, ap, ◌∙◌}
+use mathlib.Core.Path.{◌≡◌, refl, ap, ◌∙◌}
 use mathlib.Core.List.{List}
-use mathlib.Core.Bool.{Bool, true, false, cond, not}
+use mathlib.Core.Bool.{Bool, true, false, cond}
 use mathlib.Core.Option.{Option, none, some}
 use native.Mathlib.Omega.{arith}
 use borrow.Author.Tests.{lt-ltb, le-ltb, ltb-true, ltb-false}
@@ -15,7 +15,6 @@ use Rattle.paper_text.specs.Text.{read_text}
 use Rattle.paper.specs.Table.{encode}
 use Rattle.paper.specs.Verdict.{is_accepted}
 use Rattle.paper_text.specs.Answers.{Filled, Taken, taken, area_after, room_for, records_of, count_of, read_judged, read_verdict, read_answer, read_given}
-use Rattle.paper.proofs.Tests.{never}
 use Rattle.paper.proofs.EncodeLaws.{encode_length}
 use Rattle.stretch.specs.Put.{put}
 use Rattle.parse.specs.declared.Weighed.{Weighed}
@@ -25,21 +24,6 @@ use Rattle.text.proofs.WriteLaws.{front}
 
 abbrev pub took : ℕ → ℕ → ℕ → List ℕ → Filled Taken
 took k p n area = record { answer = record { number = k; place = p; records_written = n }; area = area }
-
--- the test of the limit, and what it tells
-pub limit_known : (lim : ℕ) {r : Bool} → r ≡ is_limit lim → not r ≡ false → is_limit lim ≡ true
-limit_known lim {r} e h = go r e h
-  where
-    go : (r : Bool) → r ≡ is_limit lim → not r ≡ false → is_limit lim ≡ true
-    go true e h = sym e
-    go false e h = never (sym h)
-
-pub limit_unknown : (lim : ℕ) {r : Bool} → r ≡ is_limit lim → not r ≡ true → is_limit lim ≡ false
-limit_unknown lim {r} e h = go r e h
-  where
-    go : (r : Bool) → r ≡ is_limit lim → not r ≡ true → is_limit lim ≡ false
-    go true e h = never h
-    go false e h = sym e
 
 pub no_limit : (lim : ℕ) (s area : List ℕ) → is_limit lim ≡ false → took 19 0 0 area ≡ read_given lim s area
 unfolding read_given read_answer read_verdict taken area_after is_accepted

@@ -6,9 +6,9 @@ use Rattle.parse.proofs.enter.Tie as tie
 
 returns : tie.Need-returns
 returns c =
-    let told = c.sum.ensures in
-    let st = c.sum.new.1.1.0 in
-    (told.1.0, told.1.1, (kinded st c.sum.result told.0.0.0).0, kind_read _ _ _ _ _ _ _ st c.sum.result told.0.0.0 told.0.2)
+    let told = c.sum-r.ensures in
+    let st = c.sum-r.new.st in
+    (told.1.0, told.1.1, (kinded st c.sum-r.result told.0.0.0).0, kind_read _ _ _ _ _ _ _ st c.sum-r.result told.0.0.0 told.0.2)
 
 pub enter_spec : {M : Type 1} → statement M
 enter_spec = tie.close (tie.spec (λ c κs. search rules) (λ c. search rules) (λ c. search rules) returns)

@@ -6,17 +6,17 @@ use borrow.Author.Rules.{rules}
 use Rattle.parse.proofs.fit.Statement.{statement}
 use Rattle.parse.proofs.fit.Tie as tie
 
-returns : tie.Need-returns
-returns c = sym (ap (fitted c.before.before.before.before.args.p) c.before.before.i.given.1 ∙ rw (lt-ltb _ _ c.if1.true))
+returns : tie.Need-returns-then-rank-p
+returns c = sym (ap (fitted c.args.p) c.in-Bare.is ∙ rw (lt-ltb _ _ c.if-rank-p.true))
 
-returns_2 : tie.Need-returns-2
-returns_2 c = sym (ap (fitted c.before.before.before.before.args.p) c.before.before.i2.given.1 ∙ rw (lt-ltb _ _ c.if2.true))
+returns_2 : tie.Need-returns-then-rank-p-2
+returns_2 c = sym (ap (fitted c.args.p) c.in-Grouped.is ∙ rw (lt-ltb _ _ c.if-rank-p-2.true))
 
-returns_4 : tie.Need-returns-4
-returns_4 c = sym (ap (fitted c.before.before.before.before.args.p) c.before.before.i.given.1 ∙ rw (le-ltb _ _ c.if1.false))
+returns_4 : tie.Need-returns-else-rank-p
+returns_4 c = sym (ap (fitted c.args.p) c.in-Bare.is ∙ rw (le-ltb _ _ c.if-rank-p.false))
 
-returns_5 : tie.Need-returns-5
-returns_5 c = sym (ap (fitted c.before.before.before.before.args.p) c.before.before.i2.given.1 ∙ rw (le-ltb _ _ c.if2.false))
+returns_5 : tie.Need-returns-else-rank-p-2
+returns_5 c = sym (ap (fitted c.args.p) c.in-Grouped.is ∙ rw (le-ltb _ _ c.if-rank-p-2.false))
 
 pub fit_spec : {M : Type 1} → statement M
 fit_spec =

@@ -12,49 +12,45 @@ use borrow.Author.Rules.{rules}
 use Rattle.parse.proofs.flat.Statement.{statement}
 use Rattle.parse.proofs.flat.Tie as tie
 
-passed_requires : tie.Need-passed-requires
+passed_requires : tie.Need-passed-group-requires
 passed_requires c κs =
-    let a = c.before.before.before.before.before.args in
+    let a = c.args in
     let s = a.text.now in
-    (sign_inside s a.at 40 (sym c.before.before.sign_at.ensures ∙ c.before.if1.true), c.before.before.before.before.before.requires)
+    (sign_inside s a.at 40 (sym c.sign_at.ensures ∙ c.if-sign_at.true), c.requires)
 
 raised_requires : tie.Need-raised-requires
 raised_requires c κs =
-    let entry = c.before.before.before.before.before.before.before.before.before in
-    let a = entry.args in
+    let a = c.args in
     let s = a.text.now in
-    let passed = c.before.before.before.passed in
-    sized s a.at (then (skim (drop (a.at + 1) s)) closed) a.out.now _ a.d entry.requires passed.result passed.ensures
+    let passed = c.passed-group in
+    sized s a.at (then (skim (drop (a.at + 1) s)) closed) a.out.now _ a.d c.requires passed.result passed.ensures
 
-returns : tie.Need-returns
+returns : tie.Need-returns-then-sign_at
 returns c =
-    let test = c.before.before.before.before.before.before.before.before in
-    let a = test.before.before.before.before.args in
+    let a = c.args in
     let s = a.text.now in
-    let raised = c.before.before.raised in
-    let opened = sym test.before.sign_at.ensures ∙ test.if1.true in
-    subst (λ o. ItemIs s a.at o (Laid a.out.now a.d raised.new.1.1.0) raised.result)
+    let raised = c.raised in
+    let opened = sym c.sign_at.ensures ∙ c.if-sign_at.true in
+    subst (λ o. ItemIs s a.at o (Laid a.out.now a.d raised.new.out) raised.result)
     (sym (group_passed s a.at opened))
-    (raised.ensures a.at (then (skim (drop (a.at + 1) s)) closed) a.out.now c.before.before.before.before.before.before.passed.ensures)
+    (raised.ensures a.at (then (skim (drop (a.at + 1) s)) closed) a.out.now c.passed-group.ensures)
 
 raised_requires_2 : tie.Need-raised-requires-2
 raised_requires_2 c κs =
-    let entry = c.before.before.before.before.before.before.before.before.before in
-    let a = entry.args in
+    let a = c.args in
     let s = a.text.now in
-    let leaf = c.before.before.before.leaf in
-    sized s a.at (bared (read_leaf (drop a.at s))) a.out.now _ a.d entry.requires leaf.result leaf.ensures
+    let leaf = c.leaf-small in
+    sized s a.at (bared (read_leaf (drop a.at s))) a.out.now _ a.d c.requires leaf.result leaf.ensures
 
-returns_2 : tie.Need-returns-2
+returns_2 : tie.Need-returns
 returns_2 c =
-    let test = c.before.before.before.before.before.before.before.before in
-    let a = test.before.before.before.before.args in
+    let a = c.args in
     let s = a.text.now in
-    let raised = c.before.before.raised2 in
-    let no-opening = sym test.before.sign_at.ensures ∙ test.if1.false in
-    subst (λ o. ItemIs s a.at o (Laid a.out.now a.d raised.new.1.1.0) raised.result)
+    let raised = c.raised-2 in
+    let no-opening = sym c.sign_at.ensures ∙ c.if-sign_at.false in
+    subst (λ o. ItemIs s a.at o (Laid a.out.now a.d raised.new.out) raised.result)
     (sym (power_leaf (read_cut 0) s a.at no-opening))
-    (raised.ensures a.at (bared (read_leaf (drop a.at s))) a.out.now c.before.before.before.before.before.before.leaf.ensures)
+    (raised.ensures a.at (bared (read_leaf (drop a.at s))) a.out.now c.leaf-small.ensures)
 
 pub flat_spec : {M : Type 1} → statement M
 flat_spec =

@@ -5,24 +5,23 @@ use borrow.Author.Rules.{rules}
 use Rattle.parse.proofs.group_reads.Statement.{statement}
 use Rattle.parse.proofs.group_reads.Tie as tie
 
-returns : tie.Need-returns
+returns : tie.Need-returns-in-Not
 returns c =
-    let a = c.before.before.before.before.before.before.args in
+    let a = c.args in
     let s = a.text.now in
-    no_closing s a.at a.k (rw c.enum_told.given.1 at c.before.before.before.read-sum.ensures)
+    no_closing s a.at a.k c.in-Not.ensures
 
-returns_2 : tie.Need-returns-2
+returns_2 : tie.Need-returns-in-Bare
 returns_2 c =
-    let a = c.before.before.before.before.before.before.before.before.args in
-    let known = c.before.before.next.given in
-    let read = rw known.1 at c.before.before.before.before.before.read-sum.ensures in
-    c.sign_at.ensures ∙ closing_there a.text.now a.at a.k known.0.0 known.0.1.0 known.0.1.1.0 read
+    let a = c.args in
+    let read = c.in-Bare.ensures in
+    c.sign_at.ensures ∙ closing_there a.text.now a.at a.k c.in-Bare.rank c.in-Bare.next c.in-Bare.weight read
 
-returns_3 : tie.Need-returns-3
+returns_3 : tie.Need-returns-in-Grouped
 returns_3 c =
-    let a = c.before.before.before.before.before.before.args in
+    let a = c.args in
     let s = a.text.now in
-    never_grouped s a.at a.k _ _ _ (rw c.enum-told2.given.1 at c.before.before.before.read-sum.ensures)
+    never_grouped s a.at a.k _ _ _ c.in-Grouped.ensures
 
 pub group_reads_spec : {M : Type 1} → statement M
 group_reads_spec =

@@ -4,31 +4,31 @@ use borrow.Author.Rules.{rules}
 use Rattle.parse.proofs.is_form.Statement.{statement}
 use Rattle.parse.proofs.is_form.Tie as tie
 
-returns : tie.Need-returns
+returns : tie.Need-returns-then-next-text
 returns c =
-    let a = c.before.before.before.before.before.before.before.before.args in
+    let a = c.args in
     let s = a.text.now in
-    left_over s a.k _ _ _ (rw c.before.before.next.given.1 at c.before.before.before.before.before.read-sum.ensures) c.if1.true
+    left_over s a.k _ _ _ c.in-Bare.ensures c.if-next-text.true
 
-returns_2 : tie.Need-returns-2
+returns_2 : tie.Need-returns-in-Not
 returns_2 c =
-    let a = c.before.before.before.before.before.before.args in
+    let a = c.args in
     let s = a.text.now in
-    no_form s a.k (rw c.enum_told.given.1 at c.before.before.before.read-sum.ensures)
+    no_form s a.k c.in-Not.ensures
 
-returns_3 : tie.Need-returns-3
+returns_3 : tie.Need-returns-else-next-text
 returns_3 c =
-    let a = c.before.before.before.before.before.before.before.before.before.args in
+    let a = c.args in
     let s = a.text.now in
-    let blocks = c.blocks-read in
-    let read = rw c.before.before.before.next.given.1 at c.before.before.before.before.before.before.read-sum.ensures in
-    by_blocks s a.k _ _ _ blocks.result read c.before.if1.false blocks.ensures
+    let blocks = c.blocks_read in
+    let read = c.in-Bare.ensures in
+    by_blocks s a.k _ _ _ blocks.result read c.if-next-text.false blocks.ensures
 
-returns_4 : tie.Need-returns-4
+returns_4 : tie.Need-returns-in-Grouped
 returns_4 c =
-    let a = c.before.before.before.before.before.before.args in
+    let a = c.args in
     let s = a.text.now in
-    never_grouped s 0 a.k _ _ _ (rw c.enum-told2.given.1 at c.before.before.before.read-sum.ensures)
+    never_grouped s 0 a.k _ _ _ c.in-Grouped.ensures
 
 pub is_form_spec : {M : Type 1} → statement M
 is_form_spec =

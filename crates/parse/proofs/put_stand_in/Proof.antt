@@ -5,24 +5,23 @@ use borrow.Author.Rules.{rules}
 use Rattle.parse.proofs.put_stand_in.Statement.{statement}
 use Rattle.parse.proofs.put_stand_in.Tie as tie
 
-returns : tie.Need-returns
-returns c = stand_nought c.before.before.before.before.before.before.args.k (omega arith) c.before.before.put_record.ensures
+returns : tie.Need-returns-then-k-lt-RANK_POWER
+returns c = stand_nought c.args.k (omega arith) c.put_record.ensures
 
-returns_2 : tie.Need-returns-2
+returns_2 : tie.Need-returns-then-k-lt-RANK_PRODUCT
 returns_2 c =
-    let k = c.before.before.before.before.before.before.before.args.k in
-    stand_minus k (omega arith) (omega arith) c.before.before.put-record2.ensures
+    let k = c.args.k in
+    stand_minus k (omega arith) (omega arith) c.put_record-then-k-lt-RANK_PRODUCT.ensures
 
-returns_3 : tie.Need-returns-3
+returns_3 : tie.Need-returns-then-k-lt-RANK_SUM
 returns_3 c =
-    let k = c.before.before.before.before.before.before.before.before.args.k in
-    stand_product k (omega arith) (omega arith) c.before.before.put-record3.ensures
+    let k = c.args.k in
+    stand_product k (omega arith) (omega arith) c.put_record-then-k-lt-RANK_SUM.ensures
 
-returns_4 : tie.Need-returns-4
+returns_4 : tie.Need-returns
 returns_4 c =
-    let entry = c.before.before.before.before.before.before.before.before in
-    let h = entry.requires in
-    stand_sum entry.args.k (omega arith) h c.before.before.put-record4.ensures
+    let h = c.requires in
+    stand_sum c.args.k (omega arith) h c.put_record-2.ensures
 
 pub put_stand_in_spec : {M : Type 1} → statement M
 put_stand_in_spec =

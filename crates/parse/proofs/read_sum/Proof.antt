@@ -5,17 +5,17 @@ use borrow.Author.Rules.{rules}
 use Rattle.parse.proofs.read_sum.Statement.{statement}
 use Rattle.parse.proofs.read_sum.Tie as tie
 
-returns : tie.Need-returns
-returns c = read_nothing _ _ _ _ _ _ _ _ c.before.before.before.enter.ensures.3 c.if1.true
+returns : tie.Need-returns-then-m-lt-BARE_CELL
+returns c = read_nothing _ _ _ _ _ _ _ _ c.enter.ensures.3 c.if-m-lt-BARE_CELL.true
 
-returns_2 : tie.Need-returns-2
+returns_2 : tie.Need-returns-then-m-lt-GROUPED_CELL
 returns_2 c =
-    let told = c.before.before.before.before.enter.ensures in
-    let tie = c.before.before.before.out.given.1.0 (sym told.0) in
-    rw tie (read_bare _ _ _ _ _ _ _ _ told.3 c.before.if1.false c.if2.true)
+    let told = c.enter.ensures in
+    let tie = c.out-1.given.1.0 (sym told.0) in
+    rw tie (read_bare _ _ _ _ _ _ _ _ told.3 c.if-m-lt-BARE_CELL.false c.if-m-lt-GROUPED_CELL.true)
 
-returns_3 : tie.Need-returns-3
-returns_3 c = read_group _ _ _ _ _ _ _ _ c.before.before.before.before.enter.ensures.3 c.if2.false
+returns_3 : tie.Need-returns
+returns_3 c = read_group _ _ _ _ _ _ _ _ c.enter.ensures.3 c.if-m-lt-GROUPED_CELL.false
 
 pub read_sum_spec : {M : Type 1} → statement M
 read_sum_spec =

@@ -5,11 +5,11 @@ use borrow.Author.Rules.{rules}
 use Rattle.parse.proofs.sign_at.Statement.{statement}
 use Rattle.parse.proofs.sign_at.Tie as tie
 
-returns : tie.Need-returns
-returns c = let a = c.before.args in sym (begins_past a.text.now a.at a.c c.if1.true)
+returns : tie.Need-returns-then-text-at
+returns c = let a = c.args in sym (begins_past a.text.now a.at a.c c.if-text-at.true)
 
-returns_2 : tie.Need-returns-2
-returns_2 c = let a = c.before.before.args in sym (begins_there a.text.now a.at a.c c.before.if1.false)
+returns_2 : tie.Need-returns
+returns_2 c = let a = c.args in sym (begins_there a.text.now a.at a.c c.if-text-at.false)
 
 pub sign_at_spec : {M : Type 1} → statement M
 sign_at_spec = tie.close (tie.spec returns (λ c. search rules) returns_2)

@@ -6,40 +6,40 @@ use Rattle.paper_text.specs.Levels.{sign_rank}
 use Rattle.parse.proofs.sign_rank.Statement.{statement}
 use Rattle.parse.proofs.sign_rank.Tie as tie
 
-returns : tie.Need-returns
+returns : tie.Need-returns-then-c-eq43
 unfolding sign_rank
-returns c = (sym (rw (eq-eqb _ 43 c.if1.true)), omega arith)
+returns c = (sym (rw (eq-eqb _ 43 c.if-c-eq43.true)), omega arith)
 
-returns_2 : tie.Need-returns-2
+returns_2 : tie.Need-returns-then-c-eq42
 unfolding sign_rank
-returns_2 c = (sym (rw (ne_eqb _ 43 c.before.if1.false, eq-eqb _ 42 c.if2.true)), omega arith)
+returns_2 c = (sym (rw (ne_eqb _ 43 c.if-c-eq43.false, eq-eqb _ 42 c.if-c-eq42.true)), omega arith)
 
-returns_3 : tie.Need-returns-3
+returns_3 : tie.Need-returns-then-c-eq94
 unfolding sign_rank
-returns_3 c = (sym (rw (ne_eqb _ 43 c.before.before.if1.false, ne_eqb _ 42 c.before.if2.false, eq-eqb _ 94 c.if3.true)), omega arith)
+returns_3 c = (sym (rw (ne_eqb _ 43 c.if-c-eq43.false, ne_eqb _ 42 c.if-c-eq42.false, eq-eqb _ 94 c.if-c-eq94.true)), omega arith)
 
-returns_4 : tie.Need-returns-4
+returns_4 : tie.Need-returns-then-c-eq45
 unfolding sign_rank
 returns_4 c = (
   sym (rw (
-    ne_eqb _ 43 c.before.before.before.if1.false,
-    ne_eqb _ 42 c.before.before.if2.false,
-    ne_eqb _ 94 c.before.if3.false,
+    ne_eqb _ 43 c.if-c-eq43.false,
+    ne_eqb _ 42 c.if-c-eq42.false,
+    ne_eqb _ 94 c.if-c-eq94.false,
     eq-eqb _
-        45 c.if4.true,
+        45 c.if-c-eq45.true,
   )),
   omega arith,
 )
 
-returns_5 : tie.Need-returns-5
+returns_5 : tie.Need-returns
 unfolding sign_rank
 returns_5 c = (
   sym (rw (
-    ne_eqb _ 43 c.before.before.before.if1.false,
-    ne_eqb _ 42 c.before.before.if2.false,
-    ne_eqb _ 94 c.before.if3.false,
+    ne_eqb _ 43 c.if-c-eq43.false,
+    ne_eqb _ 42 c.if-c-eq42.false,
+    ne_eqb _ 94 c.if-c-eq94.false,
     ne_eqb _
-        45 c.if4.false,
+        45 c.if-c-eq45.false,
   )),
   omega arith,
 )

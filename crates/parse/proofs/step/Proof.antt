@@ -4,38 +4,35 @@ use borrow.Author.Rules.{rules}
 use Rattle.parse.proofs.step.Statement.{statement}
 use Rattle.parse.proofs.step.Tie as tie
 
-returns : tie.Need-returns
-returns c = let a = c.before.args in opened a.c a.d a.k c.if1.true c.before.requires.1
+returns : tie.Need-returns-then-c-eq40
+returns c = let a = c.args in opened a.c a.d a.k c.if-c-eq40.true c.requires.1
 
-returns_2 : tie.Need-returns-2
-returns_2 c = let a = c.before.before.before.args in ends a.c a.d a.k c.before.before.if1.false c.before.if2.true c.if3.true
+returns_2 : tie.Need-returns-then-d-lt1
+returns_2 c = let a = c.args in ends a.c a.d a.k c.if-c-eq40.false c.if-c-eq41.true c.if-d-lt1.true
 
-returns_3 : tie.Need-returns-3
+returns_3 : tie.Need-returns-then-c-eq41
 returns_3 c =
-    let entry = c.before.before.before in
-    let a = entry.args in
-    closes_one a.c a.d a.k c.before.before.if1.false c.before.if2.true c.if3.false entry.requires.1
+    let a = c.args in
+    closes_one a.c a.d a.k c.if-c-eq40.false c.if-c-eq41.true c.if-d-lt1.false c.requires.1
 
-returns_4 : tie.Need-returns-4
+returns_4 : tie.Need-returns-then-d-gt0
 returns_4 c =
-    let entry = c.before.before.before in
-    let a = entry.args in
-    deeper a.c a.d a.k c.before.before.if1.false c.before.if2.false c.if4.true entry.requires.1
+    let a = c.args in
+    deeper a.c a.d a.k c.if-c-eq40.false c.if-c-eq41.false c.if-d-gt0.true c.requires.1
 
-returns_5 : tie.Need-returns-5
+returns_5 : tie.Need-returns-then-k-r
 returns_5 c =
-    let a = c.before.before.before.before.before.args in
-    let r = c.before.sign-rank in
-    raises a.c a.d a.k r.result c.before.before.before.before.if1.false c.before.before.before.if2.false c.before.before.if4.false
-    r.ensures.0 r.ensures.1 c.if5.true
+    let a = c.args in
+    let r = c.sign_rank-r in
+    raises a.c a.d a.k r.result c.if-c-eq40.false c.if-c-eq41.false c.if-d-gt0.false
+    r.ensures.0 r.ensures.1 c.if-k-r.true
 
-returns_6 : tie.Need-returns-6
+returns_6 : tie.Need-returns
 returns_6 c =
-    let entry = c.before.before.before.before.before in
-    let a = entry.args in
-    let r = c.before.sign-rank in
-    stays a.c a.d a.k r.result c.before.before.before.before.if1.false c.before.before.before.if2.false c.before.before.if4.false
-    r.ensures.0 entry.requires.1 c.if5.false
+    let a = c.args in
+    let r = c.sign_rank-r in
+    stays a.c a.d a.k r.result c.if-c-eq40.false c.if-c-eq41.false c.if-d-gt0.false
+    r.ensures.0 c.requires.1 c.if-k-r.false
 
 pub step_spec : {M : Type 1} → statement M
 step_spec =

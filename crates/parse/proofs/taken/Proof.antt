@@ -7,36 +7,33 @@ use borrow.Author.Rules.{rules}
 use Rattle.parse.proofs.taken.Statement.{statement}
 use Rattle.parse.proofs.taken.Tie as tie
 
-add_st : tie.Need-overflow-add-st
-add_st c = let t = rw c.before.i.given.1 at c.before.before.before.requires.1 in let x = t.1 in record { fits = omega (arith, x) }
+add_st : tie.Need-overflow_add-st
+add_st c = let t = rw c.in-Bare.is at c.requires.1 in let x = t.1 in record { fits = omega (arith, x) }
 
-add_result : tie.Need-overflow-add-result
-add_result c = let t = rw c.before.i.given.1 at c.before.before.before.requires.1 in let x = t.0 in record { fits = omega (arith, x) }
+add_result : tie.Need-overflow_add-result
+add_result c = let t = rw c.in-Bare.is at c.requires.1 in let x = t.0 in record { fits = omega (arith, x) }
 
-add_st_2 : tie.Need-overflow-add-st-2
-add_st_2 c = let t = rw c.before.i2.given.1 at c.before.before.before.requires.1 in let x = t.1 in record { fits = omega (arith, x) }
+add_st_2 : tie.Need-overflow_add-st-in-Grouped
+add_st_2 c = let t = rw c.in-Grouped.is at c.requires.1 in let x = t.1 in record { fits = omega (arith, x) }
 
-add_result_2 : tie.Need-overflow-add-result-2
-add_result_2 c = let t = rw c.before.i2.given.1 at c.before.before.before.requires.1 in let x = t.0 in record { fits = omega (arith, x) }
+add_result_2 : tie.Need-overflow_add-result-in-Grouped
+add_result_2 c = let t = rw c.in-Grouped.is at c.requires.1 in let x = t.0 in record { fits = omega (arith, x) }
 
-returns : tie.Need-returns
+returns : tie.Need-returns-in-Not
 returns c =
-    let entry = c.before.before in
-    (entry.requires.0, refl, subst (λ i. Gives i 0 entry.args.w entry.args.st.now) (sym c.enum_told.given.1) refl)
+    (c.requires.0, refl, subst (λ i. Gives i 0 c.args.w c.args.st.now) (sym c.in-Not.is) refl)
 
-returns_2 : tie.Need-returns-2
+returns_2 : tie.Need-returns-in-Bare
 returns_2 c =
-    let entry = c.before.before.before in
-    let t = rw c.before.i.given.1 at entry.requires.1 in
-    let f = filled entry.args.st.now _ _ _ entry.requires.0 in
-    (f.0, f.1, given_as _ _ _ _ _ c.before.i.given.1 (refl, t.0, f.2, f.3, f.4))
+    let t = rw c.in-Bare.is at c.requires.1 in
+    let f = filled c.args.st.now _ _ _ c.requires.0 in
+    (f.0, f.1, given_as _ _ _ _ _ c.in-Bare.is (refl, t.0, f.2, f.3, f.4))
 
-returns_3 : tie.Need-returns-3
+returns_3 : tie.Need-returns-in-Grouped
 returns_3 c =
-    let entry = c.before.before.before in
-    let t = rw c.before.i2.given.1 at entry.requires.1 in
-    let f = filled entry.args.st.now _ _ _ entry.requires.0 in
-    (f.0, f.1, given_as _ _ _ _ _ c.before.i2.given.1 (refl, t.0, f.2, f.3, f.4))
+    let t = rw c.in-Grouped.is at c.requires.1 in
+    let f = filled c.args.st.now _ _ _ c.requires.0 in
+    (f.0, f.1, given_as _ _ _ _ _ c.in-Grouped.is (refl, t.0, f.2, f.3, f.4))
 
 pub taken_spec : {M : Type 1} → statement M
 taken_spec =

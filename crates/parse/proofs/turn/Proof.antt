@@ -4,51 +4,51 @@ use borrow.Author.Rules.{rules}
 use Rattle.parse.proofs.turn.Statement.{statement}
 use Rattle.parse.proofs.turn.Tie as tie
 
-returns : tie.Need-returns
+returns : tie.Need-returns-then-left-gt0
 returns c =
-    let a = c.before.before.before.before.args in
+    let a = c.args in
     let s = a.text.now in
-    let q = c.before.before.before.before.requires in
-    one_deeper s a.i a.left a.k q.0 c.before.if1.true c.if2.true q.1
+    let q = c.requires in
+    one_deeper s a.i a.left a.k q.0 c.if-c-eq40.true c.if-left-gt0.true q.1
 
-returns_2 : tie.Need-returns-2
+returns_2 : tie.Need-returns-then-group_reads
 returns_2 c =
-    let a = c.before.before.before.before.before.before.args in
+    let a = c.args in
     let s = a.text.now in
-    let q = c.before.before.before.before.before.before.requires in
-    let group = c.before.group-Reads in
-    let opened = c.before.before.before.if1.true in
-    block_read s a.i a.left a.k q.0 group.result opened c.before.before.if2.false group.ensures c.if3.true
+    let q = c.requires in
+    let group = c.group_reads in
+    let opened = c.if-c-eq40.true in
+    block_read s a.i a.left a.k q.0 group.result opened c.if-left-gt0.false group.ensures c.if-group_reads.true
 
-returns_3 : tie.Need-returns-3
+returns_3 : tie.Need-returns-then-c-eq40
 returns_3 c =
-    let a = c.before.before.before.before.before.before.args in
+    let a = c.args in
     let s = a.text.now in
-    let q = c.before.before.before.before.before.before.requires in
-    let group = c.before.group-Reads in
-    let opened = c.before.before.before.if1.true in
-    block_bad s a.i a.left a.k q.0 group.result opened c.before.before.if2.false group.ensures c.if3.false
+    let q = c.requires in
+    let group = c.group_reads in
+    let opened = c.if-c-eq40.true in
+    block_bad s a.i a.left a.k q.0 group.result opened c.if-left-gt0.false group.ensures c.if-group_reads.false
 
-returns_4 : tie.Need-returns-4
+returns_4 : tie.Need-returns-then-left-k
 returns_4 c =
-    let a = c.before.before.before.before.before.args in
+    let a = c.args in
     let s = a.text.now in
-    let q = c.before.before.before.before.before.requires in
-    back_up s a.i a.left a.k q.0 c.before.before.if1.false c.before.if4.true c.if5.true
+    let q = c.requires in
+    back_up s a.i a.left a.k q.0 c.if-c-eq40.false c.if-c-eq41.true c.if-left-k.true
 
-returns_5 : tie.Need-returns-5
+returns_5 : tie.Need-returns-then-c-eq41
 returns_5 c =
-    let a = c.before.before.before.before.before.args in
+    let a = c.args in
     let s = a.text.now in
-    let q = c.before.before.before.before.before.requires in
-    back_out s a.i a.left a.k q.0 c.before.before.if1.false c.before.if4.true c.if5.false
+    let q = c.requires in
+    back_out s a.i a.left a.k q.0 c.if-c-eq40.false c.if-c-eq41.true c.if-left-k.false
 
-returns_6 : tie.Need-returns-6
+returns_6 : tie.Need-returns
 returns_6 c =
-    let a = c.before.before.before.before.args in
+    let a = c.args in
     let s = a.text.now in
-    let q = c.before.before.before.before.requires in
-    other s a.i a.left a.k q.0 c.before.if1.false c.if4.false q.1
+    let q = c.requires in
+    other s a.i a.left a.k q.0 c.if-c-eq40.false c.if-c-eq41.false q.1
 
 pub turn_spec : {M : Type 1} → statement M
 turn_spec =

@@ -6,22 +6,22 @@ use borrow.Author.Rules.{rules}
 use Rattle.parse.proofs.weigh.Statement.{statement}
 use Rattle.parse.proofs.weigh.Tie as tie
 
-weigh_shallow_requires : tie.Need-weigh-shallow-requires
-weigh_shallow_requires c κs = sym c.before.is-shallow.ensures ∙ c.if1.true
+weigh_shallow_requires : tie.Need-weigh_shallow-requires
+weigh_shallow_requires c κs = sym c.is_shallow.ensures ∙ c.if-is_shallow.true
 
-returns_2 : tie.Need-returns-2
+returns_2 : tie.Need-returns-then-is_form
 returns_2 c =
-    let a = c.before.before.before.before.before.args in
-    let shallow = c.before.before.before.is-shallow in
-    let form = c.before.is-form in
-    too_heavy a.text.now a.limit _ shallow.result form.result (omega arith) shallow.ensures c.before.before.if1.false
-    form.ensures c.if2.true
+    let a = c.args in
+    let shallow = c.is_shallow in
+    let form = c.is_form in
+    too_heavy a.text.now a.limit _ shallow.result form.result (omega arith) shallow.ensures c.if-is_shallow.false
+    form.ensures c.if-is_form.true
 
-returns_3 : tie.Need-returns-3
+returns_3 : tie.Need-returns
 returns_3 c =
-    let a = c.before.before.before.before.before.args in
-    let form = c.before.is-form in
-    no_text a.text.now a.limit form.result form.ensures c.if2.false
+    let a = c.args in
+    let form = c.is_form in
+    no_text a.text.now a.limit form.result form.ensures c.if-is_form.false
 
 pub weigh_spec : {M : Type 1} → statement M
 weigh_spec =

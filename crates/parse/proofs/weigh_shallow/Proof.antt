@@ -4,45 +4,45 @@ use borrow.Author.Rules.{rules}
 use Rattle.parse.proofs.weigh_shallow.Statement.{statement}
 use Rattle.parse.proofs.weigh_shallow.Tie as tie
 
-returns : tie.Need-returns
+returns : tie.Need-returns-then-next-text
 returns c =
-    let a = c.before.before.before.before.before.before.before.before.args in
+    let a = c.args in
     let s = a.text.now in
-    let h = c.before.before.before.before.before.before.before.before.requires in
+    let h = c.requires in
     reads_more s a.limit a.k h _ _ _
-    (rw c.before.before.next.given.1 at c.before.before.before.before.before.read-sum.ensures) c.if1.true
+    c.in-Bare.ensures c.if-next-text.true
 
-returns_2 : tie.Need-returns-2
+returns_2 : tie.Need-returns-then-limit-weight
 returns_2 c =
-    let a = c.before.before.before.before.before.before.before.before.before.args in
+    let a = c.args in
     let s = a.text.now in
-    let h = c.before.before.before.before.before.before.before.before.before.requires in
+    let h = c.requires in
     reads_heavy s a.limit a.k h _ _ _
-    (rw c.before.before.before.next.given.1 at c.before.before.before.before.before.before.read-sum.ensures)
-    c.before.if1.false c.if2.true
+    c.in-Bare.ensures
+    c.if-next-text.false c.if-limit-weight.true
 
-returns_3 : tie.Need-returns-3
+returns_3 : tie.Need-returns-in-Not
 returns_3 c =
-    let a = c.before.before.before.before.before.before.args in
+    let a = c.args in
     let s = a.text.now in
-    let h = c.before.before.before.before.before.before.requires in
-    reads_none s a.limit a.k h (rw c.enum_told.given.1 at c.before.before.before.read-sum.ensures)
+    let h = c.requires in
+    reads_none s a.limit a.k h c.in-Not.ensures
 
-returns_4 : tie.Need-returns-4
+returns_4 : tie.Need-returns-else-limit-weight
 returns_4 c =
-    let a = c.before.before.before.before.before.before.before.before.before.args in
+    let a = c.args in
     let s = a.text.now in
-    let h = c.before.before.before.before.before.before.before.before.before.requires in
+    let h = c.requires in
     reads_light s a.limit a.k h _ _ _
-    (rw c.before.before.before.next.given.1 at c.before.before.before.before.before.before.read-sum.ensures)
-    c.before.if1.false c.if2.false
+    c.in-Bare.ensures
+    c.if-next-text.false c.if-limit-weight.false
 
-returns_5 : tie.Need-returns-5
+returns_5 : tie.Need-returns-in-Grouped
 returns_5 c =
-    let a = c.before.before.before.before.before.before.args in
+    let a = c.args in
     let s = a.text.now in
-    let h = c.before.before.before.before.before.before.requires in
-    reads_group s a.limit a.k h _ _ _ (rw c.enum-told2.given.1 at c.before.before.before.read-sum.ensures)
+    let h = c.requires in
+    reads_group s a.limit a.k h _ _ _ c.in-Grouped.ensures
 
 pub weigh_shallow_spec : {M : Type 1} → statement M
 weigh_shallow_spec =

@@ -6,8 +6,8 @@ use Rattle.parse.proofs.write.Tie as tie
 
 returns : tie.Need-returns
 returns c =
-    let a = c.before.before.before.before.before.before.args in
-    text_laid a.text.now a.limit a.out.now _ c.before.before.read-sum.result c.before.before.read-sum.ensures
+    let a = c.args in
+    text_laid a.text.now a.limit a.out.now _ c.read_sum.result c.read_sum.ensures
 
 pub write_spec : {M : Type 1} → statement M
 write_spec = tie.close (tie.spec (λ c κs. search rules) (λ c. search rules) returns)

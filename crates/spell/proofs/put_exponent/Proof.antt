@@ -5,22 +5,22 @@ use Rattle.spell.proofs.PutLaws.{exponent_put}
 use Rattle.spell.proofs.put_exponent.Statement.{statement}
 use Rattle.spell.proofs.put_exponent.Tie as tie
 
-put_sign_requires : tie.Need-put-sign-requires
-put_sign_requires c κs = let r = c.before.before.before.requires.1 in omega (arith, r)
+put_sign_requires : tie.Need-put_sign-b-requires
+put_sign_requires c κs = let r = c.requires.1 in omega (arith, r)
 
-bits_requires : tie.Need-bits-requires
-bits_requires c κs = c.before.before.before.before.before.before.requires.0
+bits_requires : tie.Need-bits-v-requires
+bits_requires c κs = c.requires.0
 
-spell_number_requires : tie.Need-spell-number-requires
+spell_number_requires : tie.Need-spell_number-requires
 spell_number_requires c κs =
-    let m = c.before.before.before.before.put-sign.ensures.end in
-    let r = c.before.before.before.before.before.before.before.before.requires.1 in
+    let m = c.put_sign-b.ensures.end in
+    let r = c.requires.1 in
     omega (arith, m, r)
 
 returns : tie.Need-returns
 returns c =
-    exponent_put c.before.before.before.before.bits.ensures c.before.before.before.before.before.before.before.put-sign.ensures
-    c.before.before.spell-number.ensures
+    exponent_put c.bits-v.ensures c.put_sign-b.ensures
+    c.spell_number.ensures
 
 pub put_exponent_spec : {M : Type 1} → statement M
 put_exponent_spec = tie.close (tie.spec put_sign_requires bits_requires spell_number_requires (λ c. search rules) returns)

@@ -8,42 +8,41 @@ use Rattle.spell.proofs.put_leaf.Statement.{statement}
 use Rattle.spell.proofs.put_leaf.Tie as tie
 
 kind_requires : tie.Need-kind-requires
-kind_requires c κs = inside c.before.before.requires.0
+kind_requires c κs = inside c.requires.0
 
-bits_requires : tie.Need-bits-requires
-bits_requires c κs = inside c.before.before.before.before.requires.0
+bits_requires : tie.Need-bits-v-requires
+bits_requires c κs = inside c.requires.0
 
-put_integer_requires : tie.Need-put-integer-requires
-put_integer_requires c κs = let f = c.before.before.before.before.before.before.requires.2.fits in omega (arith, f)
+put_integer_requires : tie.Need-put_integer-requires
+put_integer_requires c κs = let f = c.requires.2.fits in omega (arith, f)
 
-returns : tie.Need-returns
+returns : tie.Need-returns-then-kind-lt-SYMBOL
 returns c =
-    let a = c.before.before.before.before.before.before.before.before.before.args in
-    let e = c.before.before.before.before.before.before.kind.ensures in
+    let a = c.args in
+    let e = c.kind.ensures in
     let k : kind a.s.now a.i ≡ 0 = omega (arith, e) in
-    λ t h. integer_put t h k c.before.before.before.before.bits.ensures c.before.before.put-integer.ensures
+    λ t h. integer_put t h k c.bits-v.ensures c.put_integer.ensures
 
-put_sign_requires : tie.Need-put-sign-requires
-put_sign_requires c κs = let f = c.before.before.before.before.before.requires.2.fits in omega (arith, f)
+put_sign_requires : tie.Need-put_sign-b-requires
+put_sign_requires c κs = let f = c.requires.2.fits in omega (arith, f)
 
-symbol_requires : tie.Need-symbol-requires
-symbol_requires c κs = inside c.before.before.before.before.before.before.before.before.requires.0
+symbol_requires : tie.Need-symbol-v-requires
+symbol_requires c κs = inside c.requires.0
 
-spell_number_requires : tie.Need-spell-number-requires
+spell_number_requires : tie.Need-spell_number-requires
 spell_number_requires c κs =
-    let e = c.before.before.before.before.put-sign.ensures.end in
-    let f = c.before.before.before.before.before.before.before.before.before.before.requires.2.fits in
+    let e = c.put_sign-b.ensures.end in
+    let f = c.requires.2.fits in
     omega (arith, e, f)
 
-returns_2 : tie.Need-returns-2
+returns_2 : tie.Need-returns
 returns_2 c =
-    let entry = c.before.before.before.before.before.before.before.before.before.before.before.before.before in
-    let a = entry.args in
-    let e = c.before.before.before.before.before.before.before.before.before.before.kind.ensures in
-    let l = entry.requires.1 in
+    let a = c.args in
+    let e = c.kind.ensures in
+    let l = c.requires.1 in
     let k : kind a.s.now a.i ≡ 1 = omega (arith, e, l) in
-    λ t h. symbol_put t h k c.before.before.before.before.symbol.ensures
-    c.before.before.before.before.before.before.before.put-sign.ensures c.before.before.spell-number.ensures
+    λ t h. symbol_put t h k c.symbol-v.ensures
+    c.put_sign-b.ensures c.spell_number.ensures
 
 pub put_leaf_spec : {M : Type 1} → statement M
 put_leaf_spec =

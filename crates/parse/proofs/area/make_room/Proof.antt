@@ -4,7 +4,7 @@ use borrow.Author.Rules.{rules}
 use Rattle.parse.proofs.area.make_room.Statement.{statement}
 use Rattle.parse.proofs.area.make_room.Tie as tie
 
-returns : tie.Need-returns
+returns : tie.Need-returns-then-out-q
 returns c = record { there = λ f. absurd (omega (arith, f)) }
 
 pub make_room_spec : {M : Type 1} → statement M

@@ -5,9 +5,9 @@ use borrow.Author.Rules.{rules}
 use Rattle.parse.proofs.area.put_record.Statement.{statement}
 use Rattle.parse.proofs.area.put_record.Tie as tie
 
-returns : tie.Need-returns
+returns : tie.Need-returns-then-out-d
 returns c =
-    let a = c.before.before.args in
+    let a = c.args in
     let l = record_length a.kind a.count 0 a.bits in
     record { there = λ f. absurd (omega (arith, f, l)) }
 
