@@ -303,16 +303,16 @@ module _ {b : Bool} {l : List Tree} {o₀ w₀ : List ℕ} {d p count : ℕ} whe
             gone = v.gone;
             behind = omega (arith, v.behind, length-append v.passed (x ∷ []));
             many = omega (arith, v.many);
-            passed_entries = entries_snoc b w p (i + 1) j v.passed x (sym v.behind) v.passed-entries next.entry;
+            passed_entries = entries_snoc b w p (i + 1) j v.passed x (sym v.behind) v.passed_entries next.entry;
             entries = next.rest;
             room = omega (arith, v.room, total_append weight v.passed (x ∷ []));
             common = common_ticks v.common o' w s refl;
             member = v.member;
-            own_entry = v.own-entry;
+            own_entry = v.own_entry;
             own = v.own;
             fewer = v.fewer;
             member_of = v.member_of;
-            passed_of = all_of_snoc l v.passed x v.passed-of all.0;
+            passed_of = all_of_snoc l v.passed x v.passed_of all.0;
             left_of = all.1;
             news = v.news;
           }
@@ -332,7 +332,7 @@ module _ {b : Bool} {l : List Tree} {o₀ w₀ : List ℕ} {d p count : ℕ} whe
           let same = total_fold weight (last_first m) ∙ fold_last_first plus_laws weight m ∙ sym (total_fold weight m) in
           let grown = join_grows b v.current x t next.entry.there.wf q in
           let all = subst (AllOf l) next.is v.left_of in
-          let its = swap_before w w' p j (n - 1) t m rest (omega arith) within k b i (v.member ∷ []) (omega (arith, v.behind)) (v.own-entry, tt) in
+          let its = swap_before w w' p j (n - 1) t m rest (omega arith) within k b i (v.member ∷ []) (omega (arith, v.behind)) (v.own_entry, tt) in
           let fuel : length (parts b m) ≡ length (parts b (last_first m)) =
           map_length (split b) m ∙ sym (last_first_length m) ∙ sym (map_length (split b) (last_first m)) in
           record {
@@ -356,7 +356,7 @@ module _ {b : Bool} {l : List Tree} {o₀ w₀ : List ℕ} {d p count : ℕ} whe
             behind = v.behind;
             many = omega (arith, last_first_length m);
             passed_entries =
-                swap_before w w' p j (n - 1) t m rest (omega arith) within k b (i + 1) v.passed (omega (arith, v.behind)) v.passed-entries;
+                swap_before w w' p j (n - 1) t m rest (omega arith) within k b (i + 1) v.passed (omega (arith, v.behind)) v.passed_entries;
             entries = swap_after w w' p j (n - 1) t m rest (omega arith) within k b (subst (Entries b w p j) next.is v.entries);
             room = omega (arith, v.room);
             common = common_ticks v.common o' w' s still;
@@ -365,7 +365,7 @@ module _ {b : Bool} {l : List Tree} {o₀ w₀ : List ℕ} {d p count : ℕ} whe
             own = λ same. absurd (omega (arith, same, v.fewer, less));
             fewer = omega (arith, v.fewer);
             member_of = v.member_of;
-            passed_of = v.passed-of;
+            passed_of = v.passed_of;
             left_of = all_last_first l m all.1;
             news = v.news;
           }
@@ -411,10 +411,10 @@ module _ {b : Bool} {l : List Tree} {o₀ w₀ : List ℕ} {d p count : ℕ} whe
             whole = turned;
             gone = v.gone;
             many = omega (arith, v.behind, v.many);
-            entries = v.passed-entries;
+            entries = v.passed_entries;
             room = omega (arith, v.room, records_weight (join b v.current).0);
             common = common_written v.common o' v.current x r g q s;
-            left_of = v.passed-of;
+            left_of = v.passed_of;
             news = told;
           }
 
@@ -442,10 +442,10 @@ module _ {b : Bool} {l : List Tree} {o₀ w₀ : List ℕ} {d p count : ℕ} whe
             whole = turned;
             gone = v.gone;
             many = omega (arith, v.behind, v.many);
-            entries = v.passed-entries;
+            entries = v.passed_entries;
             room = omega (arith, v.room);
             common = common_late v.common o' v.current g s;
-            left_of = v.passed-of;
+            left_of = v.passed_of;
             news = λ q. absurd (true_not_false refl q);
           }
 

@@ -59,11 +59,11 @@ module _ (c : Met) where
   module _ {l : List Tree} {o w : List ℕ} (z : State here l o w) where
     pub told : (r : Merged) → c.meet-met.result ≡ r
         → let terms = (entry_of (around here)).args.terms in
-        MergedIs terms here.loop-j.work z.current (split terms (next z (facing_of c).loop-test.true).tree) r
+        MergedIs terms here.loop-j.work z.current (split terms (next z (facing_of c).loop-j-test.true).tree) r
     told r is =
         let terms = (entry_of (around here)).args.terms in
-        let y = next z (facing_of c).loop-test.true in
-        subst (MergedIs terms here.loop.work z.current (split terms y.tree)) is
+        let y = next z (facing_of c).loop-j-test.true in
+        subst (MergedIs terms here.loop-j.work z.current (split terms y.tree)) is
         (c.meet-met.ensures.0 terms z.current y.tree z.shown z.keyed y.entry)
 
     pub told_from : (r : Merged) → c.meet-met.result ≡ r → IntoFrom (entry_of (around here)).args.p r
@@ -90,12 +90,12 @@ part_meet_end c = omega (arith, ticks_fit c)
 
 pub meet_requires : tie.Need-meet-met-requires Inv-loop μ_loop Inv-walk μ_walk
 meet_requires c κs =
-    let b = bounds c.before.before.before in
+    let b = bounds c.before.before in
     let v = state c.before in
     let x = later c.before in
     let big = ticks_fit c.before in
     record {
-      flag = (entry_of (around c.before.before.before)).args.terms;
+      flag = (entry_of (around c.before.before)).args.terms;
       current = v.current;
       later = x.tree;
       shown = v.shown;
@@ -112,7 +112,7 @@ pub add_j_2 : tie.Need-overflow_add-j-in-Apart Inv-loop μ_loop Inv-walk μ_walk
 add_j_2 c =
     let facing = facing_of c.before.before.before in
     let b = bounds facing.before in
-    record { fits = omega (arith, b.low, b.high, b.few, facing.loop-test.taken) }
+    record { fits = omega (arith, b.low, b.high, b.few, facing.loop-j-test.true) }
 
 pub loop_less : tie.Need-loop-j-smaller-in-Apart Inv-loop μ_loop Inv-walk μ_walk
 loop_less c = search rules
@@ -130,7 +130,7 @@ loop_again c =
       lonely = v.lonely;
       state = λ l o w h.
           let z = v.state l o w h in
-          inner_apart z facing.loop-test.taken _ (ticks_behind c.before.before.before) (told c.before.before.before z Apart c.in-Apart.is);
+          inner_apart z facing.loop-j-test.true _ (ticks_behind c.before.before.before) (told c.before.before.before z Apart c.in-Apart.is);
     }
 
 pub enum_known_met : tie.Need-enum_known-met Inv-loop μ_loop Inv-walk μ_walk
@@ -143,21 +143,21 @@ pub remove_requires : tie.Need-remove-j-requires Inv-loop μ_loop Inv-walk μ_wa
 remove_requires c κs =
     let facing = facing_of c.before.before.before.before in
     let b = bounds facing.before in
-    let less = facing.loop-test.taken in
+    let less = facing.loop-j-test.true in
     (omega arith, omega (arith, b.low, b.high, b.few))
 
 pub loop_less_2 : tie.Need-loop-j-smaller Inv-loop μ_loop Inv-walk μ_walk
 loop_less_2 c =
-    omega (arith, c.remove-j.ensures.1, (facing_of (met_of c.before.before)).loop-test.taken)
+    omega (arith, c.remove-j.ensures.1, (facing_of (met_of c.before.before)).loop-j-test.true)
 
 -- the member is taken up, and the last one is the next to be met
 pub loop_again_2 : tie.Need-loop-j-preserved Inv-loop μ_loop Inv-walk μ_walk
 loop_again_2 c =
     let met = met_of c.before.before in
     let facing = facing_of met in
-    let less = facing.loop-test.taken in
+    let less = facing.loop-j-test.true in
     let b = bounds facing.before in
-    let v = facing.before.loop.invariant in
+    let v = facing.before.loop-j.invariant in
     let g = (entry_of (around facing.before)).args in
     record {
       long = ticks_length met ∙ v.long;
@@ -166,7 +166,7 @@ loop_again_2 c =
       calm = v.calm;
       lonely = λ q t.
           lonely_moves _ _ _ _ (omega arith) (omega (arith, b.low, b.high, b.few)) (last_moves_in c.before.before) _ _ (omega (arith, b.low, b.few))
-          (subst (Lonely g.terms facing.before.loop.work g.p) (omega arith) (v.lonely q t));
+          (subst (Lonely g.terms facing.before.loop-j.work g.p) (omega arith) (v.lonely q t));
       state = λ l o w h.
           let z = v.state l o w h in
           let into = told met z (Into c.in-Into.x) c.in-Into.is in

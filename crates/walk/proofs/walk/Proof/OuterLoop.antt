@@ -84,14 +84,14 @@ module _ (c : Looked) where
   high = get_or (around_looked c).walk.work ((around_looked c).walk.i * 4 + 3) 0
 
   -- so it is alone among those that are left
-  bit_set : is_lone high (told_of (around_looked c)).tell-lone.result ≡ true
+  bit_set : is_lone high (told_of (around_looked c)).tell_lone-told.result ≡ true
       → let u = (around_looked c).walk in
       let g = (entry_of (around_looked c)).args in
       Lonely g.terms u.work g.p u.n × (128 ≤ high)
   bit_set k =
       let turn = around_looked c in
       let told = told_of turn in
-      let bit = lone_bit high told.tell-lone.result k in
+      let bit = lone_bit high told.tell_lone-told.result k in
       (turn.walk.invariant.lonely (telling_of told).lonely bit.0, bit.1)
 
 pub add_i : tie.Need-overflow_add-i Inv-loop μ_loop Inv-walk μ_walk
@@ -113,13 +113,13 @@ walk_again c =
       wide = u.wide;
       few = u.few;
       calm = u.calm;
-      few_new = omega (arith, u.few-new);
+      few_new = omega (arith, u.few_new);
       lonely = u.lonely;
       state = λ l o w h.
           let v = u.state l o w h in
           let t = first v less in
           let k = copied c.before.before.before t.tree t.entry c.if-x-gt0.true in
-          let both = and_both (is_lone (high c.before.before.before) (told_of (around_looked c.before.before.before)).tell-lone.result) (stays terms t.tree) k.0 in
+          let both = and_both (is_lone (high c.before.before.before) (told_of (around_looked c.before.before.before)).tell_lone-told.result) (stays terms t.tree) k.0 in
           let alone = bit_set c.before.before.before both.0 in
           outer_lone v less _ _ (omega (arith, its_room (around_looked c.before.before.before) less)) alone.0 alone.1
           (stays_itself terms t.tree t.entry.there.wf both.1) k.1 k.2;
@@ -128,8 +128,8 @@ walk_again c =
 -- ---- else it is compared with the later ones
 pub current_requires : tie.Need-current-c-requires Inv-loop μ_loop Inv-walk μ_walk
 current_requires c κs =
-    let turn = around_looked c.before.before.before.before in
-    let less = left_one c.before.before.before.before in
+    let turn = around_looked c.before.before.before in
+    let less = left_one c.before.before.before in
     let t = its turn less in
     (t.tree, t.entry, entry_fits turn less)
 
@@ -176,12 +176,12 @@ alone {m} {n} f q = f (eqb-true m n q)
 pub finish_requires : tie.Need-finish-w-requires Inv-loop μ_loop Inv-walk μ_walk
 finish_requires c κs =
     let v = state c.before in
-    let b = bounds c.before.before.before in
-    let u = (around c.before.before.before).walk in
+    let b = bounds c.before.before in
+    let u = (around c.before.before).walk in
     record {
       current = v.current;
       member = v.member;
-      c.before.before = record { shown = v.shown; entry = v.own-entry; own = alone v.own };
+      turned = record { shown = v.shown; entry = v.own_entry; own = alone v.own };
       low = omega (arith, b.low, b.high, b.few, v.behind, v.many);
       fitting = room_for c.before;
     }
@@ -198,7 +198,7 @@ add_new c =
     let turn = around here in
     let b = turn_bounds turn in
     let less = left_one (looked_of (begun_of (keyed_of here))) in
-    record { fits = omega (arith, b.low, b.high, b.few, less, turn.walk.invariant.few-new) }
+    record { fits = omega (arith, b.low, b.high, b.few, less, turn.walk.invariant.few_new) }
 
 pub enum_told_3 : tie.Need-enum_told-in-Over-w Inv-loop μ_loop Inv-walk μ_walk
 enum_told_3 c = search rules
@@ -219,52 +219,50 @@ told : (c : Finished) {l : List Tree} {o w : List ℕ} (z : State (turned_of c).
     → let here = (turned_of c).before in
     let turn = around here in
     let terms = (entry_of turn).args.terms in
-    FinishedIs (eqb here.loop.n turn.walk.n && stays terms z.member) (join terms z.current) z.member here.loop.out c.finish-w.new.out
+    FinishedIs (eqb here.loop-j.n turn.walk.n && stays terms z.member) (join terms z.current) z.member here.loop-j.out c.finish-w.new.out
     turn.walk.e r
 told c z r is =
     let here = (turned_of c).before in
     let turn = around here in
     let terms = (entry_of turn).args.terms in
-    let kept = eqb here.loop.n turn.walk.n && stays terms z.member in
-    subst (FinishedIs kept (join terms z.current) z.member here.loop.out c.finish-w.new.out turn.walk.e) is
-    (c.finish-w.ensures z.current z.member (record { shown = z.shown; entry = z.own-entry; own = alone z.own }))
+    let kept = eqb here.loop-j.n turn.walk.n && stays terms z.member in
+    subst (FinishedIs kept (join terms z.current) z.member here.loop-j.out c.finish-w.new.out turn.walk.e) is
+    (c.finish-w.ensures z.current z.member (record { shown = z.shown; entry = z.own_entry; own = alone z.own }))
 
 pub walk_again_2 : tie.Need-walk-preserved Inv-loop μ_loop Inv-walk μ_walk
 walk_again_2 c =
     let turned = turned_of c.before.before.before in
     let here = turned.before in
     let u = (around here).walk.invariant in
-    let v = here.loop.invariant in
-    let Met-all = turned.loop-test.left in
+    let v = here.loop-j.invariant in
+    let Met-all = turned.loop-j-test.false in
     record {
-      long = c.finish-w.auto.out ∙ v.long ∙ (looked_of (begun_of (keyed_of here))).keep-lone.kept.0 ∙ u.long;
+      long = c.finish-w.auto.out ∙ v.long ∙ (looked_of (begun_of (keyed_of here))).keep_lone-x.auto.out ∙ u.long;
       wide = v.wide ∙ u.wide;
       few = omega (arith, u.few, v.few);
       calm = v.calm ∙ u.calm;
       few_new =
-          ⊎_elim (λ a. omega (arith, u.few-new, a.5))
-          (⊎_elim (λ a. omega (arith, u.few-new, a.5)) (λ a. omega (arith, u.few-new, a.4))) c.match-w.branch-raw;
+          ⊎_elim (λ a. omega (arith, u.few_new, a.new-is))
+          (⊎_elim (λ a. omega (arith, u.few_new, a.new-is)) (λ a. omega (arith, u.few_new, a.new-is))) c.match-w.branch-raw;
       lonely = λ q. v.lonely (u.lonely q);
       state = λ l o w h.
           let z = carried here l o w (u.state l o w h) in
           ⊎_elim
           -- it is copied, up to the record that e becomes; `late` stays, and so do the new ones
           (λ a.
-          let answer = a.1.given in
-          let to = told c.before.before.before z (Kept answer.0.0) answer.1 in
+          let to = told c.before.before.before z (Kept a.in-Kept.x) a.in-Kept.is in
           let written = to.2 in
-          rw (a.3, a.4, a.5, a.6)
+          rw (a.e-is, a.late-is, a.new-is, a.f-is)
           (outer_written z Met-all _ _ (omega (arith, (room_for turned).room)) written.0 written.1 written.2 _ _ (kept_news z Met-all to.1)))
           (⊎_elim
           -- it is written, up to the record that e becomes; `late` stays, and there is one new more
           (λ a.
-          let answer = a.1.given in
-          let written = (told c.before.before.before z (New answer.0.0) answer.1).1 in
-          rw (a.3, a.4, a.5, a.6)
+          let written = (told c.before.before.before z (New a.in-New.x) a.in-New.is).1 in
+          rw (a.e-is, a.late-is, a.new-is, a.f-is)
           (outer_written z Met-all _ _ (omega (arith, (room_for turned).room)) written.0 written.1 written.2 _ _ (new_news z Met-all)))
           -- it is out of range: e stays, and `late` becomes true
           (λ a.
-          let out_of_range = (told c.before.before.before z Over a.1.given.1).1 in
-          rw (a.2, a.3, a.4, a.5) (outer_late z Met-all _ out_of_range.0 out_of_range.1)))
+          let out_of_range = (told c.before.before.before z Over a.in-Over-w.is).1 in
+          rw (a.e-is, a.late-is, a.new-is, a.f-is) (outer_late z Met-all _ out_of_range.0 out_of_range.1)))
           c.match-w.branch-raw;
     }

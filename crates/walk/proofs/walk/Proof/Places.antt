@@ -232,7 +232,7 @@ bounds c =
     let b = turn_bounds (around c) in
     let v = c.loop-j.invariant in
     record {
-      room = omega (arith, b.room, v.long, (looked_of (begun_of (keyed_of c))).keep_lone-x.kept.0);
+      room = omega (arith, b.room, v.long, (looked_of (begun_of (keyed_of c))).keep_lone-x.auto.out);
       light = b.light;
       low = b.low;
       high = omega (arith, b.high, v.wide);

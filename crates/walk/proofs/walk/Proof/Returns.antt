@@ -52,41 +52,41 @@ left c =
     let looked : Looked =
     record {
       before = record {
-        before = record { before = record { before = record { before = c.before; walk-test = a.out-is }; slice-known5 = a.out-is }; keep-lone-arg = a.out-is };
-        keep-lone-arg2 = a.out-is;
+        before = record { before = record { before = c.before; walk-test = a.walk-test }; slice_known-in-walk-1 = a.slice_known-in-walk-1 };
+        keep_lone-arg-1 = a.keep_lone-arg-1;
       };
-      keep-lone = a.out-is;
+      keep_lone-x = a.keep_lone-x;
     } in
     let begun : Begun =
     record {
       before = record {
-        before = record { before = record { before = record { before = looked; out2 = a.out-is }; slice-known6 = a.out-is }; if1 = a.out-is };
-        current-arg = a.out-is;
+        before = record { before = record { before = looked; out-in-walk-1 = a.out-in-walk-1 }; slice_known-in-walk-2-1 = a.slice_known-in-walk-2-1 };
+        if-x-gt0 = a.if-x-gt0;
       };
-      current = a.out-is;
+      current-c = a.current-c;
     } in
     let inside : Within =
-    record { before = record { before = record { before = begun; read2-arg = a.out-is }; read2 = a.out-is }; loop = a.out-is } in
+    record { before = record { before = begun; read2-key = a.read2-key }; loop-j = a.loop-j } in
     let met : Met =
     record {
-      before = record { before = record { before = record { before = inside; loop-test = a.out-is }; meet-arg = a.out-is }; meet-arg2 = a.out-is };
-      meet = a.out-is;
+      before = record { before = record { before = inside; loop-j-test = a.loop-j-test }; meet-arg-1 = a.meet-arg-1 };
+      meet-met = a.meet-met;
     } in
     let facing = facing_of met in
-    let w = facing.before.loop.invariant in
+    let w = facing.before.loop-j.invariant in
     let answer-is = a.in-Over.is in
     let out_is = a.out-is in
     let work_is = a.work-is in
     let over-is = a.over-is in
     record {
-      long = ap length out_is ∙ ticks_length met ∙ w.long ∙ looked.keep-lone.kept.0 ∙ v.long ∙ t.long;
+      long = ap length out_is ∙ ticks_length met ∙ w.long ∙ looked.keep_lone-x.auto.out ∙ v.long ∙ t.long;
       wide = ap length work_is ∙ w.wide ∙ v.wide ∙ t.only.wide;
       burst = λ y l h.
           let z = within facing.before l h in
           let bad = told met z merged.Over answer-is in
           let stays = left_alone z _ (ticks_behind met) in
           record {
-            answers = says_over z facing.loop-test.taken bad.0 bad.1 bad.2;
+            answers = says_over z facing.loop-j-test.true bad.0 bad.1 bad.2;
             pending = ap (drop (g.p * 16)) work_is ∙ stays.0;
             done = ap (take (g.d * 16)) out_is ∙ stays.1;
           };
