@@ -1,6 +1,6 @@
-# Sourced by tests/forbidden/run and tests/further/run: tries edits, each on a copy of its crate. An edit is checked over what a check of the crate as it is has left behind, so
-# that only what rests on the edited file is checked again; RT_JOBS edits at a time, 2 where it is not set. The caller sets `edits`, the folder that has them by
-# crates, and `judged LOG CRATE LABEL`, which says of an edit that reached the prover what came of it.
+# Sourced by tests/forbidden/run and tests/further/run: tries edits, each on a copy of its crate. An edit is checked over what a check of the crate as it is
+# has left behind, so that only what rests on the edited file is checked again; RT_JOBS edits at a time, 2 where it is not set. The caller sets `edits`, the
+# folder that has them by crates, and `judged LOG CRATE LABEL`, which says of an edit that reached the prover what came of it.
 jobs=${RT_JOBS:-2}
 copy=$(mktemp -d)
 trap 'rm -rf "$copy"' EXIT

@@ -27,12 +27,12 @@ linked() {
 # repacked TOOLS OUT: the library for C once more, with these tools in place of the kit's, by the words that rt hands to the compiler, from the libraries
 # that stand in crates/*/out/rlib.
 repacked() {
-    with=$1 out=$2
+    its_tools=$1 its_place=$2
     set --
     for crate in $(sed -n 's/^simmergate_c staticlib *://p' crates.txt); do set -- "$@" --extern "$crate=crates/$crate/out/rlib/$crate.rlib"; done
     [ $# -gt 0 ] || { echo "$0: crates.txt has no line simmergate_c staticlib: .."; return 1; }
     for folder in crates/*/out/rlib; do set -- "$@" -L "dependency=$folder"; done
     "$kit/bin/rattle" build --crate-name simmergate_c crates/simmergate_c/src/lib.rt --extern "std=$kit/rlibs/std.rlib" -L "dependency=$kit/rlibs" "$@" \
         --antt-project "$kit/rattle/logic/antt-project.json" --logic-built "$kit/logic_built" --links simmergate_c= --crate-type staticlib \
-        --toolchain "$with" --backend llvm -o "$out"
+        --toolchain "$its_tools" --backend llvm -o "$its_place"
 }
