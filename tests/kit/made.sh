@@ -1,8 +1,11 @@
 # Sourced: what rt makes of the crates, and where it stands: the library for C in target/staticlib, the programs in target/bin.
 
+# The library is compiled for any x86-64 processor, as the header says; left alone the kit asks for a later one.
+processor=x86-64
+
 # packed: the library for C, proved and packed by `rt lib`.
 packed() {
-    (cd crates/simmergate_c && rt lib) || return 1
+    (cd crates/simmergate_c && rt lib --cpu "$processor") || return 1
     mkdir -p target/staticlib
     cp crates/simmergate_c/out/libsimmergate_c.a target/staticlib/libsimmergate.a
 }
@@ -33,6 +36,6 @@ repacked() {
     [ $# -gt 0 ] || { echo "$0: crates.txt has no line simmergate_c staticlib: .."; return 1; }
     for folder in crates/*/out/rlib; do set -- "$@" -L "dependency=$folder"; done
     "$kit/bin/rattle" build --crate-name simmergate_c crates/simmergate_c/src/lib.rt --extern "std=$kit/rlibs/std.rlib" -L "dependency=$kit/rlibs" "$@" \
-        --antt-project "$kit/rattle/logic/antt-project.json" --logic-built "$kit/logic_built" --links simmergate_c= --crate-type staticlib \
-        --toolchain "$its_tools" --backend llvm -o "$its_place"
+        --antt-project "$kit/rattle/logic/antt-project.json" --logic-built "$kit/logic_built" --links simmergate_c= --cpu "$processor" \
+        --crate-type staticlib --toolchain "$its_tools" --backend llvm -o "$its_place"
 }
