@@ -57,7 +57,8 @@
 
    Steps, openings and tries are the numbers of the rules as they are written, to which both machines of a pair can be
    held, and no measure of time: the library often finds out for many nodes at once that no step applies, and counts a
-   try for each. How many instructions it comes to: bench/FIGURES.md.
+   try for each. How many instructions it comes to: bench/FIGURES.md. Instructions that are told below and there were
+   counted on the archive of release 3, which the older kit made (CHANGELOG.md).
 
    ---- Tables ----
 

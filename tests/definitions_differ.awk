@@ -15,23 +15,23 @@ function pairs(text,    w, n, i, half, r) {
     for (i = 1; i <= n; i++) { if (split(w[i], half, ",") != 2) fail("no pair: " w[i]); r = r half[1] " ∷ " half[2] " ∷ " }
     return r "[]"
 }
-function finish() { print "    ∷ []\n\npub all : map computed lines ≡ lines\nunfolding differ-computes equals-computes expected computed lines\nall = refl" >file; close(file) }
+function finish() { print "    ∷ []\n\npub all : map computed lines ≡ lines\nunfolding differ_computes equals_computes expected computed lines\nall = refl" >file; close(file) }
 function start() {
     modules++
     file = out "/Lines" modules ".antt"
-    print "use mathlib.Core.Path.{_≡_, refl}\nuse mathlib.Core.Bool.{true, false}\nuse mathlib.Core.List.{List, [], _∷_, map}\nuse Rattle·paper_differ.proofs.Computed.{differ-computes}\nuse Rattle·lines·proofs.proofs.Line.{Line, line, expected, computed, equals-computes}\n\nunfoldable pub lines : List Line\nlines =" >file
+    print "use mathlib.Core.Path.{◌≡◌, refl}\nuse Rattle.std.specs.Prelude.{true, false}\nuse mathlib.Core.List.{List, [], ◌∷◌, map}\nuse Rattle.paper_differ.proofs.Computed.{differ_computes}\nuse Rattle.lines.proofs.Line.{Line, line, expected, computed, equals_computes}\n\nunfoldable pub lines : List Line\nlines =" >file
     print "pub mod Lines" modules >(out "/Lib.antt")
 }
 BEGIN {
     print "pub mod Line" >(out "/Lib.antt")
     f = out "/Line.antt"
-    print "use Prim.Native.Nat.{ℕ, _-_, _*_}\nuse mathlib.Core.Bool.{Bool, cond}\nuse mathlib.Core.List.{List, [], _∷_, _++_}\nuse lib.ListN.{length, take, replicate}" >f
-    print "use Rattle·paper.specs.Equal.{one}\nuse Rattle·paper.specs.Answers.{turnedDown, equalTrees, comparedTables, compared}\nuse Rattle·paper.specs.Calls.{eights}\nuse Rattle·paper_differ.specs.Differ.{differed, listAfter}\nuse Rattle·paper_differ.specs.Calls.{differedNumbers}\n" >f
+    print "use Rattle.std.specs.Prelude.{ℕ, ◌-◌, ◌*◌, Bool, cond, List, [], ◌∷◌, ◌++◌, length, take, replicate}" >f
+    print "use Rattle.paper.specs.Equal.{one}\nuse Rattle.paper.specs.Answers.{turned_down_compared, equal_trees, compared_tables, compared}\nuse Rattle.paper.specs.Calls.{eights}\nuse Rattle.paper_differ.specs.Differ.{differed, list_after}\nuse Rattle.paper_differ.specs.Calls.{differed_numbers}\n" >f
     print "pub record Line : Type 0 where\n  pub first : List ℕ\n  pub second : List ℕ\n  pub lent : ℕ\n  pub answer : List ℕ\n  pub list : List ℕ\n  pub same : Bool\n" >f
     print "-- the list, lent with each byte 165, has these numbers at its front\nunfoldable pub expected : List ℕ → ℕ → List ℕ\nexpected ns n = eights ns ++ replicate (n - 8 * length ns) 165\n" >f
     print "unfoldable pub line : List ℕ → List ℕ → ℕ → List ℕ → List ℕ → Bool → Line\nline a b n k ns e = record { first = a; second = b; lent = n; answer = k; list = expected ns n; same = e }\n" >f
-    print "unfoldable pub computed : Line → Line\ncomputed l =\n    let list : List ℕ = replicate (l .lent) 165 in\n    record {\n      first = l .first;\n      second = l .second;\n      lent = l .lent;\n      answer = take 4 (differedNumbers (differed 3072 (l .first) (l .second) list));\n      list = listAfter 3072 (l .first) (l .second) list;\n      same = compared 3072 (l .first) (l .second) .yes;\n    }\n" >f
-    print "unfoldable pub equals-computes : Unit {0}\nunfolding turnedDown equalTrees comparedTables compared one line\nequals-computes = tt" >f
+    print "unfoldable pub computed : Line → Line\ncomputed l =\n    let list : List ℕ = replicate l.lent 165 in\n    record {\n      first = l.first;\n      second = l.second;\n      lent = l.lent;\n      answer = take 4 (differed_numbers (differed 3072 l.first l.second list));\n      list = list_after 3072 l.first l.second list;\n      same = (compared 3072 l.first l.second).yes;\n    }\n" >f
+    print "unfoldable pub equals_computes : Unit {0}\nunfolding turned_down_compared equal_trees compared_tables compared one line\nequals_computes = tt" >f
     close(f)
 }
 {

@@ -22,7 +22,7 @@ function numbered(s,    out, rest, names, bound, n, i, part, group) {
 function complete(    said) {
     if (law == "") return
     said = numbered(statement)
-    if (said != "" && length(said) > 20 && said ~ /≡/ && said !~ /\.args|\.before|entry-of|Need-/) {
+    if (said != "" && length(said) > 20 && said ~ /≡/ && said !~ /\.args|\.before|entry_of/) {
         if ((said in stated) && stated_in[said] != lawfile) { print "tests/laws: " lawplace ": " law " says what " stated[said] " says"; bad = 1 }
         else { stated[said] = lawplace ": " law; stated_in[said] = lawfile }
     }
@@ -32,8 +32,8 @@ function complete(    said) {
 function imported(    i, n, part, k, missing) {
     for (i = 1; i <= imports; i++) {
         if (import_name[i] in used_here) continue
-        missing = import_name[i] !~ /_|→|[][]/
-        if (!missing) { n = split(import_name[i], part, "_"); for (k = 1; k <= n; k++) if (part[k] != "" && !index(body, part[k])) missing = 1 }
+        missing = import_name[i] !~ /◌|→|[][]/
+        if (!missing) { n = split(import_name[i], part, "◌"); for (k = 1; k <= n; k++) if (part[k] != "" && !index(body, part[k])) missing = 1 }
         if (missing) { print "tests/laws: " proof_file ": " import_name[i] " is imported in vain"; bad = 1 }
     }
     imports = 0; body = ""; delete used_here
@@ -64,7 +64,7 @@ proof && /^use [^{]* as / { names_of("{" $NF "}"); next }
         own = substr(text, 1, RLENGTH - 3); sub(/^pub /, "", own)
         if (proof) {
             laws++
-            if (own !~ /-spec$|-once$/) { count++; name[count] = own; within[count] = text ~ /^pub / ? "" : FILENAME; where[count] = FILENAME ":" FNR }
+            if (own !~ /_spec$|_once$/) { count++; name[count] = own; within[count] = text ~ /^pub / ? "" : FILENAME; where[count] = FILENAME ":" FNR }
             law = own; lawfile = FILENAME; lawplace = FILENAME ":" FNR; statement = substr(text, RLENGTH + 1)
         }
     } else if (antt && match(text, /^[^ (){}:]+( .*)? =( |$)/)) { own = text; sub(/ .*/, "", own) }

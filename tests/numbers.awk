@@ -10,13 +10,13 @@ FNR == 1 { split(FILENAME, part, "/"); crate = part[2]; within = 0; constant = 0
 {
     line = $0
     gsub(/b'(\\.|[^'\\])'/, " ", line); gsub(/b"([^"\\]|\\.)*"/, " ", line); sub(/\/\/.*/, "", line)
-    # contracts
-    while (1) {
-        if (within) { if (!(end = index(line, "⌝"))) { line = ""; break } line = substr(line, end + 3); within = 0 }
-        if (!(start = index(line, "⌜"))) break
-        rest = substr(line, start + 3); head = substr(line, 1, start - 1)
-        if (end = index(rest, "⌝")) line = head " " substr(rest, end + 3)
-        else { line = head; within = 1; break }
+    # contracts: what stands between the braces of a `requires` or an `ensures`, over as many lines as it takes
+    head = ""
+    while (within || match(line, /(^|[^a-z_0-9])(requires|ensures)( [a-z][a-z_0-9]*)? \{/)) {
+        if (!within) { head = substr(line, 1, RSTART); line = substr(line, RSTART + RLENGTH); within = 1 }
+        while (within && match(line, /[{}]/)) { within += substr(line, RSTART, 1) == "{" ? 1 : -1; line = substr(line, RSTART + 1) }
+        if (within) { line = head; break }
+        line = head " " line
     }
     if (line ~ /^ *(pub )?const /) constant = 1
     if (constant) { if (line ~ /; *$/) constant = 0; next }

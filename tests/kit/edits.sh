@@ -1,23 +1,35 @@
-# Sourced by tests/forbidden/run and tests/further/run: tries edits, each on a copy of its crate. An edit is checked over what a check of the crate as it is has left behind
-# (`rt dev`), so that only what rests on the edited file is checked again; RT_JOBS edits at a time, 2 where it is not set. The caller sets `edits`, the folder that has them by
-# crates, and `judged LOG CRATE LABEL`, which says of an edit that reached the prover what came of it.
+# Sourced by tests/forbidden/run and tests/further/run: tries edits, each on a copy of its crate. An edit is checked over what a check of the crate as it is
+# has left behind, so that only what rests on the edited file is checked again; RT_JOBS edits at a time, 2 where it is not set. The caller sets `edits`, the
+# folder that has them by crates, and `judged LOG CRATE LABEL`, which says of an edit that reached the prover what came of it.
 jobs=${RT_JOBS:-2}
 copy=$(mktemp -d)
 trap 'rm -rf "$copy"' EXIT
-mkdir "$copy/tree"
-cp -R crates crates.txt "$copy/tree"
-if [ -d target ]; then cp -R target "$copy/tree/target"; fi
-rm -rf "$copy"/tree/crates/*/must-fail "$copy/tree/target/inc" "$copy/tree/target/must-fail"
 
-# one of the places where edits are tried: a tree of its own, its crate checked once as it is
+# the text of a crate, in another folder
+text_of() { # CRATE-FOLDER COPY
+    mkdir -p "$2"
+    for part in src specs proofs; do
+        [ ! -d "$1/$part" ] || cp -R "$1/$part" "$2"
+    done
+}
+
+mkdir "$copy/tree"
+cp crates.txt "$copy/tree"
+for folder in crates/*/; do text_of "$folder" "$copy/tree/$folder"; done
+
+# one of the places where edits are tried: a tree of its own, over the libraries that are built in the first one, its crate checked once as it is
 place() { # PLACE CRATE
     rm -rf "$1"
-    mkdir -p "$1/target"
-    cp -R "$copy/tree/crates" "$copy/tree/crates.txt" "$1"
-    for part in "$copy"/tree/target/*; do
-        case $part in */rlib) ln -s "$part" "$1/target/" ;; *) cp -R "$part" "$1/target/" ;; esac
+    mkdir -p "$1/crates"
+    cp "$copy/tree/crates.txt" "$1"
+    for folder in "$copy"/tree/crates/*/; do
+        to=$1/crates/$(basename "$folder")
+        text_of "$folder" "$to"
+        [ ! -d "$folder/out/rlib" ] || { mkdir "$to/out" && cp -R "$folder/out/rlib" "$to/out"; }
     done
-    (cd "$1" && RT_JOBS=1 rt dev "$2") >"$1/log" 2>&1 && grep -q '^logic=proved' "$1/log" && cp -R "$1/target/inc" "$1/saved"
+    mkdir -p "$1/crates/$2/out"
+    cp -R "$copy/tree/crates/$2/out/incremental" "$1/crates/$2/out"
+    (cd "$1/crates/$2" && rt check --jobs 1) >"$1/log" 2>&1 && grep -q '^logic=proved' "$1/log" && cp -R "$1/crates/$2/out/incremental" "$1/saved"
 }
 
 # replaces, in the crate, each old text of the edit by its new one
@@ -42,17 +54,26 @@ applied() { # CRATE-FOLDER EDIT
     done <"$2"
 }
 
+# whether code or definitions could not be read, where an edit that only makes a statement false reads well
+unread() { # LOG
+    grep -E '^(\./)?(src|specs)/[^ ]*: error: ' "$1" | grep -v -e 'not admitted' -e 'which was rejected, w' |
+        grep -qE -e ': error: [^`]' -e 'is not in scope|has no field|is no name|operand is missing|expected the end|cannot continue'
+}
+
 try() { # PLACE CRATE LABEL
     edit=$edits/$2/$3.edit
-    rm -rf "$1/crates/$2" "$1/target/inc"
-    cp -R "$copy/tree/crates/$2" "$1/crates/$2"
-    cp -R "$1/saved" "$1/target/inc"
+    rm -rf "$1/crates/$2"
+    text_of "$copy/tree/crates/$2" "$1/crates/$2"
+    mkdir "$1/crates/$2/out"
+    cp -R "$1/saved" "$1/crates/$2/out/incremental"
     applied "$1/crates/$2" "$edit" || { echo "SURVIVES  $2/$3: it does not fit what it edits"; return; }
-    (cd "$1" && RT_JOBS=1 rt dev "$2") >"$1/log" 2>&1 || true
+    (cd "$1/crates/$2" && rt check --jobs 1) >"$1/log" 2>&1 || true
     if grep -q '^logic=proved' "$1/log"; then
         echo "SURVIVES  $2/$3: the crate is still proved. $(head -n 1 "$edit")"
     elif ! grep -q '^logic=not-proved' "$1/log"; then
         echo "SURVIVES  $2/$3: it did not reach the prover. $(head -n 1 "$edit")"
+    elif unread "$1/log"; then
+        echo "SURVIVES  $2/$3: the prover cannot read the edited text. $(head -n 1 "$edit")"
     else
         judged "$1/log" "$2" "$3"
     fi
@@ -74,7 +95,7 @@ try_all() { # [CRATE..]
     : >"$copy/lines"
     for crate in "$@"; do
         ls "$edits/$crate"/*.edit >/dev/null || { echo "$edits: no edits of $crate"; exit 2; }
-        (cd "$copy/tree" && rt check "$crate") >"$copy/log" 2>&1 || { cat "$copy/log"; exit 1; }
+        (cd "$copy/tree/crates/$crate" && rt check) >"$copy/log" 2>&1 || { cat "$copy/log"; exit 1; }
         k=0
         while [ "$k" -lt "$jobs" ]; do
             share "$copy/$k" "$k" "$crate" | tee -a "$copy/lines" &
