@@ -8,57 +8,49 @@ use Rattle.rules.proofs.AskLaws.{no_rule_of}
 use Rattle.rules.proofs.try_step.Statement.{statement}
 use Rattle.rules.proofs.try_step.Tie as tie
 
-returns : tie.Need-returns
+returns : tie.Need-returns-in-1
 unfolding edition_one edition_two rule_of numbered
 returns c =
-    let tried = c.before.before.before.before in
-    λ t rest h. rw tried.before.before.before.match.keys1 (tried.add-zero.ensures t rest h)
+    λ t rest h. rw c.in-1.is (c.add_zero.ensures t rest h)
 
-returns_2 : tie.Need-returns-2
+returns_2 : tie.Need-returns-in-2
 unfolding edition_one edition_two rule_of numbered
 returns_2 c =
-    let tried = c.before.before.before.before in
-    λ t rest h. rw tried.before.before.before.match.keys2 (tried.combine-like-terms.ensures t rest h)
+    λ t rest h. rw c.in-2.is (c.combine_like_terms.ensures t rest h)
 
-returns_3 : tie.Need-returns-3
+returns_3 : tie.Need-returns-in-3
 unfolding edition_one edition_two rule_of numbered
 returns_3 c =
-    let tried = c.before.before.before.before in
-    λ t rest h. rw tried.before.before.before.match.keys3 (tried.multiply-zero.ensures t rest h)
+    λ t rest h. rw c.in-3.is (c.multiply_zero.ensures t rest h)
 
-returns_4 : tie.Need-returns-4
+returns_4 : tie.Need-returns-in-4
 unfolding edition_one edition_two rule_of numbered
 returns_4 c =
-    let tried = c.before.before.before.before in
-    λ t rest h. rw tried.before.before.before.match.keys4 (tried.multiply-one.ensures t rest h)
+    λ t rest h. rw c.in-4.is (c.multiply_one.ensures t rest h)
 
-returns_5 : tie.Need-returns-5
+returns_5 : tie.Need-returns-in-6
 unfolding edition_one edition_two rule_of numbered
 returns_5 c =
-    let tried = c.before.before.before.before in
-    λ t rest h. rw tried.before.before.before.match.keys5 (tried.combine-like-factors.ensures t rest h)
+    λ t rest h. rw c.in-6.is (c.combine_like_factors.ensures t rest h)
 
-returns_6 : tie.Need-returns-6
+returns_6 : tie.Need-returns-in-7
 unfolding edition_one edition_two rule_of numbered
 returns_6 c =
-    let tried = c.before.before.before.before in
-    λ t rest h. rw tried.before.before.before.match.keys6 (tried.power-one.ensures t rest h)
+    λ t rest h. rw c.in-7.is (c.power_one.ensures t rest h)
 
-returns_7 : tie.Need-returns-7
+returns_7 : tie.Need-returns-in-8
 unfolding edition_one edition_two rule_of numbered
 returns_7 c =
-    let tried = c.before.before.before.before in
-    λ t rest h. rw tried.before.before.before.match.keys7 (tried.power-constant.ensures t rest h)
+    λ t rest h. rw c.in-8.is (c.power_constant.ensures t rest h)
 
-returns_8 : tie.Need-returns-8
+returns_8 : tie.Need-returns-in-9
 unfolding edition_one edition_two rule_of numbered
 returns_8 c =
-    let tried = c.before.before.before.before in
-    λ t rest h. rw tried.before.before.before.match.keys8 (tried.power-power.ensures t rest h)
+    λ t rest h. rw c.in-9.is (c.power_power.ensures t rest h)
 
-returns_9 : tie.Need-returns-9
+returns_9 : tie.Need-returns-in_default
 returns_9 c =
-    let other = c.match.rest in
+    let other = c.in_default.in_default-own.rest in
     let first = other.0.0.0 in
     λ t rest h. (
       no_rule_of _ t first.0.0.0.0.1 first.0.0.0.1 first.0.0.1 first.0.1 first.1 other.0.0.1 other.0.1 other.1,

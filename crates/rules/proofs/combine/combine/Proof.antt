@@ -27,34 +27,34 @@ abbrev Entry : Type 0
 Entry = tie.Start
 
 abbrev OfKind : Type 0
-OfKind = tie.Else1
+OfKind = tie.Else-kind-node_kind
 
 abbrev Walked : Type 0
-Walked = tie.After-walk-members
+Walked = tie.After-walk_members-walked
 
 abbrev Answered : Type 0
-Answered = tie.After-slice-known4
+Answered = tie.After-slice_known-4-1
 
 abbrev Came : Type 0
-Came = tie.After-walked
+Came = tie.In-Done
 
 abbrev Ended : Type 0
-Ended = tie.After-skip-tree
+Ended = tie.After-skip_tree-end
 
 abbrev entry_of : OfKind → Entry
-entry_of c = c.before.before.before.before.before.before
+entry_of c = c.before.before.before.before.before
 
 abbrev kind_of_lem : Walked → OfKind
-kind_of_lem c = c.before.before.before.before.before
+kind_of_lem c = c.before.before.before.before
 
 abbrev walked_of : Answered → Walked
 walked_of c = c.before.before.before.before
 
 abbrev answered_of : Came → Answered
-answered_of c = c.before.before
+answered_of c = c.before
 
 abbrev came_of : Ended → Came
-came_of c = c.before.before.before
+came_of c = c.before
 
 -- a tree t is pending at the entry, and `rest` after it
 abbrev Pending : Entry → Tree → List ℕ → Type 0
@@ -63,122 +63,117 @@ Pending c t rest = let g = c.args in Ready g.out.now g.work.now g.d g.p t rest
 -- the tree is a node, of the members that are held
 node : (c : OfKind) {t : Tree} {rest : List ℕ} → Pending (entry_of c) t rest
     → let g = (entry_of c).args in IsNode g.terms g.out.now g.work.now g.d g.p t rest
-node c h = is_node_lem h _ (sym c.before.before.kind.ensures ∙ c.if1.false ∙ c.before.node-kind.ensures)
+node c h = is_node_lem h _ (sym c.kind.ensures ∙ c.if-kind-node_kind.false ∙ c.node_kind.ensures)
 
 -- its members were walked over
 walked : (c : Walked) {t : Tree} {rest : List ℕ} (h : Pending (entry_of (kind_of_lem c)) t rest)
     → let g = (entry_of (kind_of_lem c)).args in
     let l = to_list (node (kind_of_lem c) h).members in
-    let r = c.walk-members in
-    WalkedIs g.terms l g.out.now r.new.0 g.work.now r.new.1.0 g.d g.p r.result
-walked c h = let s = node (kind_of_lem c) h in c.walk-members.ensures s.members (standing s.held)
+    let r = c.walk_members-walked in
+    WalkedIs g.terms l g.out.now r.new.out g.work.now r.new.work g.d g.p r.result
+walked c h = let s = node (kind_of_lem c) h in c.walk_members-walked.ensures s.members (standing s.held)
 
 -- what the walk's answer x says
 says : (c : Walked) {t : Tree} {rest : List ℕ} (h : Pending (entry_of (kind_of_lem c)) t rest) (x : Answer)
     → let g = (entry_of (kind_of_lem c)).args in
-    c.walk-members.result ≡ x → Says g.terms (to_list (node (kind_of_lem c) h).members) g.out.now c.walk-members.new.0 g.d x
+    c.walk_members-walked.result ≡ x → Says g.terms (to_list (node (kind_of_lem c) h).members) g.out.now c.walk_members-walked.new.out g.d x
 says c h x e =
     let g = (entry_of (kind_of_lem c)).args in
-    subst (Says g.terms (to_list (node (kind_of_lem c) h).members) g.out.now c.walk-members.new.0 g.d) e (walked c h).answers
+    subst (Says g.terms (to_list (node (kind_of_lem c) h).members) g.out.now c.walk_members-walked.new.out g.d) e (walked c h).answers
 
 -- the walk applied: what came out stands in `out`
 came : (c : Came) {t : Tree} {rest : List ℕ} (h : Pending (entry_of (kind_of_lem (walked_of (answered_of c)))) t rest)
     → let walk = walked_of (answered_of c) in
     let g = (entry_of (kind_of_lem walk)).args in
     let l = to_list (node (kind_of_lem walk) h).members in
-    let given = c.walked.given.0 in
-    CameOut g.terms l g.out.now walk.walk-members.last.0 g.d given.0 given.1.0
-came c h = (says (walked_of (answered_of c)) h _ c.walked.given.1).0
+    CameOut g.terms l g.out.now walk.walk_members-walked.new.out g.d c.in-Done.count c.in-Done.e
+came c h = (says (walked_of (answered_of c)) h _ c.in-Done.is).0
 
 -- the node that is made of it can be closed
 light : (c : Came) {t : Tree} {rest : List ℕ} (h : Pending (entry_of (kind_of_lem (walked_of (answered_of c)))) t rest)
     → let walk = walked_of (answered_of c) in
     let g = (entry_of (kind_of_lem walk)).args in
-    Light (node_of g.terms walk.before.before.before.mark.result (came_out g.terms (to_list (node (kind_of_lem walk) h).members)))
+    Light (node_of g.terms walk.mark-mark.result (came_out g.terms (to_list (node (kind_of_lem walk) h).members)))
 light c h =
     let walk = walked_of (answered_of c) in
     let g = (entry_of (kind_of_lem walk)).args in
     let s = node (kind_of_lem walk) h in
-    subst (λ μ. Light (node_of g.terms μ (came_out g.terms (to_list s.members)))) (sym walk.before.before.before.mark.ensures.0)
+    subst (λ μ. Light (node_of g.terms μ (came_out g.terms (to_list s.members)))) (sym walk.mark-mark.ensures.0)
     (combine_light h g.terms _ (combine_at s ∙ (came c h).applies _))
 
 -- the tree is still pending
 again : (c : Walked) {t : Tree} {rest : List ℕ} → Pending (entry_of (kind_of_lem c)) t rest
     → let g = (entry_of (kind_of_lem c)).args in
-    let r = c.walk-members in
-    Ready r.new.0 r.new.1.0 g.d g.p t rest
-again c h = let r = c.walk-members in ready_again h _ _ r.auto.0 r.auto.1.0 (walked c h).pending
+    let r = c.walk_members-walked in
+    Ready r.new.out r.new.work g.d g.p t rest
+again c h = let r = c.walk_members-walked in ready_again h _ _ r.auto.out r.auto.work (walked c h).pending
 
 -- so the node's end is read off it
 ends : (c : Ended) {t : Tree} {rest : List ℕ} → Pending (entry_of (kind_of_lem (walked_of (answered_of (came_of c))))) t rest
-    → c.skip-tree.result ≡ (entry_of (kind_of_lem (walked_of (answered_of (came_of c))))).args.p + records t
-ends c h = c.skip-tree.ensures _ _ (ready_tree (again (walked_of (answered_of (came_of c))) h))
+    → c.skip_tree-end.result ≡ (entry_of (kind_of_lem (walked_of (answered_of (came_of c))))).args.p + records t
+ends c h = c.skip_tree-end.ensures _ _ (ready_tree (again (walked_of (answered_of (came_of c))) h))
 
 kind_requires : tie.Need-kind-requires
-kind_requires c κs = record_within (ready_tree c.before.before.before.requires.2)
+kind_requires c κs = record_within (ready_tree c.requires.2)
 
-returns : tie.Need-returns
+returns : tie.Need-returns-then-kind-node_kind
 returns c =
-    let kind = c.before.before.kind in
-    let g = c.before.before.before.before.before.before.args in
-    λ t rest h. (combine_other h g.terms (λ e. c.if1.true (kind.ensures ∙ e ∙ sym c.before.node-kind.ensures)), refl, refl)
+    let kind = c.kind in
+    let g = c.args in
+    λ t rest h. (combine_other h g.terms (λ e. c.if-kind-node_kind.true (kind.ensures ∙ e ∙ sym c.node_kind.ensures)), refl, refl)
 
-mark_requires : tie.Need-mark-requires
-mark_requires c κs = let s = node c.before (entry_of c.before).requires.2 in omega (arith, held_length s.held)
+mark_requires : tie.Need-mark-mark-requires
+mark_requires c κs = let s = node c (entry_of c).requires.2 in omega (arith, held_length s.held)
 
-walk_members_requires : tie.Need-walk-members-requires
+walk_members_requires : tie.Need-walk_members-walked-requires
 walk_members_requires c κs =
-    let here = c.before.before.before.before in
-    let s = node here (entry_of here).requires.2 in
+    let s = node c.before.before.before (entry_of c.before.before.before).requires.2 in
     (s.members, standing s.held)
 
-skip_tree_requires : tie.Need-skip-tree-requires
+skip_tree_requires : tie.Need-skip_tree-end-requires
 skip_tree_requires c κs =
-    let walk = walked_of (answered_of c.before.before) in
+    let walk = walked_of (answered_of c) in
     some_told (ready_tree (again walk (entry_of (kind_of_lem walk)).requires.2))
 
-put_back_requires : tie.Need-put-back-requires
+put_back_requires : tie.Need-put_back-requires
 put_back_requires c κs =
-    let end = c.before.before in
-    let here = came_of end in
+    let here = came_of c.before.before in
     let walk = walked_of (answered_of here) in
     let h = (entry_of (kind_of_lem walk)).requires.2 in
     let s = node (kind_of_lem walk) h in
-    let k = own_end h s (ends end h) in
+    let k = own_end h s (ends c.before.before h) in
     let m = came here h in (
-      (_, came_built s.held k m walk.walk-members.kept.0, m.many, light here h),
+      (_, came_built s.held k m walk.walk_members-walked.auto.out, m.many, light here h),
       came_short s.held k m,
-      omega (arith, end_within s.held k, walk.walk-members.kept.1.0),
+      omega (arith, end_within s.held k, walk.walk_members-walked.auto.work),
     )
 
-returns_2 : tie.Need-returns-2
+returns_2 : tie.Need-returns-in-Idle
 returns_2 c =
-    let walk = walked_of c.before.before in
+    let walk = walked_of c.before in
     λ t rest h.
     let v = walked walk h in
-    (combine_at (node (kind_of_lem walk) h) ∙ says walk h _ c.enum_told.given.1 _, v.pending, v.done)
+    (combine_at (node (kind_of_lem walk) h) ∙ says walk h _ c.in-Idle.is _, v.pending, v.done)
 
-returns_3 : tie.Need-returns-3
+returns_3 : tie.Need-returns-in-Over
 returns_3 c =
-    let walk = walked_of c.before.before in
+    let walk = walked_of c.before in
     λ t rest h.
-    combine_at (node (kind_of_lem walk) h) ∙ says walk h _ c.enum-told2.given.1 _
+    combine_at (node (kind_of_lem walk) h) ∙ says walk h _ c.in-Over.is _
 
-returns_4 : tie.Need-returns-4
+returns_4 : tie.Need-returns-in-Done
 returns_4 c =
-    let put = c.before.before.before.before in
-    let end = put.before.before.before in
-    let here = came_of end in
+    let here = came_of c.before.before.before.before.before.before.before in
     let walk = walked_of (answered_of here) in
     let g = (entry_of (kind_of_lem walk)).args in
     λ t rest h.
     let s = node (kind_of_lem walk) h in
-    let k = own_end h s (ends end h) in
+    let k = own_end h s (ends c.before.before.before.before.before.before.before h) in
     let v = walked walk h in
     let m = came here h in
     let l = came_out g.terms (to_list s.members) in
-    let r = put.put_back.ensures l (came_built s.held k m walk.walk-members.kept.0) m.many (light here h) in
-    let b = put_follows r walk.before.before.before.mark.ensures.0 (after_walk s.held k _ v.pending) v.done in
+    let r = c.put_back.ensures l (came_built s.held k m walk.walk_members-walked.auto.out) m.many (light here h) in
+    let b = put_follows r walk.mark-mark.ensures.0 (after_walk s.held k _ v.pending) v.done in
     (node_of g.terms (mark_in g.work.now g.p) l, combine_at s ∙ m.applies _, b.stands, b.done)
 
 pub combine_spec : {M : Type 1} → statement M

@@ -21,21 +21,18 @@ in_sum b l s e = sym (ap (λ c. any_earlier c l) s ∙ e)
 in_product : (b : Bool) (l : List Tree) → b ≡ false → any_of (is_the (pos 0)) l ≡ false → any_of (is_the (pos 1)) l ≡ any_earlier b l
 in_product b l s e = sym (ap (λ c. any_earlier c l) s ∙ ap (λ c. c || any_of (is_the (pos 1)) l) e)
 
-returns : tie.Need-returns
-returns c = λ f h. found c.before.before.before.args.terms _ (sym (c.before.any-member.ensures f h) ∙ c.if1.true)
+returns : tie.Need-returns-then-any_member
+returns c = λ f h. found c.args.terms _ (sym (c.any_member.ensures f h) ∙ c.if-any_member.true)
 
-returns_2 : tie.Need-returns-2
+returns_2 : tie.Need-returns-then-terms
 returns_2 c =
-    let zero = c.before in
-    λ f h. in_sum zero.before.before.before.args.terms _ c.if2.true (sym (zero.before.any-member.ensures f h) ∙ zero.if1.false)
+    λ f h. in_sum c.args.terms _ c.if-terms.true (sym (c.any_member.ensures f h) ∙ c.if-any_member.false)
 
-returns_3 : tie.Need-returns-3
+returns_3 : tie.Need-returns
 returns_3 c =
-    let product = c.before in
-    let zero = product.before in
     λ f h.
-    let none = sym (zero.before.any-member.ensures f h) ∙ zero.if1.false in
-    c.any-member2.ensures f h ∙ in_product zero.before.before.before.args.terms _ product.if2.false none
+    let none = sym (c.any_member.ensures f h) ∙ c.if-any_member.false in
+    c.any_member-2.ensures f h ∙ in_product c.args.terms _ c.if-terms.false none
 
 pub any_earlier_spec : {M : Type 1} → statement M
 any_earlier_spec = tie.close (tie.spec (λ c κs. search rules) returns returns_2 (λ c κs. search rules) returns_3)

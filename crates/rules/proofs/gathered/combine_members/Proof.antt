@@ -26,22 +26,22 @@ abbrev Entry : Type 0
 Entry = tie.Start
 
 abbrev Walked : Type 0
-Walked = tie.After-walk-members
+Walked = tie.After-walk_members-walked
 
 abbrev Came : Type 0
-Came = tie.After-walked
+Came = tie.In-Done
 
 abbrev Ended : Type 0
-Ended = tie.After-skip-tree
+Ended = tie.After-skip_tree-end
 
 abbrev entry_of : Walked → Entry
-entry_of c = c.before.before.before.before.before.before.before
+entry_of c = c.before.before.before.before.before.before
 
 abbrev walked_of : Came → Walked
-walked_of c = c.before.before.before.before.before.before
+walked_of c = c.before.before.before.before.before
 
 abbrev came_of : Ended → Came
-came_of c = c.before.before.before
+came_of c = c.before
 
 -- a tree t is pending at the entry, and `rest` after it
 abbrev Pending : Entry → Tree → List ℕ → Type 0
@@ -55,102 +55,94 @@ node c h = is_node_lem h _ c.requires.1
 walked : (c : Walked) {t : Tree} {rest : List ℕ} (h : Pending (entry_of c) t rest)
     → let g = (entry_of c).args in
     let l = to_list (node (entry_of c) h).members in
-    let r = c.walk-members in
-    WalkedIs g.terms l g.out.now r.new.0 g.work.now r.new.1.0 g.d g.p r.result
-walked c h = let s = node (entry_of c) h in c.walk-members.ensures s.members (standing s.held)
+    let r = c.walk_members-walked in
+    WalkedIs g.terms l g.out.now r.new.out g.work.now r.new.work g.d g.p r.result
+walked c h = let s = node (entry_of c) h in c.walk_members-walked.ensures s.members (standing s.held)
 
 -- so what is pending and done is as it was
 as_it_was : (c : Walked) {t : Tree} {rest : List ℕ} (h : Pending (entry_of c) t rest)
     → let g = (entry_of c).args in
-    CombinedIs (rules_of g.edition) t rest g.out.now c.walk-members.new.0 c.walk-members.new.1.0 g.d g.p No
+    CombinedIs (rules_of g.edition) t rest g.out.now c.walk_members-walked.new.out c.walk_members-walked.new.work g.d g.p No
 as_it_was c h = let v = walked c h in (v.pending ∙ h.stands, v.done)
 
 -- what the walk's answer x says
 says : (c : Walked) {t : Tree} {rest : List ℕ} (h : Pending (entry_of c) t rest) (x : Answer)
     → let g = (entry_of c).args in
-    c.walk-members.result ≡ x → Says g.terms (to_list (node (entry_of c) h).members) g.out.now c.walk-members.new.0 g.d x
+    c.walk_members-walked.result ≡ x → Says g.terms (to_list (node (entry_of c) h).members) g.out.now c.walk_members-walked.new.out g.d x
 says c h x e =
     let g = (entry_of c).args in
-    subst (Says g.terms (to_list (node (entry_of c) h).members) g.out.now c.walk-members.new.0 g.d) e (walked c h).answers
+    subst (Says g.terms (to_list (node (entry_of c) h).members) g.out.now c.walk_members-walked.new.out g.d) e (walked c h).answers
 
 -- something was removed: what came out
 came : (c : Came) {t : Tree} {rest : List ℕ} (h : Pending (entry_of (walked_of c)) t rest)
     → let walk = walked_of c in
     let g = (entry_of walk).args in
-    let x = c.walked.given.0 in
-    Says g.terms (to_list (node (entry_of walk) h).members) g.out.now walk.walk-members.last.0 g.d (Done x.0 x.1.0 x.1.1.0)
-came c h = says (walked_of c) h _ c.walked.given.1
+    Says g.terms (to_list (node (entry_of walk) h).members) g.out.now walk.walk_members-walked.new.out g.d (Done c.in-Done.count c.in-Done.e c.in-Done.f)
+came c h = says (walked_of c) h _ c.in-Done.is
 
 -- the tree is still pending
 again : (c : Walked) {t : Tree} {rest : List ℕ} → Pending (entry_of c) t rest
     → let g = (entry_of c).args in
-    let r = c.walk-members in
-    Ready r.new.0 r.new.1.0 g.d g.p t rest
-again c h = let r = c.walk-members in ready_again h _ _ r.auto.0 r.auto.1.0 (walked c h).pending
+    let r = c.walk_members-walked in
+    Ready r.new.out r.new.work g.d g.p t rest
+again c h = let r = c.walk_members-walked in ready_again h _ _ r.auto.out r.auto.work (walked c h).pending
 
 -- so the node's end is read off it
 ends : (c : Ended) {t : Tree} {rest : List ℕ} → Pending (entry_of (walked_of (came_of c))) t rest
-    → c.skip-tree.result ≡ (entry_of (walked_of (came_of c))).args.p + records t
-ends c h = c.skip-tree.ensures _ _ (ready_tree (again (walked_of (came_of c)) h))
+    → c.skip_tree-end.result ≡ (entry_of (walked_of (came_of c))).args.p + records t
+ends c h = c.skip_tree-end.ensures _ _ (ready_tree (again (walked_of (came_of c)) h))
 
 -- and what came out is ready to be made a node of
 emerged : (c : Ended) {t : Tree} {rest : List ℕ} (h : Pending (entry_of (walked_of (came_of c))) t rest)
     → let walk = walked_of (came_of c) in
     let g = (entry_of walk).args in
     let l = to_list (node (entry_of walk) h).members in
-    let x = (came_of c).walked.given.0 in
-    let r = walk.walk-members.last in
-    Emerged g.terms walk.before.before.before.mark.result l (came_out g.terms l) rest r.0 r.1.0 g.d x.1.0 x.1.1.0
-    c.skip-tree.result x.0
+    let r = walk.walk_members-walked.new in
+    Emerged g.terms walk.mark-mark.result l (came_out g.terms l) rest r.out r.work g.d c.in-Done.e c.in-Done.f
+    c.skip_tree-end.result c.in-Done.count
 emerged c h =
     let walk = walked_of (came_of c) in
     let m = came (came_of c) h in
-    emerges h (node (entry_of walk) h) (ends c h) m.0 _ walk.before.before.before.mark.ensures.0 _ _ walk.walk-members.kept.0
-    walk.walk-members.kept.1.0 (walked walk h).pending m.1
+    emerges h (node (entry_of walk) h) (ends c h) m.0 _ walk.mark-mark.ensures.0 _ _ walk.walk_members-walked.auto.out
+    walk.walk_members-walked.auto.work (walked walk h).pending m.1
 
-mark_requires : tie.Need-mark-requires
-mark_requires c κs = record_within (ready_tree c.before.before.before.requires.0.2)
+mark_requires : tie.Need-mark-mark-requires
+mark_requires c κs = record_within (ready_tree c.requires.0.2)
 
-walk_members_requires : tie.Need-walk-members-requires
+walk_members_requires : tie.Need-walk_members-walked-requires
 walk_members_requires c κs =
-    let entry = c.before.before.before.before.before.before in
-    let s = node entry entry.requires.0.2 in
+    let s = node c.before.before.before.before.before c.requires.0.2 in
     (s.members, standing s.held)
 
-skip_tree_requires : tie.Need-skip-tree-requires
+skip_tree_requires : tie.Need-skip_tree-end-requires
 skip_tree_requires c κs =
-    let walk = walked_of c.before.before in
-    some_told (ready_tree (again walk (entry_of walk).pre.0.2))
+    let walk = walked_of c in
+    some_told (ready_tree (again walk (entry_of walk).requires.0.2))
 
-make_node_requires : tie.Need-make-node-requires
+make_node_requires : tie.Need-make_node-requires
 make_node_requires c κs =
-    let end = c.before.before in
-    (_, _, _, emerged end (entry_of (walked_of (came_of end))).requires.0.2)
+    (_, _, _, emerged c.before.before (entry_of (walked_of (came_of c.before.before))).requires.0.2)
 
-returns : tie.Need-returns
+returns : tie.Need-returns-in-Idle
 returns c =
-    let walk = c.before.before.before.before.before.before in
-    let entry = entry_of walk in
+    let entry = entry_of c.before.before.before.before.before in
     λ t rest h none.
-    let same = as_it_was walk h in
-    (no_rule_applies h (node entry h) entry.args.edition entry.pre.1 none (says walk h _ c.enum_told.given.1), same.0, same.1)
+    let same = as_it_was c.before.before.before.before.before h in
+    (no_rule_applies h (node entry h) entry.args.edition entry.requires.1 none (says c.before.before.before.before.before h _ c.in-Idle.is), same.0, same.1)
 
-returns_2 : tie.Need-returns-2
+returns_2 : tie.Need-returns-in-Over
 returns_2 c =
-    let walk = c.before.before.before.before.before.before in
-    λ t rest h none. as_it_was walk h
+    λ t rest h none. as_it_was c.before.before.before.before.before h
 
-returns_3 : tie.Need-returns-3
+returns_3 : tie.Need-returns-in-Done
 returns_3 c =
-    let make = c.before.before.before.before in
-    let end = make.before.before.before in
-    let walk = walked_of (came_of end) in
+    let walk = walked_of (came_of c.before.before.before.before.before.before.before) in
     let entry = entry_of walk in
     λ t rest h none.
-    combines h (node entry h) (ends end h) (came (came_of end) h).0 _ walk.before.before.before.mark.ensures.0 entry.pre.1 none
+    combines h (node entry h) (ends c.before.before.before.before.before.before.before h) (came (came_of c.before.before.before.before.before.before.before) h).0 _ walk.mark-mark.ensures.0 entry.requires.1 none
     entry.args.edition
-    (walked walk h).done make.make-node.new.0 make.make-node.new.1.0 make.make-node.result
-    (make.make-node.ensures _ _ _ (emerged end h))
+    (walked walk h).done c.make_node.new.out c.make_node.new.work c.make_node.result
+    (c.make_node.ensures _ _ _ (emerged c.before.before.before.before.before.before.before h))
 
 pub combine_members_spec : {M : Type 1} → statement M
 combine_members_spec =

@@ -26,36 +26,35 @@ entry_of c = c.before.before.before.before
 
 -- what they are
 ends : (c : Counted) {t : Tree} → TreeBy note (entry_of c).args.out.now (entry_of c).args.i t
-    → (c.before.skip-tree.result ≡ (entry_of c).args.i + records t) × (c.arity.result ≡ length (members t))
-ends c {t} h = (c.before.skip-tree.ensures note t (noted_told h), c.arity.ensures.0 ∙ arity_told (noted_told h))
+    → (c.skip_tree-next.result ≡ (entry_of c).args.i + records t) × (c.arity.result ≡ length (members t))
+ends c {t} h = (c.skip_tree-next.ensures note t (noted_told h), c.arity.ensures.0 ∙ arity_told (noted_told h))
 
-skip_tree_requires : tie.Need-skip-tree-requires
-skip_tree_requires c κs = some_told (noted_told c.before.before.requires.1)
+skip_tree_requires : tie.Need-skip_tree-next-requires
+skip_tree_requires c κs = some_told (noted_told c.requires.1)
 
 arity_requires : tie.Need-arity-requires
-arity_requires c κs = record_within (noted_told c.before.before.before.requires.1)
+arity_requires c κs = record_within (noted_told c.requires.1)
 
-add_if1 : tie.Need-overflow-add-if1
+add_if1 : tie.Need-overflow_add-i
 add_if1 c = omega (arith, record_within (noted_told (entry_of c).requires.1), c.arity.ensures.1)
 
-add_if1_2 : tie.Need-overflow-add-if1-2
+add_if1_2 : tie.Need-overflow_add-i-2
 add_if1_2 c = omega (arith, record_within (noted_told (entry_of c).requires.1), c.arity.ensures.1)
 
-returns : tie.Need-returns
+returns : tie.Need-returns-then-i-arity
 returns c = (
-  λ t h. let e = ends c.before h in calm_not _ t (omega (arith, c.if1.true, e.0, e.1)),
+  λ t h. let e = ends c.before h in calm_not _ t (omega (arith, c.if-i-arity.true, e.0, e.1)),
   λ t h. record { long = refl; before = refl; past = refl },
 )
 
 still_requires : tie.Need-still-requires
 still_requires c κs = let q = (entry_of c.before.before).requires in (q.0, q.1, omega (arith, q.2))
 
-returns_2 : tie.Need-returns-2
+returns_2 : tie.Need-returns
 returns_2 c =
-    let tested = c.before.before in
-    let few = tested.before.before in (
-      λ t h. let e = ends few.before h in tested.still.ensures.0 t h ∙ calm_still _ t (omega (arith, few.if1.false, e.0, e.1)),
-      λ t h. tested.still.ensures.1 t h,
+    (
+      λ t h. let e = ends c.before.before.before.before.before h in c.still.ensures.0 t h ∙ calm_still _ t (omega (arith, c.if-i-arity.false, e.0, e.1)),
+      λ t h. c.still.ensures.1 t h,
     )
 
 pub is_calm_spec : {M : Type 1} → statement M

@@ -17,13 +17,13 @@ abbrev Entry : Type 0
 Entry = tie.Start
 
 abbrev Kinds : Type 0
-Kinds = tie.After-kind2
+Kinds = tie.After-kind-2
 
 abbrev Differ : Type 0
-Differ = tie.Else1
+Differ = tie.Else-kind
 
 abbrev Calmed : Type 0
-Calmed = tie.After-is-calm
+Calmed = tie.After-is_calm
 
 abbrev entry_of : Kinds → Entry
 entry_of c = c.before.before.before.before
@@ -39,52 +39,48 @@ abbrev Looks : Entry → ℕ → Tree → Tree → Type 0
 Looks c end u x = let g = c.args in Looked g.out.now g.work.now g.d g.f end u x
 
 -- their kinds
-kinds : (c : Kinds) {end : ℕ} {u x : Tree} → Looks (entry_of c) end u x → (c.before.kind.result ≡ kind_number x) × (c.kind2.result ≡ kind_number u)
-kinds c h = (c.before.kind.ensures ∙ kind_number_lem (noted_told h.new), c.kind2.ensures ∙ kind_number_lem (noted_told h.node))
+kinds : (c : Kinds) {end : ℕ} {u x : Tree} → Looks (entry_of c) end u x → (c.kind.result ≡ kind_number x) × (c.kind-2.result ≡ kind_number u)
+kinds c h = (c.kind.ensures ∙ kind_number_lem (noted_told h.new), c.kind-2.ensures ∙ kind_number_lem (noted_told h.node))
 
 kind_requires : tie.Need-kind-requires
-kind_requires c κs = record_within (noted_told c.before.before.requires.3.new)
+kind_requires c κs = record_within (noted_told c.requires.3.new)
 
 kind_requires_2 : tie.Need-kind-requires-2
-kind_requires_2 c κs = record_within (noted_told c.before.before.before.requires.3.node)
+kind_requires_2 c κs = record_within (noted_told c.requires.3.node)
 
-returns : tie.Need-returns
+returns : tie.Need-returns-then-kind
 returns c = (
-  λ end u x h. let k = kinds c.before h in quiet_alike _ u x (sym k.0 ∙ c.if1.true ∙ k.1),
+  λ end u x h. let k = kinds c.before h in quiet_alike _ u x (sym k.0 ∙ c.if-kind.true ∙ k.1),
   λ end u x h. refl,
 )
 
-is_calm_requires : tie.Need-is-calm-requires
+is_calm_requires : tie.Need-is_calm-requires
 is_calm_requires c κs =
     let q = (entry_of (kinds_of c.before)).requires in
     (q.2, q.3.new, omega (arith, q.3.new_small, q.3.within))
 
 still_requires : tie.Need-still-requires
 still_requires c κs =
-    let calmed = c.before.before.before.before in
-    let q = (entry_of (kinds_of (differ_of calmed))).requires in
-    (q.1, q.3.node, omega (arith, q.3.node_small, q.3.within, calmed.is-calm.auto))
+    let q = (entry_of (kinds_of (differ_of c.before.before.before.before))).requires in
+    (q.1, q.3.node, omega (arith, q.3.node_small, q.3.within, c.is_calm.auto))
 
-returns_2 : tie.Need-returns-2
+returns_2 : tie.Need-returns-then-is_calm
 returns_2 c =
-    let tested = c.before.before in
-    let yes = tested.before.before in
-    let calmed = yes.before.before.before in
-    let differ = differ_of calmed in (
+    let differ = differ_of c.before.before.before.before.before.before.before in (
       λ end u x h.
           let k = kinds (kinds_of differ) h in
-          tested.still.ensures.0 u h.node
-          ∙ quiet_still _ u x (λ e. differ.if1.left (k.0 ∙ e ∙ sym k.1)) (sym (calmed.is-calm.ensures.0 x h.new) ∙ yes.if2.true),
+          c.still.ensures.0 u h.node
+          ∙ quiet_still _ u x (λ e. differ.if-kind.false (k.0 ∙ e ∙ sym k.1)) (sym (c.is_calm.ensures.0 x h.new) ∙ c.if-is_calm.true),
       λ end u x h.
-          past_scratch (tested.still.ensures.1 u h.node) end h.node_small
-          ∙ past_scratch (calmed.is-calm.ensures.1 x h.new) end h.new_small,
+          past_scratch (c.still.ensures.1 u h.node) end h.node_small
+          ∙ past_scratch (c.is_calm.ensures.1 x h.new) end h.new_small,
     )
 
-returns_3 : tie.Need-returns-3
+returns_3 : tie.Need-returns
 returns_3 c =
-    let calmed = c.before.before.before in (
-      λ end u x h. quiet_not _ u x (sym (calmed.is-calm.ensures.0 x h.new) ∙ c.if2.false),
-      λ end u x h. past_scratch (calmed.is-calm.ensures.1 x h.new) end h.new_small,
+    (
+      λ end u x h. quiet_not _ u x (sym (c.is_calm.ensures.0 x h.new) ∙ c.if-is_calm.false),
+      λ end u x h. past_scratch (c.is_calm.ensures.1 x h.new) end h.new_small,
     )
 
 pub is_quiet_spec : {M : Type 1} → statement M

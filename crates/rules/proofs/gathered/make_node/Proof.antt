@@ -20,13 +20,13 @@ abbrev Entry : Type 0
 Entry = tie.Start
 
 abbrev Made : Type 0
-Made = tie.After-collapse
+Made = tie.After-collapse-from
 
 abbrev Named : Type 0
-Named = tie.Else2
+Named = tie.Else-f-lt1
 
 abbrev Tested : Type 0
-Tested = tie.After-is-quiet
+Tested = tie.After-is_quiet
 
 abbrev entry_of : Made → Entry
 entry_of c = c.before.before.before.before
@@ -35,7 +35,7 @@ abbrev made_of : Named → Made
 made_of c = c.before.before.before.before.before
 
 abbrev named_of : Tested → Named
-named_of c = c.before.before.before
+named_of c = c.before.before
 
 -- the members m came out of l
 abbrev Came : Entry → (l m : List Tree) (rest : List ℕ) → Type 0
@@ -46,85 +46,77 @@ Came c l m rest =
 -- the node of them is made
 made : (c : Made) {l m : List Tree} {rest : List ℕ} → Came (entry_of c) l m rest
     → let g = (entry_of c).args in
-    let r = c.collapse in
-    Collapsed g.terms g.mark m g.out.now r.new.0 g.d g.came.end r.result
-made c {l} {m} h = c.collapse.ensures (entry_of c).args.came.end m h.built h.many h.light
+    let r = c.collapse-from in
+    Collapsed g.terms g.mark m g.out.now r.new.out g.d g.came.end r.result
+made c {l} {m} h = c.collapse-from.ensures (entry_of c).args.came.end m h.built h.many h.light
 
 -- there are two or more, and a new one
 two : (c : Named) {l m : List Tree} {rest : List ℕ} → Came (entry_of (made_of c)) l m rest → 2 ≤ length m
-two c h = omega (arith, c.before.if1.false, h.many)
+two c h = omega (arith, c.if-count-lt-SEVERAL.false, h.many)
 
 new : (c : Named) → 0 < (entry_of (made_of c)).args.came.new
-new c = omega (arith, c.if2.false)
+new c = omega (arith, c.if-f-lt1.false)
 
-collapse_requires : tie.Need-collapse-requires
-collapse_requires c κs = let q = c.before.before.before.requires in (_, q.1, q.3.built, q.3.many, q.3.light)
+collapse_requires : tie.Need-collapse-from-requires
+collapse_requires c κs = let q = c.requires in (_, q.1, q.3.built, q.3.many, q.3.light)
 
-copy_back_requires : tie.Need-copy-back-requires
+copy_back_requires : tie.Need-copy_back-requires
 copy_back_requires c κs =
-    let at = c.before.before.before.before.before.before in
-    let h = (entry_of at).requires.3 in
-    let q = back_fits h (made at h) in
-    (q.0, q.1, omega (arith, q.2, at.collapse.auto.0), q.3)
+    let h = (entry_of c.before.before.before.before.before).requires.3 in
+    let q = back_fits h (made c.before.before.before.before.before h) in
+    (q.0, q.1, omega (arith, q.2, c.collapse-from.auto.out), q.3)
 
-returns : tie.Need-returns
+returns : tie.Need-returns-then-count-lt-SEVERAL
 returns c =
-    let back = c.before.before.copy-back.ensures in
-    let at = c.before.before.before.before.before.before.before.before.before in
-    λ l m rest h. goes_back h (made at h) 0 _ _ _ _ refl refl back.0 back.1 c.before.before.before.before.before.before.step_of_lem.ensures
+    let back = c.copy_back.ensures in
+    λ l m rest h. goes_back h (made c.before.before.before.before.before.before.before.before h) 0 _ _ _ _ refl refl back.0 back.1 c.step_of-step.ensures
 
-copy_back_requires_2 : tie.Need-copy-back-requires-2
+copy_back_requires_2 : tie.Need-copy_back-requires-then-f-lt1
 copy_back_requires_2 c κs =
-    let at = c.before.before.before.before.before.before.before in
-    let h = (entry_of at).requires.3 in
-    let q = back_fits h (made at h) in
-    (q.0, q.1, omega (arith, q.2, at.collapse.auto.0), q.3)
+    let h = (entry_of c.before.before.before.before.before.before).requires.3 in
+    let q = back_fits h (made c.before.before.before.before.before.before h) in
+    (q.0, q.1, omega (arith, q.2, c.collapse-from.auto.out), q.3)
 
-returns_2 : tie.Need-returns-2
+returns_2 : tie.Need-returns-then-f-lt1
 returns_2 c =
-    let back = c.before.before.copy-back2.ensures in
-    let at = c.before.before.before.before.before.before.before.before.before.before in
-    λ l m rest h. goes_back h (made at h) 0 _ _ _ _ refl refl back.0 back.1 c.before.before.before.before.before.before.before.step_of_lem.ensures
+    let back = c.copy_back-then-f-lt1.ensures in
+    λ l m rest h. goes_back h (made c.before.before.before.before.before.before.before.before.before h) 0 _ _ _ _ refl refl back.0 back.1 c.step_of-step.ensures
 
-is_quiet_requires : tie.Need-is-quiet-requires
+is_quiet_requires : tie.Need-is_quiet-requires
 is_quiet_requires c κs =
-    let at = c.before.before in
-    let h = (entry_of (made_of at)).requires.3 in
-    (_, _, _, looked h (made (made_of at) h) (two at h) (new at))
+    let h = (entry_of (made_of c.before)).requires.3 in
+    (_, _, _, looked h (made (made_of c.before) h) (two c.before h) (new c.before))
 
--- the trees that were looked at
+-- the trees that were looked c.before.before
 seen : (c : Tested) {l m : List Tree} {rest : List ℕ} (h : Came (entry_of (made_of (named_of c))) l m rest)
     → let at = named_of c in
     let g = (entry_of (made_of at)).args in
-    Looked (made_of at).collapse.last.0 g.work.now g.d g.came.new g.end (node_of g.terms g.mark m) (h.named (new at)).new
+    Looked (made_of at).collapse-from.new.out g.work.now g.d g.came.new g.end (node_of g.terms g.mark m) (h.named (new at)).new
 seen c h = let at = named_of c in looked h (made (made_of at) h) (two at h) (new at)
 
-returns_3 : tie.Need-returns-3
+returns_3 : tie.Need-returns-then-is_quiet
 returns_3 c =
-    let tested = c.before.before.before in
-    let at = named_of tested in
+    let at = named_of c.before.before.before in
     let g = (entry_of (made_of at)).args in
     λ l m rest h.
-    let v = seen tested h in
-    let q = sym (tested.is-quiet.ensures.0 _ _ _ v) ∙ c.if3.true in
-    stays h (made (made_of at) h) (two at h) (new at) g.edition _ _ q (tested.is-quiet.ensures.1 _ _ _ v)
-    c.before.before.before.before.before.before.before.before.step_of_lem.ensures
+    let v = seen c.before.before.before h in
+    let q = sym (c.is_quiet.ensures.0 _ _ _ v) ∙ c.if-is_quiet.true in
+    stays h (made (made_of at) h) (two at h) (new at) g.edition _ _ q (c.is_quiet.ensures.1 _ _ _ v)
+    c.step_of-step.ensures
 
-copy_back_requires_3 : tie.Need-copy-back-requires-3
+copy_back_requires_3 : tie.Need-copy_back-requires-2
 copy_back_requires_3 c κs =
-    let at = c.before.before.before.before.before.before.before.before.before.before.before.before.before in
-    let h = (entry_of at).requires.3 in
-    let q = back_fits h (made at h) in
-    (q.0, q.1, omega (arith, q.2, at.collapse.auto.0), omega (arith, q.3, c.before.before.before.before.before.is-quiet.auto))
+    let h = (entry_of c.before.before.before.before.before.before.before.before.before.before.before).requires.3 in
+    let q = back_fits h (made c.before.before.before.before.before.before.before.before.before.before.before h) in
+    (q.0, q.1, omega (arith, q.2, c.collapse-from.auto.out), omega (arith, q.3, c.is_quiet.auto))
 
-returns_4 : tie.Need-returns-4
+returns_4 : tie.Need-returns
 returns_4 c =
-    let back = c.before.before.copy-back3.ensures in
-    let tested = c.before.before.before.before.before.before.before.before in
-    let at = made_of (named_of tested) in
+    let back = c.copy_back-2.ensures in
+    let at = made_of (named_of c.before.before.before.before.before.before.before) in
     λ l m rest h.
-    goes_back h (made at h) 0 _ _ _ _ (tested.is-quiet.ensures.1 _ _ _ (seen tested h)) tested.is-quiet.auto.1.0 back.0 back.1
-    c.before.before.before.before.before.before.before.before.before.before.before.before.before.step_of_lem.ensures
+    goes_back h (made at h) 0 _ _ _ _ (c.is_quiet.ensures.1 _ _ _ (seen c.before.before.before.before.before.before.before h)) c.is_quiet.auto.work back.0 back.1
+    c.step_of-step.ensures
 
 pub make_node_spec : {M : Type 1} → statement M
 make_node_spec =

@@ -51,10 +51,10 @@ module _ {s : List ℕ} {z : ℕ} {f : Forest} {at left : ℕ} (h : Left s z f a
           same = it_or_others ∙ ap (λ b. b || any_of (is_the (pos z)) (to_list head.others)) e;
         }
 
-abbrev invariant_loop : tie.invariant-loop
+abbrev invariant_loop : tie.invariant-loop-left
 invariant_loop s p z at₀ left₀ at left = (f : Forest) → MembersIn s p f → Left s z f at left
 
-abbrev decreases_loop : tie.decreases-loop
+abbrev decreases_loop : tie.decreases-loop-left
 decreases_loop s p z at₀ left₀ at left = left
 
 -- places on the way through the code, and from each the one before it: the entry, the loop's head, where a member is left, and where it is
@@ -63,13 +63,13 @@ abbrev Entry : Type 0
 Entry = tie.Start invariant_loop decreases_loop
 
 abbrev Head : Type 0
-Head = tie.At-loop invariant_loop decreases_loop
+Head = tie.At-loop-left invariant_loop decreases_loop
 
 abbrev Some : Type 0
-Some = tie.In-loop invariant_loop decreases_loop
+Some = tie.In-loop-left invariant_loop decreases_loop
 
 abbrev Tested : Type 0
-Tested = tie.After-is-the invariant_loop decreases_loop
+Tested = tie.After-is_the invariant_loop decreases_loop
 
 abbrev entry_of : Head → Entry
 entry_of c = c.before.before.before
@@ -78,48 +78,47 @@ abbrev some_of : Tested → Some
 some_of c = c.before
 
 -- a member is left, so one stands there
-stands : (c : Some) → SomeTold (entry_of c.before).args.s.now c.before.loop.at
-stands c = let q = (entry_of c.before).pre.0 in some_left (c.before.loop.invariant q.0 q.1) c.loop-test.true
+stands : (c : Some) → SomeTold (entry_of c.before).args.s.now c.loop-left.at
+stands c = let q = (entry_of c.before).requires.0 in some_left (c.loop-left.invariant q.0 q.1) c.loop-left-test.true
 
 -- whether it is the integer
 tested : (c : Tested) {f : Forest} (h : MembersIn (entry_of (some_of c).before).args.s.now (entry_of (some_of c).before).args.p f)
-    → c.is-the.result
-    ≡ is_the (pos (entry_of (some_of c).before).args.z) (head ((some_of c).before.loop.invariant f h) (some_of c).loop-test.true).tree
-tested c {f} h = let t = head ((some_of c).before.loop.invariant f h) (some_of c).loop-test.true in c.is-the.ensures t.tree t.there
+    → c.is_the.result
+    ≡ is_the (pos (entry_of (some_of c).before).args.z) (head ((some_of c).loop-left.invariant f h) (some_of c).loop-left-test.true).tree
+tested c {f} h = let t = head ((some_of c).loop-left.invariant f h) (some_of c).loop-left-test.true in c.is_the.ensures t.tree t.there
 
-add_at : tie.Need-overflow-add-at invariant_loop decreases_loop
-add_at c = let f = c.before.requires.0 in omega (arith, node_within _ _ f.0 f.1)
+add_at : tie.Need-overflow_add-at invariant_loop decreases_loop
+add_at c = let f = c.requires.0 in omega (arith, node_within _ _ f.0 f.1)
 
-count_requires : tie.Need-count-requires invariant_loop decreases_loop
-count_requires c κs = let f = c.before.requires.0 in omega (arith, node_within _ _ f.0 f.1)
+count_requires : tie.Need-count-left-requires invariant_loop decreases_loop
+count_requires c κs = let f = c.requires.0 in omega (arith, node_within _ _ f.0 f.1)
 
-loop_holds : tie.Need-loop-init invariant_loop decreases_loop
+loop_holds : tie.Need-loop-left-init invariant_loop decreases_loop
 loop_holds c =
     λ f h.
-    record { others = f; stand = rw (sym c.count.ensures.0) at (members_in_lem _ _ f h); same = refl }
+    record { others = f; stand = rw (sym c.count-left.ensures.0) at (members_in_lem _ _ f h); same = refl }
 
-is_the_requires : tie.Need-is-the-requires invariant_loop decreases_loop
-is_the_requires c κs = (stands c, (entry_of c.before).pre.1)
+is_the_requires : tie.Need-is_the-requires invariant_loop decreases_loop
+is_the_requires c κs = (stands c, (entry_of c.before).requires.1)
 
-returns : tie.Need-returns invariant_loop decreases_loop
+returns : tie.Need-returns-then-is_the invariant_loop decreases_loop
 returns c =
     let some = some_of c.before in
-    λ f h. sym (found (some.before.loop.inv f h) some.loop-test.taken (sym (tested c.before h) ∙ c.if1.true))
+    λ f h. sym (found (some.loop-left.invariant f h) some.loop-left-test.true (sym (tested c.before h) ∙ c.if-is_the.true))
 
-skip_tree_requires : tie.Need-skip-tree-requires invariant_loop decreases_loop
+skip_tree_requires : tie.Need-skip_tree-at-requires invariant_loop decreases_loop
 skip_tree_requires c κs = stands (some_of c.before)
 
-loop_again : tie.Need-loop-preserved invariant_loop decreases_loop
+loop_again : tie.Need-loop-left-preserved invariant_loop decreases_loop
 loop_again c =
-    let at = c.before.before in
-    let l = (some_of at).loop-test.true in
+    let l = (some_of c.before.before).loop-left-test.true in
     λ f h.
-    let v = (some_of at).before.loop.invariant f h in
+    let v = (some_of c.before.before).loop-left.invariant f h in
     let t = head v l in
-    passed v l _ (sym (tested at h) ∙ c.before.if1.false) (c.skip-tree.ensures note t.tree t.there)
+    passed v l _ (sym (tested c.before.before h) ∙ c.if-is_the.false) (c.skip_tree-at.ensures note t.tree t.there)
 
-returns_2 : tie.Need-returns-2 invariant_loop decreases_loop
-returns_2 c = λ f h. sym (none_left (c.before.loop.invariant f h) c.loop-test.false)
+returns_2 : tie.Need-returns invariant_loop decreases_loop
+returns_2 c = λ f h. sym (none_left (c.loop-left.invariant f h) c.loop-left-test.false)
 
 pub any_member_spec : {M : Type 1} → statement M
 any_member_spec =

@@ -8,39 +8,35 @@ use Rattle.rules.proofs.members.collapse.Statement.{statement}
 use Rattle.rules.proofs.members.collapse.Tie as tie
 
 -- where the node's record was written, from there the start
-abbrev start_of : tie.After-write-record2 → tie.Start
+abbrev start_of : tie.After-write_record-2 → tie.Start
 start_of c = c.before.before.before.before.before.before
 
-returns : tie.Need-returns
+returns : tie.Need-returns-then-count-lt1
 returns c =
-    let wrote = c.before.before in
-    let empty = wrote.before.before.before in
-    let g = empty.before.before.args in
+    let g = c.args in
     λ e l b n k.
-    collapse_none g.sum g.mark l g.out.now g.d e b _ _ (omega arith) wrote.before.neutral.ensures.0 wrote.write-record.ensures
+    collapse_none g.sum g.mark l g.out.now g.d e b _ _ (omega arith) c.neutral.ensures.0 c.write_record.ensures
 
-returns_2 : tie.Need-returns-2
+returns_2 : tie.Need-returns-then-count-lt-SEVERAL
 returns_2 c =
-    let g = c.before.before.before.args in
+    let g = c.args in
     λ e l b n k. collapse_one g.sum g.mark l g.out.now g.d e b (omega arith) (omega arith)
 
 close_requires : tie.Need-close-requires
 close_requires c κs =
-    let wrote = c.before.before.before in
-    let q = (start_of wrote).requires in
-    let g = (start_of wrote).args in (
+    let q = (start_of c.before.before.before).requires in
+    let g = (start_of c.before.before.before).args in (
       _,
       collapse_closable g.sum g.mark q.1 g.out.now g.d q.0 q.2 (omega arith) q.4 _ _
-          wrote.before.node-kind.ensures (rw (sym q.3) at wrote.write-record2.ensures),
+          c.node_kind.ensures (rw (sym q.3) at c.write_record-2.ensures),
     )
 
-returns_3 : tie.Need-returns-3
+returns_3 : tie.Need-returns
 returns_3 c =
-    let wrote = c.before.before.before.before.before.before in
-    let g = (start_of wrote).args in
+    let g = (start_of c.before.before.before.before.before.before).args in
     λ e l b n k.
-    collapse_more g.sum g.mark l g.out.now g.d e b (omega arith) k _ _ wrote.before.node-kind.ensures
-    (rw (sym n) at wrote.write-record2.ensures) _ c.before.before.close.ensures
+    collapse_more g.sum g.mark l g.out.now g.d e b (omega arith) k _ _ c.node_kind.ensures
+    (rw (sym n) at c.write_record-2.ensures) _ c.close.ensures
 
 pub collapse_spec : {M : Type 1} → statement M
 collapse_spec =

@@ -21,12 +21,12 @@ use Rattle.rules.proofs.Puts.{put_follows}
 use Rattle.rules.proofs.members.copy_kept.Statement.{statement}
 use Rattle.rules.proofs.members.copy_kept.Tie as tie
 
-abbrev invariant_loop : tie.invariant-loop
+abbrev invariant_loop : tie.invariant-loop-left
 invariant_loop out₀ work d p sum z mark at₀ left₀ e₀ kept₀ out at left e kept =
     (length out ≡ length out₀)
     × ((f : Forest) (rest : List ℕ) → Held out₀ work d p f rest → Dropping z out₀ work d p f rest out at left e kept)
 
-abbrev decreases_loop : tie.decreases-loop
+abbrev decreases_loop : tie.decreases-loop-left
 decreases_loop out₀ work d p sum z mark at₀ left₀ e₀ kept₀ out at left e kept = left
 
 -- places on the way through the code, and from each the one before it: the entry, after the mark was read, the loop's head, where a member is left, where
@@ -35,164 +35,160 @@ abbrev Entry : Type 0
 Entry = tie.Start invariant_loop decreases_loop
 
 abbrev Marked : Type 0
-Marked = tie.After-mark invariant_loop decreases_loop
+Marked = tie.After-mark-mark invariant_loop decreases_loop
 
 abbrev Head : Type 0
-Head = tie.At-loop invariant_loop decreases_loop
+Head = tie.At-loop-left invariant_loop decreases_loop
 
 abbrev Left : Type 0
-Left = tie.In-loop invariant_loop decreases_loop
+Left = tie.In-loop-left invariant_loop decreases_loop
 
 abbrev Skipped : Type 0
-Skipped = tie.After-skip-tree invariant_loop decreases_loop
+Skipped = tie.After-skip_tree-next invariant_loop decreases_loop
 
 abbrev Copying : Type 0
-Copying = tie.After-copy-bytes-arg2 invariant_loop decreases_loop
+Copying = tie.After-copy_bytes-arg-1 invariant_loop decreases_loop
 
 abbrev Done : Type 0
-Done = tie.After-loop invariant_loop decreases_loop
+Done = tie.After-loop-left invariant_loop decreases_loop
 
 abbrev marked_of : Head → Marked
-marked_of c = c.before.before.before
+marked_of c = c.before.before
 
 abbrev entry_of : Head → Entry
-entry_of c = (marked_of c).before.before.before.before
+entry_of c = (marked_of c).before.before.before
 
 abbrev left_of : Skipped → Left
-left_of c = c.before.before
+left_of c = c.before
 
 abbrev skipped_of : Copying → Skipped
-skipped_of c = c.before.before.before.before.before
+skipped_of c = c.before.before.before
 
 -- a member is left, so one stands there
-stands : (c : Left) → SomeTold (entry_of c.before).args.work.now c.before.loop.at
+stands : (c : Left) → SomeTold (entry_of c.before).args.work.now c.loop-left.at
 stands c =
-    let h = (entry_of c.before).pre.0.2 in
-    some_member h (c.before.loop.invariant.1 _ _ h) c.loop-test.true
+    let h = (entry_of c.before).requires.0.2 in
+    some_member h (c.loop-left.invariant.1 _ _ h) c.loop-left-test.true
 
 -- and there is room for it
 fits : (c : Skipped)
-    → let u = (left_of c).before.loop in
+    → let u = (left_of c).loop-left in
     let g = (entry_of (left_of c).before).args in
-    Room g.out.now g.work.now u.out u.at c.skip-tree.result u.e u.kept
+    Room g.out.now g.work.now u.out u.at c.skip_tree-next.result u.e u.kept
 fits c =
     let left = left_of c in
-    let u = left.before.loop in
-    let h = (entry_of left.before).pre.0.2 in
-    let v = u.inv.1 _ _ h in
-    let t = head h v left.loop-test.taken in
-    room h v left.loop-test.taken _ (c.skip-tree.ensures note t.tree t.there) u.inv.0
+    let u = left.loop-left in
+    let h = (entry_of left.before).requires.0.2 in
+    let v = u.invariant.1 _ _ h in
+    let t = head h v left.loop-left-test.true in
+    room h v left.loop-left-test.true _ (c.skip_tree-next.ensures note t.tree t.there) u.invariant.0
 
 -- none is left: all that is kept stands in `out`
 ended : (c : Done) {f : Forest} {rest : List ℕ}
-    → let u = c.before.loop in
+    → let u = c.loop-left in
     let g = (entry_of c.before).args in
     Held g.out.now g.work.now g.d g.p f rest
-    → Ended g.z g.out.now g.work.now g.d g.p f rest u.out u.at u.e u.auto
+    → Ended g.z g.out.now g.work.now g.d g.p f rest u.out u.at u.e u.kept
 ended c h =
-    let u = c.before.loop in
-    ends h u.invariant.0 (u.invariant.1 _ _ h) c.loop-test.false
+    let u = c.loop-left in
+    ends h u.invariant.0 (u.invariant.1 _ _ h) c.loop-left-test.false
 
 -- and the node of it can be closed
 light_of : (c : Done) {f : Forest} {rest : List ℕ}
     → let g = (entry_of c.before).args in
     Held g.out.now g.work.now g.d g.p f rest
-    → Light (node_of g.sum (marked_of c.before).mark.result (kept g.z (to_list f)))
+    → Light (node_of g.sum (marked_of c.before).mark-mark.result (kept g.z (to_list f)))
 light_of c {f} h =
     let g = (entry_of c.before).args in
-    dropped_light g.sum (marked_of c.before).mark.result g.z f (marked_of c.before).mark.ensures.1 h.wf h.light
+    dropped_light g.sum (marked_of c.before).mark-mark.result g.z f (marked_of c.before).mark-mark.ensures.1 h.wf h.light
 
-mark_requires : tie.Need-mark-requires invariant_loop decreases_loop
-mark_requires c κs = let h = c.before.before.before.requires.0.2 in omega (arith, held_length h)
+mark_requires : tie.Need-mark-mark-requires invariant_loop decreases_loop
+mark_requires c κs = let h = c.requires.0.2 in omega (arith, held_length h)
 
-add_at : tie.Need-overflow-add-at invariant_loop decreases_loop
-add_at c = let h = c.before.before.before.before.requires.0.2 in record { fits = omega (arith, held_length h) }
+add_at : tie.Need-overflow_add-at invariant_loop decreases_loop
+add_at c = let h = c.requires.0.2 in record { fits = omega (arith, held_length h) }
 
-count_requires : tie.Need-count-requires invariant_loop decreases_loop
-count_requires c κs = let h = c.before.before.before.before.before.requires.0.2 in omega (arith, held_length h)
+count_requires : tie.Need-count-left-requires invariant_loop decreases_loop
+count_requires c κs = let h = c.requires.0.2 in omega (arith, held_length h)
 
-add_e : tie.Need-overflow-add-e invariant_loop decreases_loop
-add_e c = let h = c.before.before.before.before.before.before.requires.0.2 in record { fits = omega (arith, h.out_room) }
+add_e : tie.Need-overflow_add-e invariant_loop decreases_loop
+add_e c = let h = c.requires.0.2 in record { fits = omega (arith, h.out_room) }
 
-loop_holds : tie.Need-loop-init invariant_loop decreases_loop
-loop_holds c = (refl, λ f rest h. begins h c.count.ensures.0)
+loop_holds : tie.Need-loop-left-init invariant_loop decreases_loop
+loop_holds c = (refl, λ f rest h. begins h c.count-left.ensures.0)
 
-skip_tree_requires : tie.Need-skip-tree-requires invariant_loop decreases_loop
-skip_tree_requires c κs = stands c.before
+skip_tree_requires : tie.Need-skip_tree-next-requires invariant_loop decreases_loop
+skip_tree_requires c κs = stands c
 
-is_the_requires : tie.Need-is-the-requires invariant_loop decreases_loop
-is_the_requires c κs = let left = left_of c.before in (stands left, (entry_of left.before).pre.1)
+is_the_requires : tie.Need-is_the-requires invariant_loop decreases_loop
+is_the_requires c κs = let left = left_of c in (stands left, (entry_of left.before).requires.1)
 
-mul_copy_bytes : tie.Need-overflow-mul-copy-bytes invariant_loop decreases_loop
-mul_copy_bytes c = let r = fits c.before.before.before.before in record { fits = omega (arith, r.written) }
+mul_copy_bytes : tie.Need-overflow_mul-e invariant_loop decreases_loop
+mul_copy_bytes c = let r = fits c.before.before.before in record { fits = omega (arith, r.written) }
 
-mul_copy_bytes_2 : tie.Need-overflow-mul-copy-bytes-2 invariant_loop decreases_loop
+mul_copy_bytes_2 : tie.Need-overflow_mul-at invariant_loop decreases_loop
 mul_copy_bytes_2 c = let r = fits (skipped_of c) in record { fits = omega (arith, r.forward, r.read) }
 
-sub_copy_bytes : tie.Need-overflow-sub-copy-bytes invariant_loop decreases_loop
+sub_copy_bytes : tie.Need-overflow_sub-next invariant_loop decreases_loop
 sub_copy_bytes c = (fits (skipped_of c)).forward
 
-mul_copy_bytes_3 : tie.Need-overflow-mul-copy-bytes-3 invariant_loop decreases_loop
+mul_copy_bytes_3 : tie.Need-overflow_mul-next invariant_loop decreases_loop
 mul_copy_bytes_3 c = let r = fits (skipped_of c) in record { fits = omega (arith, r.read) }
 
-copy_bytes_requires : tie.Need-copy-bytes-requires invariant_loop decreases_loop
+copy_bytes_requires : tie.Need-copy_bytes-requires invariant_loop decreases_loop
 copy_bytes_requires c κs =
     let r = fits (skipped_of c) in
     (omega (arith, r.long, r.written), omega (arith, r.forward, r.read))
 
-sub_e : tie.Need-overflow-sub-e invariant_loop decreases_loop
+sub_e : tie.Need-overflow_sub-e invariant_loop decreases_loop
 sub_e c = (fits (skipped_of c.before.before.before)).forward
 
-add_e_2 : tie.Need-overflow-add-e-2 invariant_loop decreases_loop
+add_e_2 : tie.Need-overflow_add-e-then-not-is_the invariant_loop decreases_loop
 add_e_2 c = let r = fits (skipped_of c.before.before.before) in record { fits = omega (arith, r.written) }
 
-add_kept : tie.Need-overflow-add-kept invariant_loop decreases_loop
+add_kept : tie.Need-overflow_add-kept invariant_loop decreases_loop
 add_kept c = let r = fits (skipped_of c.before.before.before) in record { fits = omega (arith, r.few, r.written) }
 
-loop_again : tie.Need-loop-preserved invariant_loop decreases_loop
+loop_again : tie.Need-loop-left-preserved invariant_loop decreases_loop
 loop_again c =
-    let skipped = c.before.before.before in
-    let left = left_of skipped in
-    let u = left.before.loop in
-    let l = left.loop-test.taken in
-    let long = u.inv.0 in
-    let next = skipped.skip-tree in
-    let is = c.before.is-the in
+    let left = left_of c.before.before in
+    let u = left.loop-left in
+    let l = left.loop-left-test.true in
+    let long = u.invariant.0 in
+    let next = c.skip_tree-next in
+    let is = c.is_the in
     ⊎_elim
     (λ a. (
-      ap length a.6 ∙ a.3.kept.0 ∙ long,
+      ap length a.out-is ∙ a.copy_bytes.auto.dst ∙ long,
       λ f rest h.
-          let v = u.inv.1 f rest h in
+          let v = u.invariant.1 f rest h in
           let t = head h v l in
-          let not-it = sym (is.ensures t.tree t.there) ∙ not-true _ a.0.taken in
-          rw (a.6, a.7, a.8)
-          (keeps h v l next.result (next.ensures note t.tree t.there) long a.3.last.0 not-it a.3.ensures),
+          let not-it = sym (is.ensures t.tree t.there) ∙ a.if-not-is_the.true in
+          rw (a.out-is, a.e-is, a.kept-is)
+          (keeps h v l next.result (next.ensures note t.tree t.there) long a.copy_bytes.new.dst not-it a.copy_bytes.ensures),
     ))
     (λ a. (
-      ap length a.1 ∙ long,
+      ap length a.out-is ∙ long,
       λ f rest h.
-          let v = u.inv.1 f rest h in
+          let v = u.invariant.1 f rest h in
           let t = head h v l in
-          let it = sym (is.ensures t.tree t.there) ∙ not-false _ a.0.left in
-          rw (a.1, a.2, a.3) (passes h v l next.result (next.ensures note t.tree t.there) long it),
+          let it = sym (is.ensures t.tree t.there) ∙ a.if-not-is_the.false in
+          rw (a.out-is, a.e-is, a.kept-is) (passes h v l next.result (next.ensures note t.tree t.there) long it),
     ))
-    c.if1.branch
+    c.if-not-is_the.branch-raw
 
-put_back_requires : tie.Need-put-back-requires invariant_loop decreases_loop
+put_back_requires : tie.Need-put_back-requires invariant_loop decreases_loop
 put_back_requires c κs =
-    let done = c.before.before in
-    let e = ended done (entry_of done.before).pre.0.2 in
-    ((_, e.built, e.many, light_of done (entry_of done.before).pre.0.2), e.short, e.within)
+    let e = ended c.before.before (entry_of c.before.before.before).requires.0.2 in
+    ((_, e.built, e.many, light_of c.before.before (entry_of c.before.before.before).requires.0.2), e.short, e.within)
 
 returns : tie.Need-returns invariant_loop decreases_loop
 returns c =
-    let put = c.before.before.before.before in
-    let done = put.before.before.before in
-    let g = (entry_of done.before).args in
+    let g = (entry_of c.before.before.before.before.before.before.before.before).args in
     λ f rest h.
-    let e = ended done h in
-    put_follows (put.put_back.ensures (kept g.z (to_list f)) e.built e.many (light_of done h))
-    (marked_of done.before).mark.ensures.0 e.follow
+    let e = ended c.before.before.before.before.before.before.before h in
+    put_follows (c.put_back.ensures (kept g.z (to_list f)) e.built e.many (light_of c.before.before.before.before.before.before.before h))
+    (marked_of c.before.before.before.before.before.before.before.before).mark-mark.ensures.0 e.follow
     e.done
 
 pub copy_kept_spec : {M : Type 1} → statement M

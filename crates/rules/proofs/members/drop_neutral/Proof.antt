@@ -23,16 +23,16 @@ abbrev Entry : Type 0
 Entry = tie.Start
 
 abbrev OfKind : Type 0
-OfKind = tie.Else1
+OfKind = tie.Else-kind-node_kind
 
 abbrev Searched : Type 0
-Searched = tie.After-any-member
+Searched = tie.After-any_member
 
 abbrev entry_of : OfKind → Entry
-entry_of c = c.before.before.before.before.before.before
+entry_of c = c.before.before.before.before.before
 
 abbrev kind_of_lem : Searched → OfKind
-kind_of_lem c = c.before.before.before
+kind_of_lem c = c.before.before
 
 -- a tree t is pending at the entry, and `rest` after it
 abbrev Pending : Entry → Tree → List ℕ → Type 0
@@ -41,56 +41,51 @@ Pending c t rest = let g = c.args in Ready g.out.now g.work.now g.d g.p t rest
 -- the tree is a node, of the members that are held
 node : (c : OfKind) {t : Tree} {rest : List ℕ} → Pending (entry_of c) t rest
     → let g = (entry_of c).args in IsNode g.sum g.out.now g.work.now g.d g.p t rest
-node c h = is_node_lem h _ (sym c.before.before.kind.ensures ∙ c.if1.false ∙ c.before.node-kind.ensures)
+node c h = is_node_lem h _ (sym c.kind.ensures ∙ c.if-kind-node_kind.false ∙ c.node_kind.ensures)
 
 -- whether a member is the integer
 searched : (c : Searched) {t : Tree} {rest : List ℕ} (h : Pending (entry_of (kind_of_lem c)) t rest)
-    → c.any-member.result ≡ any_of (is_the (pos (neutral (entry_of (kind_of_lem c)).args.sum))) (to_list (node (kind_of_lem c) h).members)
+    → c.any_member.result ≡ any_of (is_the (pos (neutral (entry_of (kind_of_lem c)).args.sum))) (to_list (node (kind_of_lem c) h).members)
 searched c h =
     let s = node (kind_of_lem c) h in
-    c.any-member.ensures s.members (held_members s.held)
-    ∙ ap (λ z. any_of (is_the (pos z)) (to_list s.members)) c.before.before.neutral.ensures.0
+    c.any_member.ensures s.members (held_members s.held)
+    ∙ ap (λ z. any_of (is_the (pos z)) (to_list s.members)) c.neutral-z.ensures.0
 
 kind_requires : tie.Need-kind-requires
-kind_requires c κs = record_within (ready_tree c.before.before.before.requires.2)
+kind_requires c κs = record_within (ready_tree c.requires.2)
 
-returns : tie.Need-returns
+returns : tie.Need-returns-then-kind-node_kind
 returns c =
-    let kind = c.before.before.kind in
-    let g = c.before.before.before.before.before.before.args in
-    λ t rest h. (looks_elsewhere h (drops g.sum) (λ e. c.if1.true (kind.ensures ∙ e ∙ sym c.before.node-kind.ensures)), refl, refl)
+    let kind = c.kind in
+    let g = c.args in
+    λ t rest h. (looks_elsewhere h (drops g.sum) (λ e. c.if-kind-node_kind.true (kind.ensures ∙ e ∙ sym c.node_kind.ensures)), refl, refl)
 
-any_member_requires : tie.Need-any-member-requires
+any_member_requires : tie.Need-any_member-requires
 any_member_requires c κs =
-    let s = node c.before.before (entry_of c.before.before).requires.2 in
-    ((s.members, held_members s.held), c.before.neutral.ensures.1)
+    let s = node c.before (entry_of c.before).requires.2 in
+    ((s.members, held_members s.held), c.neutral-z.ensures.1)
 
-drop_members_requires : tie.Need-drop-members-requires
+drop_members_requires : tie.Need-drop_members-requires
 drop_members_requires c κs =
-    let searched = c.before.before.before in
-    let s = node (kind_of_lem searched) (entry_of (kind_of_lem searched)).requires.2 in
-    ((s.members, (entry_of (kind_of_lem searched)).requires.1, s.held), searched.before.before.neutral.ensures.1)
+    let s = node (kind_of_lem c.before.before.before) (entry_of (kind_of_lem c.before.before.before)).requires.2 in
+    ((s.members, (entry_of (kind_of_lem c.before.before.before)).requires.1, s.held), c.neutral-z.ensures.1)
 
-returns_2 : tie.Need-returns-2
+returns_2 : tie.Need-returns-then-any_member
 returns_2 c =
-    let dropped = c.before.before.before.before in
-    let any = dropped.before.before.before in
-    let at = any.before in
-    let g = (entry_of (kind_of_lem at)).args in
+    let g = (entry_of (kind_of_lem c.before.before.before.before.before.before.before.before)).args in
     λ t rest h.
-    let s = node (kind_of_lem at) h in
+    let s = node (kind_of_lem c.before.before.before.before.before.before.before.before) h in
     let l = to_list s.members in
-    let b = dropped.drop-members.ensures s.members rest s.held in
-    let applies = finds s (drops g.sum) (sym (searched at h) ∙ any.if2.true) in
+    let b = c.drop_members.ensures s.members rest s.held in
+    let applies = finds s (drops g.sum) (sym (searched c.before.before.before.before.before.before.before.before h) ∙ c.if-any_member.true) in
     let same = ap (λ z. paper.applies (node_of g.sum (mark_in g.work.now g.p) (drop_all (is_the (pos z)) l)))
-    (sym at.before.before.neutral.ensures.0) in
+    (sym c.neutral-z.ensures.0) in
     (_, applies ∙ same, b.stands, b.done)
 
-returns_3 : tie.Need-returns-3
+returns_3 : tie.Need-returns
 returns_3 c =
-    let at = c.before in
     λ t rest h.
-    (finds_none (node (kind_of_lem at) h) (drops (entry_of (kind_of_lem at)).args.sum) (sym (searched at h) ∙ c.if2.false), refl, refl)
+    (finds_none (node (kind_of_lem c.before) h) (drops (entry_of (kind_of_lem c.before)).args.sum) (sym (searched c.before h) ∙ c.if-any_member.false), refl, refl)
 
 pub drop_neutral_spec : {M : Type 1} → statement M
 drop_neutral_spec =

@@ -27,16 +27,16 @@ abbrev Entry : Type 0
 Entry = tie.Start
 
 abbrev Moving : Type 0
-Moving = tie.After-shift-right-arg
+Moving = tie.After-shift_right-arg-1
 
 abbrev Moved : Type 0
-Moved = tie.After-shift-right
+Moved = tie.After-shift_right
 
 abbrev Wrote : Type 0
-Wrote = tie.After-write-record
+Wrote = tie.After-write_record
 
 abbrev entry_of : Moving → Entry
-entry_of c = c.before.before.before.before.before.before
+entry_of c = c.before.before.before.before
 
 abbrev moved_of : Wrote → Moved
 moved_of c = c.before.before.before.before.before
@@ -55,73 +55,70 @@ module _ (c : Wrote) {a b : List Tree} {rest : List ℕ}
   made = let g = (start_of c).args in node_of g.sum (mark_in g.work.now g.p) (a ++ b)
 
   there : let at = ((start_of c).args.p + 1) * 16 in
-      let w = c.write-record.new.0 in
+      let w = c.write_record.new.d in
       (drop at w ≡ unclosed made ++ rest) × (at ≤ length w)
   there =
       let g = (start_of c).args in
       let moved = moved_of c in
-      let mark = moved.before.before.mark in
-      let count = moved.before.before.before.before.count in
-      let kind = c.before.node-kind in
+      let mark = moved.mark-mark in
+      let count = moved.count-n in
+      let kind = c.node_kind in
       let less : count.result - 1 ≡ length (a ++ b) = omega (arith, count.ensures.0, h.counted) in
-      let own = ap (λ m. put moved.shift-right.last.0 ((g.p + 1) * 16) (record_of kind.result (count.result - 1) m 0)) mark.ensures.0 in
+      let own = ap (λ m. put moved.shift_right.new.d ((g.p + 1) * 16) (record_of kind.result (count.result - 1) m 0)) mark.ensures.0 in
       around_put h g.sum kind.result (count.result - 1) (mark_in g.work.now g.p) _ _ kind.ensures less
-      moved.shift-right.ensures (c.write-record.ensures ∙ own)
+      moved.shift_right.ensures (c.write_record.ensures ∙ own)
 
   light : Light made
   light =
       let g = (start_of c).args in
-      let mark = (moved_of c).before.before.mark in
+      let mark = (moved_of c).mark-mark in
       around_light h g.sum (mark_in g.work.now g.p) (omega (arith, mark.ensures.0, mark.ensures.1))
 
   node : 2 ≤ kind_number made
   node = more_node (start_of c).args.sum (mark_in (start_of c).args.work.now (start_of c).args.p) (a ++ b) h.more
 
-  can_close : Unnoted c.write-record.new.0 ((start_of c).args.p + 1) made
+  can_close : Unnoted c.write_record.new.d ((start_of c).args.p + 1) made
   can_close = closable made light.0 node light.1 (record { after = rest; there = there.0 })
 
-count_requires : tie.Need-count-requires
-count_requires c κs = let s = sizes c.before.before in omega (arith, s.0, s.1)
+count_requires : tie.Need-count-n-requires
+count_requires c κs = let s = sizes c.before in omega (arith, s.0, s.1)
 
-mark_requires : tie.Need-mark-requires
-mark_requires c κs = let s = sizes c.before.before.before.before in omega (arith, s.0, s.1)
+mark_requires : tie.Need-mark-mark-requires
+mark_requires c κs = let s = sizes c.before.before in omega (arith, s.0, s.1)
 
-add_shift_right : tie.Need-overflow-add-shift-right
+add_shift_right : tie.Need-overflow_add-p
 add_shift_right c = let s = sizes (entry_of c) in omega (arith, s.0, s.1)
 
-mul_shift_right : tie.Need-overflow-mul-shift-right
+mul_shift_right : tie.Need-overflow_mul-p
 mul_shift_right c = let s = sizes (entry_of c) in omega (arith, s.0, s.1)
 
-mul_shift_right_2 : tie.Need-overflow-mul-shift-right-2
+mul_shift_right_2 : tie.Need-overflow_mul-p-2
 mul_shift_right_2 c = let s = sizes (entry_of c) in omega (arith, s.0, s.1)
 
-sub_shift_right : tie.Need-overflow-sub-shift-right
+sub_shift_right : tie.Need-overflow_sub-x
 sub_shift_right c = (sizes (entry_of c)).0
 
-mul_shift_right_3 : tie.Need-overflow-mul-shift-right-3
+mul_shift_right_3 : tie.Need-overflow_mul-x
 mul_shift_right_3 c = let s = sizes (entry_of c) in omega (arith, s.0, s.1)
 
-shift_right_requires : tie.Need-shift-right-requires
+shift_right_requires : tie.Need-shift_right-requires
 shift_right_requires c κs = let s = sizes (entry_of c) in (omega arith, omega (arith, s.0, s.1))
 
-write_record_requires : tie.Need-write-record-requires
+write_record_requires : tie.Need-write_record-requires
 write_record_requires c κs =
-    let moved = c.before.before.before.before in
-    let s = sizes (entry_of moved.before) in
-    omega (arith, moved.shift-right.auto.0, s.0, s.1)
+    let s = sizes (entry_of c.before.before.before.before.before) in
+    omega (arith, c.shift_right.auto.d, s.0, s.1)
 
 close_requires : tie.Need-close-requires
 close_requires c κs =
-    let wrote = c.before.before.before in
-    (_, can_close wrote (start_of wrote).requires.3)
+    (_, can_close c.before.before.before (start_of c.before.before.before).requires.3)
 
 returns : tie.Need-returns
 returns c =
-    let wrote = c.before.before.before.before.before.before in
     λ a b rest h.
-    let t = made wrote h in
-    let at = there wrote h in
-    (closed_pending t (light wrote h).0 (node wrote h) _ _ rest _ at.1 at.0 (c.before.before.close.ensures t (can_close wrote h))).0
+    let t = made c.before.before.before.before.before.before h in
+    let at = there c.before.before.before.before.before.before h in
+    (closed_pending t (light c.before.before.before.before.before.before h).0 (node c.before.before.before.before.before.before h) _ _ rest _ at.1 at.0 (c.close.ensures t (can_close c.before.before.before.before.before.before h))).0
 
 pub drop_one_spec : {M : Type 1} → statement M
 drop_one_spec =

@@ -8,20 +8,20 @@ use Rattle.rules.proofs.members.is_the.Statement.{statement}
 use Rattle.rules.proofs.members.is_the.Tie as tie
 
 kind_requires : tie.Need-kind-requires
-kind_requires c κs = record_within c.before.requires.0.there
+kind_requires c κs = record_within c.requires.0.there
 
-returns : tie.Need-returns
+returns : tie.Need-returns-then-kind-gt-INTEGER
 returns c = λ t h. other_kind _ _ _ t h (omega arith)
 
 bits_requires : tie.Need-bits-requires
 bits_requires c κs =
-    let q = c.before.before.before.requires in
+    let q = c.requires in
     record_within q.0.there
 
-returns_2 : tie.Need-returns-2
+returns_2 : tie.Need-returns
 returns_2 c =
-    let g = c.before.before.before.before.args in
-    let q = c.before.before.before.before.requires in
+    let g = c.args in
+    let q = c.requires in
     λ t h. ap (λ n. eqb n g.z) c.bits.ensures ∙ integer_kind _ _ _ t h (omega arith) q.1
 
 pub is_the_spec : {M : Type 1} → statement M

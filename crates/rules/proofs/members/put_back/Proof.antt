@@ -18,7 +18,7 @@ abbrev Entry : Type 0
 Entry = tie.Start
 
 abbrev Made : Type 0
-Made = tie.After-collapse
+Made = tie.After-collapse-from
 
 abbrev entry_of : Made → Entry
 entry_of c = c.before.before.before.before
@@ -27,26 +27,23 @@ entry_of c = c.before.before.before.before
 made : (c : Made) (l : List Tree) → Built (entry_of c).args.out.now (entry_of c).args.d (entry_of c).args.e l → length l ≡ (entry_of c).args.count
     → Light (node_of (entry_of c).args.sum (entry_of c).args.mark l)
     → let g = (entry_of c).args in
-    let r = c.collapse in
-    Collapsed g.sum g.mark l g.out.now r.new.0 g.d g.e r.result
-made c l b n k = c.collapse.ensures (entry_of c).args.e l b n k
+    let r = c.collapse-from in
+    Collapsed g.sum g.mark l g.out.now r.new.out g.d g.e r.result
+made c l b n k = c.collapse-from.ensures (entry_of c).args.e l b n k
 
-copy_back_requires : tie.Need-copy-back-requires
+copy_back_requires : tie.Need-copy_back-requires
 copy_back_requires c κs =
-    let at = c.before.before.before.before in
-    let q = (entry_of at).requires in
-    let h = made at q.0.0 q.0.1 q.0.2 q.0.3 in
-    (omega (arith, h.end), omega (arith, h.end, h.low, q.1), omega (arith, q.0.1.within, at.collapse.auto.0), q.2)
+    let q = (entry_of c.before.before.before).requires in
+    let h = made c.before.before.before q.0.0 q.0.1 q.0.2 q.0.3 in
+    (omega (arith, h.end), omega (arith, h.end, h.low, q.1), omega (arith, q.0.1.within, c.collapse-from.auto.out), q.2)
 
 returns : tie.Need-returns
 returns c =
-    let copied = c.before.before in
-    let at = copied.before.before.before.before.before in
-    let g = (entry_of at).args in
-    let q = (entry_of at).requires in
-    let r = copied.copy-back.ensures in
+    let g = (entry_of c.before.before.before.before.before.before).args in
+    let q = (entry_of c.before.before.before.before.before.before).requires in
+    let r = c.copy_back.ensures in
     λ l b n k.
-    let h = made at l b n k in
+    let h = made c.before.before.before.before.before.before l b n k in
     put_back g.sum g.mark l g.out.now _ g.work.now _ g.d g.e g.end _ _ h r.0 (omega (arith, h.end, h.low, q.1)) q.2 r.1
 
 pub put_back_spec : {M : Type 1} → statement M

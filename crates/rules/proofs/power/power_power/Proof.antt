@@ -33,34 +33,34 @@ abbrev Entry : Type 0
 Entry = tie.Start
 
 abbrev Power : Type 0
-Power = tie.Else1
+Power = tie.Else-kind-ne-POWER
 
 abbrev Tower : Type 0
-Tower = tie.Else2
+Tower = tie.Else-kind-ne-POWER-2
 
 abbrev Skipped : Type 0
-Skipped = tie.After-skip-tree
+Skipped = tie.After-skip_tree-y
 
 abbrev Multiplied : Type 0
-Multiplied = tie.After-mul
+Multiplied = tie.After-mul-product
 
 abbrev Moving : Type 0
-Moving = tie.After-shift-right-arg
+Moving = tie.After-shift_right-arg-1
 
 abbrev entry_of : Power → Entry
-entry_of c = c.before.before.before.before.before
+entry_of c = c.before.before.before.before
 
 abbrev power_of : Tower → Power
-power_of c = c.before.before.before
+power_of c = c.before.before
 
 abbrev tower_of : Skipped → Tower
-tower_of c = c.before.before
+tower_of c = c.before
 
 abbrev skipped_of : Multiplied → Skipped
-skipped_of c = c.before.before.before.before.before
+skipped_of c = c.before.before.before
 
 abbrev multiplied_of : Moving → Multiplied
-multiplied_of c = c.before.before.before.before.before.before.before.before
+multiplied_of c = c.before.before.before.before
 
 abbrev start_of : Tower → Entry
 start_of c = entry_of (power_of c)
@@ -71,33 +71,31 @@ Pending c t rest = let g = c.args in Ready g.out.now g.work.now g.d g.p t rest
 
 raised : (c : Power) {t : Tree} {rest : List ℕ} → Pending (entry_of c) t rest
     → let g = (entry_of c).args in IsPower g.work.now g.p t rest
-raised c h = is_power h (sym c.before.kind.ensures ∙ c.if1.false)
+raised c h = is_power h (sym c.kind.ensures ∙ c.if-kind-ne-POWER.false)
 
 tower : (c : Tower) {t : Tree} {rest : List ℕ} → Pending (start_of c) t rest
     → let g = (start_of c).args in IsTower g.work.now g.p t rest
-tower c h = is_tower (raised (power_of c) h) (sym c.before.kind2.ensures ∙ c.if2.false)
+tower c h = is_tower (raised (power_of c) h) (sym c.kind-2.ensures ∙ c.if-kind-ne-POWER-2.false)
 
 -- where the inner exponent stands, and what the product of both is
 place : (c : Skipped) {t : Tree} {rest : List ℕ} (h : Pending (start_of (tower_of c)) t rest)
-    → c.skip-tree.result ≡ (start_of (tower_of c)).args.p + 2 + records (tower (tower_of c) h).base
-place c h = let s = tower (tower_of c) h in c.skip-tree.ensures note s.base s.there
+    → c.skip_tree-y.result ≡ (start_of (tower_of c)).args.p + 2 + records (tower (tower_of c) h).base
+place c h = let s = tower (tower_of c) h in c.skip_tree-y.ensures note s.base s.there
 
 product : (c : Multiplied) {t : Tree} {rest : List ℕ} (h : Pending (start_of (tower_of (skipped_of c))) t rest)
-    → let s = tower (tower_of (skipped_of c)) h in c.mul.result ≡ num_of (signed s.inner *ℤ signed s.outer)
+    → let s = tower (tower_of (skipped_of c)) h in c.mul-product.result ≡ num_of (signed s.inner *ℤ signed s.outer)
 product c h =
     let at = skipped_of c in
     let s = tower (tower_of at) h in
     let w = (start_of (tower_of at)).args.work.now in
-    let second = c.before in
-    let first = second.before.before in
     let e = place at h in
-    let next : at.skip-tree.result + 1 ≡ (start_of (tower_of at)).args.p + 3 + records s.base = omega (arith, e) in
-    let inner = first.bits.ensures ∙ ap (bits w) e ∙ s.inner_said in
-    let outer = second.bits2.ensures ∙ ap (bits w) next ∙ s.outer_said in
-    c.mul.ensures ∙ ap (λ a. num_of (signed a *ℤ signed second.bits2.result)) inner ∙ ap (λ b. num_of (signed s.inner *ℤ signed b)) outer
+    let next : at.skip_tree-y.result + 1 ≡ (start_of (tower_of at)).args.p + 3 + records s.base = omega (arith, e) in
+    let inner = c.bits.ensures ∙ ap (bits w) e ∙ s.inner_said in
+    let outer = c.bits-2.ensures ∙ ap (bits w) next ∙ s.outer_said in
+    c.mul-product.ensures ∙ ap (λ a. num_of (signed a *ℤ signed c.bits-2.result)) inner ∙ ap (λ b. num_of (signed s.inner *ℤ signed b)) outer
 
 -- where the power's record was written: for any tree that is pending, the power that the step makes of it, which can be closed
-module _ (c : tie.After-write-record2) where
+module _ (c : tie.After-write_record-in-Is) where
   abbrev moving_of : Moving
   moving_of = c.before.before.before.before.before.before.before.before.before
 
@@ -113,193 +111,182 @@ module _ (c : tie.After-write-record2) where
 
     abbrev made : Tree
     made =
-        let known = moving_of.before.before.before.before.before.before.product.given in
-        power moving_of.before.before.before.mark.result s.base moving_of.before.mark2.result known.0.0
+        power c.mark-mark.result s.base c.mark-exponent_mark.result c.in-Is.n
 
     applies : power_power t ≡ paper.applies made
     applies =
-        let first = moving_of.before.before.before.mark in
-        let second = moving_of.before.mark2 in
-        let known = moving_of.before.before.before.before.before.before.product.given in
+        let first = c.mark-mark in
+        let second = c.mark-exponent_mark in
         let g = begun.args in
-        let outer : at_of.skip-tree.result + 1 ≡ g.p + 3 + records s.base = omega (arith, place at_of h) in
-        tower_applies s _ (sym (product (multiplied_of moving_of) h) ∙ known.1)
-        ∙ ap (λ m. paper.applies (power m s.base (mark_in g.work.now (g.p + 3 + records s.base)) known.0.0)) (sym first.ensures.0)
-        ∙ ap (λ m. paper.applies (power first.result s.base m known.0.0))
+        let outer : at_of.skip_tree-y.result + 1 ≡ g.p + 3 + records s.base = omega (arith, place at_of h) in
+        tower_applies s _ (sym (product (multiplied_of moving_of) h) ∙ c.in-Is.is)
+        ∙ ap (λ m. paper.applies (power m s.base (mark_in g.work.now (g.p + 3 + records s.base)) c.in-Is.n)) (sym first.ensures.0)
+        ∙ ap (λ m. paper.applies (power first.result s.base m c.in-Is.n))
         (ap (mark_in g.work.now) (sym outer) ∙ sym second.ensures.0)
 
     light : Light made
     light = rule_light h _ power_power_good made applies
 
     there : let at = (begun.args.p + 2) * 16 in
-        let w = c.write-record2.new.0 in
+        let w = c.write_record-in-Is.new.d in
         (drop at w ≡ unclosed made ++ rest) × (at ≤ length w)
     there =
-        let first = c.before.before.before.before in
-        let moved = first.before.before.before.before in
-        tower_put s _ _ _ _ _ _ _ (place at_of h) moved.shift-right.ensures first.write-record.ensures c.write-record2.ensures light.0.2
+        tower_put s _ _ _ _ _ _ _ (place at_of h) c.shift_right.ensures c.write_record.ensures c.write_record-in-Is.ensures light.0.2
 
-    can_close : Unnoted c.write-record2.new.0 (begun.args.p + 2) made
+    can_close : Unnoted c.write_record-in-Is.new.d (begun.args.p + 2) made
     can_close = closable made light.0 (power_node _ _ _ _) light.1 (record { after = rest; there = there.0 })
 
 kind_requires : tie.Need-kind-requires
-kind_requires c κs = record_within (ready_tree c.before.before.before.requires.2)
+kind_requires c κs = record_within (ready_tree c.requires.2)
 
-returns : tie.Need-returns
+returns : tie.Need-returns-then-kind-ne-POWER
 unfolding power_power
-returns c = λ t rest h. (on_no_power (ready_seen h) _ (λ e. c.if1.true (c.before.kind.ensures ∙ e)), refl, refl)
+returns c = λ t rest h. (on_no_power (ready_seen h) _ (λ e. c.if-kind-ne-POWER.true (c.kind.ensures ∙ e)), refl, refl)
 
-add_kind : tie.Need-overflow-add-kind
-add_kind c = let s = raised c.before (entry_of c.before).requires.2 in omega (arith, s.long)
+add_kind : tie.Need-overflow_add-p
+add_kind c = let s = raised c (entry_of c).requires.2 in omega (arith, s.long)
 
 kind_requires_2 : tie.Need-kind-requires-2
-kind_requires_2 c κs = record_within (raised c.before (entry_of c.before).requires.2).there
+kind_requires_2 c κs = record_within (raised c (entry_of c).requires.2).there
 
-returns_2 : tie.Need-returns-2
+returns_2 : tie.Need-returns-then-kind-ne-POWER-2
 returns_2 c =
-    let at = c.before.before.before in
-    λ t rest h. (no_tower (raised at h) (λ e. c.if2.true (c.before.kind2.ensures ∙ e)), refl, refl)
+    λ t rest h. (no_tower (raised c.before.before h) (λ e. c.if-kind-ne-POWER-2.true (c.kind-2.ensures ∙ e)), refl, refl)
 
-add_skip_tree : tie.Need-overflow-add-skip-tree
-add_skip_tree c = omega (arith, (tower c.before (start_of c.before).requires.2).long)
+add_skip_tree : tie.Need-overflow_add-p-2
+add_skip_tree c = omega (arith, (tower c (start_of c).requires.2).long)
 
-skip_tree_requires : tie.Need-skip-tree-requires
+skip_tree_requires : tie.Need-skip_tree-y-requires
 skip_tree_requires c κs =
-    some_told (tower c.before (start_of c.before).requires.2).there
+    some_told (tower c (start_of c).requires.2).there
 
 bits_requires : tie.Need-bits-requires
 bits_requires c κs =
-    let at = c.before in
-    let h = (start_of (tower_of at)).requires.2 in
-    omega (arith, place at h, (tower (tower_of at) h).long)
+    let h = (start_of (tower_of c)).requires.2 in
+    omega (arith, place c h, (tower (tower_of c) h).long)
 
-add_bits : tie.Need-overflow-add-bits
+add_bits : tie.Need-overflow_add-y
 add_bits c =
-    let at = c.before.before.before in
-    let h = (start_of (tower_of at)).requires.2 in
-    omega (arith, place at h, (tower (tower_of at) h).long)
+    let h = (start_of (tower_of c.before)).requires.2 in
+    omega (arith, place c.before h, (tower (tower_of c.before) h).long)
 
 bits_requires_2 : tie.Need-bits-requires-2
 bits_requires_2 c κs =
-    let at = c.before.before.before in
-    let h = (start_of (tower_of at)).requires.2 in
-    omega (arith, place at h, (tower (tower_of at) h).long)
+    let h = (start_of (tower_of c.before)).requires.2 in
+    omega (arith, place c.before h, (tower (tower_of c.before) h).long)
 
-mark_requires : tie.Need-mark-requires
-mark_requires c κs = record_within (ready_tree (start_of (tower_of (skipped_of c.before.before.before.before))).requires.2)
+mark_requires : tie.Need-mark-mark-requires
+mark_requires c κs = record_within (ready_tree (start_of (tower_of (skipped_of c.before))).requires.2)
 
-add_mark : tie.Need-overflow-add-mark
+add_mark : tie.Need-overflow_add-y-in-Is
 add_mark c =
-    let at = skipped_of c.before.before.before.before.before.before in
+    let at = skipped_of c.before.before in
     let h = (start_of (tower_of at)).requires.2 in
     omega (arith, place at h, (tower (tower_of at) h).long)
 
-mark_requires_2 : tie.Need-mark-requires-2
+mark_requires_2 : tie.Need-mark-exponent_mark-requires
 mark_requires_2 c κs =
-    let at = skipped_of c.before.before.before.before.before.before in
+    let at = skipped_of c.before.before in
     let h = (start_of (tower_of at)).requires.2 in
     omega (arith, place at h, (tower (tower_of at) h).long)
 
-add_shift_right : tie.Need-overflow-add-shift-right
+add_shift_right : tie.Need-overflow_add-p-in-Is
 add_shift_right c =
     let at = skipped_of (multiplied_of c) in
     let h = (start_of (tower_of at)).requires.2 in
     omega (arith, (tower (tower_of at) h).long)
 
-mul_shift_right : tie.Need-overflow-mul-shift-right
+mul_shift_right : tie.Need-overflow_mul-p
 mul_shift_right c =
     let at = skipped_of (multiplied_of c) in
     let h = (start_of (tower_of at)).requires.2 in
     omega (arith, (tower (tower_of at) h).long)
 
-add_shift_right_2 : tie.Need-overflow-add-shift-right-2
+add_shift_right_2 : tie.Need-overflow_add-p-in-Is-2
 add_shift_right_2 c =
     let at = skipped_of (multiplied_of c) in
     let h = (start_of (tower_of at)).requires.2 in
     omega (arith, (tower (tower_of at) h).long)
 
-mul_shift_right_2 : tie.Need-overflow-mul-shift-right-2
+mul_shift_right_2 : tie.Need-overflow_mul-p-in-Is
 mul_shift_right_2 c =
     let at = skipped_of (multiplied_of c) in
     let h = (start_of (tower_of at)).requires.2 in
     omega (arith, (tower (tower_of at) h).long)
 
-add_shift_right_3 : tie.Need-overflow-add-shift-right-3
+add_shift_right_3 : tie.Need-overflow_add-p-in-Is-3
 add_shift_right_3 c =
     let at = skipped_of (multiplied_of c) in
     let h = (start_of (tower_of at)).requires.2 in
     omega (arith, (tower (tower_of at) h).long)
 
-sub_shift_right : tie.Need-overflow-sub-shift-right
+sub_shift_right : tie.Need-overflow_sub-y
 sub_shift_right c =
     let at = skipped_of (multiplied_of c) in
     let h = (start_of (tower_of at)).requires.2 in
     omega (arith, place at h, (tower (tower_of at) h).long)
 
-mul_shift_right_3 : tie.Need-overflow-mul-shift-right-3
+mul_shift_right_3 : tie.Need-overflow_mul-y
 mul_shift_right_3 c =
     let at = skipped_of (multiplied_of c) in
     let h = (start_of (tower_of at)).requires.2 in
     omega (arith, place at h, (tower (tower_of at) h).long)
 
-shift_right_requires : tie.Need-shift-right-requires
+shift_right_requires : tie.Need-shift_right-requires
 shift_right_requires c κs =
     let at = skipped_of (multiplied_of c) in
     let h = (start_of (tower_of at)).requires.2 in
     (omega arith, omega (arith, place at h, (tower (tower_of at) h).long))
 
-add_write_record : tie.Need-overflow-add-write-record
+add_write_record : tie.Need-overflow_add-y-in-Is-2
 add_write_record c =
     let at = skipped_of (multiplied_of c.before.before.before.before) in
     let h = (start_of (tower_of at)).requires.2 in
     omega (arith, place at h, (tower (tower_of at) h).long)
 
-write_record_requires : tie.Need-write-record-requires
+write_record_requires : tie.Need-write_record-requires
 write_record_requires c κs =
     let at = skipped_of (multiplied_of c.before.before.before.before) in
     let h = (start_of (tower_of at)).requires.2 in
-    omega (arith, place at h, c.before.before.before.shift-right.auto.0, (tower (tower_of at) h).long)
+    omega (arith, place at h, c.shift_right.auto.d, (tower (tower_of at) h).long)
 
-add_write_record_2 : tie.Need-overflow-add-write-record-2
+add_write_record_2 : tie.Need-overflow_add-p-in-Is-4
 add_write_record_2 c =
     let at = skipped_of (multiplied_of c.before.before.before.before.before.before.before.before) in
     let h = (start_of (tower_of at)).requires.2 in
     omega (arith, (tower (tower_of at) h).long)
 
-write_record_requires_2 : tie.Need-write-record-requires-2
+write_record_requires_2 : tie.Need-write_record-requires-in-Is
 write_record_requires_2 c κs =
     let at = skipped_of (multiplied_of c.before.before.before.before.before.before.before.before) in
     let h = (start_of (tower_of at)).requires.2 in
-    let wrote = c.before.before.before in
-    omega (arith, wrote.write-record.auto.0, wrote.before.before.before.before.shift-right.auto.0, (tower (tower_of at) h).long)
+    omega (arith, c.write_record.auto.d, c.shift_right.auto.d, (tower (tower_of at) h).long)
 
-add_close : tie.Need-overflow-add-close
+add_close : tie.Need-overflow_add-p-in-Is-5
 add_close c =
     let at = at_of c.before.before.before in
     omega (arith, (tower (tower_of at) (start_of (tower_of at)).requires.2).long)
 
 close_requires : tie.Need-close-requires
-close_requires c κs = let second = c.before.before.before in (_, can_close second (begun second).requires.2)
+close_requires c κs = (_, can_close c.before.before.before (begun c.before.before.before).requires.2)
 
-add_t38 : tie.Need-overflow-add-t38
+add_t38 : tie.Need-overflow_add-result
 add_t38 c =
     let at = at_of c.before.before.before.before.before.before in
     omega (arith, (tower (tower_of at) (start_of (tower_of at)).requires.2).long)
 
-returns_3 : tie.Need-returns-3
+returns_3 : tie.Need-returns-in-Is
 returns_3 c =
-    let second = c.before.before.before.before.before.before in
     λ t rest h.
-    let u = made second h in
-    let w = (light second h).0 in
-    let at = there second h in
-    let q = closed_pending u w (power_node _ _ _ _) _ _ rest _ at.1 at.0 (c.before.before.close.ensures u (can_close second h)) in
-    (u, applies second h, q.0, refl)
+    let u = made c.before.before.before.before.before.before h in
+    let w = (light c.before.before.before.before.before.before h).0 in
+    let at = there c.before.before.before.before.before.before h in
+    let q = closed_pending u w (power_node _ _ _ _) _ _ rest _ at.1 at.0 (c.close.ensures u (can_close c.before.before.before.before.before.before h)) in
+    (u, applies c.before.before.before.before.before.before h, q.0, refl)
 
-returns_4 : tie.Need-returns-4
+returns_4 : tie.Need-returns-in-Out
 returns_4 c =
-    let mul = c.before.before in
-    λ t rest h. tower_over (tower (tower_of (skipped_of mul)) h) (sym (product mul h) ∙ c.enum_told.given.1)
+    λ t rest h. tower_over (tower (tower_of (skipped_of c.before)) h) (sym (product c.before h) ∙ c.in-Out.is)
 
 pub power_power_spec : {M : Type 1} → statement M
 power_power_spec =
