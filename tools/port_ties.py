@@ -19,8 +19,8 @@ PATH = re.compile(r"(?<![^\s(){};,@\"«»\[\]])(" + N + r")((?:\.(?:" + N + r"))
 LET = re.compile(r"\blet (" + N + r") = (" + N + r"(?:\." + N + r")*) in[ \n]")
 # only the proofs whose path has this
 ONLY = os.environ.get("ONLY", "")
-START = ("args", "requires", "ranges", "lifetimes", "utf8", "type_inv", "row", "called", "fresh", "well_formed", "ghost", "decreases")
-WORDS = {"taken": "true", "left": "false", "inv": "invariant", "pre": "requires", "last": "new", "type-inv": "type_inv", "fits": "ranges", "good": "well_formed"}
+START = ("args", "requires", "ranges", "lifetimes", "utf8", "type_inv", "row", "called", "fresh", "well_formed", "well-formed", "ghost", "decreases")
+WORDS = {"taken": "true", "left": "false", "inv": "invariant", "pre": "requires", "last": "new", "type-inv": "type_inv", "fits": "ranges", "good": "well_formed", "well-formed": "well_formed"}
 
 
 def norm(s):
@@ -435,7 +435,7 @@ def turn_file(path, fns, muts, said):
                     part = re.sub(r"(?m)^( *" + re.escape(arrow[1]) + r" " + re.escape(var[1]) + r" = )" + re.escape(var[1]) + r"(?:\.before)*$", lambda w: w[1] + t.place_alone(gives[arrow[1]][1]), part)
                     if re.search(r"(?m)^ *" + re.escape(arrow[1]) + r" " + re.escape(var[1]) + r" = " + re.escape(var[1]) + r"(?:\.before)*$", part):
                         bound = []
-            for var, head, place in bound:
+            for var, head, place in {b[0]: b for b in bound}.values():
                 part = Turner(fns[head], place, muts, lambda s: said(f"{path}: {var}: {s}"), var).turn(part)
 
         # what a helper gives, by a name or in parentheses

@@ -49,12 +49,12 @@ record Round (out₀ work₀ steps₀ st₀ : List ℕ) (e₀ : ℕ) (out work s
   end_is : e₀ ≡ (stand_of st₀).end → e ≡ (stand_of st).end
   on : (c : Call) → WentOn c out₀ work₀ steps₀ (stand_of st₀) → WentOn c out work steps (stand_of st)
 
-abbrev Inv : lts.invariant-loop
+abbrev Inv : lts.invariant-loop-st
 Inv out₀ work₀ steps₀ st₀ e₀ out work steps st e =
     Round out₀.now work₀.now steps₀.now st₀ e₀ out.now work.now steps.now st e
-    × (out.name ≡ out₀.name) × (work.name ≡ work₀.name) × (steps.name ≡ steps₀.name)
+    × (out.ghost_name ≡ out₀.ghost_name) × (work.ghost_name ≡ work₀.ghost_name) × (steps.ghost_name ≡ steps₀.ghost_name)
 
-abbrev μ : lts.decreases-loop
+abbrev μ : lts.decreases-loop-st
 μ out₀ work₀ steps₀ st₀ e₀ out work steps st e = 2 ^ 63 - (stand_of st).tries
 
 module _ (t : ℕ) where
@@ -64,19 +64,19 @@ module _ (t : ℕ) where
   Entry = lts.Start (claims t) (here t) drive.Post Inv μ
 
   abbrev Begun : Type 0
-  Begun = lts.After-go-on (claims t) (here t) drive.Post Inv μ
+  Begun = lts.After-go_on-e (claims t) (here t) drive.Post Inv μ
 
   abbrev Head : Type 0
-  Head = lts.At-loop (claims t) (here t) drive.Post Inv μ
+  Head = lts.At-loop-st (claims t) (here t) drive.Post Inv μ
 
   abbrev Entered : Type 0
-  Entered = lts.After-go-in (claims t) (here t) drive.Post Inv μ
+  Entered = lts.After-go_in (claims t) (here t) drive.Post Inv μ
 
   abbrev Driven : Type 0
-  Driven = lts.After-drive-tree (claims t) (here t) drive.Post Inv μ
+  Driven = lts.After-drive_tree-g (claims t) (here t) drive.Post Inv μ
 
   abbrev Returned : Type 0
-  Returned = lts.After-come-out (claims t) (here t) drive.Post Inv μ
+  Returned = lts.After-come_out (claims t) (here t) drive.Post Inv μ
 
   abbrev entry_of : Begun → Entry
   entry_of c = c.before.before.before.before.before
@@ -85,7 +85,7 @@ module _ (t : ℕ) where
   begun_of c = c.before
 
   abbrev head_of : Entered → Head
-  head_of c = c.before.before.before.before.before.before.before.before
+  head_of c = c.before.before.before.before.before.before.before.before.before
 
   abbrev entered_of : Driven → Entered
   entered_of c = c.before.before.before.before.before
@@ -103,28 +103,28 @@ module _ (t : ℕ) where
 
   -- before the loop the driver waited, or was at its end, on a call
   abbrev Was : Begun → Call → Type 0
-  Was c x = let b = c.go_on in WentOn x b.new.0.now b.new.1.0.now b.new.1.1.0.now (stand_of b.new.1.1.1.0)
+  Was c x = let b = c.go_on-e in WentOn x b.new.out.now b.new.work.now b.new.steps.now (stand_of b.new.st)
 
   was : (c : Begun) (x : Tree) (r : List ℕ) → Called (call_on (entry_of c) x r) → Was c (call_on (entry_of c) x r)
-  was c x r v = c.go_on.ensures.0.3 (call_on (entry_of c) x r) (begins (entry_of c) x r v)
+  was c x r v = c.go_on-e.ensures.0.3 (call_on (entry_of c) x r) (begins (entry_of c) x r v)
 
   -- the call that `requires` names
   this : (c : Begun) → Was c (call_on (entry_of c) (entry_of c).requires.1.1.0 (entry_of c).requires.1.1.1)
   this c = was c (entry_of c).requires.1.1.0 (entry_of c).requires.1.1.1 (entry_of c).requires.1.1.2
 
-  ten_cells : (c : Head) → length c.loop.st ≡ 10
-  ten_cells c = c.loop.invariant.0.ten (begun_of c).go_on.ensures.0.0
+  ten_cells : (c : Head) → length c.loop-st.st ≡ 10
+  ten_cells c = c.loop-st.invariant.0.ten (begun_of c).go_on-e.ensures.0.0
 
   -- the driver waits for a member
-  waits : (c : Entered) → 1 ≤ (stand_of (head_of c).loop.st).left
-  waits c = c.before.before.before.before.before.before.if1.true
+  waits : (c : Entered) → 1 ≤ (stand_of (head_of c).loop-st.st).left
+  waits c = c.loop-st-test.true
 
   midway : (c : Entered) (x : Call) → Was (begun_of (head_of c)) x
-      → let l = (head_of c).loop in Midway x l.out.now l.work.now l.steps.now (stand_of l.st)
-  midway c x v = ((head_of c).loop.invariant.0.on x v).waits (waits c)
+      → let l = (head_of c).loop-st in Midway x l.out.now l.work.now l.steps.now (stand_of l.st)
+  midway c x v = ((head_of c).loop-st.invariant.0.on x v).waits (waits c)
 
-  entered_cells : (c : Entered) → stand_of c.go-in.new.0 ≡ entered (stand_of (head_of c).loop.st)
-  entered_cells c = ap stand_of c.go-in.ensures
+  entered_cells : (c : Entered) → stand_of c.go_in.new.st ≡ entered (stand_of (head_of c).loop-st.st)
+  entered_cells c = ap stand_of c.go_in.ensures
 
   next : (c : Entered) (x : Call) (v : Was (begun_of (head_of c)) x) → First (midway c x v).gathering.r
   next c x v = next_of (midway c x v) (waits c)
@@ -132,39 +132,39 @@ module _ (t : ℕ) where
   -- the call on it, at a stand
   abbrev call_next : (c : Entered) (x : Call) → Was (begun_of (head_of c)) x → Stand → Call
   call_next c x v y =
-      let l = (head_of c).loop in
+      let l = (head_of c).loop-st in
       let n = next c x v in
       call l.out.now l.work.now l.steps.now y n.x (encode_all n.xs ++ x.rest)
 
-  member_called : (c : Entered) (x : Call) (v : Was (begun_of (head_of c)) x) → Called (call_next c x v (stand_of c.go-in.new.0))
+  member_called : (c : Entered) (x : Call) (v : Was (begun_of (head_of c)) x) → Called (call_next c x v (stand_of c.go_in.new.st))
   member_called c x v = subst (λ y. Called (call_next c x v y)) (sym (entered_cells c)) (next_called (midway c x v) (next c x v).is)
 
   -- what the run on the member says
   member_driven : (c : Driven) (x : Call) (v : Was (begun_of (head_of (entered_of c))) x)
-      → let d = c.drive-tree in
-      DrivenTo (call_next (entered_of c) x v (entered (stand_of (head_of (entered_of c)).loop.st)))
-      d.new.0.now d.new.1.0.now d.new.1.1.0.now (stand_of d.new.1.1.1.0) d.result
+      → let d = c.drive_tree-g in
+      DrivenTo (call_next (entered_of c) x v (entered (stand_of (head_of (entered_of c)).loop-st.st)))
+      d.new.out.now d.new.work.now d.new.steps.now (stand_of d.new.st) d.result
   member_driven c x v =
       let entered = entered_of c in
       let n = next entered x v in
-      let d = c.drive-tree in
-      subst (λ y. DrivenTo (call_next entered x v y) d.new.0.now d.new.1.0.now d.new.1.1.0.now (stand_of d.new.1.1.1.0) d.result)
+      let d = c.drive_tree-g in
+      subst (λ y. DrivenTo (call_next entered x v y) d.new.out.now d.new.work.now d.new.steps.now (stand_of d.new.st) d.result)
       (entered_cells entered) (d.ensures.0.1 n.x (encode_all n.xs ++ x.rest) (member_called entered x v))
 
   -- the node's numbers come back
   back : (c : Returned)
-      → let s = stand_of (head_of (entered_of (driven_of c))).loop.st in
-      stand_of c.come-out.new.0 ≡ returned (stand_of (driven_of c).drive-tree.new.1.1.1.0) s.node s.left s.gathered s.prior
-  back c = ap stand_of c.come-out.ensures
+      → let s = stand_of (head_of (entered_of (driven_of c))).loop-st.st in
+      stand_of c.come_out.new.st ≡ returned (stand_of (driven_of c).drive_tree-g.new.st) s.node s.left s.gathered s.prior
+  back c = ap stand_of c.come_out.ensures
 
   -- the driver is to go on from the member's result
-  resumed : (c : Returned) → 1 ≤ (driven_of c).drive-tree.result → (x : Call) → Was (begun_of (head_of (entered_of (driven_of c)))) x
-      → let d = (driven_of c).drive-tree in GoesOn x d.last.0.now d.last.1.0.now d.last.1.1.0.now (stand_of c.come-out.new.0) d.result
+  resumed : (c : Returned) → 1 ≤ (driven_of c).drive_tree-g.result → (x : Call) → Was (begun_of (head_of (entered_of (driven_of c)))) x
+      → let d = (driven_of c).drive_tree-g in GoesOn x d.new.out.now d.new.work.now d.new.steps.now (stand_of c.come_out.new.st) d.result
   resumed c h x v =
       let driven = driven_of c in
-      let d = driven.drive-tree in
+      let d = driven.drive_tree-g in
       let entered = entered_of driven in
-      let l = (head_of entered).loop in
+      let l = (head_of entered).loop-st in
       let n = next entered x v in
       record {
         begins = λ z. absurd (omega arith);
@@ -173,7 +173,7 @@ module _ (t : ℕ) where
           work₁ = l.work.now;
           steps₁ = l.steps.now;
           s₁ = stand_of l.st;
-          s₂ = stand_of d.last.1.1.1.0;
+          s₂ = stand_of d.new.st;
           midway = midway entered x v;
           x = n.x;
           later = n.xs;
@@ -186,124 +186,117 @@ module _ (t : ℕ) where
         };
       }
 
-  go_on_requires : lts.Need-go-on-requires (claims t) (here t) drive.Post Inv μ
+  go_on_requires : lts.Need-go_on-e-requires (claims t) (here t) drive.Post Inv μ
   go_on_requires c κs =
-      let entry = c.before.before.before.before in
-      let p = entry.requires.1 in
-      (p.0, (call_on entry p.1.0 p.1.1, begins entry p.1.0 p.1.1 p.1.2))
+      let p = c.requires.1 in
+      (p.0, (call_on c.before.before.before.before p.1.0 p.1.1, begins c.before.before.before.before p.1.0 p.1.1 p.1.2))
 
-  loop_holds : lts.Need-loop-init (claims t) (here t) drive.Post Inv μ
+  loop_holds : lts.Need-loop-st-init (claims t) (here t) drive.Post Inv μ
   loop_holds c = (record { out_long = refl; work_long = refl; steps_long = refl; ten = λ l. l; end_is = λ e. e; on = λ x w. w }, refl, refl, refl)
 
-  go_in_requires : lts.Need-go-in-requires (claims t) (here t) drive.Post Inv μ
-  go_in_requires c κs = ten_cells c.before.before.before.before.before.before.before
+  go_in_requires : lts.Need-go_in-requires (claims t) (here t) drive.Post Inv μ
+  go_in_requires c κs = ten_cells c.before.before.before.before.before.before.before.before
 
-  drive_tree_requires : lts.Need-drive-tree-requires (claims t) (here t) drive.Post Inv μ
+  drive_tree_requires : lts.Need-drive_tree-g-requires (claims t) (here t) drive.Post Inv μ
   drive_tree_requires c κs =
-      let entered = c.before.before.before.before in
-      let head = head_of entered in
+      let head = head_of c.before.before.before.before in
       let entry = entry_of (begun_of head) in
       let v = this (begun_of head) in
-      let measure = entry.pre.0 in
-      let n = next entered _ v in
-      let place : get_or entered.go-in.new.0 1 0 ≡ get_or head.loop.st 1 0 = ap (λ y. y.place) (entered_cells entered) in
-      let same = ap (λ i. table_weight (drop (i * 16) head.loop.work.now)) place in (
-        omega (arith, lighter_now (midway entered _ v)),
-        (ap length entered.go-in.ensures, (n.x, encode_all n.xs ++ entry.pre.1.1.1, member_called entered _ v)),
+      let measure = entry.requires.0 in
+      let n = next c.before.before.before.before _ v in
+      let place : get_or c.go_in.new.st 1 0 ≡ get_or head.loop-st.st 1 0 = ap (λ y. y.place) (entered_cells c.before.before.before.before) in
+      let same = ap (λ i. table_weight (drop (i * 16) head.loop-st.work.now)) place in (
+        omega (arith, lighter_now (midway c.before.before.before.before _ v)),
+        (ap length c.go_in.ensures, (n.x, encode_all n.xs ++ entry.requires.1.1.1, member_called c.before.before.before.before _ v)),
       )
 
-  come_out_requires : lts.Need-come-out-requires (claims t) (here t) drive.Post Inv μ
-  come_out_requires c κs = c.before.drive-tree.ensures.0.0
+  come_out_requires : lts.Need-come_out-requires (claims t) (here t) drive.Post Inv μ
+  come_out_requires c κs = c.drive_tree-g.ensures.0.0
 
-  returns : lts.Need-returns (claims t) (here t) drive.Post Inv μ
+  returns : lts.Need-returns-then-g-lt1 (claims t) (here t) drive.Post Inv μ
   returns c =
-      let returned-now = c.before in
-      let driven = driven_of returned-now in
+      let driven = driven_of c.before in
       let entered = entered_of driven in
       let begun = begun_of (head_of entered) in
-      let noted : (stand_of returned-now.come-out.new.0).noted ≡ (stand_of driven.drive-tree.last.1.1.1.0).noted =
-      ap (λ y. y.noted) (back returned-now) in (
+      let noted : (stand_of c.come_out.new.st).noted ≡ (stand_of driven.drive_tree-g.new.st).noted =
+      ap (λ y. y.noted) (back c.before) in (
         (
-          ap length returned-now.come-out.ensures,
+          ap length c.come_out.ensures,
           λ x r v.
               let w = was begun x r v in
-              let fell = next_fell (midway entered _ w) (next entered _ w).is _ ((member_driven driven _ w).refused c.if2.true) in
+              let fell = next_fell (midway entered _ w) (next entered _ w).is _ ((member_driven driven _ w).refused c.if-g-lt1.true) in
               record {
                 refused = λ h. subst (λ i. Fell (call_on (entry_of begun) x r) i) (sym noted) fell;
                 reached = λ h. absurd (omega arith);
               },
         ),
         (
-          let d = driven.drive-tree in
-              let l = (head_of entered).loop.inv.0 in
-              let k = begun.go_on.ensures.1.0 in
+          let d = driven.drive_tree-g in
+              let l = (head_of entered).loop-st.invariant.0 in
+              let k = begun.go_on-e.ensures.1.0 in
               (d.ensures.1.0.0 ∙ l.out_long ∙ k.0, d.ensures.1.0.1 ∙ l.work_long ∙ k.1, d.ensures.1.0.2 ∙ l.steps_long ∙ k.2),
-          let d = driven.drive-tree in
-              let l = (head_of entered).loop.inv in
-              let k = begun.go_on.ensures.1.1 in
+          let d = driven.drive_tree-g in
+              let l = (head_of entered).loop-st.invariant in
+              let k = begun.go_on-e.ensures.1.1 in
               (d.ensures.1.1.0 ∙ l.1 ∙ k.0, d.ensures.1.1.1 ∙ l.2 ∙ k.1, d.ensures.1.1.2 ∙ l.3 ∙ k.2),
         ),
       )
 
-  go_on_requires_2 : lts.Need-go-on-requires-2 (claims t) (here t) drive.Post Inv μ
+  go_on_requires_2 : lts.Need-go_on-e-requires-in-loop-st (claims t) (here t) drive.Post Inv μ
   go_on_requires_2 c κs =
-      let returned-now = c.before.before.before.before.before in
-      let driven = driven_of returned-now in
+      let driven = driven_of c.before.before.before.before.before in
       let entered = entered_of driven in
       let head = head_of entered in
-      (ap length returned-now.come-out.ensures, (_, resumed returned-now c.before.before.before.before.if2.false _ (this (begun_of head))))
+      (ap length c.come_out.ensures, (_, resumed c.before.before.before.before.before c.if-g-lt1.false _ (this (begun_of head))))
 
-  loop_less : lts.Need-loop-smaller (claims t) (here t) drive.Post Inv μ
+  loop_less : lts.Need-loop-st-smaller (claims t) (here t) drive.Post Inv μ
   loop_less c =
-      let returned-now = c.before.before.before.before.before.before in
-      let driven = driven_of returned-now in
+      let driven = driven_of c.before.before.before.before.before.before in
       let entered = entered_of driven in
       let w = this (begun_of (head_of entered)) in
       let v = midway entered _ w in
       let n = next entered _ w in
-      let m = (member_driven driven _ w).reached c.before.before.before.before.before.if2.false in
+      let m = (member_driven driven _ w).reached c.if-g-lt1.false in
       let some = drives_tried _ n.x (next_called v n.is).set.ready.wf _ _ _ _ m.drove.ran in
-      let same : (stand_of returned-now.come-out.new.0).tries ≡ (stand_of driven.drive-tree.last.1.1.1.0).tries =
-      ap (λ y. y.tries) (back returned-now) in
-      omega (arith, tries_now v, m.tries_are, c.go-on2.ensures.0.2.tries)
+      let same : (stand_of c.come_out.new.st).tries ≡ (stand_of driven.drive_tree-g.new.st).tries =
+      ap (λ y. y.tries) (back c.before.before.before.before.before.before) in
+      omega (arith, tries_now v, m.tries_are, c.go_on-e-in-loop-st.ensures.0.2.tries)
 
-  loop_again : lts.Need-loop-preserved (claims t) (here t) drive.Post Inv μ
+  loop_again : lts.Need-loop-st-preserved (claims t) (here t) drive.Post Inv μ
   loop_again c =
-      let went = c.go-on2 in
-      let returned-now = c.before.before.before.before.before.before in
-      let driven = driven_of returned-now in
+      let went = c.go_on-e-in-loop-st in
+      let driven = driven_of c.before.before.before.before.before.before in
       let entered = entered_of driven in
-      let l = (head_of entered).loop in
-      let d = driven.drive-tree in (
+      let l = (head_of entered).loop-st in
+      let d = driven.drive_tree-g in (
         record {
-          out_long = went.ensures.1.0.0 ∙ d.ensures.1.0.0 ∙ l.inv.0.out_long;
-          work_long = went.ensures.1.0.1 ∙ d.ensures.1.0.1 ∙ l.inv.0.work_long;
-          steps_long = went.ensures.1.0.2 ∙ d.ensures.1.0.2 ∙ l.inv.0.steps_long;
+          out_long = went.ensures.1.0.0 ∙ d.ensures.1.0.0 ∙ l.invariant.0.out_long;
+          work_long = went.ensures.1.0.1 ∙ d.ensures.1.0.1 ∙ l.invariant.0.work_long;
+          steps_long = went.ensures.1.0.2 ∙ d.ensures.1.0.2 ∙ l.invariant.0.steps_long;
           ten = λ z. went.ensures.0.0;
           end_is = λ e. went.ensures.0.1;
-          on = λ x v. went.ensures.0.3 x (resumed returned-now c.before.before.before.before.before.if2.false x v);
+          on = λ x v. went.ensures.0.3 x (resumed c.before.before.before.before.before.before c.if-g-lt1.false x v);
         },
-        went.ensures.1.1.0 ∙ d.ensures.1.1.0 ∙ l.inv.1,
-        went.ensures.1.1.1 ∙ d.ensures.1.1.1 ∙ l.inv.2,
-        went.ensures.1.1.2 ∙ d.ensures.1.1.2 ∙ l.inv.3,
+        went.ensures.1.1.0 ∙ d.ensures.1.1.0 ∙ l.invariant.1,
+        went.ensures.1.1.1 ∙ d.ensures.1.1.1 ∙ l.invariant.2,
+        went.ensures.1.1.2 ∙ d.ensures.1.1.2 ∙ l.invariant.3,
       )
 
-  returns_2 : lts.Need-returns-2 (claims t) (here t) drive.Post Inv μ
+  returns_2 : lts.Need-returns (claims t) (here t) drive.Post Inv μ
   returns_2 c =
-      let head = c.before.before in
-      let begun = begun_of head in
-      let l = head.loop in (
+      let begun = begun_of c.before.before.before in
+      let l = c.loop-st in (
         (
-          ten_cells head,
+          ten_cells c.before.before.before,
           λ x r v.
               subst (λ i. DrivenTo (call_on (entry_of begun) x r) l.out.now l.work.now l.steps.now (stand_of l.st) i)
-              (sym (l.invariant.0.end_is begun.go_on.ensures.0.1))
-              ((l.invariant.0.on (call_on (entry_of begun) x r) (was begun x r v)).ends c.if1.false),
+              (sym (l.invariant.0.end_is begun.go_on-e.ensures.0.1))
+              ((l.invariant.0.on (call_on (entry_of begun) x r) (was begun x r v)).ends c.loop-st-test.false),
         ),
         (
-          let k = begun.go_on.ensures.1.0 in
+          let k = begun.go_on-e.ensures.1.0 in
               (l.invariant.0.out_long ∙ k.0, l.invariant.0.work_long ∙ k.1, l.invariant.0.steps_long ∙ k.2),
-          let k = begun.go_on.ensures.1.1 in
+          let k = begun.go_on-e.ensures.1.1 in
               (l.invariant.1 ∙ k.0, l.invariant.2 ∙ k.1, l.invariant.3 ∙ k.2),
         ),
       )

@@ -5,11 +5,11 @@ use borrow.Author.Rules.{rules}
 use Rattle.driver.proofs.as_settled.Statement.{statement}
 use Rattle.driver.proofs.as_settled.Tie as tie
 
-returns : tie.Need-returns
-returns c = ap eased_of (sym c.before.x.given.1)
+returns : tie.Need-returns-in-At
+returns c = ap eased_of (sym c.in-At.is)
 
-returns_2 : tie.Need-returns-2
-returns_2 c = ap eased_of (sym c.before.x2.given.1)
+returns_2 : tie.Need-returns-in-Over
+returns_2 c = ap eased_of (sym c.in-Over.is)
 
 pub as_settled_spec : {M : Type 1} → statement M
 as_settled_spec = tie.close (tie.spec (λ c. search rules) (λ c. search rules) returns returns_2)

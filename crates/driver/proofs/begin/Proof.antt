@@ -8,9 +8,9 @@ use Rattle.driver.proofs.begin.Tie as tie
 
 returns : tie.Need-returns
 returns c =
-    let g = c.before.before.before.before.before.before.before.before.args in
-    let members : c.before.arity.result ≡ arity g.work.now g.q = c.before.arity.ensures.0 in
-    (ap (begun_at g.s g.q g.n g.tries) members, c.before.before.before.before.copy-record.ensures)
+    let g = c.args in
+    let members : c.arity.result ≡ arity g.work.now g.q = c.arity.ensures.0 in
+    (ap (begun_at g.s g.q g.n g.tries) members, c.copy_record.ensures)
 
 pub begin_spec : {M : Type 1} → statement M
 begin_spec =

@@ -5,7 +5,7 @@ use Rattle.driver.proofs.come_out.Statement.{statement}
 use Rattle.driver.proofs.come_out.Tie as tie
 
 returns : tie.Need-returns
-returns c = returned_cells c.before.args.st.now c.before.requires _ _ _ _
+returns c = returned_cells c.args.st.now c.requires _ _ _ _
 
 pub come_out_spec : {M : Type 1} → statement M
 come_out_spec =

@@ -6,8 +6,8 @@ use Rattle.driver.proofs.drive.Tie as tie
 
 returns : tie.Need-returns
 returns c =
-    let e = c.before.before.before.before.before.before.enter-steps.ensures in
-    let tie = c.before.steps.given.1.0 (sym e.1.0) in
+    let e = c.enter_steps.ensures in
+    let tie = c.steps-1.given.1.0 (sym e.1.0) in
     (e.0.0, λ t r h. rw tie (e.0.1 t r h))
 
 pub drive_spec : {M : Type 1} → statement M

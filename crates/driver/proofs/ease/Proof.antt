@@ -29,22 +29,22 @@ abbrev Entry : Type 0
 Entry = lts.Start claims reads.Pre reads.Post
 
 abbrev Tried : Type 0
-Tried = lts.After-combine-gathered claims reads.Pre reads.Post
+Tried = lts.After-combine_gathered-c claims reads.Pre reads.Post
 
 abbrev entry_of : Tried → Entry
 entry_of c = c.before.before.before.before.before.before
 
 abbrev Settled : Type 0
-Settled = lts.After-settle claims reads.Pre reads.Post
+Settled = lts.After-settle-x claims reads.Pre reads.Post
 
 abbrev Stepped : Type 0
-Stepped = lts.After-settle2 claims reads.Pre reads.Post
+Stepped = lts.After-settle-x-in-Pending claims reads.Pre reads.Post
 
 abbrev tried_of : Settled → Tried
-tried_of c = c.before.before.before.before.before.before.before.before.before.before
+tried_of c = c.before.before.before.before.before.before.before.before.before
 
 abbrev tried_before : Stepped → Tried
-tried_before c = c.before.before.before.before.before.before.before.before.before.before.before
+tried_before c = c.before.before.before.before.before.before.before.before.before
 
 abbrev On : Entry → Tree → List ℕ → Type 0
 On c t r = let g = c.args in Set g.out.now g.work.now g.steps.now g.d g.p g.s t r
@@ -52,102 +52,93 @@ On c t r = let g = c.args in Set g.out.now g.work.now g.steps.now g.d g.p g.s t 
 -- what the answer x says of the tree
 answer : (c : Tried) (t : Tree) (r : List ℕ) → On (entry_of c) t r → (x : Answer)
     → let g = (entry_of c).args in
-    let a = c.combine-gathered in
-    a.result ≡ x → CombinedIs (rules_of g.edition) t r g.out.now a.new.0 a.new.1.0 g.d g.p x
+    let a = c.combine_gathered-c in
+    a.result ≡ x → CombinedIs (rules_of g.edition) t r g.out.now a.new.out a.new.work g.d g.p x
 answer c t r v x e =
     let g = (entry_of c).args in
-    let a = c.combine-gathered in
-    subst (CombinedIs (rules_of g.edition) t r g.out.now a.new.0 a.new.1.0 g.d g.p) e (a.ensures t r v.ready)
+    let a = c.combine_gathered-c in
+    subst (CombinedIs (rules_of g.edition) t r g.out.now a.new.out a.new.work g.d g.p) e (a.ensures t r v.ready)
 
-settle_requires : tie.Need-settle-requires
+settle_requires : tie.Need-settle-x-requires
 settle_requires c κs =
-    let tried = c.before.before.before.before.before.before.before.before.before in
-    let entry = entry_of tried in
-    let a = tried.combine-gathered in
-    let v = entry.pre.2 in (
-      entry.pre.0,
-      entry.pre.1,
-      set_same entry.args.edition v a.new.0 a.new.1.0 a.auto.0 a.auto.1.0
-          (answer tried _ _ v No c.before.before.before.enum_told.given.1),
+    let entry = entry_of c.before.before.before.before.before.before.before.before in
+    let a = c.combine_gathered-c in
+    let v = entry.requires.2 in (
+      entry.requires.0,
+      entry.requires.1,
+      set_same entry.args.edition v a.new.out a.new.work a.auto.out a.auto.work
+          (answer c.before.before.before.before.before.before.before.before _ _ v No c.in-No.is),
     )
 
-slice_write_steps : tie.Need-slice-write-steps
+slice_write_steps : tie.Need-bounds-steps-s
 slice_write_steps c =
-    let entry = entry_of c.before.before.before.before.before.before.before in
-    step_room entry.args.edition entry.pre.2
+    let entry = entry_of c.before.before.before.before.before in
+    step_room entry.args.edition entry.requires.2
 
-settle_requires_2 : tie.Need-settle-requires-2
+settle_requires_2 : tie.Need-settle-x-requires-in-Pending
 settle_requires_2 c κs =
-    let tried = c.before.before.before.before.before.before.before.before.before.before in
-    let entry = entry_of tried in
-    let a = tried.combine-gathered in
-    let v = entry.pre.2 in
-    let told = c.before.before.before.before.c.given in (
+    let entry = entry_of c.before.before.before.before.before.before.before.before in
+    let a = c.combine_gathered-c in
+    let v = entry.requires.2 in
+    (
       _,
-      entry.pre.1,
-      set_stepped entry.args.edition v a.new.0 a.new.1.0 a.auto.0
-          a.auto.1.0 told.0.0 told.0.1.0 (answer tried _ _ v _ told.1),
+      entry.requires.1,
+      set_stepped entry.args.edition v a.new.out a.new.work a.auto.out
+          a.auto.work c.in-Pending.k c.in-Pending.q (answer c.before.before.before.before.before.before.before.before _ _ v _ c.in-Pending.is),
     )
 
-slice_write_steps_2 : tie.Need-slice-write-steps-2
+slice_write_steps_2 : tie.Need-bounds-steps-s-in-Quiet
 slice_write_steps_2 c =
-    let entry = entry_of c.before.before.before.before.before.before.before in
-    step_room entry.args.edition entry.pre.2
+    let entry = entry_of c.before.before.before.before.before in
+    step_room entry.args.edition entry.requires.2
 
-returns : tie.Need-returns
+returns : tie.Need-returns-in-No
 returns c =
-    let settled = c.before.before.before.before.before.before.before in
-    let x = settled.settle in
-    let tried = tried_of settled in
+    let x = c.settle-x in
+    let tried = tried_of c.before.before.before.before.before.before.before in
     let g = (entry_of tried).args in
-    let a = tried.combine-gathered in
+    let a = tried.combine_gathered-c in
     λ t r v.
-    let no = answer tried t r v No settled.before.before.before.before.enum_told.given.1 in
-    let before = set_same g.edition v a.last.0 a.last.1.0 a.kept.0 a.kept.1.0 no in
-    subst (EasedIs (rules_of g.edition) t r g.out.now x.new.0 x.new.1.0 g.steps.now x.new.1.1.0 g.d g.p g.s)
+    let no = answer tried t r v No c.in-No.is in
+    let before = set_same g.edition v a.new.out a.new.work a.auto.out a.auto.work no in
+    subst (EasedIs (rules_of g.edition) t r g.out.now x.new.out x.new.work g.steps.now x.new.steps g.d g.p g.s)
     (sym c.as_settled.ensures)
-    (eased_same g.edition v a.last.0 a.last.1.0 a.kept.0 a.kept.1.0 no x.new.0
-    x.new.1.0 x.new.1.1.0 x.result (x.ensures t r before))
+    (eased_same g.edition v a.new.out a.new.work a.auto.out a.auto.work no x.new.out
+    x.new.work x.new.steps x.result (x.ensures t r before))
 
-returns_2 : tie.Need-returns-2
+returns_2 : tie.Need-returns-in-Nothing
 returns_2 c =
-    let tried = c.before.before.before.before.before.before in
-    let g = (entry_of tried).args in
-    let a = tried.combine-gathered in
+    let g = (entry_of c.before.before.before.before.before).args in
+    let a = c.combine_gathered-c in
     λ t r v.
-    eased_none g.edition v a.new.0 a.new.1.0 a.auto.0 a.auto.1.0 (answer tried t r v Nothing c.enum-told2.given.1)
+    eased_none g.edition v a.new.out a.new.work a.auto.out a.auto.work (answer c.before.before.before.before.before t r v Nothing c.in-Nothing.is)
 
-same_length_8 : tie.Need-same-length-8
+same_length_8 : tie.Need-shape_of-steps-in-Pending
 same_length_8 c =
-    let stepped = c.before.before.before.before.before.before.before in
-    let g = (entry_of (tried_before stepped)).args in
-    stepped.settle2.auto.1.1.0 ∙ length-set g.steps.now g.s stepped.before.before.before.before.before.c.given.0.0
+    let g = (entry_of (tried_before c.before.before.before.before.before.before.before)).args in
+    c.settle-x-in-Pending.auto.steps ∙ length-set g.steps.now g.s c.in-Pending.k
 
-returns_3 : tie.Need-returns-3
+returns_3 : tie.Need-returns-in-Pending
 returns_3 c =
-    let stepped = c.before.before.before.before.before.before.before in
-    let x = stepped.settle2 in
-    let tried = tried_before stepped in
+    let x = c.settle-x-in-Pending in
+    let tried = tried_before c.before.before.before.before.before.before.before in
     let g = (entry_of tried).args in
-    let a = tried.combine-gathered in
-    let told = stepped.before.before.before.before.before.c.given in
+    let a = tried.combine_gathered-c in
     λ t r v.
-    let pending = answer tried t r v _ told.1 in
-    let before = set_stepped g.edition v a.last.0 a.last.1.0 a.kept.0 a.kept.1.0 told.0.0 told.0.1.0 pending in
-    subst (EasedIs (rules_of g.edition) t r g.out.now x.new.0 x.new.1.0 g.steps.now x.new.1.1.0 g.d g.p g.s)
-    (sym c.as-settled2.ensures)
-    (eased_step g.edition v a.last.0 a.last.1.0 a.kept.0 a.kept.1.0 told.0.0 told.0.1.0
-    pending x.new.0 x.new.1.0 x.new.1.1.0 x.result
+    let pending = answer tried t r v _ c.in-Pending.is in
+    let before = set_stepped g.edition v a.new.out a.new.work a.auto.out a.auto.work c.in-Pending.k c.in-Pending.q pending in
+    subst (EasedIs (rules_of g.edition) t r g.out.now x.new.out x.new.work g.steps.now x.new.steps g.d g.p g.s)
+    (sym c.as_settled-in-Pending.ensures)
+    (eased_step g.edition v a.new.out a.new.work a.auto.out a.auto.work c.in-Pending.k c.in-Pending.q
+    pending x.new.out x.new.work x.new.steps x.result
     (x.ensures pending.0 r before))
 
-returns_4 : tie.Need-returns-4
+returns_4 : tie.Need-returns-in-Quiet
 returns_4 c =
-    let tried = c.before.before.before.before.before.before.before in
-    let g = (entry_of tried).args in
-    let told = c.before.c2.given in
+    let g = (entry_of c.before.before.before.before.before).args in
     λ t r v.
-    let quiet = answer tried t r v _ told.1 in
-    (told.0.0, quiet.0, quiet.1, quiet.2, quiet.3, quiet.4, noted_one g.steps.now g.s told.0.0 (step_room g.edition v), quiet.5)
+    let quiet = answer c.before.before.before.before.before t r v _ c.in-Quiet.is in
+    (c.in-Quiet.k, quiet.0, quiet.1, quiet.2, quiet.3, quiet.4, noted_one g.steps.now g.s c.in-Quiet.k (step_room g.edition v), quiet.5)
 
 pub ease_spec : {M : Type 1} → statement M
 ease_spec =

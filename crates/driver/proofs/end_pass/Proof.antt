@@ -30,13 +30,13 @@ abbrev Kinded : Type 0
 Kinded = lts.After-kind claims reads.Pre reads.Post
 
 abbrev Closed : Type 0
-Closed = lts.After-close-up claims reads.Pre reads.Post
+Closed = lts.After-close_up claims reads.Pre reads.Post
 
 abbrev Called : Type 0
-Called = lts.After-take-up claims reads.Pre reads.Post
+Called = lts.After-take_up-t claims reads.Pre reads.Post
 
 abbrev entry_of : Kinded → Entry
-entry_of c = c.before.before.before.before.before.before.before.before.before.before
+entry_of c = c.before.before.before.before.before.before.before.before.before
 
 abbrev kinded_of : Closed → Kinded
 kinded_of c = c.before
@@ -48,16 +48,16 @@ abbrev entry_called : Called → Entry
 entry_called c = entry_of (kinded_of (closed_of c))
 
 abbrev Quieted : Type 0
-Quieted = lts.After-t3 claims reads.Pre reads.Post
+Quieted = lts.In-Quiet claims reads.Pre reads.Post
 
 abbrev Stepped : Type 0
-Stepped = lts.After-t4 claims reads.Pre reads.Post
+Stepped = lts.In-Stepped claims reads.Pre reads.Post
 
 abbrev quieted_of : Quieted → Called
-quieted_of c = c.before.before.before.before.before.before.before.before
+quieted_of c = c.before.before.before.before.before.before.before
 
 abbrev stepped_of : Stepped → Called
-stepped_of c = c.before.before.before.before.before.before.before.before
+stepped_of c = c.before.before.before.before.before.before.before
 
 -- the driver is midway on a call
 abbrev On : Entry → Call → Type 0
@@ -67,22 +67,22 @@ On c x = let g = c.args in Midway x g.out.now g.work.now g.steps.now g.s
 members_there : (c : Kinded) (x : Call) (v : On (entry_of c) x)
     → let entry = entry_of c in
     let g = entry.args in
-    Gathers v.come.u (gave v entry.pre.0).to g.out.now g.s.node g.s.end c.kind.result g.s.gathered
+    Gathers v.come.u (gave v entry.requires.0).to g.out.now g.s.node g.s.end c.kind.result g.s.gathered
 members_there c x v =
     let entry = entry_of c in
     let g = entry.args in
-    subst (λ j. Gathers v.come.u (gave v entry.pre.0).to g.out.now g.s.node g.s.end j g.s.gathered)
-    (sym c.kind.ensures) (gathers v entry.pre.0)
+    subst (λ j. Gathers v.come.u (gave v entry.requires.0).to g.out.now g.s.node g.s.end j g.s.gathered)
+    (sym c.kind.ensures) (gathers v entry.requires.0)
 
 shut : (c : Closed) (x : Call) (v : On (entry_of (kinded_of c)) x)
     → let entry = entry_of (kinded_of c) in
     let g = entry.args in
-    Shut (closed_over v.come.u (gave v entry.pre.0).to) g.out.now c.close_up.new.0 g.s.node g.s.end
+    Shut (closed_over v.come.u (gave v entry.requires.0).to) g.out.now c.close_up.new.out g.s.node g.s.end
 shut c x v = c.close_up.ensures _ _ _ (members_there (kinded_of c) x v)
 
 -- something changed
 changed : (c : Closed) → let s = (entry_of (kinded_of c)).args.s in s.prior < s.noted + s.openings
-changed c = (kinded_of c).before.before.before.if1.false
+changed c = (kinded_of c).if-s.false
 
 -- what the answer a on the gathered node says
 answer : (c : Called) (x : Call) (v : On (entry_of (kinded_of (closed_of c))) x) (a : Answer)
@@ -90,139 +90,124 @@ answer : (c : Called) (x : Call) (v : On (entry_of (kinded_of (closed_of c))) x)
     let entry = entry_of (kinded_of closed) in
     let g = entry.args in
     let s = g.s in
-    let r = c.take-up in
-    r.result ≡ a → TakenIs (rules_of s.edition) (pass_driven v entry.pre.0 (changed closed) (shut closed x v) closed.close_up.kept.0).to
-    x.rest closed.close_up.last.0 r.new.0
-    r.new.1.0 g.steps.now r.new.1.1.0 s.node s.end s.noted a
+    let r = c.take_up-t in
+    r.result ≡ a → TakenIs (rules_of s.edition) (pass_driven v entry.requires.0 (changed closed) (shut closed x v) closed.close_up.auto.out).to
+    x.rest closed.close_up.new.out r.new.out
+    r.new.work g.steps.now r.new.steps s.node s.end s.noted a
 answer c x v a e =
     let closed = closed_of c in
     let entry = entry_of (kinded_of closed) in
     let g = entry.args in
     let s = g.s in
-    let r = c.take-up in
-    let to = (pass_driven v entry.pre.0 (changed closed) (shut closed x v) closed.close_up.kept.0).to in
-    subst (TakenIs (rules_of s.edition) to x.rest closed.close_up.last.0 r.new.0 r.new.1.0
-    g.steps.now r.new.1.1.0 s.node s.end s.noted) e
-    (r.ensures to x.rest (taken_back v entry.pre.0 (changed closed) (shut closed x v) closed.close_up.kept.0))
+    let r = c.take_up-t in
+    let to = (pass_driven v entry.requires.0 (changed closed) (shut closed x v) closed.close_up.auto.out).to in
+    subst (TakenIs (rules_of s.edition) to x.rest closed.close_up.new.out r.new.out r.new.work
+    g.steps.now r.new.steps s.node s.end s.noted) e
+    (r.ensures to x.rest (taken_back v entry.requires.0 (changed closed) (shut closed x v) closed.close_up.auto.out))
 
-add_tries : tie.Need-overflow-add-tries
+add_tries : tie.Need-overflow_add-tries
 add_tries c =
-    let entry = c.before.before.before.before in
-    omega (arith, tries_now entry.requires.1.1)
+    omega (arith, tries_now c.requires.1.1)
 
-returns : tie.Need-returns
+returns : tie.Need-returns-then-s
 returns c =
-    let entry = c.before.before.before.before.before.before.before in
-    λ x v. (unchanged v entry.requires.0 c.if1.true, omega arith)
+    λ x v. (unchanged v c.requires.0 c.if-s.true, omega arith)
 
-close_up_requires : tie.Need-close-up-requires
+close_up_requires : tie.Need-close_up-requires
 close_up_requires c κs =
     let v = (entry_of c).requires.1.1 in
     (_, _, _, members_there c _ v)
 
-take_up_requires : tie.Need-take-up-requires
+take_up_requires : tie.Need-take_up-t-requires
 take_up_requires c κs =
-    let closed = c.before.before.before.before.before in
-    let entry = entry_of (kinded_of closed) in
-    let v = entry.pre.1.1 in
-    (_, _, taken_back v entry.pre.0 (changed closed) (shut closed _ v) closed.close_up.auto.0)
+    let entry = entry_of (kinded_of c.before.before.before.before.before) in
+    let v = entry.requires.1.1 in
+    (_, _, taken_back v entry.requires.0 (changed c.before.before.before.before.before) (shut c.before.before.before.before.before _ v) c.close_up.auto.out)
 
 -- the numbers where it is finished after one step more, and where it begins again
 quiet_at : (c : Quieted)
     → let s = (entry_called (quieted_of c)).args.s in
-    let f = c.t3.given.0.0 in
-    (s.node ≤ f) × (s.tries + 1 + 1 + (f - s.node) < 2 ^ 63 + 65538) × (s.noted < 65536)
+    (s.node ≤ c.in-Quiet.f) × (s.tries + 1 + 1 + (c.in-Quiet.f - s.node) < 2 ^ 63 + 65538) × (s.noted < 65536)
 quiet_at c =
     let called = quieted_of c in
-    let r = called.take-up in
+    let r = called.take_up-t in
     let closed = closed_of called in
     let entry = entry_called called in
-    let v = entry.pre.1.1 in
-    let told = c.t3.given in
-    quiet_fits v entry.pre.0 (changed closed) (shut closed _ v) closed.close_up.kept.0 r.last.0 r.last.1.0 r.last.1.1.0
-    r.kept.0 r.kept.1.0 r.kept.1.1.0 told.0.0 told.0.1.0 (answer called _ v _ told.1)
+    let v = entry.requires.1.1 in
+    quiet_fits v entry.requires.0 (changed closed) (shut closed _ v) closed.close_up.auto.out r.new.out r.new.work r.new.steps
+    r.auto.out r.auto.work r.auto.steps c.in-Quiet.f c.in-Quiet.r (answer called _ v _ c.in-Quiet.is)
 
 again_at : (c : Stepped)
     → let s = (entry_called (stepped_of c)).args.s in
-    let m = c.t4.given.0.1.0 in
-    (s.noted ≤ m) × (s.tries + 1 + (m - s.noted) < 2 ^ 63 + 65536)
+    (s.noted ≤ c.in-Stepped.m) × (s.tries + 1 + (c.in-Stepped.m - s.noted) < 2 ^ 63 + 65536)
 again_at c =
     let called = stepped_of c in
-    let r = called.take-up in
+    let r = called.take_up-t in
     let closed = closed_of called in
     let entry = entry_called called in
-    let v = entry.pre.1.1 in
-    let told = c.t4.given in
-    again_fits v entry.pre.0 (changed closed) (shut closed _ v) closed.close_up.kept.0 r.last.0 r.last.1.0 r.last.1.1.0
-    r.kept.0 r.kept.1.0 r.kept.1.1.0 told.0.0 told.0.1.0 (answer called _ v _ told.1)
+    let v = entry.requires.1.1 in
+    again_fits v entry.requires.0 (changed closed) (shut closed _ v) closed.close_up.auto.out r.new.out r.new.work r.new.steps
+    r.auto.out r.auto.work r.auto.steps c.in-Stepped.r c.in-Stepped.m (answer called _ v _ c.in-Stepped.is)
 
-sub_t28 : tie.Need-overflow-sub-t28
+sub_t28 : tie.Need-overflow_sub-result
 sub_t28 c =
-    let entry = entry_called c.before.before.before.before.before.before.before.before.before.before in
-    (finish_fits entry.pre.1.1 entry.pre.0).0
+    let entry = entry_called c.before.before.before.before.before.before.before.before in
+    (finish_fits entry.requires.1.1 entry.requires.0).0
 
-add_t29 : tie.Need-overflow-add-t29
+add_t29 : tie.Need-overflow_add-result
 add_t29 c =
-    let entry = entry_called c.before.before.before.before.before.before.before.before.before.before in
-    omega (arith, (finish_fits entry.pre.1.1 entry.pre.0).1)
+    let entry = entry_called c.before.before.before.before.before.before.before.before in
+    omega (arith, (finish_fits entry.requires.1.1 entry.requires.0).1)
 
-add_t30 : tie.Need-overflow-add-t30
-add_t30 c = omega (arith, few_now (entry_called c.before.before.before.before.before.before.before.before.before.before).pre.1.1)
+add_t30 : tie.Need-overflow_add-result-in-Quiet
+add_t30 c = omega (arith, few_now (entry_called c.before.before.before.before.before.before.before.before).requires.1.1)
 
-add_t31 : tie.Need-overflow-add-t31
-add_t31 c = omega (arith, tries_now (entry_called c.before.before.before.before.before.before.before.before.before.before).pre.1.1)
+add_t31 : tie.Need-overflow_add-result-in-Quiet-2
+add_t31 c = omega (arith, tries_now (entry_called c.before.before.before.before.before.before.before.before).requires.1.1)
 
-sub_t32 : tie.Need-overflow-sub-t32
-sub_t32 c = (quiet_at c.before.before.before).0
+sub_t32 : tie.Need-overflow_sub-result-in-Quiet
+sub_t32 c = (quiet_at c.before.before).0
 
-add_t33 : tie.Need-overflow-add-t33
-add_t33 c = omega (arith, (quiet_at c.before.before.before).1)
+add_t33 : tie.Need-overflow_add-result-in-Quiet-3
+add_t33 c = omega (arith, (quiet_at c.before.before).1)
 
-sub_t34 : tie.Need-overflow-sub-t34
-sub_t34 c = (again_at c.before.before).0
+sub_t34 : tie.Need-overflow_sub-result-in-Stepped
+sub_t34 c = (again_at c.before).0
 
-add_t35 : tie.Need-overflow-add-t35
-add_t35 c = omega (arith, (again_at c.before.before).1)
+add_t35 : tie.Need-overflow_add-result-in-Stepped
+add_t35 c = omega (arith, (again_at c.before).1)
 
-returns_2 : tie.Need-returns-2
+returns_2 : tie.Need-returns-in-Over
 returns_2 c =
-    let called = c.before.before.before.before.before.before.before.before.before in
-    let r = called.take-up in
-    let closed = closed_of called in
-    let entry = entry_called called in
-    let told = c.before.t.given in
-    λ x v. turned_over v entry.pre.0 (changed closed) (shut closed x v) closed.close_up.kept.0 r.new.0 r.new.1.0 r.new.1.1.0
-    r.auto.0 r.auto.1.0 r.auto.1.1.0 told.0.0 (answer called x v _ told.1)
+    let r = c.take_up-t in
+    let closed = closed_of c.before.before.before.before.before.before.before in
+    let entry = entry_called c.before.before.before.before.before.before.before in
+    λ x v. turned_over v entry.requires.0 (changed closed) (shut closed x v) closed.close_up.auto.out r.new.out r.new.work r.new.steps
+    r.auto.out r.auto.work r.auto.steps c.in-Over.n (answer c.before.before.before.before.before.before.before x v _ c.in-Over.is)
 
-returns_3 : tie.Need-returns-3
+returns_3 : tie.Need-returns-in-Finished
 returns_3 c =
-    let called = c.before.before.before.before.before.before.before.before.before.before in
-    let r = called.take-up in
-    let closed = closed_of called in
-    let entry = entry_called called in
-    let told = c.before.before.t2.given in
-    λ x v. turned_finished v entry.pre.0 (changed closed) (shut closed x v) closed.close_up.kept.0 r.new.0 r.new.1.0 r.new.1.1.0
-    r.auto.0 r.auto.1.0 r.auto.1.1.0 told.0.0 (answer called x v _ told.1)
+    let r = c.take_up-t in
+    let closed = closed_of c.before.before.before.before.before.before.before.before in
+    let entry = entry_called c.before.before.before.before.before.before.before.before in
+    λ x v. turned_finished v entry.requires.0 (changed closed) (shut closed x v) closed.close_up.auto.out r.new.out r.new.work r.new.steps
+    r.auto.out r.auto.work r.auto.steps c.in-Finished.r (answer c.before.before.before.before.before.before.before.before x v _ c.in-Finished.is)
 
-returns_4 : tie.Need-returns-4
+returns_4 : tie.Need-returns-in-Quiet
 returns_4 c =
-    let called = c.before.before.before.before.before.before.before.before.before.before.before in
-    let r = called.take-up in
-    let closed = closed_of called in
-    let entry = entry_called called in
-    let told = c.before.before.before.t3.given in
-    λ x v. turned_quiet v entry.pre.0 (changed closed) (shut closed x v) closed.close_up.kept.0 r.new.0 r.new.1.0 r.new.1.1.0
-    r.auto.0 r.auto.1.0 r.auto.1.1.0 told.0.0 told.0.1.0 (answer called x v _ told.1)
+    let r = c.take_up-t in
+    let closed = closed_of c.before.before.before.before.before.before.before.before.before in
+    let entry = entry_called c.before.before.before.before.before.before.before.before.before in
+    λ x v. turned_quiet v entry.requires.0 (changed closed) (shut closed x v) closed.close_up.auto.out r.new.out r.new.work r.new.steps
+    r.auto.out r.auto.work r.auto.steps c.in-Quiet.f c.in-Quiet.r (answer c.before.before.before.before.before.before.before.before.before x v _ c.in-Quiet.is)
 
-returns_5 : tie.Need-returns-5
+returns_5 : tie.Need-returns-in-Stepped
 returns_5 c =
-    let called = c.before.before.before.before.before.before.before.before.before.before in
-    let r = called.take-up in
-    let closed = closed_of called in
-    let entry = entry_called called in
-    let told = c.before.before.t4.given in
-    λ x v. turned_again v entry.pre.0 (changed closed) (shut closed x v) closed.close_up.kept.0 r.new.0 r.new.1.0 r.new.1.1.0
-    r.auto.0 r.auto.1.0 r.auto.1.1.0 told.0.0 told.0.1.0 (answer called x v _ told.1)
+    let r = c.take_up-t in
+    let closed = closed_of c.before.before.before.before.before.before.before.before in
+    let entry = entry_called c.before.before.before.before.before.before.before.before in
+    λ x v. turned_again v entry.requires.0 (changed closed) (shut closed x v) closed.close_up.auto.out r.new.out r.new.work r.new.steps
+    r.auto.out r.auto.work r.auto.steps c.in-Stepped.r c.in-Stepped.m (answer c.before.before.before.before.before.before.before.before x v _ c.in-Stepped.is)
 
 pub end_pass_spec : {M : Type 1} → statement M
 end_pass_spec =

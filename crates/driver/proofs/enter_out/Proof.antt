@@ -9,11 +9,10 @@ use Rattle.driver.proofs.enter_out.Tie as tie
 
 returns : tie.Need-returns
 returns c =
-    let d = c.drive-tree.ensures in
-    let e = c.drive-tree.result in
-    let entry = c.before.before.before.before.before.before in
-    let end = entry.args.end.now in
-    let one = entry.requires.1 in
+    let d = c.drive_tree-e.ensures in
+    let e = c.drive_tree-e.result in
+    let end = c.args.end.now in
+    let one = c.requires.1 in
     let told = get_or-set_same end 0 e 0 (omega (arith, one)) in
     let long = d.1.0 in
     let names = d.1.1 in (

@@ -6,8 +6,8 @@ use Rattle.driver.proofs.enter_steps.Tie as tie
 
 returns : tie.Need-returns
 returns c =
-    let e = c.before.before.before.before.enter-work.ensures in
-    let tie = c.before.work.given.1.0 (sym e.1.0) in
+    let e = c.enter_work.ensures in
+    let tie = c.work-1.given.1.0 (sym e.1.0) in
     ((e.0.0, λ t r h. rw tie (e.0.1 t r h)), (e.1.3, e.1.4, e.1.2))
 
 pub enter_steps_spec : {M : Type 1} → statement M

@@ -6,8 +6,8 @@ use Rattle.driver.proofs.enter_work.Tie as tie
 
 returns : tie.Need-returns
 returns c =
-    let e = c.before.before.enter-out.ensures in
-    let tie = c.before.out.given.1.0 (sym e.1.0) in
+    let e = c.enter_out.ensures in
+    let tie = c.out-1.given.1.0 (sym e.1.0) in
     ((e.0.0, λ t r h. rw tie (e.0.1 t r h)), (e.1.3, e.1.4, e.1.2, e.1.5, e.1.6))
 
 pub enter_work_spec : {M : Type 1} → statement M

@@ -39,20 +39,20 @@ abbrev Entry : Type 0
 Entry = lts.Start claims reads.Pre reads.Post
 
 abbrev Called-it : Type 0
-Called-it = lts.After-settle claims reads.Pre reads.Post
+Called-it = lts.After-settle-t claims reads.Pre reads.Post
 
 abbrev entry_of : Called-it → Entry
 entry_of c = c.before.before.before.before.before.before.before.before
 
 abbrev Told : Type 0
-Told = lts.After-t2 claims reads.Pre reads.Post
+Told = lts.In-At claims reads.Pre reads.Post
 
 abbrev called_of : Told → Called-it
-called_of c = c.before.before.before.before.before.before.before.before
+called_of c = c.before.before.before.before.before.before.before
 
 -- there the tree begins
 at_first : (c : Called-it) → (entry_of c).args.g ≤ 0
-at_first c = c.before.before.before.before.if1.false
+at_first c = c.if-g-gt0.false
 
 abbrev On : Entry → Call → Type 0
 On c x = let g = c.args in GoesOn x g.out.now g.work.now g.steps.now g.s g.g
@@ -67,105 +67,95 @@ begins c x v h = let b = v.begins h in subst Called b.0 b.1
 -- what the answer a says of the tree
 answer : (c : Called-it) (x : Call) → On (entry_of c) x → (a : Answer)
     → let g = (entry_of c).args in
-    let r = c.settle in
-    r.result ≡ a → SettledIs (rules_of g.s.edition) x.tree x.rest g.out.now r.new.0
-    r.new.1.0 g.steps.now r.new.1.1.0 g.s.node g.s.noted a
+    let r = c.settle-t in
+    r.result ≡ a → SettledIs (rules_of g.s.edition) x.tree x.rest g.out.now r.new.out
+    r.new.work g.steps.now r.new.steps g.s.node g.s.noted a
 answer c x v a e =
     let g = (entry_of c).args in
-    let r = c.settle in
-    subst (SettledIs (rules_of g.s.edition) x.tree x.rest g.out.now r.new.0 r.new.1.0
-    g.steps.now r.new.1.1.0 g.s.node g.s.noted) e
+    let r = c.settle-t in
+    subst (SettledIs (rules_of g.s.edition) x.tree x.rest g.out.now r.new.out r.new.work
+    g.steps.now r.new.steps g.s.node g.s.noted) e
     (r.ensures x.tree x.rest (begins (entry_of c) x v (at_first c)).set)
 
 come : (c : Called-it) (x : Call) → On (entry_of c) x → (q n : ℕ)
     → let g = (entry_of c).args in
     let s = g.s in
-    let r = c.settle in
+    let r = c.settle-t in
     r.result ≡ settled.At q n
     → Come s.edition x.tree x.rest g.out.now g.work.now g.steps.now s.node s.place
-    s.noted r.new.0 r.new.1.0 r.new.1.1.0 q n 0 (n - s.noted)
+    s.noted r.new.out r.new.work r.new.steps q n 0 (n - s.noted)
 come c x v q n e =
-    let k = c.settle.auto in
+    let k = c.settle-t.auto in
     settled_come (entry_of c).args.s.edition (begins (entry_of c) x v (at_first c)).set
-    (answer c x v (settled.At q n) e) k.0 k.1.0 k.1.1.0
+    (answer c x v (settled.At q n) e) k.out k.work k.steps
 
 gather_requires : tie.Need-gather-requires
 gather_requires c κs =
-    let entry = c.before.before.before.before.before in
-    (entry.requires.0, _, _, entry.requires.1.resumes c.before.if1.true)
+    (c.requires.0, _, _, c.requires.1.resumes c.if-g-gt0.true)
 
-returns : tie.Need-returns
+returns : tie.Need-returns-then-g-gt0
 returns c =
-    let entry = c.before.before.before.before.before.before.before.before in
-    let gathered = c.before.before.gather in
-    (gathered.ensures.0, λ x v. at_node (gathered.ensures.1 x _ _ (v.resumes c.before.before.before.before.if1.true)))
+    let gathered = c.gather in
+    (gathered.ensures.0, λ x v. at_node (gathered.ensures.1 x _ _ (v.resumes c.if-g-gt0.true)))
 
-settle_requires : tie.Need-settle-requires
+settle_requires : tie.Need-settle-t-requires
 settle_requires c κs =
-    let entry = c.before.before.before.before.before.before.before in
-    let x = entry.requires.0 in
-    (x.tree, x.rest, (begins entry x entry.requires.1 c.before.before.before.if1.false).set)
+    let x = c.requires.0 in
+    (x.tree, x.rest, (begins c.before.before.before.before.before.before.before x c.requires.1 c.if-g-gt0.false).set)
 
-sub_begin : tie.Need-overflow-sub-begin
+sub_begin : tie.Need-overflow_sub-n
 sub_begin c =
-    let told = c.before.before.before.before in
-    let called = called_of told in
-    omega (arith, (come called _ (entry_of called).pre.1 _ _ told.t2.given.1).noted_end)
+    let called = called_of c.before.before in
+    omega (arith, (come called _ (entry_of called).requires.1 _ _ c.in-At.is).noted_end)
 
-add_begin : tie.Need-overflow-add-begin
+add_begin : tie.Need-overflow_add-s
 add_begin c =
-    let told = c.before.before.before.before.before in
-    let called = called_of told in
-    let v = (entry_of called).pre.1 in
-    omega (arith, (begins (entry_of called) _ v (at_first called)).few_tries, (come called _ v _ _ told.t2.given.1).tried_bound)
+    let called = called_of c.before.before.before in
+    let v = (entry_of called).requires.1 in
+    omega (arith, (begins (entry_of called) _ v (at_first called)).few_tries, (come called _ v _ _ c.in-At.is).tried_bound)
 
 begin_requires : tie.Need-begin-requires
 begin_requires c κs =
-    let told = c.before.before.before.before.before in
-    let called = called_of told in
-    let v = (entry_of called).pre.1 in
-    let fits = begin_fits (begins (entry_of called) _ v (at_first called)) (come called _ v _ _ told.t2.given.1) in
+    let called = called_of c.before.before.before in
+    let v = (entry_of called).requires.1 in
+    let fits = begin_fits (begins (entry_of called) _ v (at_first called)) (come called _ v _ _ c.in-At.is) in
     (fits.0, fits.1, omega (arith, fits.2))
 
-returns_2 : tie.Need-returns-2
+returns_2 : tie.Need-returns-in-Over
 returns_2 c =
-    let called = c.before.before.before.before.before.before.before.before.before.before in
-    let entry = entry_of called in
+    let entry = entry_of c.before.before.before.before.before.before.before.before in
     let s = entry.args.s in
-    let told = c.before.before.t.given in
-    let e : c.ended.result ≡ ended_at s 0 s.place told.0.0 s.tries = c.ended.ensures in
-    let r = called.settle in (
+    let e : c.ended.result ≡ ended_at s 0 s.place c.in-Over.n s.tries = c.ended.ensures in
+    let r = c.settle-t in (
       onward s e refl (omega arith),
       λ x v.
-          let b = v.begins (at_first called) in
-          let fell = steps_burst s.edition s.noted told.0.0 (begins entry x v (at_first called)).set.ready.wf
-          (answer called x v _ told.1) in
-          subst (λ y. Begun x r.new.0 r.new.1.0 r.new.1.1.0 y) (sym e)
-          (subst (λ y. Begun y r.new.0 r.new.1.0 r.new.1.1.0 (ended_at s 0 s.place told.0.0 s.tries)) (sym b.0)
+          let b = v.begins (at_first c.before.before.before.before.before.before.before.before) in
+          let fell = steps_burst s.edition s.noted c.in-Over.n (begins entry x v (at_first c.before.before.before.before.before.before.before.before)).set.ready.wf
+          (answer c.before.before.before.before.before.before.before.before x v _ c.in-Over.is) in
+          subst (λ y. Begun x r.new.out r.new.work r.new.steps y) (sym e)
+          (subst (λ y. Begun y r.new.out r.new.work r.new.steps (ended_at s 0 s.place c.in-Over.n s.tries)) (sym b.0)
           (record { refused = λ h. (refl, fell); midway = λ h. absurd (omega arith) })),
     )
 
-returns_3 : tie.Need-returns-3
+returns_3 : tie.Need-returns-in-At
 returns_3 c =
-    let at = c.before.before.before.before.before.before.before.before in
-    let called = called_of at in
+    let called = called_of c.before.before.before.before.before.before in
     let entry = entry_of called in
     let s = entry.args.s in
-    let told = at.t2.given in
-    let q = told.0.0 in
-    let n = told.0.1.0 in
-    let r = called.settle in
-    let started = c.before.before.begin in
-    let e : started.result ≡ begun_at s q n (s.tries + (n - s.noted)) (arity r.last.1.0 q) = started.ensures.0 in (
+    let q = c.in-At.q in
+    let n = c.in-At.n in
+    let r = called.settle-t in
+    let started = c.begin in
+    let e : started.result ≡ begun_at s q n (s.tries + (n - s.noted)) (arity r.new.work q) = started.ensures.0 in (
       onward s e refl (omega arith),
       λ x v.
           let b = v.begins (at_first called) in
-          subst (λ y. Begun x started.new.0 r.last.1.0 r.last.1.1.0 y) (sym e)
-          (subst (λ y. Begun y started.new.0 r.last.1.0 r.last.1.1.0 (begun_at s q n (s.tries + (n - s.noted)) (arity r.last.1.0 q)))
+          subst (λ y. Begun x started.new.out r.new.work r.new.steps y) (sym e)
+          (subst (λ y. Begun y started.new.out r.new.work r.new.steps (begun_at s q n (s.tries + (n - s.noted)) (arity r.new.work q)))
           (sym b.0)
-          (at_node (begun (begins entry x v (at_first called)) (come called x v q n told.1)
+          (at_node (begun (begins entry x v (at_first called)) (come called x v q n c.in-At.is)
           s refl refl (omega arith) (s.tries + (n - s.noted)) refl
-          started.new.0 started.ensures.1 started.auto.0))),
+          started.new.out started.ensures.1 started.auto.out))),
     )
 
 pub first_spec : {M : Type 1} → statement M

@@ -41,7 +41,7 @@ abbrev Tested : Type 0
 Tested = lts.After-opens claims reads.Pre reads.Post
 
 abbrev entry_of : Tested → Entry
-entry_of c = c.before.before.before.before.before.before
+entry_of c = c.before.before.before.before
 
 -- the node's and the result's records are within what is done, and the numbers are small
 abbrev Fit : Entry → Type 0
@@ -61,95 +61,87 @@ test : (c : Tested) (b : Bool) → c.opens.result ≡ b
     (eqb (kind g.out.now g.s.end) k && is_node k) ≡ b
 test c b e =
     let g = (entry_of c).args in
-    let node : c.before.before.before.kind.result ≡ kind g.out.now g.s.node = c.before.before.before.kind.ensures in
-    let result : c.before.kind2.result ≡ kind g.out.now g.s.end = c.before.kind2.ensures in
+    let node : c.kind-k.result ≡ kind g.out.now g.s.node = c.kind-k.ensures in
+    let result : c.kind.result ≡ kind g.out.now g.s.end = c.kind.ensures in
     ap (λ j. eqb j (kind g.out.now g.s.node) && is_node (kind g.out.now g.s.node)) (sym result)
-    ∙ ap (λ k. eqb c.before.kind2.result k && is_node k) (sym node) ∙ sym c.opens.ensures ∙ e
+    ∙ ap (λ k. eqb c.kind.result k && is_node k) (sym node) ∙ sym c.opens.ensures ∙ e
 
-kind_requires : tie.Need-kind-requires
+kind_requires : tie.Need-kind-k-requires
 kind_requires c κs =
-    (fits c.before.before).2
+    (fits c.before).2
 
-kind_requires_2 : tie.Need-kind-requires-2
+kind_requires_2 : tie.Need-kind-requires
 kind_requires_2 c κs =
-    omega (arith, fits c.before.before.before.before)
+    omega (arith, fits c.before.before)
 
-count_requires : tie.Need-count-requires
+count_requires : tie.Need-count-m-requires
 count_requires c κs =
-    omega (arith, fits c.before.before.before.before.before.before.before.before)
+    omega (arith, fits c.before.before.before.before.before)
 
-mul_shift_left : tie.Need-overflow-mul-shift-left
+mul_shift_left : tie.Need-overflow_mul-e
 mul_shift_left c =
-    let entry = c.before.before.before.before.before.before.before.before.before.before in
-    omega (arith, fits entry, entry.well-formed)
+    omega (arith, fits c.before.before.before.before.before.before.before, c.well_formed)
 
-mul_shift_left_2 : tie.Need-overflow-mul-shift-left-2
+mul_shift_left_2 : tie.Need-overflow_mul-e-then-opens
 mul_shift_left_2 c =
-    let entry = c.before.before.before.before.before.before.before.before.before.before in
-    omega (arith, fits entry, entry.well-formed)
+    omega (arith, fits c.before.before.before.before.before.before.before, c.well_formed)
 
-add_shift_left : tie.Need-overflow-add-shift-left
+add_shift_left : tie.Need-overflow_add-e
 add_shift_left c =
-    let entry = c.before.before.before.before.before.before.before.before.before.before in
-    omega (arith, fits entry, entry.well-formed)
+    omega (arith, fits c.before.before.before.before.before.before.before, c.well_formed)
 
-sub_shift_left : tie.Need-overflow-sub-shift-left
+sub_shift_left : tie.Need-overflow_sub-g
 sub_shift_left c =
-    let entry = c.before.before.before.before.before.before.before.before.before.before in
-    omega (arith, fits entry, entry.well-formed)
+    omega (arith, fits c.before.before.before.before.before.before.before, c.well_formed)
 
-sub_shift_left_2 : tie.Need-overflow-sub-shift-left-2
+sub_shift_left_2 : tie.Need-overflow_sub-g-then-opens
 sub_shift_left_2 c =
-    let entry = c.before.before.before.before.before.before.before.before.before.before in
-    omega (arith, fits entry, entry.well-formed)
+    omega (arith, fits c.before.before.before.before.before.before.before, c.well_formed)
 
-mul_shift_left_3 : tie.Need-overflow-mul-shift-left-3
+mul_shift_left_3 : tie.Need-overflow_mul-g
 mul_shift_left_3 c =
-    let entry = c.before.before.before.before.before.before.before.before.before.before in
-    omega (arith, fits entry, entry.well-formed)
+    omega (arith, fits c.before.before.before.before.before.before.before, c.well_formed)
 
-shift_left_requires : tie.Need-shift-left-requires
+shift_left_requires : tie.Need-shift_left-requires
 shift_left_requires c κs =
-    let f = fits c.before.before.before.before.before.before.before.before.before.before in
+    let f = fits c.before.before.before.before.before.before.before in
     (omega arith, omega (arith, f))
 
-add_joined : tie.Need-overflow-add-joined
+add_joined : tie.Need-overflow_add-s
 add_joined c =
-    omega (arith, fits c.before.before.before.before.before.before.before.before.before.before.before.before.before.before)
+    omega (arith, fits c.before.before.before.before.before.before.before.before.before.before.before)
 
 joined_requires : tie.Need-joined-requires
 joined_requires c κs =
-    let f = fits c.before.before.before.before.before.before.before.before.before.before.before.before.before.before in
-    (f.5, omega (arith, f.4, c.before.before.before.before.before.count.ensures.1))
+    let f = fits c.before.before.before.before.before.before.before.before.before.before.before in
+    (f.5, omega (arith, f.4, c.count-m.ensures.1))
 
-returns : tie.Need-returns
+returns : tie.Need-returns-then-opens
 returns c =
-    let tested = c.before.before.before.before.before.before.before.before.before in
-    let g = (entry_of tested).args in
-    let counted = c.before.before.before.before.before.before.count in
-    let shifted = c.before.before.before.before.shift-left in
-    let opens-it = c.before.before.before.before.before.before.before.before.if1.true in
+    let g = (entry_of c.before.before.before.before.before.before.before.before).args in
+    let counted = c.count-m in
+    let shifted = c.shift_left in
+    let opens-it = c.if-opens.true in
     let e : c.joined.result ≡ joined_to g.s (g.g - 1) (g.s.openings + 1) counted.result = c.joined.ensures in
     let same = e ∙ ap (joined_to g.s (g.g - 1) (g.s.openings + 1)) counted.ensures.0 in (
       onward g.s e refl (omega arith),
       λ x work steps v.
-          subst (λ y. Midway x shifted.new.0 work steps y) (sym same)
-          (opened_into v (test tested true opens-it) shifted.new.0 shifted.ensures shifted.auto.0),
+          subst (λ y. Midway x shifted.new.d work steps y) (sym same)
+          (opened_into v (test c.before.before.before.before.before.before.before.before true opens-it) shifted.new.d shifted.ensures shifted.auto.d),
     )
 
 joined_requires_2 : tie.Need-joined-requires-2
 joined_requires_2 c κs =
-    let f = fits c.before.before.before.before.before.before.before in
+    let f = fits c.before.before.before.before.before in
     (f.5, omega (arith, f.4))
 
-returns_2 : tie.Need-returns-2
+returns_2 : tie.Need-returns
 returns_2 c =
-    let tested = c.before.before in
-    let g = (entry_of tested).args in
-    let e : c.joined2.result ≡ joined_to g.s g.g g.s.openings 1 = c.joined2.ensures in (
+    let g = (entry_of c.before.before).args in
+    let e : c.joined-2.result ≡ joined_to g.s g.g g.s.openings 1 = c.joined-2.ensures in (
       onward g.s e refl (omega arith),
       λ x work steps v. subst (λ y. Midway x g.out.now work steps y)
-          (sym e) (kept_whole v (test tested false c.before.if1.false)),
+          (sym e) (kept_whole v (test c.before.before false c.if-opens.false)),
     )
 
 pub gather_spec : {M : Type 1} → statement M

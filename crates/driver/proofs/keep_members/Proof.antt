@@ -21,10 +21,10 @@ record Kept (out₀ work : List ℕ) (s : Stand) (out : List ℕ) (i r : ℕ) : 
   long : length out ≡ length out₀
   midway : (c : Call) (steps : List ℕ) → Midway c out₀ work steps s → Midway c out work steps (kept_by s i r)
 
-abbrev invariant_loop : tie.invariant-loop
+abbrev invariant_loop : tie.invariant-loop-i
 invariant_loop out₀ work s i₀ r₀ out i r = Kept out₀ work s out i r
 
-abbrev decreases_loop : tie.decreases-loop
+abbrev decreases_loop : tie.decreases-loop-i
 decreases_loop out₀ work s i₀ r₀ out i r = s.left - i
 
 -- places on the way through the code, and from each the one before it: the entry, the head of the loop, where the next member was asked of
@@ -35,10 +35,10 @@ abbrev Entry : Type 0
 Entry = lts.Start claims reads.Pre reads.Post invariant_loop decreases_loop
 
 abbrev Head : Type 0
-Head = lts.At-loop claims reads.Pre reads.Post invariant_loop decreases_loop
+Head = lts.At-loop-i claims reads.Pre reads.Post invariant_loop decreases_loop
 
 abbrev Asked : Type 0
-Asked = lts.After-keep-member claims reads.Pre reads.Post invariant_loop decreases_loop
+Asked = lts.After-keep_member-n claims reads.Pre reads.Post invariant_loop decreases_loop
 
 abbrev entry_of : Head → Entry
 entry_of c = c.before.before.before
@@ -49,125 +49,118 @@ head_of c = c.before.before.before.before.before.before
 -- the driver is midway, for the call that `requires` names
 midway_now : (c : Head)
     → let entry = entry_of c in
-    Midway entry.pre.0 c.loop.out entry.args.work.now entry.pre.1 (kept_by entry.args.s c.loop.i c.loop.r)
-midway_now c = let entry = entry_of c in c.loop.invariant.midway entry.pre.0 entry.pre.1 entry.pre.2
+    Midway entry.requires.0 c.loop-i.out entry.args.work.now entry.requires.1 (kept_by entry.args.s c.loop-i.i c.loop-i.r)
+midway_now c = let entry = entry_of c in c.loop-i.invariant.midway entry.requires.0 entry.requires.1 entry.requires.2
 
-fits : (c : Head) → let entry = entry_of c in KeptFits entry.args.s c.loop.i c.loop.r c.loop.out entry.args.work.now
-fits c = kept_fits (entry_of c).args.s c.loop.i c.loop.r (midway_now c)
+fits : (c : Head) → let entry = entry_of c in KeptFits entry.args.s c.loop-i.i c.loop-i.r c.loop-i.out entry.args.work.now
+fits c = kept_fits (entry_of c).args.s c.loop-i.i c.loop-i.r (midway_now c)
 
 -- a member is left
-some_left : (c : Asked) → (head_of c).loop.i < (entry_of (head_of c)).args.s.left
-some_left c = c.before.before.before.before.if1.true
+some_left : (c : Asked) → (head_of c).loop-i.i < (entry_of (head_of c)).args.s.left
+some_left c = c.loop-i-test.true
 
 -- the numbers where one more is kept
-fits_more : (c : Asked) → 1 ≤ c.keep-member.result
+fits_more : (c : Asked) → 1 ≤ c.keep_member-n.result
     → let entry = entry_of (head_of c) in
-    KeptFits entry.args.s ((head_of c).loop.i + 1) ((head_of c).loop.r + c.keep-member.result) c.keep-member.new.0 entry.args.work.now
+    KeptFits entry.args.s ((head_of c).loop-i.i + 1) ((head_of c).loop-i.r + c.keep_member-n.result) c.keep_member-n.new.out entry.args.work.now
 fits_more c some =
     let head = head_of c in
     let s = (entry_of head).args.s in
-    let a = c.keep-member in
-    kept_fits s _ _ (kept_next s head.loop.i head.loop.r (midway_now head) (some_left c) a.auto.0 a.ensures some)
+    let a = c.keep_member-n in
+    kept_fits s _ _ (kept_next s head.loop-i.i head.loop-i.r (midway_now head) (some_left c) a.auto.out a.ensures some)
 
-loop_holds : tie.Need-loop-init invariant_loop decreases_loop
+loop_holds : tie.Need-loop-i-init invariant_loop decreases_loop
 loop_holds c =
-    let g = c.before.before.args in
+    let g = c.args in
     record {
       few = omega arith;
       long = refl;
       midway = λ x steps v. subst (λ y. Midway x g.out.now g.work.now steps y) (kept_none g.s) v;
     }
 
-add_keep_member : tie.Need-overflow-add-keep-member invariant_loop decreases_loop
+add_keep_member : tie.Need-overflow_add-s invariant_loop decreases_loop
 add_keep_member c =
     let f = fits c.before.before.before.before in
     omega (arith, f.end)
 
-add_keep_member_2 : tie.Need-overflow-add-keep-member-2 invariant_loop decreases_loop
+add_keep_member_2 : tie.Need-overflow_add-s-in-loop-i invariant_loop decreases_loop
 add_keep_member_2 c =
-    let head = c.before.before.before.before.before in
-    let f = fits head in
-    omega (arith, f.place, (entry_of head).well-formed)
+    let f = fits c.before.before.before.before.before in
+    omega (arith, f.place, (entry_of c.before.before.before.before.before).well_formed)
 
-keep_member_requires : tie.Need-keep-member-requires invariant_loop decreases_loop
+keep_member_requires : tie.Need-keep_member-n-requires invariant_loop decreases_loop
 keep_member_requires c κs =
-    let head = c.before.before.before.before.before in
-    kept_ready (entry_of head).args.s head.loop.i head.loop.r (midway_now head) c.before.before.before.if1.true
+    kept_ready (entry_of c.before.before.before.before.before).args.s c.loop-i.i c.loop-i.r (midway_now c.before.before.before.before.before) c.loop-i-test.true
 
 kept_requires : tie.Need-kept-requires invariant_loop decreases_loop
 kept_requires c κs =
     let head = head_of c.before.before.before in
     let f = fits head in
-    (head.loop.inv.few, omega (arith, f.place, (entry_of head).good), f.tries, omega (arith, f.end), omega (arith, f.gathered))
+    (head.loop-i.invariant.few, omega (arith, f.place, (entry_of head).well_formed), f.tries, omega (arith, f.end), omega (arith, f.gathered))
 
-same_length : tie.Need-same-length invariant_loop decreases_loop
+same_length : tie.Need-shape_of-out-then-n-lt1 invariant_loop decreases_loop
 same_length c =
-    let asked = c.before.before.before.before in
-    asked.keep-member.auto.0 ∙ (head_of asked).loop.invariant.long
+    c.keep_member-n.auto.out ∙ (head_of c.before.before.before.before).loop-i.invariant.long
 
-returns : tie.Need-returns invariant_loop decreases_loop
+returns : tie.Need-returns-then-n-lt1 invariant_loop decreases_loop
 returns c =
-    let asked = c.before.before.before.before in
-    let head = head_of asked in
-    let v = head.loop.inv in
+    let head = head_of c.before.before.before.before in
+    let v = head.loop-i.invariant in
     let s = (entry_of head).args.s in
-    let a = asked.keep-member in
-    let e : c.kept.result ≡ kept_by s head.loop.i head.loop.r = c.kept.ensures in (
+    let a = c.keep_member-n in
+    let e : c.kept.result ≡ kept_by s head.loop-i.i head.loop-i.r = c.kept.ensures in (
       onward s e refl (omega arith),
       ap (λ x. x.noted) e,
       λ x steps w.
-          subst (λ y. Midway x a.new.0 (entry_of head).args.work.now steps y) (sym e)
-          (kept_still s head.loop.i head.loop.r (v.midway x steps w) (some_left asked) a.auto.0 a.ensures),
+          subst (λ y. Midway x a.new.out (entry_of head).args.work.now steps y) (sym e)
+          (kept_still s head.loop-i.i head.loop-i.r (v.midway x steps w) (some_left c.before.before.before.before) a.auto.out a.ensures),
     )
 
-add_i : tie.Need-overflow-add-i invariant_loop decreases_loop
+add_i : tie.Need-overflow_add-i invariant_loop decreases_loop
 add_i c =
     let f = fits (head_of c.before.before.before) in
     omega (arith, f.gathered)
 
-add_r : tie.Need-overflow-add-r invariant_loop decreases_loop
+add_r : tie.Need-overflow_add-r invariant_loop decreases_loop
 add_r c =
-    let f = fits_more c.before.before.before (omega (arith, c.if2.false)) in
+    let f = fits_more c.before.before.before (omega (arith, c.if-n-lt1.false)) in
     omega (arith, f.end)
 
-loop_less : tie.Need-loop-smaller invariant_loop decreases_loop
+loop_less : tie.Need-loop-i-smaller invariant_loop decreases_loop
 loop_less c =
     let t = some_left c.before.before.before in
     omega arith
 
-loop_again : tie.Need-loop-preserved invariant_loop decreases_loop
+loop_again : tie.Need-loop-i-preserved invariant_loop decreases_loop
 loop_again c =
-    let asked = c.before.before.before in
-    let head = head_of asked in
-    let v = head.loop.inv in
+    let head = head_of c.before.before.before in
+    let v = head.loop-i.invariant in
     let s = (entry_of head).args.s in
-    let i = head.loop.i in
-    let r = head.loop.r in
-    let a = asked.keep-member in
-    let t = some_left asked in
+    let i = head.loop-i.i in
+    let r = head.loop-i.r in
+    let a = c.keep_member-n in
+    let t = some_left c.before.before.before in
     record {
       few = omega arith;
-      long = a.auto.0 ∙ v.long;
-      midway = λ x steps w. kept_next s i r (v.midway x steps w) t a.auto.0 a.ensures (omega (arith, c.if2.false));
+      long = a.auto.out ∙ v.long;
+      midway = λ x steps w. kept_next s i r (v.midway x steps w) t a.auto.out a.ensures (omega (arith, c.if-n-lt1.false));
     }
 
 kept_requires_2 : tie.Need-kept-requires-2 invariant_loop decreases_loop
 kept_requires_2 c κs =
-    let head = c.before.before in
-    let f = fits head in
-    (head.loop.invariant.few, omega (arith, f.place, (entry_of head).well-formed), f.tries, omega (arith, f.end), omega (arith, f.gathered))
+    let f = fits c.before.before in
+    (c.loop-i.invariant.few, omega (arith, f.place, (entry_of c.before.before).well_formed), f.tries, omega (arith, f.end), omega (arith, f.gathered))
 
-same_length_2 : tie.Need-same-length-2 invariant_loop decreases_loop
-same_length_2 c = c.before.before.before.loop.invariant.long
+same_length_2 : tie.Need-shape_of-out invariant_loop decreases_loop
+same_length_2 c = c.loop-i.invariant.long
 
-returns_2 : tie.Need-returns-2 invariant_loop decreases_loop
+returns_2 : tie.Need-returns invariant_loop decreases_loop
 returns_2 c =
-    let head = c.before.before.before in
-    let s = (entry_of head).args.s in
-    let e : c.kept2.result ≡ kept_by s head.loop.i head.loop.r = c.kept2.ensures in (
+    let s = (entry_of c.before.before.before).args.s in
+    let e : c.kept-2.result ≡ kept_by s c.loop-i.i c.loop-i.r = c.kept-2.ensures in (
       onward s e refl (omega arith),
       ap (λ x. x.noted) e,
-      λ x steps v. subst (λ y. Midway x head.loop.out (entry_of head).args.work.now steps y) (sym e) (head.loop.invariant.midway x steps v),
+      λ x steps v. subst (λ y. Midway x c.loop-i.out (entry_of c.before.before.before).args.work.now steps y) (sym e) (c.loop-i.invariant.midway x steps v),
     )
 
 pub keep_members_spec : {M : Type 1} → statement M

@@ -4,17 +4,17 @@ use Rattle.paper.specs.Record.{is_node}
 use Rattle.driver.proofs.opens.Statement.{statement}
 use Rattle.driver.proofs.opens.Tie as tie
 
-returns : tie.Need-returns
+returns : tie.Need-returns-then-k-eq-SUM
 unfolding is_node
-returns c = simp (eq-eqb _ _ c.before.if1.true, eq-eqb _ _ c.if2.true)
+returns c = simp (eq-eqb _ _ c.if-j-k.true, eq-eqb _ _ c.if-k-eq-SUM.true)
 
-returns_2 : tie.Need-returns-2
+returns_2 : tie.Need-returns-then-j-k
 unfolding is_node
-returns_2 c = simp (eq-eqb _ _ c.before.if1.true, ne_eqb _ _ c.if2.false)
+returns_2 c = simp (eq-eqb _ _ c.if-j-k.true, ne_eqb _ _ c.if-k-eq-SUM.false)
 
-returns_3 : tie.Need-returns-3
+returns_3 : tie.Need-returns
 unfolding is_node
-returns_3 c = simp (ne_eqb _ _ c.if1.false)
+returns_3 c = simp (ne_eqb _ _ c.if-j-k.false)
 
 pub opens_spec : {M : Type 1} → statement M
 opens_spec = tie.close (tie.spec returns returns_2 returns_3)

@@ -29,10 +29,10 @@ record Under-way (out₀ work₀ steps₀ : List ℕ) (s₀ : Stand) (out work s
   steps_long : length steps ≡ length steps₀
   midway : (c : Call) → Midway c out₀ work₀ steps₀ s₀ → Midway c out work steps s
 
-abbrev invariant_loop : tie.invariant-loop
+abbrev invariant_loop : tie.invariant-loop-k
 invariant_loop out₀ work₀ steps₀ s₀ out work steps s = Under-way out₀ work₀ steps₀ s₀ out work steps s
 
-abbrev decreases_loop : tie.decreases-loop
+abbrev decreases_loop : tie.decreases-loop-k
 decreases_loop out₀ work₀ steps₀ s₀ out work steps s = length steps - s.noted
 
 -- places on the way through the code, and from each the one before it: the entry, the head of the loop, after members were kept, after the pass ended
@@ -52,19 +52,19 @@ abbrev Entry : Type 0
 Entry = lts.Start claims reads.Pre reads.Post invariant_loop decreases_loop
 
 abbrev Head : Type 0
-Head = lts.At-loop claims reads.Pre reads.Post invariant_loop decreases_loop
+Head = lts.At-loop-k claims reads.Pre reads.Post invariant_loop decreases_loop
 
 abbrev Led : Type 0
-Led = lts.After-keep-members claims reads.Pre reads.Post invariant_loop decreases_loop
+Led = lts.After-keep_members-k claims reads.Pre reads.Post invariant_loop decreases_loop
 
 abbrev Passed : Type 0
-Passed = lts.After-end-pass claims reads.Pre reads.Post invariant_loop decreases_loop
+Passed = lts.After-end_pass-t claims reads.Pre reads.Post invariant_loop decreases_loop
 
 abbrev entry_of : Head → Entry
 entry_of c = c.before.before.before.before
 
 abbrev head_of : Led → Head
-head_of c = c.before.before.before
+head_of c = c.before.before
 
 abbrev led_of : Passed → Led
 led_of c = c.before.before.before.before.before.before.before.before
@@ -75,163 +75,143 @@ On c x = let g = c.args in Midway x g.out.now g.work.now g.steps.now g.from
 
 -- and is midway on it after members were kept
 led_on : (c : Led) (x : Call) → On (entry_of (head_of c)) x
-    → let l = (head_of c).loop in Midway x c.keep-members.new.0 l.work l.steps c.keep-members.result
-led_on c x v = let l = (head_of c).loop in c.keep-members.ensures.2 x l.steps (l.inv.midway x v)
+    → let l = (head_of c).loop-k in Midway x c.keep_members-k.new.out l.work l.steps c.keep_members-k.result
+led_on c x v = let l = (head_of c).loop-k in c.keep_members-k.ensures.2 x l.steps (l.invariant.midway x v)
 
 -- what the answer a says of the pass
 answer : (c : Passed) (x : Call) → On (entry_of (head_of (led_of c))) x → (a : Answer)
-    → let r = c.end-pass in
-    r.result ≡ a → TurnIs x r.new.0 r.new.1.0 r.new.1.1.0 (led_of c).keep-members.result a
+    → let r = c.end_pass-t in
+    r.result ≡ a → TurnIs x r.new.out r.new.work r.new.steps (led_of c).keep_members-k.result a
 answer c x v a e =
-    let r = c.end-pass in
-    subst (TurnIs x r.new.0 r.new.1.0 r.new.1.1.0 (led_of c).keep-members.result) e (r.ensures x (led_on (led_of c) x v))
+    let r = c.end_pass-t in
+    subst (TurnIs x r.new.out r.new.work r.new.steps (led_of c).keep_members-k.result) e (r.ensures x (led_on (led_of c) x v))
 
-loop_holds : tie.Need-loop-init invariant_loop decreases_loop
+loop_holds : tie.Need-loop-k-init invariant_loop decreases_loop
 loop_holds c =
     record { onward = onward_none _; out_long = refl; work_long = refl; steps_long = refl; midway = λ x v. v }
 
-keep_members_requires : tie.Need-keep-members-requires invariant_loop decreases_loop
+keep_members_requires : tie.Need-keep_members-k-requires invariant_loop decreases_loop
 keep_members_requires c κs =
-    let head = c.before.before in
-    let entry = entry_of head in
-    (entry.pre.0, head.loop.steps, head.loop.invariant.midway entry.pre.0 entry.pre.1)
+    let entry = entry_of c.before in
+    (entry.requires.0, c.loop-k.steps, c.loop-k.invariant.midway entry.requires.0 entry.requires.1)
 
-same_length : tie.Need-same-length invariant_loop decreases_loop
+same_length : tie.Need-shape_of-out-then-k-gt0 invariant_loop decreases_loop
 same_length c =
-    let led = c.before.before.before.before in
-    led.keep-members.auto.0 ∙ (head_of led).loop.invariant.out_long
+    c.keep_members-k.auto.out ∙ (head_of c.before.before.before.before).loop-k.invariant.out_long
 
-same_length_2 : tie.Need-same-length-2 invariant_loop decreases_loop
+same_length_2 : tie.Need-shape_of-work-then-k-gt0 invariant_loop decreases_loop
 same_length_2 c =
-    (head_of c.before.before.before.before).loop.inv.work_long
+    (head_of c.before.before.before.before).loop-k.invariant.work_long
 
-same_length_3 : tie.Need-same-length-3 invariant_loop decreases_loop
+same_length_3 : tie.Need-shape_of-steps-then-k-gt0 invariant_loop decreases_loop
 same_length_3 c =
-    (head_of c.before.before.before.before).loop.inv.steps_long
+    (head_of c.before.before.before.before).loop-k.invariant.steps_long
 
-returns : tie.Need-returns invariant_loop decreases_loop
+returns : tie.Need-returns-then-k-gt0 invariant_loop decreases_loop
 returns c =
-    let led = c.before.before.before.before in
-    (onward_both (head_of led).loop.invariant.onward led.keep-members.ensures.0, λ x v. waiting (led_on led x v) c.if1.true)
+    (onward_both (head_of c.before.before.before.before).loop-k.invariant.onward c.keep_members-k.ensures.0, λ x v. waiting (led_on c.before.before.before.before x v) c.if-k-gt0.true)
 
-end_pass_requires : tie.Need-end-pass-requires invariant_loop decreases_loop
+end_pass_requires : tie.Need-end_pass-t-requires invariant_loop decreases_loop
 end_pass_requires c κs =
-    let led = c.before.before.before.before.before.before.before in
-    let entry = entry_of (head_of led) in
-    (c.before.before.before.if1.false, (entry.pre.0, led_on led entry.pre.0 entry.pre.1))
+    let entry = entry_of (head_of c.before.before.before.before.before.before.before) in
+    (c.if-k-gt0.false, (entry.requires.0, led_on c.before.before.before.before.before.before.before entry.requires.0 entry.requires.1))
 
-same_length_4 : tie.Need-same-length-4 invariant_loop decreases_loop
+same_length_4 : tie.Need-shape_of-out-in-Over invariant_loop decreases_loop
 same_length_4 c =
-    let passed = c.before.before.before.before.before.before.before.before.before.before in
-    let led = led_of passed in
-    passed.end-pass.auto.0 ∙ led.keep-members.kept.0 ∙ (head_of led).loop.inv.out_long
+    let led = led_of c.before.before.before.before.before.before.before.before in
+    c.end_pass-t.auto.out ∙ led.keep_members-k.auto.out ∙ (head_of led).loop-k.invariant.out_long
 
-same_length_5 : tie.Need-same-length-5 invariant_loop decreases_loop
+same_length_5 : tie.Need-shape_of-work-in-Over invariant_loop decreases_loop
 same_length_5 c =
-    let passed = c.before.before.before.before.before.before.before.before.before.before in
-    passed.end-pass.auto.1.0 ∙ (head_of (led_of passed)).loop.inv.work_long
+    c.end_pass-t.auto.work ∙ (head_of (led_of c.before.before.before.before.before.before.before.before)).loop-k.invariant.work_long
 
-same_length_6 : tie.Need-same-length-6 invariant_loop decreases_loop
+same_length_6 : tie.Need-shape_of-steps-in-Over invariant_loop decreases_loop
 same_length_6 c =
-    let passed = c.before.before.before.before.before.before.before.before.before.before in
-    passed.end-pass.auto.1.1.0 ∙ (head_of (led_of passed)).loop.inv.steps_long
+    c.end_pass-t.auto.steps ∙ (head_of (led_of c.before.before.before.before.before.before.before.before)).loop-k.invariant.steps_long
 
-returns_2 : tie.Need-returns-2 invariant_loop decreases_loop
+returns_2 : tie.Need-returns-in-Over invariant_loop decreases_loop
 returns_2 c =
-    let passed = c.before.before.before.before.before.before.before.before.before.before in
-    let led = led_of passed in
-    let k = led.keep-members.result in
-    let r = passed.end-pass in
-    let told = c.before.before.t.given in
-    let e : c.ended.result ≡ ended_at k 0 k.place told.0.0 k.tries = c.ended.ensures in (
-      onward_both (onward_both (head_of led).loop.inv.onward led.keep-members.ensures.0) (onward k e refl (omega arith)),
-      λ x v. subst (λ y. WentOn x r.new.0 r.new.1.0 r.new.1.1.0 y) (sym e)
-          (fell_down (ended_at k 0 k.place told.0.0 k.tries) refl (omega arith) (answer passed x v _ told.1)),
+    let led = led_of c.before.before.before.before.before.before.before.before in
+    let k = led.keep_members-k.result in
+    let r = c.end_pass-t in
+    let e : c.ended.result ≡ ended_at k 0 k.place c.in-Over.n k.tries = c.ended.ensures in (
+      onward_both (onward_both (head_of led).loop-k.invariant.onward led.keep_members-k.ensures.0) (onward k e refl (omega arith)),
+      λ x v. subst (λ y. WentOn x r.new.out r.new.work r.new.steps y) (sym e)
+          (fell_down (ended_at k 0 k.place c.in-Over.n k.tries) refl (omega arith) (answer c.before.before.before.before.before.before.before.before x v _ c.in-Over.is)),
     )
 
-same_length_7 : tie.Need-same-length-7 invariant_loop decreases_loop
+same_length_7 : tie.Need-shape_of-out-in-Finished invariant_loop decreases_loop
 same_length_7 c =
-    let passed = c.before.before.before.before.before.before.before.before.before.before in
-    let led = led_of passed in
-    passed.end-pass.auto.0 ∙ led.keep-members.kept.0 ∙ (head_of led).loop.inv.out_long
+    let led = led_of c.before.before.before.before.before.before.before.before in
+    c.end_pass-t.auto.out ∙ led.keep_members-k.auto.out ∙ (head_of led).loop-k.invariant.out_long
 
-same_length_8 : tie.Need-same-length-8 invariant_loop decreases_loop
+same_length_8 : tie.Need-shape_of-work-in-Finished invariant_loop decreases_loop
 same_length_8 c =
-    let passed = c.before.before.before.before.before.before.before.before.before.before in
-    passed.end-pass.auto.1.0 ∙ (head_of (led_of passed)).loop.inv.work_long
+    c.end_pass-t.auto.work ∙ (head_of (led_of c.before.before.before.before.before.before.before.before)).loop-k.invariant.work_long
 
-same_length_9 : tie.Need-same-length-9 invariant_loop decreases_loop
+same_length_9 : tie.Need-shape_of-steps-in-Finished invariant_loop decreases_loop
 same_length_9 c =
-    let passed = c.before.before.before.before.before.before.before.before.before.before in
-    passed.end-pass.auto.1.1.0 ∙ (head_of (led_of passed)).loop.inv.steps_long
+    c.end_pass-t.auto.steps ∙ (head_of (led_of c.before.before.before.before.before.before.before.before)).loop-k.invariant.steps_long
 
-returns_3 : tie.Need-returns-3 invariant_loop decreases_loop
+returns_3 : tie.Need-returns-in-Finished invariant_loop decreases_loop
 returns_3 c =
-    let passed = c.before.before.before.before.before.before.before.before.before.before in
-    let led = led_of passed in
+    let led = led_of c.before.before.before.before.before.before.before.before in
     let entry = entry_of (head_of led) in
-    let k = led.keep-members.result in
-    let r = passed.end-pass in
-    let told = c.before.before.t2.given in
-    let e : c.ended2.result ≡ ended_at k told.0.0 told.0.1.0 told.0.1.1.0 told.0.1.1.1.0 = c.ended2.ensures in (
-      onward_both (onward_both (head_of led).loop.inv.onward led.keep-members.ensures.0)
-          (onward k e refl (answer passed entry.pre.0 entry.pre.1 _ told.1).1),
-      λ x v. subst (λ y. WentOn x r.new.0 r.new.1.0 r.new.1.1.0 y) (sym e)
-          (came_home k told.0.0 told.0.1.0 told.0.1.1.0 told.0.1.1.1.0 (answer passed x v _ told.1).0),
+    let k = led.keep_members-k.result in
+    let r = c.end_pass-t in
+    let e : c.ended-in-Finished.result ≡ ended_at k c.in-Finished.end c.in-Finished.place c.in-Finished.noted c.in-Finished.tries = c.ended-in-Finished.ensures in (
+      onward_both (onward_both (head_of led).loop-k.invariant.onward led.keep_members-k.ensures.0)
+          (onward k e refl (answer c.before.before.before.before.before.before.before.before entry.requires.0 entry.requires.1 _ c.in-Finished.is).1),
+      λ x v. subst (λ y. WentOn x r.new.out r.new.work r.new.steps y) (sym e)
+          (came_home k c.in-Finished.end c.in-Finished.place c.in-Finished.noted c.in-Finished.tries (answer c.before.before.before.before.before.before.before.before x v _ c.in-Finished.is).0),
     )
 
-begin_requires : tie.Need-begin-requires invariant_loop decreases_loop
+begin_requires : tie.Need-begin-s-requires invariant_loop decreases_loop
 begin_requires c κs =
-    let passed = c.before.before.before.before.before.before.before.before.before.before.before in
-    let entry = entry_of (head_of (led_of passed)) in
-    let r = passed.end-pass in
-    let told = c.before.before.before.t3.given in
-    let room = again_room (led_on (led_of passed) entry.pre.0 entry.pre.1) r.new.0 r.new.1.0
-    r.new.1.1.0 told.0.0 told.0.1.0 told.0.1.1.0
-    (answer passed entry.pre.0 entry.pre.1 _ told.1) in
+    let entry = entry_of (head_of (led_of c.before.before.before.before.before.before.before.before)) in
+    let r = c.end_pass-t in
+    let room = again_room (led_on (led_of c.before.before.before.before.before.before.before.before) entry.requires.0 entry.requires.1) r.new.out r.new.work
+    r.new.steps c.in-Again.place c.in-Again.noted c.in-Again.tries
+    (answer c.before.before.before.before.before.before.before.before entry.requires.0 entry.requires.1 _ c.in-Again.is) in
     (room.0, room.1, room.2)
 
-loop_less : tie.Need-loop-smaller invariant_loop decreases_loop
+loop_less : tie.Need-loop-k-smaller invariant_loop decreases_loop
 loop_less c =
-    let passed = c.before.before.before.before.before.before.before.before.before.before.before.before.before.before in
-    let led = led_of passed in
+    let led = led_of c.before.before.before.before.before.before.before.before.before.before.before in
     let head = head_of led in
     let entry = entry_of head in
-    let k = led.keep-members.result in
-    let r = passed.end-pass in
-    let told = c.before.before.before.before.before.before.t3.given in
-    let started = c.before.before.begin in
-    let e : started.result ≡ begun_at k told.0.0 told.0.1.0 told.0.1.1.0 (arity r.new.1.0 told.0.0) = started.ensures.0 in
-    let turn_is = answer passed entry.pre.0 entry.pre.1 _ told.1 in
+    let k = led.keep_members-k.result in
+    let r = c.end_pass-t in
+    let started = c.begin-s in
+    let e : started.result ≡ begun_at k c.in-Again.place c.in-Again.noted c.in-Again.tries (arity r.new.work c.in-Again.place) = started.ensures.0 in
+    let turn_is = answer c.before.before.before.before.before.before.before.before.before.before.before entry.requires.0 entry.requires.1 _ c.in-Again.is in
     let more = turn_is.5 in
-    let room = (again_room (led_on led entry.pre.0 entry.pre.1) r.new.0 r.new.1.0
-    r.new.1.1.0 told.0.0 told.0.1.0 told.0.1.1.0 turn_is).3 in
-    let n : started.result.noted ≡ told.0.1.0 = ap (λ y. y.noted) e in
-    omega (arith, led.keep-members.ensures.1, r.auto.1.1.0)
+    let room = (again_room (led_on led entry.requires.0 entry.requires.1) r.new.out r.new.work
+    r.new.steps c.in-Again.place c.in-Again.noted c.in-Again.tries turn_is).3 in
+    let n : started.result.noted ≡ c.in-Again.noted = ap (λ y. y.noted) e in
+    omega (arith, led.keep_members-k.ensures.1, r.auto.steps)
 
-loop_again : tie.Need-loop-preserved invariant_loop decreases_loop
+loop_again : tie.Need-loop-k-preserved invariant_loop decreases_loop
 loop_again c =
-    let passed = c.before.before.before.before.before.before.before.before.before.before.before.before.before.before in
-    let led = led_of passed in
+    let led = led_of c.before.before.before.before.before.before.before.before.before.before.before in
     let head = head_of led in
     let entry = entry_of head in
-    let k = led.keep-members.result in
-    let r = passed.end-pass in
-    let told = c.before.before.before.before.before.before.t3.given in
-    let started = c.before.before.begin in
-    let e : started.result ≡ begun_at k told.0.0 told.0.1.0 told.0.1.1.0 (arity r.new.1.0 told.0.0) = started.ensures.0 in
+    let k = led.keep_members-k.result in
+    let r = c.end_pass-t in
+    let started = c.begin-s in
+    let e : started.result ≡ begun_at k c.in-Again.place c.in-Again.noted c.in-Again.tries (arity r.new.work c.in-Again.place) = started.ensures.0 in
     record {
       onward =
-          onward_both (onward_both head.loop.inv.onward led.keep-members.ensures.0)
-          (onward k e refl (answer passed entry.pre.0 entry.pre.1 _ told.1).6);
-      out_long = started.auto.0 ∙ r.auto.0 ∙ led.keep-members.kept.0 ∙ head.loop.inv.out_long;
-      work_long = r.auto.1.0 ∙ head.loop.inv.work_long;
-      steps_long = r.auto.1.1.0 ∙ head.loop.inv.steps_long;
+          onward_both (onward_both head.loop-k.invariant.onward led.keep_members-k.ensures.0)
+          (onward k e refl (answer c.before.before.before.before.before.before.before.before.before.before.before entry.requires.0 entry.requires.1 _ c.in-Again.is).6);
+      out_long = started.auto.out ∙ r.auto.out ∙ led.keep_members-k.auto.out ∙ head.loop-k.invariant.out_long;
+      work_long = r.auto.work ∙ head.loop-k.invariant.work_long;
+      steps_long = r.auto.steps ∙ head.loop-k.invariant.steps_long;
       midway = λ x v.
-          subst (λ y. Midway x started.new.0 r.new.1.0 r.new.1.1.0 y) (sym e)
-          (again_midway (led_on led x v) r.new.0 r.new.1.0 r.new.1.1.0 told.0.0
-          told.0.1.0 told.0.1.1.0 (answer passed x v _ told.1)
-          started.new.0 started.ensures.1 started.auto.0);
+          subst (λ y. Midway x started.new.out r.new.work r.new.steps y) (sym e)
+          (again_midway (led_on led x v) r.new.out r.new.work r.new.steps c.in-Again.place
+          c.in-Again.noted c.in-Again.tries (answer c.before.before.before.before.before.before.before.before.before.before.before x v _ c.in-Again.is)
+          started.new.out started.ensures.1 started.auto.out);
     }
 
 pub pass_on_spec : {M : Type 1} → statement M

@@ -23,10 +23,10 @@ use Rattle.driver.proofs.settle.Lts as lts
 use Rattle.still.proofs.still.Reads as still-reads
 use Rattle.rules.proofs.ask.Reads as ask-reads
 
-abbrev invariant_loop : tie.invariant-loop
+abbrev invariant_loop : tie.invariant-loop-d
 invariant_loop out₀ work₀ steps₀ d p s edition at₀ n₀ out work steps at n = CInv edition out₀ work₀ steps₀ d p s out work steps at n
 
-abbrev decreases_loop : tie.decreases-loop
+abbrev decreases_loop : tie.decreases-loop-d
 decreases_loop out₀ work₀ steps₀ d p s edition at₀ n₀ out work steps at n = length steps - n
 
 -- places on the way through the code, and from each the one before it: the entry, the head of the loop, after the keys were looked at, after the
@@ -38,19 +38,19 @@ abbrev Entry : Type 0
 Entry = lts.Start claims reads.Pre reads.Post invariant_loop decreases_loop
 
 abbrev Head : Type 0
-Head = lts.At-loop claims reads.Pre reads.Post invariant_loop decreases_loop
+Head = lts.At-loop-d claims reads.Pre reads.Post invariant_loop decreases_loop
 
 abbrev Looked : Type 0
 Looked = lts.After-still claims reads.Pre reads.Post invariant_loop decreases_loop
 
 abbrev Asked : Type 0
-Asked = lts.After-ask claims reads.Pre reads.Post invariant_loop decreases_loop
+Asked = lts.After-ask-asked claims reads.Pre reads.Post invariant_loop decreases_loop
 
 abbrev entry_of : Head → Entry
 entry_of c = c.before.before.before.before
 
 abbrev head_of : Looked → Head
-head_of c = c.before.before.before
+head_of c = c.before.before
 
 abbrev looked_of : Asked → Looked
 looked_of c = c.before.before.before.before.before.before
@@ -62,105 +62,98 @@ head_asked c = head_of (looked_of c)
 state : (c : Looked)
     → let head = head_of c in
     let g = (entry_of head).args in
-    let l = head.loop in
-    CInv g.edition g.out.now g.work.now g.steps.now g.d g.p g.s c.still.new.1.1.0 l.work l.steps l.at l.n
+    let l = head.loop-d in
+    CInv g.edition g.out.now g.work.now g.steps.now g.d g.p g.s c.still.new.d l.work l.steps l.at l.n
 state c =
-    let v = (head_of c).loop.invariant in
-    looked_at v c.still.new.1.1.0 (c.still.ensures.1 v.u (tree_there v))
+    let v = (head_of c).loop-d.invariant in
+    looked_at v c.still.new.d (c.still.ensures.1 v.u (tree_there v))
 
 -- what the rules' answer x says of the tree that stands there
 answer : (c : Asked) (x : Answer)
     → let looked = looked_of c in
     let head = head_of looked in
     let v = state looked in
-    let a = c.ask in
-    a.result ≡ x → AskedIs (rules_of (entry_of head).args.edition) v.u v.rest looked.still.last.1.1.0
-    a.new.0 a.new.1.0 (entry_of head).args.d head.loop.at x
+    let a = c.ask-asked in
+    a.result ≡ x → AskedIs (rules_of (entry_of head).args.edition) v.u v.rest looked.still.new.d
+    a.new.out a.new.work (entry_of head).args.d head.loop-d.at x
 answer c x e =
     let looked = looked_of c in
     let head = head_of looked in
     let v = state looked in
-    let a = c.ask in
-    subst (AskedIs (rules_of (entry_of head).args.edition) v.u v.rest looked.still.last.1.1.0
-    a.new.0 a.new.1.0 (entry_of head).args.d head.loop.at) e
+    let a = c.ask-asked in
+    subst (AskedIs (rules_of (entry_of head).args.edition) v.u v.rest looked.still.new.d
+    a.new.out a.new.work (entry_of head).args.d head.loop-d.at) e
     (a.ensures v.u v.rest (set_now v).ready)
 
-loop_holds : tie.Need-loop-init invariant_loop decreases_loop
+loop_holds : tie.Need-loop-d-init invariant_loop decreases_loop
 loop_holds c =
-    let entry = c.before.before.before in
-    start entry.requires.2
+    start c.requires.2
 
-mul_still : tie.Need-overflow-mul-still invariant_loop decreases_loop
+mul_still : tie.Need-overflow_mul-d invariant_loop decreases_loop
 mul_still c =
-    let head = c.before.before in
-    omega (arith, scratch_fits head.loop.invariant, head.loop.invariant.out_long, (entry_of head).well-formed)
+    omega (arith, scratch_fits c.loop-d.invariant, c.loop-d.invariant.out_long, (entry_of c.before).well_formed)
 
 still_requires : tie.Need-still-requires invariant_loop decreases_loop
 still_requires c κs =
-    let v = c.before.before.loop.invariant in
+    let v = c.loop-d.invariant in
     (v.u, tree_there v, scratch_fits v)
 
-returns : tie.Need-returns invariant_loop decreases_loop
+returns : tie.Need-returns-then-still invariant_loop decreases_loop
 returns c =
-    let looked = c.before.before.before in
-    let head = head_of looked in
+    let head = head_of c.before.before.before in
     let g = (entry_of head).args in
-    let l = head.loop in
-    let v = l.inv in
-    let true_of : still_by g.edition v.u ≡ true = sym (looked.still.ensures.0 v.u (tree_there v)) ∙ c.if1.true in
-    let w = looked_at v looked.still.new.1.1.0 (looked.still.ensures.1 v.u (tree_there v)) in
+    let l = head.loop-d in
+    let v = l.invariant in
+    let true_of : still_by g.edition v.u ≡ true = sym (c.still.ensures.0 v.u (tree_there v)) ∙ c.if-still.true in
+    let w = looked_at v c.still.new.d (c.still.ensures.1 v.u (tree_there v)) in
     for_every v.set_up
-    (λ t r. SettledIs (rules_of g.edition) t r g.out.now looked.still.new.1.1.0 l.work
+    (λ t r. SettledIs (rules_of g.edition) t r g.out.now c.still.new.d l.work
     g.steps.now l.steps g.d g.s (settled.At l.at l.n))
     (v.u, w.came, still_no_rule g.edition v.u (still_by_lem g.edition v.u true_of))
 
-ask_requires : tie.Need-ask-requires invariant_loop decreases_loop
+ask_requires : tie.Need-ask-asked-requires invariant_loop decreases_loop
 ask_requires c κs =
     let v = state c.before.before.before.before.before in
     (v.u, v.rest, (set_now v).ready)
 
-returns_2 : tie.Need-returns-2 invariant_loop decreases_loop
+returns_2 : tie.Need-returns-in-Over invariant_loop decreases_loop
 returns_2 c =
-    let asked = c.before.before.before.before.before.before in
-    let looked = looked_of asked in
+    let looked = looked_of c.before.before.before.before.before in
     let head = head_of looked in
     let g = (entry_of head).args in
-    for_every (state looked).set_up (λ t r. Burst (rules_of g.edition) t g.s head.loop.n)
-    (burst (state looked) (answer asked Over c.enum_told.given.1))
+    for_every (state looked).set_up (λ t r. Burst (rules_of g.edition) t g.s head.loop-d.n)
+    (burst (state looked) (answer c.before.before.before.before.before Over c.in-Over.is))
 
-returns_3 : tie.Need-returns-3 invariant_loop decreases_loop
+returns_3 : tie.Need-returns-in-Nothing invariant_loop decreases_loop
 returns_3 c =
-    let asked = c.before.before.before.before.before.before in
-    let looked = looked_of asked in
+    let looked = looked_of c.before.before.before.before.before in
     let head = head_of looked in
     let g = (entry_of head).args in
-    let l = head.loop in
-    let a = asked.ask in
+    let l = head.loop-d in
+    let a = c.ask-asked in
     for_every (state looked).set_up
-    (λ t r. SettledIs (rules_of g.edition) t r g.out.now a.new.0 a.new.1.0
+    (λ t r. SettledIs (rules_of g.edition) t r g.out.now a.new.out a.new.work
     g.steps.now l.steps g.d g.s (settled.At l.at l.n))
-    (idle (state looked) a.new.0 a.new.1.0 a.auto.0 a.auto.1.0 (answer asked Nothing c.enum-told2.given.1))
+    (idle (state looked) a.new.out a.new.work a.auto.out a.auto.work (answer c.before.before.before.before.before Nothing c.in-Nothing.is))
 
-slice_write_steps : tie.Need-slice-write-steps invariant_loop decreases_loop
+slice_write_steps : tie.Need-bounds-steps-n invariant_loop decreases_loop
 slice_write_steps c =
-    step_fits (head_asked c.before.before.before.before.before.before.before).loop.inv
+    step_fits (head_asked c.before.before.before.before.before).loop-d.invariant
 
-add_n : tie.Need-overflow-add-n invariant_loop decreases_loop
+add_n : tie.Need-overflow_add-n invariant_loop decreases_loop
 add_n c =
-    omega (arith, step_fits (head_asked c.before.before.before.before.before.before.before).loop.inv)
+    omega (arith, step_fits (head_asked c.before.before.before.before.before).loop-d.invariant)
 
-loop_less : tie.Need-loop-smaller invariant_loop decreases_loop
+loop_less : tie.Need-loop-d-smaller invariant_loop decreases_loop
 loop_less c =
-    let head = head_asked c.before.before.before.before.before.before.before in
-    omega (arith, step_fits head.loop.inv, length-set head.loop.steps head.loop.n c.before.asked.given.0.0)
+    let head = head_asked c.before.before.before.before.before in
+    omega (arith, step_fits head.loop-d.invariant, length-set head.loop-d.steps head.loop-d.n c.in-Step.k)
 
-loop_again : tie.Need-loop-preserved invariant_loop decreases_loop
+loop_again : tie.Need-loop-d-preserved invariant_loop decreases_loop
 loop_again c =
-    let asked = c.before.before.before.before.before.before.before in
-    let a = asked.ask in
-    let given = c.before.asked.given in
-    stepped (state (looked_of asked)) a.new.0 a.new.1.0 a.auto.0 a.auto.1.0 given.0.0
-    given.0.1.0 (answer asked (Step given.0.0 given.0.1.0) given.1)
+    let a = c.ask-asked in
+    stepped (state (looked_of c.before.before.before.before.before)) a.new.out a.new.work a.auto.out a.auto.work c.in-Step.k
+    c.in-Step.q (answer c.before.before.before.before.before (Step c.in-Step.k c.in-Step.q) c.in-Step.is)
 
 pub settle_spec : {M : Type 1} → statement M
 settle_spec =
