@@ -10,11 +10,11 @@ use Rattle.simplify.proofs.answer_numbers.Tie as tie
 returns : tie.Need-returns
 unfolding answer_numbers
 returns c =
-    let a = c.before.before.args.a in
+    let a = c.args.a in
     ap
     (λ (l : List ℕ).
     a.number ∷ a.place ∷ a.records ∷ a.steps ∷ a.openings ∷ a.weight_in ∷ a.weight_out ∷ (l ++ (a.tries ∷ [])))
-    c.before.flaw-numbers.ensures
+    c.flaw_numbers-wrong.ensures
 
 pub answer_numbers_spec : {M : Type 1} → statement M
 answer_numbers_spec = tie.close (tie.spec (λ c κs. search rules) (λ c. search rules) returns)

@@ -4,13 +4,13 @@ use Rattle.paper.specs.Rules.{is_edition}
 use Rattle.simplify.proofs.is_edition.Statement.{statement}
 use Rattle.simplify.proofs.is_edition.Tie as tie
 
-returns : tie.Need-returns
+returns : tie.Need-returns-then-edition-eq-EDITION_ONE
 unfolding is_edition
-returns c = simp (eq-eqb _ _ c.if1.true)
+returns c = simp (eq-eqb _ _ c.if-edition-eq-EDITION_ONE.true)
 
-returns_2 : tie.Need-returns-2
+returns_2 : tie.Need-returns
 unfolding is_edition
-returns_2 c = simp (ne_eqb _ _ c.if1.false)
+returns_2 c = simp (ne_eqb _ _ c.if-edition-eq-EDITION_ONE.false)
 
 pub is_edition_spec : {M : Type 1} → statement M
 is_edition_spec = tie.close (tie.spec returns returns_2)

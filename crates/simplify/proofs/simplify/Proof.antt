@@ -15,13 +15,13 @@ use Rattle.simplify.proofs.simplify.Tie as tie
 
 -- places on the way through the code, and from each the one before it: the table's bytes known, `simplify_in` back, the answer told apart
 abbrev Known : Type 0
-Known = tie.After-shared-slice-known
+Known = tie.After-shared_slice_known-1
 
 abbrev Called : Type 0
-Called = tie.After-simplify-in
+Called = tie.After-simplify_in-a
 
 abbrev Told : Type 0
-Told = tie.After-has-run
+Told = tie.After-has_run
 
 abbrev known_of : Called → Known
 known_of c = c.before.before.before.before.before.before.before
@@ -31,37 +31,34 @@ called_of c = c.before.before.before.before.before.before.before
 
 clear_requires : tie.Need-clear-requires
 clear_requires c κs =
-    let told = c.before.before.before in
-    let called = called_of told in
+    let called = called_of c.before.before.before in
     let known = known_of called in
-    let g = known.before.args in
-    let run = called.simplify-in in
+    let g = known.args in
+    let run = called.simplify_in-a in
     let room : work_bytes g.limit ≤ length g.work.now =
-    run_room g.limit g.edition g.table.now (are_bytes g.table.now known.shared-slice-known.given) run.result g.out.now g.steps.now
-    g.work.now run.last.1.1.1.0 run.last.1.1.1.1.0
-    (ap (λ (x : Given). x.answer) run.ensures) (sym told.has-run.ensures ∙ c.before.before.if1.true) in
+    run_room g.limit g.edition g.table.now (are_bytes g.table.now known.shared_slice_known-1.given) run.result g.out.now g.steps.now
+    g.work.now run.new.out run.new.steps
+    (ap (λ (x : Given). x.answer) run.ensures) (sym c.has_run.ensures ∙ c.if-has_run.true) in
     omega (arith, room, c.work_bytes.ensures, run.kept)
 
-returns : tie.Need-returns
+returns : tie.Need-returns-then-has_run
 returns c =
-    let told = c.before.before.before.before.before.before in
-    let called = called_of told in
-    let g = (known_of called).before.args in
-    let run = called.simplify-in in
-    let now = c.before.before.clear in
-    ap (λ (x : List ℕ). gives run.result run.last.1.1.1.0 run.last.1.1.1.1.0 x)
-    (cleared g.limit run.result.number c.before.before.before.work_bytes.result run.last.1.1.1.1.1.0 now.new.0
-    (sym told.has-run.ensures ∙ c.before.before.before.before.before.if1.true) c.before.before.before.work_bytes.ensures now.ensures)
+    let called = called_of c.before.before.before.before.before.before in
+    let g = (known_of called).args in
+    let run = called.simplify_in-a in
+    let now = c.clear in
+    ap (λ (x : List ℕ). gives run.result run.new.out run.new.steps x)
+    (cleared g.limit run.result.number c.work_bytes.result run.last.1.1.1.1.1.0 now.new.d
+    (sym c.has_run.ensures ∙ c.if-has_run.true) c.work_bytes.ensures now.ensures)
     ∙ run.ensures
 
-returns_2 : tie.Need-returns-2
+returns_2 : tie.Need-returns-else-has_run
 returns_2 c =
-    let told = c.before in
-    let called = called_of told in
-    let g = (known_of called).before.args in
-    let run = called.simplify-in in
-    ap (λ (x : List ℕ). gives run.result run.last.1.1.1.0 run.last.1.1.1.1.0 x)
-    (uncleared g.limit run.result.number run.last.1.1.1.1.1.0 (sym told.has-run.ensures ∙ c.if1.false))
+    let called = called_of c.before in
+    let g = (known_of called).args in
+    let run = called.simplify_in-a in
+    ap (λ (x : List ℕ). gives run.result run.new.out run.new.steps x)
+    (uncleared g.limit run.result.number run.last.1.1.1.1.1.0 (sym c.has_run.ensures ∙ c.if-has_run.false))
     ∙ run.ensures
 
 pub simplify_spec : {M : Type 1} → statement M

@@ -20,22 +20,22 @@ abbrev Entry : Type 0
 Entry = tie.Start
 
 abbrev Known : Type 0
-Known = tie.After-shared-slice-known
+Known = tie.After-shared_slice_known-1
 
 abbrev Judged : Type 0
-Judged = tie.After-judge-call
+Judged = tie.After-judge_call-number
 
 abbrev Weighed : Type 0
-Weighed = tie.After-weight
+Weighed = tie.After-weight-m
 
 abbrev Fine : Type 0
-Fine = tie.Else2
+Fine = tie.Else-m-gt0
 
 abbrev Able : Type 0
-Able = tie.Else3
+Able = tie.Else-is_cramped
 
 abbrev Needed : Type 0
-Needed = tie.After-work-bytes
+Needed = tie.After-work_bytes-need
 
 abbrev entry_of : Known → Entry
 entry_of c = c.before
@@ -59,31 +59,31 @@ abbrev able_of : Needed → Able
 able_of c = c.before
 
 bytes : (c : Known) → let entry = entry_of c in Bytes entry.args.table.now
-bytes c = let entry = entry_of c in are_bytes entry.args.table.now c.shared-slice-known.given
+bytes c = let entry = entry_of c in are_bytes entry.args.table.now c.shared_slice_known-1.given
 
 -- the limit is known, and the edition
 knows : (c : Weighed) → let g = (entry_of (known_weighed c)).args in (is_limit g.limit ≡ true) × (is_edition g.edition ≡ true)
 knows c =
     let judged = judged_of c in
     let g = (entry_of (known_of judged)).args in
-    both_known g.limit g.edition judged.judge-call.result judged.judge-call.ensures c.before.if1.false
+    both_known g.limit g.edition judged.judge_call-number.result judged.judge_call-number.ensures c.if-number-gt0.false
 
 -- an accepted table is light
-small : (c : Fine) → (weighed_of c).weight.result.result ≤ 16384
+small : (c : Fine) → (weighed_of c).weight-m.result.result ≤ 16384
 small c =
     let weighed = weighed_of c in
     let known = known_weighed weighed in
     let g = (entry_of known).args in
-    let m = weighed.weight in
+    let m = weighed.weight-m in
     let limited = (knows weighed).0 in
-    omega (arith, light g.limit limited g.table.now m.result m.ensures c.if2.false (bytes known), limit_small g.limit limited)
+    omega (arith, light g.limit limited g.table.now m.result m.ensures c.if-m-gt0.false (bytes known), limit_small g.limit limited)
 
 -- where the call is accepted: what was found so far
 accepted : (c : Needed)
     → let able = able_of c in
     let weighed = weighed_of (fine_of able) in
     let g = (entry_of (known_weighed weighed)).args in
-    Accepted g.limit g.edition g.table.now weighed.weight.result c.work_bytes.result g.out.now g.steps.now g.work.now
+    Accepted g.limit g.edition g.table.now weighed.weight-m.result c.work_bytes-need.result g.out.now g.steps.now g.work.now
 accepted c =
     let able = able_of c in
     let fine = fine_of able in
@@ -91,61 +91,57 @@ accepted c =
     record {
       limited = (knows weighed).0;
       known = (knows weighed).1;
-      asks = c.work_bytes.ensures;
-      says_so = weighed.weight.ensures;
-      none_refused = fine.if2.left;
+      asks = c.work_bytes-need.ensures;
+      says_so = weighed.weight-m.ensures;
+      none_refused = fine.if-m-gt0.false;
       bytes = bytes (known_weighed weighed);
-      roomy = sym able.before.is-cramped.ensures ∙ able.if3.left;
+      roomy = sym able.is_cramped.ensures ∙ able.if-is_cramped.false;
     }
 
-returns : tie.Need-returns
+returns : tie.Need-returns-then-number-gt0
 returns c =
-    let judged = c.before.before in
-    let known = known_of judged in
+    let known = known_of c.before.before in
     let g = (entry_of known).args in
     as_left g.limit g.edition g.table.now (bytes known) c.refusal.result g.out.now g.steps.now g.work.now
     g.out.now g.steps.now
-    (called_off g.limit g.edition judged.judge-call.result judged.judge-call.ensures c.before.if1.true
+    (called_off g.limit g.edition c.judge_call-number.result c.judge_call-number.ensures c.if-number-gt0.true
     g.table.now c.refusal.result g.out.now g.steps.now g.work.now c.refusal.ensures)
 
-returns_2 : tie.Need-returns-2
+returns_2 : tie.Need-returns-then-m-gt0
 returns_2 c =
-    let weighed = c.before.before.before in
-    let known = known_weighed weighed in
+    let known = known_weighed c.before.before.before in
     let g = (entry_of known).args in
-    let m = weighed.weight in
-    as_left g.limit g.edition g.table.now (bytes known) c.refusal2.result g.out.now g.steps.now g.work.now
+    let m = c.weight-m in
+    as_left g.limit g.edition g.table.now (bytes known) c.refusal-then-m-gt0.result g.out.now g.steps.now g.work.now
     g.out.now g.steps.now
-    (turned_down g.limit (knows weighed).0 g.table.now m.result m.ensures g.edition (knows weighed).1
-    c.refusal2.result g.out.now g.steps.now g.work.now c.before.if2.true c.refusal2.ensures)
+    (turned_down g.limit (knows c.before.before.before).0 g.table.now m.result m.ensures g.edition (knows c.before.before.before).1
+    c.refusal-then-m-gt0.result g.out.now g.steps.now g.work.now c.if-m-gt0.true c.refusal-then-m-gt0.ensures)
 
-is_cramped_requires : tie.Need-is-cramped-requires
+is_cramped_requires : tie.Need-is_cramped-requires
 is_cramped_requires c κs = small c
 
-returns_3 : tie.Need-returns-3
+returns_3 : tie.Need-returns-then-is_cramped
 returns_3 c =
-    let asked = c.before.before in
-    let fine = asked.before in
-    let weighed = weighed_of fine in
+    let weighed = weighed_of c.before.before.before in
     let known = known_weighed weighed in
     let g = (entry_of known).args in
-    let m = weighed.weight in
-    as_left g.limit g.edition g.table.now (bytes known) c.refusal3.result g.out.now g.steps.now g.work.now
+    let m = weighed.weight-m in
+    as_left g.limit g.edition g.table.now (bytes known) c.refusal-then-is_cramped.result g.out.now g.steps.now g.work.now
     g.out.now g.steps.now
-    (cramped g.limit (knows weighed).0 g.table.now m.result m.ensures fine.if2.false g.edition (knows weighed).1
-    c.refusal3.result g.out.now g.steps.now g.work.now (sym asked.is-cramped.ensures ∙ c.before.if3.true)
-    c.refusal3.ensures)
+    (cramped g.limit (knows weighed).0 g.table.now m.result m.ensures c.if-m-gt0.false g.edition (knows weighed).1
+    c.refusal-then-is_cramped.result g.out.now g.steps.now g.work.now (sym c.is_cramped.ensures ∙ c.if-is_cramped.true)
+    c.refusal-then-is_cramped.ensures)
 
-mul_end : tie.Need-overflow-mul-end
+mul_end : tie.Need-overflow_mul-end
 mul_end c = omega (arith, small (fine_of c))
 
-part_run_end : tie.Need-slice-bounds-run-end
+part_run_end : tie.Need-slice_bounds-run-end
 part_run_end c = omega (arith, (rooms (accepted c)).0)
 
-part_run_end_2 : tie.Need-slice-bounds-run-end-2
+part_run_end_2 : tie.Need-slice_bounds-run-end-2
 part_run_end_2 c = omega (arith, (rooms (accepted c.before)).1)
 
-part_run_end_3 : tie.Need-slice-bounds-run-end-3
+part_run_end_3 : tie.Need-slice_bounds-run-end-3
 part_run_end_3 c = omega (arith, (rooms (accepted c.before.before)).2)
 
 run_requires : tie.Need-run-requires
@@ -153,12 +149,12 @@ run_requires c κs =
     let call = accepted c.before.before.before in
     (tree call, lending call)
 
-returns_4 : tie.Need-returns-4
+returns_4 : tie.Need-returns
 returns_4 c =
     let call = accepted c.before.before.before.before.before.before.before.before.before.before in
-    let r = c.before.before.before.before.before.before.run in
-    ran call r.result r.new.1.1.0 r.new.1.1.1.0 r.new.1.1.1.1.0 (r.ensures (tree call) (lending call))
-    r.auto.1.1.1.1.0
+    let r = c.run in
+    ran call r.result r.new.out r.new.steps r.new.work (r.ensures (tree call) (lending call))
+    r.auto.work
 
 pub simplify_in_spec : {M : Type 1} → statement M
 simplify_in_spec =
