@@ -4,7 +4,6 @@ use mathlib.Core.Path.{◌≡◌, refl, sym, ap, ◌∙◌}
 use mathlib.Core.Bool.{true, false}
 use native.Mathlib.Omega.{arith}
 use borrow.Author.Rules.{rules}
-use borrow.Author.Tests.{not-true, not-false}
 use lib.ListN.{length}
 use lib.Dec.{lit≤}
 use Rattle.paper.specs.Limits.{is_limit}
@@ -26,210 +25,198 @@ use Rattle.replace.proofs.prepare.Statement.{statement}
 use Rattle.replace.proofs.prepare.Tie as tie
 
 -- the call's beginning from where the limit is judged, and what is handed in there
-abbrev begun : tie.After-is-limit → tie.Start
+abbrev begun : tie.After-is_limit → tie.Start
 begun c = c.before.before.before.before.before
 
-abbrev limit : tie.After-is-limit → ℕ
+abbrev limit : tie.After-is_limit → ℕ
 limit c = (begun c).args.limit
 
-abbrev asked : tie.After-is-limit → Handed
+abbrev asked : tie.After-is_limit → Handed
 asked c =
     let a = (begun c).args in
     handed a.table.now a.symbols.now a.lengths.now a.definitions.now
 
 -- the way back: from where the lengths fit, the formula is fine, the definitions are, they are few, and their symbols differ
-abbrev of_fit : tie.Else2 → tie.After-is-limit
+abbrev of_fit : tie.Else-misses → tie.After-is_limit
 of_fit c = c.before.before.before
 
-abbrev of_fine : tie.Else3 → tie.Else2
+abbrev of_fine : tie.Else-f-gt0 → tie.Else-misses
 of_fine c = c.before.before.before.before
 
-abbrev of_sound : tie.Else4 → tie.Else3
+abbrev of_sound : tie.Else-any_refused → tie.Else-f-gt0
 of_sound c = c.before.before
 
-abbrev of_few : tie.Else5 → tie.Else4
+abbrev of_few : tie.Else-n-gt-DEFINITIONS → tie.Else-any_refused
 of_few c = c.before
 
-abbrev of_once : tie.Else6 → tie.Else5
+abbrev of_once : tie.Else-twice → tie.Else-n-gt-DEFINITIONS
 of_once c = c.before.before
 
 -- what was found out there
-known : (c : tie.Else1) → is_limit (limit c.before) ≡ true
-known c = sym c.before.is-limit.ensures ∙ not-false _ c.if1.false
+known : (c : tie.Else-not-is_limit) → is_limit (limit c.before) ≡ true
+known c = sym c.is_limit.ensures ∙ c.if-not-is_limit.false
 
-met : (c : tie.Else2) → let h = asked (of_fit c) in misses h.symbols h.lengths h.definitions ≡ false
-met c = sym c.before.misses.ensures ∙ c.if2.false
+met : (c : tie.Else-misses) → let h = asked (of_fit c) in misses h.symbols h.lengths h.definitions ≡ false
+met c = sym c.misses.ensures ∙ c.if-misses.false
 
-fits : (c : tie.Else2)
+fits : (c : tie.Else-misses)
     → let h = asked (of_fit c) in (length h.lengths ≡ 8 * length h.symbols) × (beginning h.lengths (length h.symbols) ≡ length h.definitions)
 fits c = let h = asked (of_fit c) in fit h.symbols h.lengths h.definitions (met c)
 
-said : (c : tie.After-fault-of) → let at = of_fit c.before.before in verdict_of c.fault-of.result ≡ verdict (limit at) (asked at).table
-said c = c.fault-of.ensures ∙ c.before.check.ensures
+said : (c : tie.After-fault_of-f) → let at = of_fit c.before.before in verdict_of c.fault_of-f.result ≡ verdict (limit at) (asked at).table
+said c = c.fault_of-f.ensures ∙ c.check.ensures
 
-fine : (c : tie.Else3) → let at = of_fit (of_fine c) in verdict (limit at) (asked at).table ≡ accepted
+fine : (c : tie.Else-f-gt0) → let at = of_fit (of_fine c) in verdict (limit at) (asked at).table ≡ accepted
 fine c =
     let at = of_fit (of_fine c) in
-    let f = c.before.before.fault-of.result in
+    let f = c.fault_of-f.result in
     told_accepted (limit at) (asked at).table f.number f.place (flaw_of f.flaw) (said c.before.before) (omega arith)
 
-sound : (c : tie.Else4) → let at = of_fit (of_fine (of_sound c)) in Sound (limit at) (asked at)
+sound : (c : tie.Else-any_refused) → let at = of_fit (of_fine (of_sound c)) in Sound (limit at) (asked at)
 sound c =
     let e2 = of_fine (of_sound c) in
     let at = of_fit e2 in
     record {
       known = known e2.before.before;
-      bytes = are_bytes (asked at).definitions at.before.shared-slice-known4.given;
+      bytes = are_bytes (asked at).definitions at.shared_slice_known-4-1.given;
       met = met e2;
-      fine = sym c.before.any-refused.ensures ∙ c.if4.false;
+      fine = sym c.any_refused.ensures ∙ c.if-any_refused.false;
     }
 
 -- from where the two arrays are filled
-abbrev of_filled : tie.After-from → tie.Else6
+abbrev of_filled : tie.After-from-1 → tie.Else-twice
 of_filled c = c.before.before.before.before
 
-abbrev start_of : tie.Else6 → tie.After-is-limit
+abbrev start_of : tie.Else-twice → tie.After-is_limit
 start_of c = of_fit (of_fine (of_sound (of_few (of_once c))))
 
-prepared : (c : tie.After-from)
-    → let at = start_of (of_filled c) in Prepared (limit at) (asked at) c.before.before.before.which-of.result c.before.before.from-of.result
+prepared : (c : tie.After-from-1)
+    → let at = start_of (of_filled c) in Prepared (limit at) (asked at) c.which_of-which.result c.from_of-from.result
 prepared c =
     let e6 = of_filled c in
     let at = start_of e6 in
     record {
       sound = sound (of_few (of_once e6));
-      bytes = are_bytes (asked at).table at.before.before.before.before.shared-slice-known.given;
+      bytes = are_bytes (asked at).table at.shared_slice_known-1.given;
       fine = fine (of_sound (of_few (of_once e6)));
-      few = (of_once e6).if5.left;
-      once = sym e6.before.twice.ensures ∙ e6.if6.left;
-      begins = c.before.before.from-of.ensures;
-      places = c.before.before.before.which-of.ensures;
+      few = (of_once e6).if-n-gt-DEFINITIONS.false;
+      once = sym e6.twice.ensures ∙ e6.if-twice.false;
+      begins = c.from_of-from.ensures;
+      places = c.which_of-which.ensures;
     }
 
 -- from where the formula is weighed
-abbrev of_weighed : tie.After-weigh → tie.After-from
+abbrev of_weighed : tie.After-weigh-weight → tie.After-from-1
 of_weighed c = c.before.before.before.before
 
-returns : tie.Need-returns
+returns : tie.Need-returns-then-not-is_limit
 returns c =
-    let at = c.before.before in
-    refuses (limit at) (asked at) (refused 19 0) (open_19 (limit at) (asked at) (sym at.is-limit.ensures ∙ not-true _ c.before.if1.true)) (lit≤ tt)
+    refuses (limit c.before.before) (asked c.before.before) (refused 19 0) (open_19 (limit c.before.before) (asked c.before.before) (sym c.is_limit.ensures ∙ c.if-not-is_limit.true)) (lit≤ tt)
     c.refusal.result c.refusal.ensures.0 c.refusal.ensures.1 (ap flaw_of c.refusal.ensures.2)
 
-returns_2 : tie.Need-returns-2
+returns_2 : tie.Need-returns-then-misses
 returns_2 c =
-    let e1 = c.before.before.before in
-    let at = e1.before in
-    refuses (limit at) (asked at) (refused 8 0)
-    (open_8 (limit at) (asked at) (known e1) (sym c.before.before.misses.ensures ∙ c.before.if2.true)) (lit≤ tt)
-    c.refusal2.result c.refusal2.ensures.0 c.refusal2.ensures.1 (ap flaw_of c.refusal2.ensures.2)
+    refuses (limit c.before.before.before.before) (asked c.before.before.before.before) (refused 8 0)
+    (open_8 (limit c.before.before.before.before) (asked c.before.before.before.before) (known c.before.before.before) (sym c.misses.ensures ∙ c.if-misses.true)) (lit≤ tt)
+    c.refusal-then-misses.result c.refusal-then-misses.ensures.0 c.refusal-then-misses.ensures.1 (ap flaw_of c.refusal-then-misses.ensures.2)
 
-returns_3 : tie.Need-returns-3
+returns_3 : tie.Need-returns-then-f-gt0
 returns_3 c =
-    let f = c.before.before.before in
-    let e2 = f.before.before in
-    let at = of_fit e2 in
-    let v = verdict_of f.fault-of.result in
-    refuses (limit at) (asked at) v (open_formula (limit at) (asked at) (known e2.before.before) (met e2) v (said f) c.before.if3.true)
-    c.before.if3.true
-    c.refusal3.result c.refusal3.ensures.0 c.refusal3.ensures.1 (ap flaw_of c.refusal3.ensures.2)
+    let at = of_fit c.before.before.before.before.before in
+    let v = verdict_of c.fault_of-f.result in
+    refuses (limit at) (asked at) v (open_formula (limit at) (asked at) (known c.before.before.before.before.before.before.before) (met c.before.before.before.before.before) v (said c.before.before.before) c.if-f-gt0.true)
+    c.if-f-gt0.true
+    c.refusal-then-f-gt0.result c.refusal-then-f-gt0.ensures.0 c.refusal-then-f-gt0.ensures.1 (ap flaw_of c.refusal-then-f-gt0.ensures.2)
 
-any_refused_requires : tie.Need-any-refused-requires
+any_refused_requires : tie.Need-any_refused-requires
 any_refused_requires c κs = let e = fits (of_fine c) in let a = e.0 in let b = e.1 in (omega arith, omega arith)
 
-returns_4 : tie.Need-returns-4
+returns_4 : tie.Need-returns-then-any_refused
 returns_4 c =
-    let e3 = c.before.before.before in
-    let e2 = of_fine e3 in
+    let e2 = of_fine c.before.before.before in
     let at = of_fit e2 in
     refuses (limit at) (asked at) (refused 15 0)
-    (open_15 (limit at) (asked at) (known e2.before.before) (met e2) (fine e3) (sym c.before.before.any-refused.ensures ∙ c.before.if4.true))
+    (open_15 (limit at) (asked at) (known e2.before.before) (met e2) (fine c.before.before.before) (sym c.any_refused.ensures ∙ c.if-any_refused.true))
     (lit≤ tt)
-    c.refusal4.result c.refusal4.ensures.0 c.refusal4.ensures.1 (ap flaw_of c.refusal4.ensures.2)
+    c.refusal-then-any_refused.result c.refusal-then-any_refused.ensures.0 c.refusal-then-any_refused.ensures.1 (ap flaw_of c.refusal-then-any_refused.ensures.2)
 
-returns_5 : tie.Need-returns-5
+returns_5 : tie.Need-returns-then-n-gt-DEFINITIONS
 returns_5 c =
-    let e4 = c.before.before in
-    let e3 = of_sound e4 in
+    let e3 = of_sound c.before.before in
     let e2 = of_fine e3 in
     let at = of_fit e2 in
     refuses (limit at) (asked at) (refused 16 0)
-    (open_over (limit at) (asked at) (known e2.before.before) (met e2) (fine e3) (sound e4).fine c.before.if5.true) (lit≤ tt)
-    c.refusal5.result c.refusal5.ensures.0 c.refusal5.ensures.1 (ap flaw_of c.refusal5.ensures.2)
+    (open_over (limit at) (asked at) (known e2.before.before) (met e2) (fine e3) (sound c.before.before).fine c.if-n-gt-DEFINITIONS.true) (lit≤ tt)
+    c.refusal-then-n-gt-DEFINITIONS.result c.refusal-then-n-gt-DEFINITIONS.ensures.0 c.refusal-then-n-gt-DEFINITIONS.ensures.1 (ap flaw_of c.refusal-then-n-gt-DEFINITIONS.ensures.2)
 
-returns_6 : tie.Need-returns-6
+returns_6 : tie.Need-returns-then-twice
 returns_6 c =
-    let e5 = c.before.before.before in
-    let e4 = of_few e5 in
+    let e4 = of_few c.before.before.before in
     let e3 = of_sound e4 in
     let e2 = of_fine e3 in
     let at = of_fit e2 in
     refuses (limit at) (asked at) (refused 16 0)
-    (open_twice (limit at) (asked at) (known e2.before.before) (met e2) (fine e3) (sound e4).fine e5.if5.false
-    (sym c.before.before.twice.ensures ∙ c.before.if6.true)) (lit≤ tt)
-    c.refusal6.result c.refusal6.ensures.0 c.refusal6.ensures.1 (ap flaw_of c.refusal6.ensures.2)
+    (open_twice (limit at) (asked at) (known e2.before.before) (met e2) (fine e3) (sound e4).fine c.if-n-gt-DEFINITIONS.false
+    (sym c.twice.ensures ∙ c.if-twice.true)) (lit≤ tt)
+    c.refusal-then-twice.result c.refusal-then-twice.ensures.0 c.refusal-then-twice.ensures.1 (ap flaw_of c.refusal-then-twice.ensures.2)
 
-from_of_requires : tie.Need-from-of-requires
+from_of_requires : tie.Need-from_of-from-requires
 from_of_requires c κs =
     let e = fits (of_fine (of_sound (of_few (of_once c.before)))) in
     let a = e.0 in
     let b = e.1 in
     (omega arith, omega arith, omega arith)
 
-rounds_requires : tie.Need-rounds-requires
+rounds_requires : tie.Need-rounds-weights-requires
 rounds_requires c κs =
     let p = prepared c in
     let at = start_of (of_filled c) in
     (limit_small (limit at) p.sound.known, p.few, (definitions_of (asked at), index_of p))
 
-weigh_requires : tie.Need-weigh-requires
+weigh_requires : tie.Need-weigh-weight-requires
 weigh_requires c κs =
-    let f = c.before.before.before in
-    let p = prepared f in
-    let at = start_of (of_filled f) in
+    let p = prepared c.before.before.before in
+    let at = start_of (of_filled c.before.before.before) in
     let h = asked at in
     let m = limit_small (limit at) p.sound.known in
     let s = (accepted_passes (limit at) h.table p.fine).long.short in (
       m,
       omega arith,
-      which_few (definitions_of h) h.definitions f.before.before.before.which-of.result
-          f.before.before.from-of.result (length h.symbols) (index_of p) p.few,
-      c.before.before.rounds.ensures.1,
+      which_few (definitions_of h) h.definitions c.which_of-which.result
+          c.from_of-from.result (length h.symbols) (index_of p) p.few,
+      c.rounds-weights.ensures.1,
     )
 
-returns_7 : tie.Need-returns-7
+returns_7 : tie.Need-returns-then-weight-lt1
 returns_7 c =
-    let w = c.before.before in
-    let f = of_weighed w in
+    let f = of_weighed c.before.before in
     let p = prepared f in
     let at = start_of (of_filled f) in
-    let k = w.before.before.before.rounds in
+    let k = c.rounds-weights in
     refuses (limit at) (asked at) (refused 17 0)
-    (open_17 p k.result (k.ensures.0 (definitions_of (asked at)) (index_of p)) w.weigh.result w.weigh.ensures.0 c.before.if7.true) (lit≤ tt)
-    c.refusal7.result c.refusal7.ensures.0 c.refusal7.ensures.1 (ap flaw_of c.refusal7.ensures.2)
+    (open_17 p k.result (k.ensures.0 (definitions_of (asked at)) (index_of p)) c.weigh-weight.result c.weigh-weight.ensures.0 c.if-weight-lt1.true) (lit≤ tt)
+    c.refusal-then-weight-lt1.result c.refusal-then-weight-lt1.ensures.0 c.refusal-then-weight-lt1.ensures.1 (ap flaw_of c.refusal-then-weight-lt1.ensures.2)
 
-returns_8 : tie.Need-returns-8
+returns_8 : tie.Need-returns-then-limit-weight
 returns_8 c =
-    let w = c.before.before.before in
-    let f = of_weighed w in
+    let f = of_weighed c.before.before.before in
     let p = prepared f in
     let at = start_of (of_filled f) in
-    let k = w.before.before.before.rounds in
+    let k = c.rounds-weights in
     refuses (limit at) (asked at) (refused 18 0)
-    (open_18 p k.result (k.ensures.0 (definitions_of (asked at)) (index_of p)) w.weigh.result w.weigh.ensures.0 c.before.if8.true) (lit≤ tt)
-    c.refusal8.result c.refusal8.ensures.0 c.refusal8.ensures.1 (ap flaw_of c.refusal8.ensures.2)
+    (open_18 p k.result (k.ensures.0 (definitions_of (asked at)) (index_of p)) c.weigh-weight.result c.weigh-weight.ensures.0 c.if-limit-weight.true) (lit≤ tt)
+    c.refusal-then-limit-weight.result c.refusal-then-limit-weight.ensures.0 c.refusal-then-limit-weight.ensures.1 (ap flaw_of c.refusal-then-limit-weight.ensures.2)
 
-returns_9 : tie.Need-returns-9
+returns_9 : tie.Need-returns
 returns_9 c =
-    let w = c.before.before in
-    let f = of_weighed w in
+    let f = of_weighed c.before.before in
     let p = prepared f in
     let at = start_of (of_filled f) in
-    let k = w.before.before.before.rounds in
-    let which = f.before.before.before.which-of.result in
-    let from = f.before.before.from-of.result in
-    ready p k.result (k.ensures.0 (definitions_of (asked at)) (index_of p)) w.weigh.result w.weigh.ensures.0 (omega arith) (omega arith)
-    (record { number = 0; place = 0; flaw = flaws.Sound; weight = w.weigh.result; which = which; from = from }) refl refl refl refl
+    let k = c.rounds-weights in
+    let which = f.which_of-which.result in
+    let from = f.from_of-from.result in
+    ready p k.result (k.ensures.0 (definitions_of (asked at)) (index_of p)) c.weigh-weight.result c.weigh-weight.ensures.0 (omega arith) (omega arith)
+    (record { number = 0; place = 0; flaw = flaws.Sound; weight = c.weigh-weight.result; which = which; from = from }) refl refl refl refl
 
 pub prepare_spec : {M : Type 1} → statement M
 prepare_spec =
