@@ -13,7 +13,8 @@ decreases-open_records l = l.deep
 abbrev pub invariant-loop-i : goal.invariant-loop-i
 invariant-loop-i l = record {
   within : l.i ≤ l.n;
-  copying : (ds : List Definition) (m : ℕ) (t v : Tree) (o : Openable ds l.definitions l.which l.from l.s l.fn.area m l.deep l.d t v) → Copying o l.area l.at l.i;
+  copying : (ds : List Definition) (m : ℕ) (t v : Tree) (o : Openable ds l.definitions l.which l.from l.s l.fn.area m l.deep l.d t v)
+      → Copying o l.area l.at l.i;
 }
 
 abbrev pub decreases-loop-i : goal.decreases-loop-i

@@ -9,7 +9,8 @@ use Rattle.replace.proofs.from_of.Statement.{statement}
 use Rattle.replace.proofs.from_of.Tie as tie
 
 abbrev invariant_loop : tie.invariant-loop-i
-invariant_loop n lengths from₀ a₀ i₀ from a i = (i ≤ n) × (length from ≡ 17) × (a ≡ beginning lengths i) × ((j : ℕ) → j ≤ i → get_or from j 0 ≡ beginning lengths j)
+invariant_loop n lengths from₀ a₀ i₀ from a i =
+    (i ≤ n) × (length from ≡ 17) × (a ≡ beginning lengths i) × ((j : ℕ) → j ≤ i → get_or from j 0 ≡ beginning lengths j)
 
 abbrev decreases_loop : tie.decreases-loop-i
 decreases_loop n lengths from₀ a₀ i₀ from a i = n - i

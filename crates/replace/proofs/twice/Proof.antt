@@ -53,5 +53,5 @@ pub twice_spec : {M : Type 1} → statement M
 twice_spec =
     tie.close
     (tie.spec
-    invariant_loop decreases_loop loop_holds (λ c. omega arith) (λ c. omega arith) (λ c κs. omega arith) returns (λ c. omega arith) (λ c. omega arith) loop_again
-    returns_2)
+    invariant_loop decreases_loop loop_holds (λ c. omega arith) (λ c. omega arith) (λ c κs. omega arith) returns (λ c. omega arith) (λ c. omega arith)
+    loop_again returns_2)
