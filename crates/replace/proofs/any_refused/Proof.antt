@@ -10,57 +10,54 @@ use Rattle.replace.proofs.PartLaws.{begins_none, begins_next, begins_up, any_ste
 use Rattle.replace.proofs.any_refused.Statement.{statement}
 use Rattle.replace.proofs.any_refused.Tie as tie
 
-abbrev invariant_loop : tie.invariant-loop
+abbrev invariant_loop : tie.invariant-loop-i
 invariant_loop limit n lengths definitions a₀ i₀ a i =
     (i ≤ n) × (a ≡ beginning lengths i) × (any_refused limit lengths definitions 0 n ≡ any_refused limit lengths definitions i (n - i))
 
-abbrev decreases_loop : tie.decreases-loop
+abbrev decreases_loop : tie.decreases-loop-i
 decreases_loop limit n lengths definitions a₀ i₀ a i = n - i
 
-loop_holds : tie.Need-loop-init invariant_loop decreases_loop
+loop_holds : tie.Need-loop-i-init invariant_loop decreases_loop
 loop_holds c = (omega arith, sym (begins_none _), sym (rw (sub-zero _) refl))
 
-add_e : tie.Need-overflow-add-e invariant_loop decreases_loop
+add_e : tie.Need-overflow_add-e invariant_loop decreases_loop
 unfolding length_at
 add_e c =
-    let s = c.before.before.before.before.before in
-    let l = c.before.before.loop in
+    let l = c.loop-i in
     let v = c.read8.ensures in
-    let n = begins_next s.args.lengths.now l.i in
-    let u = begins_up s.args.lengths.now (l.i + 1) s.args.n (omega arith) in
-    let k = c.before.before.before.shared-slice-known2.given in
+    let n = begins_next c.args.lengths.now l.i in
+    let u = begins_up c.args.lengths.now (l.i + 1) c.args.n (omega arith) in
     omega arith
 
-part_check_end : tie.Need-slice-bounds-check-end invariant_loop decreases_loop
+part_check_end : tie.Need-slice_bounds-check-end invariant_loop decreases_loop
 unfolding length_at
 part_check_end c =
-    let s = c.before.before.before.before.before in
-    let l = c.before.before.loop in
+    let l = c.loop-i in
     let v = c.read8.ensures in
-    let n = begins_next s.args.lengths.now l.i in
-    let u = begins_up s.args.lengths.now (l.i + 1) s.args.n (omega arith) in
+    let n = begins_next c.args.lengths.now l.i in
+    let u = begins_up c.args.lengths.now (l.i + 1) c.args.n (omega arith) in
     omega arith
 
-returns : tie.Need-returns invariant_loop decreases_loop
+returns : tie.Need-returns-then-f-gt0 invariant_loop decreases_loop
 unfolding length_at
 returns c =
-    let a = c.before.before.before.before.before.before.before.before.before.before.args in
-    let l = c.before.before.before.before.before.before.before.loop in
-    let v = c.before.before.before.before.before.read8 in
-    let f = c.before.before.fault-of in
-    let said = f.ensures ∙ c.before.before.before.check.ensures in
+    let a = c.args in
+    let l = c.loop-i in
+    let v = c.read8 in
+    let f = c.fault_of-f in
+    let said = f.ensures ∙ c.check.ensures in
     sym (l.invariant.2 ∙ any_step a.limit a.lengths.now a.definitions.now a.n l.i (omega arith)
     ∙ is_refused a.limit a.lengths.now a.definitions.now a.n l.i l.a v.result
     (verdict_of f.result) l.invariant.1 v.ensures said (omega arith))
 
-loop_again : tie.Need-loop-preserved invariant_loop decreases_loop
+loop_again : tie.Need-loop-i-preserved invariant_loop decreases_loop
 unfolding length_at
 loop_again c =
-    let a = c.before.before.before.before.before.before.before.before.before.before.args in
-    let l = c.before.before.before.before.before.before.before.loop in
-    let v = c.before.before.before.before.before.read8 in
-    let f = c.before.before.fault-of in
-    let said = f.ensures ∙ c.before.before.before.check.ensures in (
+    let a = c.args in
+    let l = c.loop-i in
+    let v = c.read8 in
+    let f = c.fault_of-f in
+    let said = f.ensures ∙ c.check.ensures in (
       omega arith,
       ap (λ (m : ℕ). m + v.result) l.invariant.1 ∙ ap (λ (m : ℕ). beginning a.lengths.now l.i + m) v.ensures
           ∙ sym (begins_next a.lengths.now l.i),
@@ -69,10 +66,10 @@ loop_again c =
           (verdict_of f.result) l.invariant.1 v.ensures said (omega arith),
     )
 
-returns_2 : tie.Need-returns-2 invariant_loop decreases_loop
+returns_2 : tie.Need-returns invariant_loop decreases_loop
 returns_2 c =
-    let a = c.before.before.before.before.args in
-    let l = c.before.loop in
+    let a = c.args in
+    let l = c.loop-i in
     sym (l.invariant.2 ∙ any_done a.limit a.lengths.now a.definitions.now a.n l.i (omega arith))
 
 pub any_refused_spec : {M : Type 1} → statement M

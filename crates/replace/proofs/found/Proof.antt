@@ -8,18 +8,18 @@ use Rattle.paper.specs.Record.{kind}
 use Rattle.replace.proofs.found.Statement.{statement}
 use Rattle.replace.proofs.found.Tie as tie
 
-returns : tie.Need-returns
+returns : tie.Need-returns-then-kind-ne-SYMBOL
 returns c =
-    let a = c.before.before.before.args in
-    let n : ¬ (kind a.s.now a.i ≡ 1) = (λ e. c.if1.true (c.before.kind.ensures ∙ e)) in
+    let a = c.args in
+    let n : ¬ (kind a.s.now a.i ≡ 1) = (λ e. c.if-kind-ne-SYMBOL.true (c.kind.ensures ∙ e)) in
     rw (ne_eqb (kind a.s.now a.i) 1 n)
 
-returns_2 : tie.Need-returns-2
+returns_2 : tie.Need-returns
 returns_2 c =
-    let a = c.before.before.before.before.before.before.before.args in
-    let e : kind a.s.now a.i ≡ 1 = sym c.before.before.before.before.before.kind.ensures ∙ c.before.before.before.before.if1.false in
+    let a = c.args in
+    let e : kind a.s.now a.i ≡ 1 = sym c.kind.ensures ∙ c.if-kind-ne-SYMBOL.false in
     rw (eq-eqb (kind a.s.now a.i) 1 e)
-    (c.wide2.ensures.0 ∙ ap (λ (x : ℕ). get_or a.which.now x 0) (c.before.before.wide.ensures.0 ∙ c.before.before.before.symbol.ensures))
+    (c.wide-2.ensures.0 ∙ ap (λ (x : ℕ). get_or a.which.now x 0) (c.wide.ensures.0 ∙ c.symbol.ensures))
 
 pub found_spec : {M : Type 1} → statement M
 found_spec =

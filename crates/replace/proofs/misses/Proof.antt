@@ -8,48 +8,48 @@ use Rattle.replace.proofs.PartLaws.{begins_none, begins_next, lists_differ, leng
 use Rattle.replace.proofs.misses.Statement.{statement}
 use Rattle.replace.proofs.misses.Tie as tie
 
-abbrev invariant_loop : tie.invariant-loop
+abbrev invariant_loop : tie.invariant-loop-i
 invariant_loop symbols lengths definitions left₀ i₀ left i = (i ≤ length symbols) × (left + beginning lengths i ≡ length definitions)
 
-abbrev decreases_loop : tie.decreases-loop
+abbrev decreases_loop : tie.decreases-loop-i
 decreases_loop symbols lengths definitions left₀ i₀ left i = length symbols - i
 
-returns : tie.Need-returns invariant_loop decreases_loop
+returns : tie.Need-returns-then-lengths-gt0 invariant_loop decreases_loop
 returns c =
-    let a = c.before.before.before.before.args in
+    let a = c.args in
     lists_differ a.symbols.now a.lengths.now a.definitions.now (λ e. absurd (omega (arith, e)))
 
-returns_2 : tie.Need-returns-2 invariant_loop decreases_loop
+returns_2 : tie.Need-returns-then-lengths-symbols invariant_loop decreases_loop
 returns_2 c =
-    let a = c.before.before.before.before.before.args in
-    let d = c.if2.true in
+    let a = c.args in
+    let d = c.if-lengths-symbols.true in
     lists_differ a.symbols.now a.lengths.now a.definitions.now (λ e. absurd (omega (arith, e, d)))
 
-loop_holds : tie.Need-loop-init invariant_loop decreases_loop
+loop_holds : tie.Need-loop-i-init invariant_loop decreases_loop
 loop_holds c =
-    let e = begins_none c.before.before.before.before.before.args.lengths.now in
+    let e = begins_none c.args.lengths.now in
     (omega arith, omega arith)
 
-returns_3 : tie.Need-returns-3 invariant_loop decreases_loop
+returns_3 : tie.Need-returns-then-left-n invariant_loop decreases_loop
 unfolding length_at
 returns_3 c =
-    let a = c.before.before.before.before.before.before.before.before.before.args in
-    let l = c.before.before.before.loop in
-    let v = c.before.read8.ensures in
+    let a = c.args in
+    let l = c.loop-i in
+    let v = c.read8-n.ensures in
     lengths_over a.symbols.now a.lengths.now a.definitions.now l.i (omega arith) (omega arith)
 
-loop_again : tie.Need-loop-preserved invariant_loop decreases_loop
+loop_again : tie.Need-loop-i-preserved invariant_loop decreases_loop
 unfolding length_at
 loop_again c =
-    let l = c.before.before.before.loop in
-    let v = c.before.read8.ensures in
-    let n = begins_next c.before.before.before.before.before.before.before.before.before.args.lengths.now l.i in
+    let l = c.loop-i in
+    let v = c.read8-n.ensures in
+    let n = begins_next c.args.lengths.now l.i in
     (omega arith, omega arith)
 
-returns_4 : tie.Need-returns-4 invariant_loop decreases_loop
+returns_4 : tie.Need-returns invariant_loop decreases_loop
 returns_4 c =
-    let a = c.before.before.before.before.before.before.before.args in
-    let l = c.before.loop in
+    let a = c.args in
+    let l = c.loop-i in
     let e : l.i ≡ length a.symbols.now = omega arith in
     lengths_end a.symbols.now a.lengths.now a.definitions.now l.left (omega arith) (rw e at l.invariant.1)
 

@@ -11,41 +11,39 @@ use Rattle.replace.proofs.round.Statement.{statement}
 use Rattle.replace.proofs.round.Tie as tie
 
 -- the first j weights are written, and none is over the most that is counted
-abbrev invariant_loop : tie.invariant-loop
+abbrev invariant_loop : tie.invariant-loop-j
 invariant_loop limit definitions which from n weights next₀ j₀ next j =
     (j ≤ n) × (length next ≡ 16)
     × ((k : ℕ) → k < j → get_or next k 0 ≡ weighs limit which weights (piece_at definitions from k))
     × ((k : ℕ) → k < 16 → get_or next k 0 ≤ most_counted)
 
-abbrev decreases_loop : tie.decreases-loop
+abbrev decreases_loop : tie.decreases-loop-j
 decreases_loop limit definitions which from n weights next₀ j₀ next j = n - j
 
-loop_holds : tie.Need-loop-init invariant_loop decreases_loop
+loop_holds : tie.Need-loop-j-init invariant_loop decreases_loop
 loop_holds c = (omega arith, refl, (λ k l. absurd (omega (arith, l))), λ k l. (let z = zeros 16 k in omega (arith, z)))
 
-sub_weigh : tie.Need-overflow-sub-weigh invariant_loop decreases_loop
-sub_weigh c = let y = c.before.before.before.before.before.requires.2 c.before.before.before.loop.j (omega arith) in y.up
+sub_weigh : tie.Need-slice_bounds-weigh-count invariant_loop decreases_loop
+sub_weigh c = let y = c.requires.2 c.loop-j.j (omega arith) in y.up
 
-part_weigh_start : tie.Need-slice-bounds-weigh-start invariant_loop decreases_loop
-part_weigh_start c = let y = c.before.before.before.before.before.requires.2 c.before.before.before.loop.j (omega arith) in omega arith
+part_weigh_start : tie.Need-slice_bounds-weigh-start invariant_loop decreases_loop
+part_weigh_start c = let y = c.requires.2 c.loop-j.j (omega arith) in omega arith
 
-part_weigh_end : tie.Need-slice-bounds-weigh-end invariant_loop decreases_loop
-part_weigh_end c = let y = c.before.before.before.before.before.requires.2 c.before.before.before.loop.j (omega arith) in omega arith
+part_weigh_end : tie.Need-slice_bounds-weigh-end invariant_loop decreases_loop
+part_weigh_end c = let y = c.requires.2 c.loop-j.j (omega arith) in omega arith
 
 weigh_requires : tie.Need-weigh-requires invariant_loop decreases_loop
 unfolding piece_at
 weigh_requires c κs =
-    let s = c.before.before.before.before.before.before in
-    let j = c.before.before.before.before.loop.j in
-    let a = s.args in
-    (s.requires.0, piece_short a.definitions.now a.from.now j (s.requires.2 j (omega arith)), s.requires.3, s.requires.4)
+    let j = c.loop-j.j in
+    let a = c.args in
+    (c.requires.0, piece_short a.definitions.now a.from.now j (c.requires.2 j (omega arith)), c.requires.3, c.requires.4)
 
-loop_again : tie.Need-loop-preserved invariant_loop decreases_loop
+loop_again : tie.Need-loop-j-preserved invariant_loop decreases_loop
 unfolding piece_at
 loop_again c =
-    let s = c.before.before.before.before.before.before.before in
-    let a = s.args in
-    let l = c.before.before.before.before.before.loop in
+    let a = c.args in
+    let l = c.loop-j in
     let w = c.weigh in
     let its-weight : ℕ → ℕ = λ k. weighs a.limit a.which.now a.weights.now (piece_at a.definitions.now a.from.now k) in (
       omega arith,
@@ -56,7 +54,7 @@ loop_again c =
 
 returns : tie.Need-returns invariant_loop decreases_loop
 returns c =
-    let l = c.before.loop in
+    let l = c.loop-j in
     ((λ j h. l.invariant.2 j (omega (arith, h))), l.invariant.3)
 
 pub round_spec : {M : Type 1} → statement M

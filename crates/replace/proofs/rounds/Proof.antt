@@ -13,32 +13,31 @@ use Rattle.replace.proofs.rounds.Statement.{statement}
 use Rattle.replace.proofs.rounds.Tie as tie
 
 -- the weights are those of the definitions, opened r deep, and none is over the most that is counted
-abbrev invariant_loop : tie.invariant-loop
+abbrev invariant_loop : tie.invariant-loop-r
 invariant_loop limit definitions which from n weights₀ r₀ weights r =
     (r ≤ n) × ((ds : List Definition) → Index ds definitions which from n → Knows limit ds which weights r)
     × ((j : ℕ) → j < 16 → get_or weights j 0 ≤ most_counted)
 
-abbrev decreases_loop : tie.decreases-loop
+abbrev decreases_loop : tie.decreases-loop-r
 decreases_loop limit definitions which from n weights₀ r₀ weights r = n - r
 
-loop_holds : tie.Need-loop-init invariant_loop decreases_loop
+loop_holds : tie.Need-loop-r-init invariant_loop decreases_loop
 loop_holds c =
-    let a = c.before.args in
+    let a = c.args in
     (omega arith, (λ ds h. knows_none a.limit ds a.which.now (replicate 16 0) (zeros 16)), λ j l. (let z = zeros 16 j in omega (arith, z)))
 
-round_requires : tie.Need-round-requires invariant_loop decreases_loop
+round_requires : tie.Need-round-next-requires invariant_loop decreases_loop
 round_requires c κs =
-    let s = c.before.before.before.before in
-    let a = s.args in
-    let index = s.requires.2.1 in
-    let few = which_few s.requires.2.0 a.definitions.now a.which.now a.from.now a.n index s.requires.1 in
-    (s.requires.0, s.requires.1, index.lies, few, c.before.before.loop.invariant.2)
+    let a = c.args in
+    let index = c.requires.2.1 in
+    let few = which_few c.requires.2.0 a.definitions.now a.which.now a.from.now a.n index c.requires.1 in
+    (c.requires.0, c.requires.1, index.lies, few, c.loop-r.invariant.2)
 
-loop_again : tie.Need-loop-preserved invariant_loop decreases_loop
+loop_again : tie.Need-loop-r-preserved invariant_loop decreases_loop
 loop_again c =
-    let a = c.before.before.before.before.before.args in
-    let l = c.before.before.before.loop in
-    let w = c.round in (
+    let a = c.args in
+    let l = c.loop-r in
+    let w = c.round-next in (
       omega arith,
       (λ ds h. knows_next a.limit ds a.definitions.now a.which.now a.from.now l.weights
           a.n l.r h (l.invariant.1 ds h) w.result w.ensures.0),
@@ -47,8 +46,8 @@ loop_again c =
 
 returns : tie.Need-returns invariant_loop decreases_loop
 returns c =
-    let l = c.before.loop in
-    let e : l.r ≡ c.before.before.before.args.n = omega arith in
+    let l = c.loop-r in
+    let e : l.r ≡ c.args.n = omega arith in
     ((λ ds h. rw e at (l.invariant.1 ds h)), l.invariant.2)
 
 pub rounds_spec : {M : Type 1} → statement M

@@ -9,28 +9,28 @@ use Rattle.replace.proofs.PartLaws.{zeros, place_done, which_turn}
 use Rattle.replace.proofs.which_of.Statement.{statement}
 use Rattle.replace.proofs.which_of.Tie as tie
 
-abbrev invariant_loop : tie.invariant-loop
+abbrev invariant_loop : tie.invariant-loop-i
 invariant_loop symbols which₀ i₀ which i =
     (i ≤ length symbols) × (length which ≡ 256) × ((x : ℕ) → x < 256 → get_or which x 0 ≡ place_from symbols x i (length symbols - i))
 
-abbrev decreases_loop : tie.decreases-loop
+abbrev decreases_loop : tie.decreases-loop-i
 decreases_loop symbols which₀ i₀ which i = i
 
-loop_holds : tie.Need-loop-init invariant_loop decreases_loop
+loop_holds : tie.Need-loop-i-init invariant_loop decreases_loop
 loop_holds c =
-    let symbols = c.before.args.symbols.now in
+    let symbols = c.args.symbols.now in
     (omega arith, refl, λ x l. zeros 256 x ∙ sym (place_done symbols (length symbols) (length symbols) x (omega arith)))
 
 wide_requires : tie.Need-wide-requires invariant_loop decreases_loop
 wide_requires c κs = tt
 
-array_write_which : tie.Need-array-write-which invariant_loop decreases_loop
+array_write_which : tie.Need-bounds-which-wide invariant_loop decreases_loop
 array_write_which c = c.wide.ensures.1
 
-loop_again : tie.Need-loop-preserved invariant_loop decreases_loop
+loop_again : tie.Need-loop-i-preserved invariant_loop decreases_loop
 loop_again c =
-    let symbols = c.before.before.before.before.before.args.symbols.now in
-    let l = c.before.before.before.loop in
+    let symbols = c.args.symbols.now in
+    let l = c.loop-i in
     let i = l.i - 1 in
     let e : l.i ≡ i + 1 = omega arith in (
       omega arith,
@@ -40,8 +40,8 @@ loop_again c =
 
 returns : tie.Need-returns invariant_loop decreases_loop
 returns c =
-    let symbols = c.before.before.before.args.symbols.now in
-    let l = c.before.loop in
+    let symbols = c.args.symbols.now in
+    let l = c.loop-i in
     let e : l.i ≡ 0 = omega arith in
     λ x k. rw (e, sub-zero (length symbols)) at (l.invariant.2 x k)
 
