@@ -4,7 +4,7 @@
 use Prim.Native.Nat.{ℕ}
 use mathlib.Core.Path.{◌≡◌, refl, sym, ap, ap₂, ◌∙◌, subst, fun_ext}
 use mathlib.Core.List.{List, []}
-use denote.Ref.{Bor}
+use denote.Ref.{Bor, MutBor}
 use borrow.Fn.Kinds.{Dens, ended_of}
 use contract.Lifetimes.{Lfts}
 use denote.Triple.Clauses.{AtExit}
@@ -61,6 +61,9 @@ given c = gives c.answer c.left.1.1.1.0.now c.left.1.1.1.1.0.now c.left.1.1.1.1.
 at : List ℕ → Bor (List ℕ)
 at s = record { ref_ptr = (0, 0); now = s }
 
+at_mut : List ℕ → MutBor (List ℕ)
+at_mut s = record { ref_ptr = (0, 0); ghost_name = 0; now = s }
+
 κ : Lfts 4
 κ = ([], ([], ([], ([], tt))))
 
@@ -77,20 +80,20 @@ module _ (lim ed : ℕ) where
   as_given s l = let g = simplified lim ed s l in ap (λ (a : paper.Answer). record { answer = a; lent = g.lent }) (says_answer g.answer)
 
   called : List ℕ → Lent → CodeCall
-  unfolding at κ
+  unfolding at at_mut κ
   called s l =
       let g = simplified lim ed s l in
       record {
         ends = κ;
-        handed = (lim, (ed, (at s, (at l.out, (at l.steps, (at l.work, tt))))));
+        handed = (lim, (ed, (at s, (at_mut l.out, (at_mut l.steps, (at_mut l.work, tt))))));
         answer = answer_of g.answer;
-        left = (lim, (ed, (at s, (at g.lent.out, (at g.lent.steps, (at g.lent.work, tt))))));
+        left = (lim, (ed, (at s, (at_mut g.lent.out, (at_mut g.lent.steps, (at_mut g.lent.work, tt))))));
         promised = as_given s l;
       }
 
   -- so a simplifier that describes the code is the paper's
   pub described : (f : Simplifier) → Describes f → (s : List ℕ) (l : Lent) → f s l ≡ simplified lim ed s l
-  unfolding at κ called
+  unfolding at at_mut κ called
   described f h s l = h (called s l) refl refl ∙ as_given s l
 
   pub described_is : (f : Simplifier) → Describes f → simplified lim ed ≡ f

@@ -95,9 +95,9 @@ done_bounds c =
     let called = called_of c in
     let made = made_of called in
     let moved = moved_of made in
-    let k = called.drive-e.kept in
-    done_fits (entry_of moved).requires.1 (entry_of moved).args.edition (reached c).drove k.0 k.1.1.0
-    (k.1.0 ∙ made.note_all.auto.s ∙ moved.copy_bytes.auto.dst)
+    let k = called.drive-e.auto in
+    done_fits (entry_of moved).requires.1 (entry_of moved).args.edition (reached c).drove k.out k.steps
+    (k.work ∙ made.note_all.auto.s ∙ moved.copy_bytes.auto.dst)
 
 -- the notes are taken out
 result_whole : (c : Finished) → let r = (called_of c).drive-e in Whole note r.new.out 0 r.result (reached c).drove.to
@@ -105,9 +105,9 @@ result_whole c =
     let called = called_of c in
     let made = made_of called in
     let moved = moved_of made in
-    let k = called.drive-e.kept in
-    whole_result (entry_of moved).requires.1 (entry_of moved).args.edition (reached c).drove k.0 k.1.1.0
-    (k.1.0 ∙ made.note_all.auto.s ∙ moved.copy_bytes.auto.dst)
+    let k = called.drive-e.auto in
+    whole_result (entry_of moved).requires.1 (entry_of moved).args.edition (reached c).drove k.out k.steps
+    (k.work ∙ made.note_all.auto.s ∙ moved.copy_bytes.auto.dst)
 
 sub_p : tie.Need-overflow_sub-p
 sub_p c =
@@ -195,7 +195,7 @@ returns_2 c =
     let long = r.auto.work ∙ made.note_all.auto.s ∙ moved.copy_bytes.auto.dst in
     let g = entry.args in
     let done = reached finished in
-    let st = r.last.1.1.1.0 in
+    let st = r.new.st in
     let out = c.clear-2 in
     let steps = c.clear-3 in
     let weighed = c.weight_of-weight_out in
@@ -215,7 +215,7 @@ returns_2 c =
       tries = get_or st 4 0;
     })
     g.out.now out.new.d g.steps.now steps.new.d)
-    (left_done entry.requires.1 entry.args.edition done.drove r.kept.0 r.kept.1.1.0 long
+    (left_done entry.requires.1 entry.args.edition done.drove r.auto.out r.auto.steps long
     (c.strip.ensures _ (result_whole finished)) c.strip.auto.s out.new.d steps.new.d x (get_or st 3 0) (get_or st 4 0)
     out.ensures steps.ensures (weighed.ensures ∙ ap (λ v. v / 65536 % 65536) (noted.ensures _ (result_whole finished).there))
     done.openings_are done.tries_are)

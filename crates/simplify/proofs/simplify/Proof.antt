@@ -39,7 +39,7 @@ clear_requires c κs =
     run_room g.limit g.edition g.table.now (are_bytes g.table.now known.shared_slice_known-1.given) run.result g.out.now g.steps.now
     g.work.now run.new.out run.new.steps
     (ap (λ (x : Given). x.answer) run.ensures) (sym c.has_run.ensures ∙ c.if-has_run.true) in
-    omega (arith, room, c.work_bytes.ensures, run.kept)
+    omega (arith, room, c.work_bytes.ensures, run.auto)
 
 returns : tie.Need-returns-then-has_run
 returns c =
@@ -48,7 +48,7 @@ returns c =
     let run = called.simplify_in-a in
     let now = c.clear in
     ap (λ (x : List ℕ). gives run.result run.new.out run.new.steps x)
-    (cleared g.limit run.result.number c.work_bytes.result run.last.1.1.1.1.1.0 now.new.d
+    (cleared g.limit run.result.number c.work_bytes.result run.new.work now.new.d
     (sym c.has_run.ensures ∙ c.if-has_run.true) c.work_bytes.ensures now.ensures)
     ∙ run.ensures
 
@@ -58,7 +58,7 @@ returns_2 c =
     let g = (known_of called).args in
     let run = called.simplify_in-a in
     ap (λ (x : List ℕ). gives run.result run.new.out run.new.steps x)
-    (uncleared g.limit run.result.number run.last.1.1.1.1.1.0 (sym c.has_run.ensures ∙ c.if-has_run.false))
+    (uncleared g.limit run.result.number run.new.work (sym c.has_run.ensures ∙ c.if-has_run.false))
     ∙ run.ensures
 
 pub simplify_spec : {M : Type 1} → statement M
