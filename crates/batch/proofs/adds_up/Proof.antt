@@ -11,35 +11,35 @@ use Rattle.batch.proofs.LengthsLaws.{from_all, total_turn, total_none, counted}
 use Rattle.batch.proofs.adds_up.Statement.{statement}
 use Rattle.batch.proofs.adds_up.Tie as tie
 
-abbrev invariant_loop : tie.invariant-loop
+abbrev invariant_loop : tie.invariant-loop-i
 invariant_loop lengths given n left₀ i₀ left i =
     (i ≤ n) × (left ≤ given) × (total (lengths_in lengths) + left ≡ total (lengths_from lengths n i) + given)
 
-abbrev decreases_loop : tie.decreases-loop
+abbrev decreases_loop : tie.decreases-loop-i
 decreases_loop lengths given n left₀ i₀ left i = n - i
 
-loop_holds : tie.Need-loop-init invariant_loop decreases_loop
-loop_holds c = (omega arith, omega arith, omega (arith, ap total (from_all c.before.args.lengths.now)))
+loop_holds : tie.Need-loop-i-init invariant_loop decreases_loop
+loop_holds c = (omega arith, omega arith, omega (arith, ap total (from_all c.args.lengths.now)))
 
-returns : tie.Need-returns invariant_loop decreases_loop
+returns : tie.Need-returns-then-left-next invariant_loop decreases_loop
 returns c =
-    let s = c.before.before.before.before.before.args.lengths.now in
-    let i = c.before.before.before.loop.i in
-    let turn = total_turn s (length s / 8) i c.before.before.loop-test.true in
-    sym (ne_eqb (total (lengths_in s)) c.before.before.before.before.before.args.given (λ e. omega (arith, turn)))
+    let s = c.args.lengths.now in
+    let i = c.loop-i.i in
+    let turn = total_turn s (length s / 8) i c.loop-i-test.true in
+    sym (ne_eqb (total (lengths_in s)) c.args.given (λ e. omega (arith, turn)))
 
-loop_again : tie.Need-loop-preserved invariant_loop decreases_loop
+loop_again : tie.Need-loop-i-preserved invariant_loop decreases_loop
 loop_again c =
-    let s = c.before.before.before.before.before.args.lengths.now in
-    let i = c.before.before.before.loop.i in
-    let turn = total_turn s (length s / 8) i c.before.before.loop-test.true in
+    let s = c.args.lengths.now in
+    let i = c.loop-i.i in
+    let turn = total_turn s (length s / 8) i c.loop-i-test.true in
     (omega arith, omega arith, omega (arith, turn))
 
-returns_2 : tie.Need-returns-2 invariant_loop decreases_loop
+returns_2 : tie.Need-returns invariant_loop decreases_loop
 returns_2 c =
-    let s = c.before.before.before.args.lengths.now in
-    let none = total_none s (length s / 8) c.before.loop.i c.loop-test.false in
-    counted (total (lengths_in s)) c.before.before.before.args.given c.before.loop.left (omega (arith, none))
+    let s = c.args.lengths.now in
+    let none = total_none s (length s / 8) c.loop-i.i c.loop-i-test.false in
+    counted (total (lengths_in s)) c.args.given c.loop-i.left (omega (arith, none))
 
 pub adds_up_spec : {M : Type 1} → statement M
 adds_up_spec =

@@ -10,39 +10,36 @@ use Rattle.batch.proofs.batch.Statement.{statement}
 use Rattle.batch.proofs.batch.Tie as tie
 
 -- the call's beginning from where it is judged, and from where it is not refused
-abbrev begun : tie.After-judge → tie.Start
-begun c = c.before.before.before.before.before.before.before.before
+abbrev begun : tie.After-judge-refusal → tie.Start
+begun c = c.before.before.before.before.before.before.before
 
-abbrev judged : tie.Else1 → tie.After-judge
+abbrev judged : tie.Else-refusal-gt0 → tie.After-judge-refusal
 judged c = c.before
 
-returns : tie.Need-returns
+returns : tie.Need-returns-then-refusal-gt0
 unfolding untouched
 returns c =
     let g = (begun c.before).args in
-    let asked = c.before.judge in
+    let asked = c.judge-refusal in
     sym
     (refused_changes_nothing g.limit g.edition g.tables.now g.lengths.now g.answers.now (lent g.out.now g.steps.now g.work.now)
-    asked.result (sym asked.ensures) (λ e. omega (arith, c.if1.true)))
+    asked.result (sym asked.ensures) (λ e. omega (arith, c.if-refusal-gt0.true)))
 
 -- the call is not refused
-accepted_of : (c : tie.Else1) → let g = (begun (judged c)).args in
+accepted_of : (c : tie.Else-refusal-gt0) → let g = (begun (judged c)).args in
     site_number g.limit g.edition g.tables.now g.lengths.now g.answers.now ≡ 0
-accepted_of c = let asked = (judged c).judge in omega (arith, asked.ensures, c.if1.false)
+accepted_of c = let asked = (judged c).judge-refusal in omega (arith, asked.ensures, c.if-refusal-gt0.false)
 
-in_turn_requires : tie.Need-in-turn-requires
+in_turn_requires : tie.Need-in_turn-requires
 in_turn_requires c κs =
-    let here = c.before.before.before.before in
-    let g = (begun (judged here)).args in
-    fits g.tables.now g.lengths.now g.answers.now g.limit g.edition (accepted_of here)
+    let g = (begun (judged c.before.before.before.before)).args in
+    fits g.tables.now g.lengths.now g.answers.now g.limit g.edition (accepted_of c.before.before.before.before)
 
-returns_2 : tie.Need-returns-2
+returns_2 : tie.Need-returns
 returns_2 c =
-    let done = c.before.before.before.before.before.before.before.before in
-    let here = done.before.before.before.before.before in
-    let g = (begun (judged here)).args in
-    done.in-turn.ensures
-    ∙ carried_out_lem g.tables.now g.lengths.now g.answers.now g.limit g.edition (accepted_of here)
+    let g = (begun (judged c.before.before.before.before.before.before.before.before.before.before.before.before.before)).args in
+    c.in_turn.ensures
+    ∙ carried_out_lem g.tables.now g.lengths.now g.answers.now g.limit g.edition (accepted_of c.before.before.before.before.before.before.before.before.before.before.before.before.before)
     (lent g.out.now g.steps.now g.work.now)
 
 pub batch_spec : {M : Type 1} → statement M

@@ -6,13 +6,13 @@ use Rattle.shared.specs.Answer.{tight}
 use Rattle.shared.proofs.is_tight.Statement.{statement}
 use Rattle.shared.proofs.is_tight.Tie as tie
 
-returns : tie.Need-returns
+returns : tie.Need-returns-then-opened-w
 unfolding tight
-returns c = rw (lt-ltb _ _ c.if1.true) refl
+returns c = rw (lt-ltb _ _ c.if-opened-w.true) refl
 
-returns_2 : tie.Need-returns-2
+returns_2 : tie.Need-returns
 unfolding tight
-returns_2 c = rw (le-ltb _ _ c.before.if1.false) c.is-cramped.ensures
+returns_2 c = rw (le-ltb _ _ c.if-opened-w.false) c.is_cramped.ensures
 
 pub is_tight_spec : {M : Type 1} → statement M
 is_tight_spec = tie.close (tie.spec (λ c. search rules) returns (λ c κs. search rules) returns_2)

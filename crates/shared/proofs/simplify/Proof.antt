@@ -26,42 +26,41 @@ use Rattle.shared.proofs.simplify.Statement.{statement}
 use Rattle.shared.proofs.simplify.Tie as tie
 
 -- the call's beginning from where the limit and the edition are judged, and what is handed in there
-abbrev begun : tie.After-judge-call → tie.Start
+abbrev begun : tie.After-judge_call-number → tie.Start
 begun c = c.before.before.before.before.before.before.before.before.before
 
-abbrev limit : tie.After-judge-call → ℕ
+abbrev limit : tie.After-judge_call-number → ℕ
 limit c = (begun c).args.limit
 
-abbrev asked : tie.After-judge-call → Handed
+abbrev asked : tie.After-judge_call-number → Handed
 asked c =
     let a = (begun c).args in
     handed a.table.now a.symbols.now a.lengths.now a.definitions.now
 
-abbrev area : tie.After-judge-call → List ℕ
+abbrev area : tie.After-judge_call-number → List ℕ
 area c = (begun c).args.opened.now
 
 -- from where the plan is made, and from where it refuses nothing
-abbrev judged : tie.After-prepare → tie.After-judge-call
+abbrev judged : tie.After-prepare-p → tie.After-judge_call-number
 judged c = c.before.before
 
-abbrev planned : tie.Else2 → tie.After-prepare
+abbrev planned : tie.Else-p-gt0 → tie.After-prepare-p
 planned c = c.before.before
 
 -- the limit and the edition are known
-knows : (c : tie.Else1) → let a = (begun c.before).args in (is_limit a.limit ≡ true) × (is_edition a.edition ≡ true)
+knows : (c : tie.Else-number-gt0) → let a = (begun c.before).args in (is_limit a.limit ≡ true) × (is_edition a.edition ≡ true)
 knows c =
-    let at = c.before in
-    both_known (limit at) (begun at).args.edition at.judge-call.result at.judge-call.ensures c.if1.false
+    both_known (limit c.before) (begun c.before).args.edition c.judge_call-number.result c.judge_call-number.ensures c.if-number-gt0.false
 
-limited_at : (c : tie.After-prepare) → is_limit (limit (judged c)) ≡ true
+limited_at : (c : tie.After-prepare-p) → is_limit (limit (judged c)) ≡ true
 limited_at c = (knows c.before).0
 
-opens_at : (c : tie.Else2) → Opens (limit (judged (planned c))) (asked (judged (planned c))) (planned c).prepare.result
+opens_at : (c : tie.Else-p-gt0) → Opens (limit (judged (planned c))) (asked (judged (planned c))) (planned c).prepare-p.result
 opens_at c =
     let at = judged (planned c) in
-    opens_as (limit at) (asked at) (limited_at (planned c)) (planned c).prepare.result (planned c).prepare.ensures c.if2.false
+    opens_as (limit at) (asked at) (limited_at (planned c)) (planned c).prepare-p.result (planned c).prepare-p.ensures c.if-p-gt0.false
 
-small : (c : tie.Else2) → (planned c).prepare.result.weight ≤ 16384
+small : (c : tie.Else-p-gt0) → (planned c).prepare-p.result.weight ≤ 16384
 small c =
     let o = opens_at c in
     let e = o.ready.weighs in
@@ -70,17 +69,17 @@ small c =
     omega arith
 
 -- from where the areas have room
-abbrev free : tie.Else3 → tie.Else2
+abbrev free : tie.Else-is_tight → tie.Else-p-gt0
 free c = c.before.before
 
-has_room : (c : tie.Else3) → 16 * (planned (free c)).prepare.result.weight ≤ length (area (judged (planned (free c))))
+has_room : (c : tie.Else-is_tight) → 16 * (planned (free c)).prepare-p.result.weight ≤ length (area (judged (planned (free c))))
 has_room c =
     let a = (begun (judged (planned (free c)))).args in
-    roomy a.limit (planned (free c)).prepare.result.weight (length a.opened.now)
+    roomy a.limit (planned (free c)).prepare-p.result.weight (length a.opened.now)
     (length a.out.now) (length a.steps.now) (length a.work.now)
-    (sym c.if3.false ∙ c.before.is-tight.ensures)
+    (sym c.if-is_tight.false ∙ c.is_tight.ensures)
 
-openable : (c : tie.Else3) → let h = asked (judged (planned (free c))) in let p = (planned (free c)).prepare.result in
+openable : (c : tie.Else-is_tight) → let h = asked (judged (planned (free c))) in let p = (planned (free c)).prepare-p.result in
     Openable (definitions_of h) h.definitions p.which p.from h.table (area (judged (planned (free c)))) (length h.symbols) (length h.symbols) 0
     (tree_in h.table) (opens_at (free c)).tree
 openable c =
@@ -90,16 +89,16 @@ openable c =
     o.ready.openable (area (judged (planned (free c)))) (omega arith)
 
 -- from where the opened table is written
-abbrev ready : tie.After-open-records → tie.Else3
+abbrev ready : tie.After-open_records-e → tie.Else-is_tight
 ready c = c.before.before.before.before.before.before
 
-written : (c : tie.After-open-records)
-    → Holding (opens_at (free (ready c))).tree 0 c.open-records.result (area (judged (planned (free (ready c))))) c.open-records.new.1.1.1.1.1.0
+written : (c : tie.After-open_records-e)
+    → Holding (opens_at (free (ready c))).tree 0 c.open_records-e.result (area (judged (planned (free (ready c))))) c.open_records-e.new.area
 written c =
     let h = asked (judged (planned (free (ready c)))) in
-    c.open-records.ensures (definitions_of h) (length h.symbols) (tree_in h.table) (opens_at (free (ready c))).tree (openable (ready c))
+    c.open_records-e.ensures (definitions_of h) (length h.symbols) (tree_in h.table) (opens_at (free (ready c))).tree (openable (ready c))
 
-few : (c : tie.After-open-records) → c.open-records.result ≤ 16384
+few : (c : tie.After-open_records-e) → c.open_records-e.result ≤ 16384
 few c =
     let o = opens_at (free (ready c)) in
     let l = o.ready.light in
@@ -108,7 +107,7 @@ few c =
     let e = (written c).end in
     omega arith
 
-fits : (c : tie.After-open-records) → 16 * c.open-records.result ≤ length c.open-records.new.1.1.1.1.1.0
+fits : (c : tie.After-open_records-e) → 16 * c.open_records-e.result ≤ length c.open_records-e.new.area
 fits c =
     let o = opens_at (free (ready c)) in
     let e = o.ready.weighs in
@@ -119,66 +118,61 @@ fits c =
     let k = ap length (written c).there ∙ length_put (area (judged (planned (free (ready c))))) (0 * 16) (encode o.tree) (omega arith) in
     omega arith
 
-returns : tie.Need-returns
+returns : tie.Need-returns-then-number-gt0
 returns c =
-    let at = c.before.before in
-    let a = (begun at).args in
-    shared_off a.limit a.edition (asked at) a.opened.now a.out.now a.steps.now a.work.now
-    at.judge-call.result at.judge-call.ensures c.before.if1.true c.refusal.result c.refusal.ensures
+    let a = (begun c.before.before).args in
+    shared_off a.limit a.edition (asked c.before.before) a.opened.now a.out.now a.steps.now a.work.now
+    c.judge_call-number.result c.judge_call-number.ensures c.if-number-gt0.true c.refusal.result c.refusal.ensures
 
-returns_2 : tie.Need-returns-2
+returns_2 : tie.Need-returns-then-p-gt0
 returns_2 c =
-    let at = c.before.before.before in
-    let h = asked (judged at) in
-    let a = (begun (judged at)).args in
-    let p = at.prepare.result in
-    shared_refused a.limit a.edition h a.opened.now a.out.now a.steps.now a.work.now (limited_at at) (knows at.before).1
-    (told p.number p.place (flaw_of p.flaw)) c.refusal2.result c.refusal2.ensures
-    (turned_as a.limit h p at.prepare.ensures c.before.if2.true)
+    let h = asked (judged c.before.before.before) in
+    let a = (begun (judged c.before.before.before)).args in
+    let p = c.prepare-p.result in
+    shared_refused a.limit a.edition h a.opened.now a.out.now a.steps.now a.work.now (limited_at c.before.before.before) (knows c.before.before.before.before).1
+    (told p.number p.place (flaw_of p.flaw)) c.refusal-then-p-gt0.result c.refusal-then-p-gt0.ensures
+    (turned_as a.limit h p c.prepare-p.ensures c.if-p-gt0.true)
 
-is_tight_requires : tie.Need-is-tight-requires
+is_tight_requires : tie.Need-is_tight-requires
 is_tight_requires c κs = let l = small c in omega arith
 
-returns_3 : tie.Need-returns-3
+returns_3 : tie.Need-returns-then-is_tight
 returns_3 c =
-    let e2 = c.before.before.before in
-    let at = planned e2 in
+    let at = planned c.before.before.before in
     let a = (begun (judged at)).args in
     shared_tight a.limit a.edition (asked (judged at)) a.opened.now a.out.now a.steps.now
-    a.work.now (limited_at at) (knows at.before).1 (opens_at e2)
-    c.refusal3.result c.refusal3.ensures (sym c.before.if3.true ∙ c.before.before.is-tight.ensures)
+    a.work.now (limited_at at) (knows at.before).1 (opens_at c.before.before.before)
+    c.refusal-then-is_tight.result c.refusal-then-is_tight.ensures (sym c.if-is_tight.true ∙ c.is_tight.ensures)
 
-open_records_requires : tie.Need-open-records-requires
+open_records_requires : tie.Need-open_records-e-requires
 open_records_requires c κs =
-    let e3 = c.before.before.before.before.before in
-    let h = asked (judged (planned (free e3))) in
-    (definitions_of h, length h.symbols, tree_in h.table, (opens_at (free e3)).tree, openable e3)
+    let h = asked (judged (planned (free c.before.before.before.before.before))) in
+    (definitions_of h, length h.symbols, tree_in h.table, (opens_at (free c.before.before.before.before.before)).tree, openable c.before.before.before.before.before)
 
-mul_end : tie.Need-overflow-mul-end
+mul_end : tie.Need-overflow_mul-end
 mul_end c = let l = few c.before.before in omega arith
 
-part_simplify_end : tie.Need-slice-bounds-simplify-end
-part_simplify_end c = let l = fits c.before.before.before in omega arith
+part_simplify_end : tie.Need-slice_bounds-simplify-end
+part_simplify_end c = let l = fits c.before.before in omega arith
 
 -- an answer of the simplifier, beside the area
 abbrev beside : List ℕ → Given → SharedGiven
 beside xs g = record { given = g; area = xs }
 
-returns_4 : tie.Need-returns-4
+returns_4 : tie.Need-returns
 returns_4 c =
-    let s = c.before.before.before.before.before.before.simplify in
-    let at = c.before.before.before.before.before.before.before.before.before.before.before.before.before.before in
-    let e2 = free (ready at) in
+    let s = c.simplify in
+    let e2 = free (ready c.before.before.before.before.before.before.before.before.before.before.before.before.before) in
     let a = (begun (judged (planned e2))).args in
-    let r = at.open-records in
-    let xs = r.new.1.1.1.1.1.0 in
+    let r = c.open_records-e in
+    let xs = r.new.area in
     let o = opens_at e2 in
     let l = lent a.out.now a.steps.now a.work.now in
     ap (beside xs)
-    (s.ensures ∙ ap (λ (x : List ℕ). simplified a.limit a.edition x l) (table_of o.tree r.result a.opened.now xs (written at)))
+    (s.ensures ∙ ap (λ (x : List ℕ). simplified a.limit a.edition x l) (table_of o.tree r.result a.opened.now xs (written c.before.before.before.before.before.before.before.before.before.before.before.before.before)))
     ∙ shared_done a.limit a.edition (asked (judged (planned e2))) a.opened.now a.out.now a.steps.now a.work.now
     (limited_at (planned e2)) (knows (planned e2).before).1 o xs r.result
-    (sym (ready at).if3.false ∙ (ready at).before.is-tight.ensures) (written at)
+    (sym (ready c.before.before.before.before.before.before.before.before.before.before.before.before.before).if-is_tight.false ∙ (ready c.before.before.before.before.before.before.before.before.before.before.before.before.before).is_tight.ensures) (written c.before.before.before.before.before.before.before.before.before.before.before.before.before)
 
 pub simplify_spec : {M : Type 1} → statement M
 simplify_spec =
