@@ -6,7 +6,7 @@ use mathlib.Core.Path.{◌≡◌, refl, sym, ap, ap₂, ◌∙◌}
 use mathlib.Core.List.{List, []}
 use lib.ListN.{length, drop, replicate}
 use lib.Dec.{lit≤}
-use denote.Ref.{Bor}
+use denote.Ref.{Bor, MutBor}
 use contract.Lifetimes.{Lfts}
 use Rattle.paper.specs.Bytes.{Bytes}
 use Rattle.paper.specs.Answers.{Lent, Answer, Given, simplified}
@@ -80,6 +80,9 @@ gives_in lim ed c n e b room = call_gives c b room ∙ ap₂ (λ i k. simplified
 at : List ℕ → Bor (List ℕ)
 at s = record { ref_ptr = (0, 0); now = s }
 
+at_mut : List ℕ → MutBor (List ℕ)
+at_mut s = record { ref_ptr = (0, 0); ghost_name = 0; now = s }
+
 κ : Lfts 5
 κ = ([], ([], ([], ([], ([], tt)))))
 
@@ -100,20 +103,20 @@ module _ (lim ed : ℕ) where
   simplified_describes c n e b room = sym (gives_in lim ed c n e b room)
 
   called : List ℕ → Lent → CCall
-  unfolding at κ
+  unfolding at at_mut κ
   called s l =
       let after = simplify_leaves lim ed s l blank in
       record {
         ends = κ;
-        handed = (lim, (ed, (at s, (at l.out, (at l.steps, (at l.work, (at blank, tt)))))));
+        handed = (lim, (ed, (at s, (at_mut l.out, (at_mut l.steps, (at_mut l.work, (at_mut blank, tt)))))));
         returned = simplify_returns lim ed s l blank;
-        left = (lim, (ed, (at s, (at after.out, (at after.steps, (at after.work, (at (simplify_answers lim ed s l blank), tt)))))));
+        left = (lim, (ed, (at s, (at_mut after.out, (at_mut after.steps, (at_mut after.work, (at_mut (simplify_answers lim ed s l blank), tt)))))));
         promised = record { returns = refl; answers = refl; leaves = refl };
       }
 
   -- so a simplifier that describes the call is the paper's on every table of bytes
   pub described : (f : Simplifier) → Describes f → (s : List ℕ) → Bytes s → (l : Lent) → f s l ≡ simplified lim ed s l
-  unfolding at κ called
+  unfolding at at_mut κ called
   described f h s b l = h (called s l) refl refl b blank_room ∙ call_gives (called s l) b blank_room
 
   -- the demands, of the call

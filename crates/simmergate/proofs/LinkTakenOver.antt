@@ -103,7 +103,7 @@ chain_joins (one_call c n q ch) next = one_call c n q (chain_joins ch next)
 
 pub chain_parts : {lim : ℕ} {x z : Task} (cs ds : List ReceiveCCall) → Chain lim x (cs ++ ds) z → (y : Task) × Chain lim x cs y × Chain lim y ds z
 chain_parts {x = x} [] ds ch = (x, no_call, ch)
-chain_parts (_ ∷ cs) ds (one_call c n q ch) = let r = chain_parts cs ds ch in (r.0, one_call c n q r.1, r.2)
+chain_parts {lim = lim} {x = x} {z = z} (c ∷ cs) ds (one_call _ n q ch) = let r = chain_parts {x = leaves c} cs ds ch in (r.0, one_call c n q r.1, r.2)
 
 -- two lists with the same pieces, on whichever machines, from the same record and area: the same numbers, and the same record and area in the end
 pub chain_once : {lim : ℕ} {x y y' : Task} {cs ds : List ReceiveCCall} → Chain lim x cs y → Chain lim x ds y' → pieces ds ≡ pieces cs

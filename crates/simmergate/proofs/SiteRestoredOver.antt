@@ -36,7 +36,7 @@ module _ (c d : SiteCCall) (n : limit d ≡ limit c) (k : edition d ≡ edition 
   ms = whole_lengths (lengths_in (lengths c)) (site c).answers
 
   handed_on_lem : tables d ≡ restored_whole (lengths_in (lengths c)) (tables c) (site c).answers (site c).lent.out
-  handed_on = q ∙ ap₂ (restored_whole (lengths_in (lengths c)) (tables c)) (all_told c e b) (out_is c e)
+  handed_on_lem = q ∙ ap₂ (restored_whole (lengths_in (lengths c)) (tables c)) (all_told c e b) (out_is c e)
 
   same_ms : lengths_whole c ≡ ms
   same_ms = ap (whole_lengths (lengths_in (lengths c))) (all_told c e b)

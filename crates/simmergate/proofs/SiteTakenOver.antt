@@ -81,7 +81,7 @@ module _ (c d : SiteCCall) (n : limit d ≡ limit c) (k : edition d ≡ edition 
     (whole : length (lengths d) % 8 ≡ 0) (r : lengths_in (lengths d) ≡ restored_lengths (told c))
     (places : place_bytes * length (restored_lengths (told c)) ≤ length (answers d)) (room : Room (limit c) (restored_weight (told c)) (areas d)) where
   handed_on_lem : tables d ≡ restored (lengths_in (lengths c)) (tables c) (site c).answers (site c).lent.out
-  handed_on = q ∙ ap₂ (restored (lengths_in (lengths c)) (tables c)) (all_told c e b) (out_is c e)
+  handed_on_lem = q ∙ ap₂ (restored (lengths_in (lengths c)) (tables c)) (all_told c e b) (out_is c e)
 
   accepted : d.returned ≡ 0
   accepted =

@@ -11,25 +11,21 @@ use Rattle.simmergate.proofs.NumbersLaws.{tells, with_flaw}
 use Rattle.simmergate.proofs.simmergate_check.Statement.{statement}
 use Rattle.simmergate.proofs.simmergate_check.Tie as tie
 
-returns : tie.Need-returns
+returns : tie.Need-returns-then-answer-lt-CHECK_BYTES
 returns c =
-    let a = c.before.before.before.args in
-    let q = (slices.check a.limit a.table.now a.answer.now).0 c.if1.true in
+    let a = c.args in
+    let q = (slices.check a.limit a.table.now a.answer.now).0 c.if-answer-lt-CHECK_BYTES.true in
     record { returns = sym q.0; answers = sym q.1 }
 
-returns_2 : tie.Need-returns-2
+returns_2 : tie.Need-returns
 unfolding verdict_numbers
 returns_2 c =
-    let written = c.before.before in
-    let wrong = written.before.before.before.before in
-    let fault = wrong.before in
-    let judged = fault.before in
-    let a = judged.before.before.before.before.args in
-    let r = fault.fault-of.result in
+    let a = c.args in
+    let r = c.fault_of-f.result in
     let rest = drop 32 a.answer.now in
-    let after = with_flaw (r.number ∷ r.place ∷ []) rest wrong.flaw-numbers.ensures written.write-numbers.ensures in
+    let after = with_flaw (r.number ∷ r.place ∷ []) rest c.flaw_numbers-wrong.ensures c.write_numbers.ensures in
     let by = (slices.check a.limit a.table.now a.answer.now).1 (omega arith) in
-    let q = tells (fault.fault-of.ensures ∙ judged.check.ensures) (λ (v : Verdict). v.number) verdict_numbers rest after by in
+    let q = tells (c.fault_of-f.ensures ∙ c.check.ensures) (λ (v : Verdict). v.number) verdict_numbers rest after by in
     record { returns = q.0; answers = q.1 }
 
 pub simmergate_check_spec : {M : Type 1} → statement M

@@ -12,26 +12,23 @@ use Rattle.simmergate.proofs.NumbersLaws.{tells, ten_told}
 use Rattle.simmergate.proofs.simmergate_simplify.Statement.{statement}
 use Rattle.simmergate.proofs.simmergate_simplify.Tie as tie
 
-returns : tie.Need-returns
+returns : tie.Need-returns-then-answer-lt-SIMPLIFY_BYTES
 returns c =
-    let g = c.before.before.before.before.before.before.args in
+    let g = c.args in
     let m = lent g.out.now g.steps.now g.work.now in
-    let q = (slices.simplify g.limit g.edition g.table.now m g.answer.now).0 c.if1.true in
-    let l = (slices.areas g.limit g.edition g.table.now m g.answer.now).0 c.if1.true in
+    let q = (slices.simplify g.limit g.edition g.table.now m g.answer.now).0 c.if-answer-lt-SIMPLIFY_BYTES.true in
+    let l = (slices.areas g.limit g.edition g.table.now m g.answer.now).0 c.if-answer-lt-SIMPLIFY_BYTES.true in
     record { returns = sym q.0; answers = sym q.1; leaves = sym l }
 
-returns_2 : tie.Need-returns-2
+returns_2 : tie.Need-returns
 returns_2 c =
-    let written = c.before.before in
-    let told = written.before.before.before in
-    let run = told.before.before.before.before.before.before.before in
-    let g = run.before.before.before.before.before.before.before.before.before.before.args in
+    let g = c.args in
     let m = lent g.out.now g.steps.now g.work.now in
     let rest = drop 80 g.answer.now in
-    let after = ten_told (says run.simplify.result) g.answer.now told.answer-numbers.ensures written.write-numbers.ensures in
+    let after = ten_told (says c.simplify-a.result) g.answer.now c.answer_numbers-numbers.ensures c.write_numbers.ensures in
     let by = (slices.simplify g.limit g.edition g.table.now m g.answer.now).1 (omega arith) in
     let l = (slices.areas g.limit g.edition g.table.now m g.answer.now).1 (omega arith) in
-    let e = run.simplify.ensures in
+    let e = c.simplify-a.ensures in
     let q = tells (ap (λ (x : Given). x.answer) e) (λ (a : Answer). a.number) answer_numbers rest after by in
     record { returns = q.0; answers = q.1; leaves = ap (λ (x : Given). x.lent) e ∙ sym l }
 

@@ -11,25 +11,22 @@ use Rattle.simmergate.proofs.NumbersLaws.{tells, with_flaw}
 use Rattle.simmergate.proofs.simmergate_weight.Statement.{statement}
 use Rattle.simmergate.proofs.simmergate_weight.Tie as tie
 
-returns : tie.Need-returns
+returns : tie.Need-returns-then-answer-lt-MEASURE_BYTES
 returns c =
-    let a = c.before.before.before.args in
-    let q = (slices.weight a.limit a.table.now a.answer.now).0 c.if1.true in
+    let a = c.args in
+    let q = (slices.weight a.limit a.table.now a.answer.now).0 c.if-answer-lt-MEASURE_BYTES.true in
     record { returns = sym q.0; answers = sym q.1 }
 
-returns_2 : tie.Need-returns-2
+returns_2 : tie.Need-returns
 unfolding measured_numbers
 returns_2 c =
-    let written = c.before.before in
-    let wrong = written.before.before.before.before in
-    let measured = wrong.before in
-    let a = measured.before.before.before.before.args in
-    let r = measured.weight.result in
+    let a = c.args in
+    let r = c.weight-w.result in
     let before = r.number ∷ r.place ∷ r.result ∷ [] in
     let rest = drop 40 a.answer.now in
-    let after = with_flaw before rest wrong.flaw-numbers.ensures written.write-numbers.ensures in
+    let after = with_flaw before rest c.flaw_numbers-wrong.ensures c.write_numbers.ensures in
     let by = (slices.weight a.limit a.table.now a.answer.now).1 (omega arith) in
-    let q = tells measured.weight.ensures (λ (m : Measured). m.number) measured_numbers rest after by in
+    let q = tells c.weight-w.ensures (λ (m : Measured). m.number) measured_numbers rest after by in
     record { returns = q.0; answers = q.1 }
 
 pub simmergate_weight_spec : {M : Type 1} → statement M

@@ -13,28 +13,25 @@ use Rattle.simmergate.proofs.DifferNumbers.{differ_tells, differ_leaves_lem}
 use Rattle.simmergate.proofs.differ_calls.simmergate_differ.Statement.{statement}
 use Rattle.simmergate.proofs.differ_calls.simmergate_differ.Tie as tie
 
-returns : tie.Need-returns
+returns : tie.Need-returns-then-answer-lt-DIFFER_BYTES
 returns c =
-    let g = c.before.before.before.before.before.args in
-    let q = (differ_tells g.limit g.a.now g.b.now g.list.now g.answer.now).0 c.if1.true in
-    let l = (differ_leaves_lem g.limit g.a.now g.b.now g.list.now g.answer.now).0 c.if1.true in
+    let g = c.args in
+    let q = (differ_tells g.limit g.a.now g.b.now g.list.now g.answer.now).0 c.if-answer-lt-DIFFER_BYTES.true in
+    let l = (differ_leaves_lem g.limit g.a.now g.b.now g.list.now g.answer.now).0 c.if-answer-lt-DIFFER_BYTES.true in
     record { returns = sym q.0; answers = sym q.1; leaves = sym l }
 
-returns_2 : tie.Need-returns-2
+returns_2 : tie.Need-returns
 unfolding differed_numbers differing
 returns_2 c =
-    let written = c.before.before in
-    let wrong = written.before.before.before.before.before in
-    let run = wrong.before.before.before in
-    let g = run.before.before.before.before.before.before.before.args in
-    let r = run.differ.result in
+    let g = c.args in
+    let r = c.differ-d.result in
     let before = r.number ∷ r.place ∷ r.which ∷ r.pairs ∷ [] in
     let rest = drop 48 g.answer.now in
-    let after = with_flaw before rest wrong.flaw-numbers.ensures written.write-numbers.ensures in
+    let after = with_flaw before rest c.flaw_numbers-wrong.ensures c.write_numbers.ensures in
     let by = (differ_tells g.limit g.a.now g.b.now g.list.now g.answer.now).1 (omega arith) in
     let l = (differ_leaves_lem g.limit g.a.now g.b.now g.list.now g.answer.now).1 (omega arith) in
-    let q = tells (ap (λ (x : Differed × List ℕ). x.0) run.differ.ensures) (λ (d : Differed). d.number) differed_numbers rest after by in
-    record { returns = q.0; answers = q.1; leaves = ap (λ (x : Differed × List ℕ). x.1) run.differ.ensures ∙ sym l }
+    let q = tells (ap (λ (x : Differed × List ℕ). x.0) c.differ-d.ensures) (λ (d : Differed). d.number) differed_numbers rest after by in
+    record { returns = q.0; answers = q.1; leaves = ap (λ (x : Differed × List ℕ). x.1) c.differ-d.ensures ∙ sym l }
 
 pub simmergate_differ_spec : {M : Type 1} → statement M
 simmergate_differ_spec =

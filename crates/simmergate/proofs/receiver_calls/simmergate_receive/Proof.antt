@@ -9,27 +9,23 @@ use Rattle.simmergate.proofs.ReceiverCallLaws.{receive_no_room, receive_room}
 use Rattle.simmergate.proofs.receiver_calls.simmergate_receive.Statement.{statement}
 use Rattle.simmergate.proofs.receiver_calls.simmergate_receive.Tie as tie
 
-returns : tie.Need-returns
+returns : tie.Need-returns-then-state-lt-RECORD_BYTES
 returns c =
-    let a = c.before.before.before.before.args in
-    let q = receive_no_room a.limit a.state.now a.area.now a.piece.now c.if1.true in
+    let a = c.args in
+    let q = receive_no_room a.limit a.state.now a.area.now a.piece.now c.if-state-lt-RECORD_BYTES.true in
     record { returns = q.0; keeps = q.1.0; leaves = q.1.1 }
 
-returns_2 : tie.Need-returns-2
+returns_2 : tie.Need-returns
 unfolding held_in
 returns_2 c =
-    let written = c.before.before in
-    let taken = written.before.before.before.before.before in
-    let read = taken.before.before in
-    let roomy = read.before.before in
-    let a = roomy.before.before.before.before.args in
-    let t = taken.after-piece.result in
-    let after = gives t.number t.state taken.after-piece.new.1.1.0 in
-    let told = taken.after-piece.ensures
-    ∙ ap (λ (r : Receiver). received a.limit (record { state = r; area = a.area.now }) a.piece.now) read.read-receiver.ensures in
+    let a = c.args in
+    let t = c.after_piece-t.result in
+    let after = gives t.number t.state c.after_piece-t.new.area in
+    let told = c.after_piece-t.ensures
+    ∙ ap (λ (r : Receiver). received a.limit (record { state = r; area = a.area.now }) a.piece.now) c.read_receiver-r.ensures in
     let q =
-    receive_room a.limit a.state.now a.area.now a.piece.now after told roomy.if1.false written.write-receiver.new.0
-    written.write-receiver.ensures in
+    receive_room a.limit a.state.now a.area.now a.piece.now after told c.if-state-lt-RECORD_BYTES.false c.write_receiver.new.state
+    c.write_receiver.ensures in
     record { returns = q.0; keeps = q.1.0; leaves = q.1.1 }
 
 pub simmergate_receive_spec : {M : Type 1} → statement M

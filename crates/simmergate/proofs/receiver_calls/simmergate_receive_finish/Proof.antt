@@ -14,38 +14,32 @@ use Rattle.simmergate.proofs.ReceiverCallLaws.{short_record, short_slice, finish
 use Rattle.simmergate.proofs.receiver_calls.simmergate_receive_finish.Statement.{statement}
 use Rattle.simmergate.proofs.receiver_calls.simmergate_receive_finish.Tie as tie
 
-returns : tie.Need-returns
+returns : tie.Need-returns-then-state-lt-RECORD_BYTES
 returns c =
-    let a = c.before.before.before.before.args in
-    let q = short_record a.limit a.state.now a.area.now a.answer.now c.if1.true in
+    let a = c.args in
+    let q = short_record a.limit a.state.now a.area.now a.answer.now c.if-state-lt-RECORD_BYTES.true in
     record { returns = q.0; keeps = q.1.0; answers = q.1.1 }
 
-returns_2 : tie.Need-returns-2
+returns_2 : tie.Need-returns-then-answer-lt-CHECK_BYTES
 returns_2 c =
-    let a = c.before.before.before.before.before.args in
-    let q = short_slice a.limit a.state.now a.area.now a.answer.now c.if2.true in
+    let a = c.args in
+    let q = short_slice a.limit a.state.now a.area.now a.answer.now c.if-answer-lt-CHECK_BYTES.true in
     record { returns = q.0; keeps = q.1.0; answers = q.1.1 }
 
-returns_3 : tie.Need-returns-3
+returns_3 : tie.Need-returns
 unfolding held_in verdict_numbers
 returns_3 c =
-    let numbers = c.before.before in
-    let wrong = numbers.before.before.before.before in
-    let kept = wrong.before.before.before in
-    let told = kept.before.before.before.before in
-    let read = told.before in
-    let roomy = read.before.before in
-    let a = roomy.before.before.before.before.before.args in
-    let f = told.at-finish.result in
+    let a = c.args in
+    let f = c.at_finish-f.result in
     let rest = drop 32 a.answer.now in
-    let after = with_flaw (f.end.number ∷ f.end.place ∷ []) rest wrong.flaw-numbers.ensures numbers.write-numbers.ensures in
-    let verdict-told = told.at-finish.ensures.0
-    ∙ ap (λ (r : Receiver). finish_verdict a.limit (record { state = r; area = a.area.now })) read.read-receiver.ensures in
-    let state-told = told.at-finish.ensures.1
-    ∙ ap (λ (r : Receiver). finish_state a.limit (record { state = r; area = a.area.now })) read.read-receiver.ensures in
+    let after = with_flaw (f.end.number ∷ f.end.place ∷ []) rest c.flaw_numbers-wrong.ensures c.write_numbers.ensures in
+    let verdict-told = c.at_finish-f.ensures.0
+    ∙ ap (λ (r : Receiver). finish_verdict a.limit (record { state = r; area = a.area.now })) c.read_receiver-r.ensures in
+    let state-told = c.at_finish-f.ensures.1
+    ∙ ap (λ (r : Receiver). finish_state a.limit (record { state = r; area = a.area.now })) c.read_receiver-r.ensures in
     let q =
     finish_room a.limit a.state.now a.area.now a.answer.now (verdict_of f.end) (says f.state) verdict-told state-told
-    roomy.before.if1.false roomy.if2.false kept.write-receiver.new.0 numbers.write-numbers.new.0 kept.write-receiver.ensures after in
+    c.if-state-lt-RECORD_BYTES.false c.if-answer-lt-CHECK_BYTES.false c.write_receiver.new.state c.write_numbers.new.answer c.write_receiver.ensures after in
     record { returns = q.0; keeps = q.1.0; answers = q.1.1 }
 
 pub simmergate_receive_finish_spec : {M : Type 1} → statement M

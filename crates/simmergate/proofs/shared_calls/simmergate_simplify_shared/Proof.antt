@@ -14,28 +14,25 @@ use Rattle.simmergate.proofs.NumbersLaws.{tells, ten_told}
 use Rattle.simmergate.proofs.shared_calls.simmergate_simplify_shared.Statement.{statement}
 use Rattle.simmergate.proofs.shared_calls.simmergate_simplify_shared.Tie as tie
 
-returns : tie.Need-returns
+returns : tie.Need-returns-then-answer-lt-SIMPLIFY_BYTES
 returns c =
-    let g = c.before.before.before.before.before.before.before.before.before.before.args in
+    let g = c.args in
     let h = handed g.table.now g.symbols.now g.lengths.now g.definitions.now in
     let m = lent g.out.now g.steps.now g.work.now in
-    let q = (shared_slices.shared g.limit g.edition h g.opened.now m g.answer.now).0 c.if1.true in
-    let l = (shared_slices.shared_areas g.limit g.edition h g.opened.now m g.answer.now).0 c.if1.true in
+    let q = (shared_slices.shared g.limit g.edition h g.opened.now m g.answer.now).0 c.if-answer-lt-SIMPLIFY_BYTES.true in
+    let l = (shared_slices.shared_areas g.limit g.edition h g.opened.now m g.answer.now).0 c.if-answer-lt-SIMPLIFY_BYTES.true in
     record { returns = sym q.0; answers = sym q.1; opens = sym l.0; leaves = sym l.1 }
 
-returns_2 : tie.Need-returns-2
+returns_2 : tie.Need-returns
 returns_2 c =
-    let written = c.before.before in
-    let told = written.before.before.before in
-    let run = told.before.before.before.before.before.before.before.before.before in
-    let g = run.before.before.before.before.before.before.before.before.before.before.before.before.before.before.before.args in
+    let g = c.args in
     let h = handed g.table.now g.symbols.now g.lengths.now g.definitions.now in
     let m = lent g.out.now g.steps.now g.work.now in
     let rest = drop 80 g.answer.now in
-    let after = ten_told (says run.simplify.result) g.answer.now told.answer-numbers.ensures written.write-numbers.ensures in
+    let after = ten_told (says c.simplify-a.result) g.answer.now c.answer_numbers-numbers.ensures c.write_numbers.ensures in
     let by = (shared_slices.shared g.limit g.edition h g.opened.now m g.answer.now).1 (omega arith) in
     let l = (shared_slices.shared_areas g.limit g.edition h g.opened.now m g.answer.now).1 (omega arith) in
-    let e = run.simplify.ensures in
+    let e = c.simplify-a.ensures in
     let q = tells (ap (λ (x : SharedGiven). x.given.answer) e) (λ (a : Answer). a.number) answer_numbers rest after by in
     record {
       returns = q.0;

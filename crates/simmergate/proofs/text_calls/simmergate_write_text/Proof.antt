@@ -13,28 +13,25 @@ use Rattle.simmergate.proofs.NumbersLaws.{tells, with_flaw}
 use Rattle.simmergate.proofs.text_calls.simmergate_write_text.Statement.{statement}
 use Rattle.simmergate.proofs.text_calls.simmergate_write_text.Tie as tie
 
-returns : tie.Need-returns
+returns : tie.Need-returns-then-answer-lt-MEASURE_BYTES
 returns c =
-    let a = c.before.before.before.before.args in
-    let q = (text_slices.writing a.limit a.table.now a.text.now a.answer.now).0 c.if1.true in
-    let l = (text_slices.writing_area a.limit a.table.now a.text.now a.answer.now).0 c.if1.true in
+    let a = c.args in
+    let q = (text_slices.writing a.limit a.table.now a.text.now a.answer.now).0 c.if-answer-lt-MEASURE_BYTES.true in
+    let l = (text_slices.writing_area a.limit a.table.now a.text.now a.answer.now).0 c.if-answer-lt-MEASURE_BYTES.true in
     record { returns = sym q.0; answers = sym q.1; leaves = sym l }
 
-returns_2 : tie.Need-returns-2
+returns_2 : tie.Need-returns
 unfolding measured_numbers write_given
 returns_2 c =
-    let written = c.before.before in
-    let wrong = written.before.before.before.before in
-    let run = wrong.before.before.before in
-    let a = run.before.before.before.before.before.before.args in
-    let r = run.write.result in
+    let a = c.args in
+    let r = c.write-w.result in
     let before = r.number ∷ r.place ∷ r.result ∷ [] in
     let rest = drop 40 a.answer.now in
-    let after = with_flaw before rest wrong.flaw-numbers.ensures written.write-numbers.ensures in
+    let after = with_flaw before rest c.flaw_numbers-wrong.ensures c.write_numbers.ensures in
     let by = (text_slices.writing a.limit a.table.now a.text.now a.answer.now).1 (omega arith) in
     let l = (text_slices.writing_area a.limit a.table.now a.text.now a.answer.now).1 (omega arith) in
-    let q = tells (ap (λ (x : Filled Measured). x.answer) run.write.ensures) (λ (m : Measured). m.number) measured_numbers rest after by in
-    record { returns = q.0; answers = q.1; leaves = ap (λ (x : Filled Measured). x.area) run.write.ensures ∙ sym l }
+    let q = tells (ap (λ (x : Filled Measured). x.answer) c.write-w.ensures) (λ (m : Measured). m.number) measured_numbers rest after by in
+    record { returns = q.0; answers = q.1; leaves = ap (λ (x : Filled Measured). x.area) c.write-w.ensures ∙ sym l }
 
 pub simmergate_write_text_spec : {M : Type 1} → statement M
 simmergate_write_text_spec =
