@@ -8,8 +8,7 @@ const DIFFER_BYTES: usize = 48;
 
 // Lists what differs between the trees of two tables, as pairs of record numbers, eight bytes each. The answer: number, place, which table is
 // refused, pairs, what is wrong with the record, which byte.
-#[unsafe(no_mangle)]
-pub extern "C" fn simmergate_differ(
+pub fn simmergate_differ(
     limit: usize,
     a: &[u8],
     b: &[u8],

@@ -12,7 +12,17 @@ ghost use Rattle.std.specs.Prelude.{◌≡◌};
 ghost use Rattle.paper.specs.Equal.{one};
 ghost use Rattle.simmergate.specs.Calls.{CheckCall, WeightCall, ValueCall, EqualCall, SimplifyCall};
 
+pub use differ_calls::simmergate_differ;
 use number::write_numbers;
+pub use receiver_calls::{simmergate_receive, simmergate_receive_finish};
+pub use release_call::simmergate_release;
+pub use settings_calls::{
+    simmergate_settings_fetch, simmergate_settings_fetch_1, simmergate_settings_remove,
+    simmergate_settings_store,
+};
+pub use shared_calls::{simmergate_open, simmergate_simplify_shared};
+pub use site_calls::simmergate_batch;
+pub use text_calls::{simmergate_read_text, simmergate_write_text};
 
 // The bytes of the checker's answer, four numbers of eight bytes each.
 const CHECK_BYTES: usize = 32;
@@ -34,8 +44,7 @@ fn number_of(yes: bool) -> u64
 }
 
 // Judges a table. The answer: number, place, what is wrong with the record, which byte.
-#[unsafe(no_mangle)]
-pub extern "C" fn simmergate_check(limit: usize, table: &[u8], answer: &mut [u8]) -> u32
+pub fn simmergate_check(limit: usize, table: &[u8], answer: &mut [u8]) -> u32
     ensures { CheckCall limit table answer result }
 {
     if answer.len() < CHECK_BYTES {
@@ -50,8 +59,7 @@ pub extern "C" fn simmergate_check(limit: usize, table: &[u8], answer: &mut [u8]
 }
 
 // Weighs a table. The answer: number, place, weight, what is wrong with the record, which byte.
-#[unsafe(no_mangle)]
-pub extern "C" fn simmergate_weight(limit: usize, table: &[u8], answer: &mut [u8]) -> u32
+pub fn simmergate_weight(limit: usize, table: &[u8], answer: &mut [u8]) -> u32
     ensures { WeightCall limit table answer result }
 {
     if answer.len() < MEASURE_BYTES {
@@ -72,13 +80,7 @@ pub extern "C" fn simmergate_weight(limit: usize, table: &[u8], answer: &mut [u8
 }
 
 // Evaluates a table under registers. The answer: number, place, value, what is wrong with the record, which byte.
-#[unsafe(no_mangle)]
-pub extern "C" fn simmergate_value(
-    limit: usize,
-    table: &[u8],
-    registers: &[u8],
-    answer: &mut [u8],
-) -> u32
+pub fn simmergate_value(limit: usize, table: &[u8], registers: &[u8], answer: &mut [u8]) -> u32
     ensures { ValueCall limit table registers answer result }
 {
     if answer.len() < MEASURE_BYTES {
@@ -100,8 +102,7 @@ pub extern "C" fn simmergate_value(
 
 // Compares the trees of two tables. The answer: number, place, which table is refused, yes (1) or no (0), what is wrong with the record,
 // which byte.
-#[unsafe(no_mangle)]
-pub extern "C" fn simmergate_equal(limit: usize, a: &[u8], b: &[u8], answer: &mut [u8]) -> u32
+pub fn simmergate_equal(limit: usize, a: &[u8], b: &[u8], answer: &mut [u8]) -> u32
     ensures { EqualCall limit a b answer result }
 {
     if answer.len() < EQUAL_BYTES {
@@ -125,8 +126,7 @@ pub extern "C" fn simmergate_equal(limit: usize, a: &[u8], b: &[u8], answer: &mu
 
 // Simplifies a table in lent memory, by the rules of an edition. The answer: number, place, records written, steps, openings, weight in,
 // weight out, what is wrong with the record, which byte, tries.
-#[unsafe(no_mangle)]
-pub extern "C" fn simmergate_simplify(
+pub fn simmergate_simplify(
     limit: usize,
     edition: usize,
     table: &[u8],

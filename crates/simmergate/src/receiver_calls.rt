@@ -39,13 +39,7 @@ fn write_receiver(state: &mut [u8], r: Receiver)
 }
 
 // Takes a piece of a table.
-#[unsafe(no_mangle)]
-pub extern "C" fn simmergate_receive(
-    limit: usize,
-    state: &mut [u8],
-    area: &mut [u8],
-    piece: &[u8],
-) -> u32
+pub fn simmergate_receive(limit: usize, state: &mut [u8], area: &mut [u8], piece: &[u8]) -> u32
     ensures { ReceiveCall limit state area piece result }
 {
     if state.len() < RECORD_BYTES {
@@ -59,8 +53,7 @@ pub extern "C" fn simmergate_receive(
 }
 
 // Finishes a table. The answer: number, place, what is wrong with the record, which byte.
-#[unsafe(no_mangle)]
-pub extern "C" fn simmergate_receive_finish(
+pub fn simmergate_receive_finish(
     limit: usize,
     state: &mut [u8],
     area: &[u8],

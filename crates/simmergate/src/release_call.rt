@@ -6,8 +6,7 @@ ghost use Rattle.simmergate.specs.Release.{release};
 const RELEASE: u32 = 3;
 
 // Tells the number of the release.
-#[unsafe(no_mangle)]
-pub extern "C" fn simmergate_release() -> u32
+pub fn simmergate_release() -> u32
     ensures { result ≡ release }
 {
     RELEASE

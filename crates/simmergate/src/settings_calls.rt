@@ -11,21 +11,14 @@ const FETCH_BYTES: usize = 32;
 const OLD_FETCH_BYTES: usize = 24;
 
 // Stores a setting with its unit.
-#[unsafe(no_mangle)]
-pub extern "C" fn simmergate_settings_store(
-    area: &mut [u8],
-    key: u16,
-    setting: u64,
-    unit: u16,
-) -> u32
+pub fn simmergate_settings_store(area: &mut [u8], key: u16, setting: u64, unit: u16) -> u32
     ensures { StoreCall area key setting unit result }
 {
     settings::store(area, key, setting, unit)
 }
 
 // Shows the setting of a key. The answer: number, place (always 0), setting, unit.
-#[unsafe(no_mangle)]
-pub extern "C" fn simmergate_settings_fetch(area: &[u8], key: u16, answer: &mut [u8]) -> u32
+pub fn simmergate_settings_fetch(area: &[u8], key: u16, answer: &mut [u8]) -> u32
     ensures { FetchCall area key answer result }
 {
     if answer.len() < FETCH_BYTES {
@@ -38,8 +31,7 @@ pub extern "C" fn simmergate_settings_fetch(area: &[u8], key: u16, answer: &mut 
 }
 
 // Shows the setting of a key as the old release does. The answer: number, place (always 0), setting.
-#[unsafe(no_mangle)]
-pub extern "C" fn simmergate_settings_fetch_1(area: &[u8], key: u16, answer: &mut [u8]) -> u32
+pub fn simmergate_settings_fetch_1(area: &[u8], key: u16, answer: &mut [u8]) -> u32
     ensures { OldFetchCall area key answer result }
 {
     if answer.len() < OLD_FETCH_BYTES {
@@ -52,8 +44,7 @@ pub extern "C" fn simmergate_settings_fetch_1(area: &[u8], key: u16, answer: &mu
 }
 
 // Removes the record of a key.
-#[unsafe(no_mangle)]
-pub extern "C" fn simmergate_settings_remove(area: &mut [u8], key: u16) -> u32
+pub fn simmergate_settings_remove(area: &mut [u8], key: u16) -> u32
     ensures { RemoveCall area key result }
 {
     settings::remove(area, key)

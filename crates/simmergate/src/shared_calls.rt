@@ -8,8 +8,7 @@ use crate::write_numbers;
 const OPEN_BYTES: usize = 48;
 
 // Opens a formula. The answer: number, place, records and weight of the opened table, what is wrong with the record, which byte.
-#[unsafe(no_mangle)]
-pub extern "C" fn simmergate_open(
+pub fn simmergate_open(
     limit: usize,
     table: &[u8],
     symbols: &[u8],
@@ -39,8 +38,7 @@ pub extern "C" fn simmergate_open(
 }
 
 // Opens a formula and simplifies the opened table, by the rules of an edition. The answer is as `simmergate_simplify`'s on the opened table.
-#[unsafe(no_mangle)]
-pub extern "C" fn simmergate_simplify_shared(
+pub fn simmergate_simplify_shared(
     limit: usize,
     edition: usize,
     table: &[u8],

@@ -2,8 +2,7 @@
 ghost use Rattle.simmergate.specs.Calls.{BatchCall};
 
 // Simplifies the tables of a site, end to end with a list of their lengths, one after the other in what remains of the areas.
-#[unsafe(no_mangle)]
-pub extern "C" fn simmergate_batch(
+pub fn simmergate_batch(
     limit: usize,
     edition: usize,
     tables: &[u8],

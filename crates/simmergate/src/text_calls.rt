@@ -7,13 +7,7 @@ use crate::write_numbers;
 const READ_BYTES: usize = 24;
 
 // Reads a text and writes its records to the table. The answer: number, place (always 0), records written.
-#[unsafe(no_mangle)]
-pub extern "C" fn simmergate_read_text(
-    limit: usize,
-    text: &[u8],
-    table: &mut [u8],
-    answer: &mut [u8],
-) -> u32
+pub fn simmergate_read_text(limit: usize, text: &[u8], table: &mut [u8], answer: &mut [u8]) -> u32
     ensures { ReadTextCall limit text table answer result }
 {
     if answer.len() < READ_BYTES {
@@ -26,13 +20,7 @@ pub extern "C" fn simmergate_read_text(
 }
 
 // Writes the text of a table. The answer: number, place, bytes written, what is wrong with the record, which byte.
-#[unsafe(no_mangle)]
-pub extern "C" fn simmergate_write_text(
-    limit: usize,
-    table: &[u8],
-    text: &mut [u8],
-    answer: &mut [u8],
-) -> u32
+pub fn simmergate_write_text(limit: usize, table: &[u8], text: &mut [u8], answer: &mut [u8]) -> u32
     ensures { WriteTextCall limit table text answer result }
 {
     if answer.len() < crate::MEASURE_BYTES {
