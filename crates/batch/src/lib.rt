@@ -1,4 +1,6 @@
 // A whole site at once: the tables end to end, one after the other through the simplifier, each in what the ones before it left over.
+#![tactic(auto)]
+
 ghost use Rattle.std.specs.Prelude.{◌≡◌, ◌*◌, ◌/◌, ◌≤◌, length, eqb};
 ghost use Rattle.simplify.specs.Answer.{lent};
 ghost use Rattle.paper_batch.specs.Batch.{lengths_in, total, turns_down, site_number, site_called};

@@ -1,4 +1,6 @@
 // Numbers in decimal digits, the highest first, with no leading zero.
+#![tactic(auto)]
+
 ghost use Rattle.std.specs.Prelude.{◌≡◌, ◌+◌, ◌*◌, ◌^◌, ◌<◌, ◌≤◌, length, drop};
 ghost use Rattle.paper_text.specs.Text.{digit_ahead, read_number};
 ghost use Rattle.decimal.specs.Digits.{NumberRead, NumberSpelt};

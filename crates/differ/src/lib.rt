@@ -1,6 +1,8 @@
 // What differs between two tables: their trees walked in step, and the pairs of record numbers where they do not agree. Where two records
 // agree they have equally many members, so that the walk is one record further on in both tables; where they do not it is past both trees.
 // So there is no recursion. The walk is taken twice, to count the pairs and to write them, and the list is as it was where it is too short.
+#![tactic(auto)]
+
 ghost use Rattle.std.specs.Prelude.{◌≡◌, ◌++◌, ◌+◌, ◌*◌, ◌≤◌, length};
 ghost use Rattle.paper.specs.Bytes.{bytes};
 ghost use Rattle.paper.specs.Tree.{Tree};

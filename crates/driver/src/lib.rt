@@ -1,4 +1,6 @@
 // The driver: at a node the rules of an edition are asked, then the members are driven and gathered, and it begins again while anything changes.
+#![tactic(auto)]
+
 ghost use Rattle.std.specs.Prelude.{◌≡◌, List, ℕ, ◌+◌, ◌*◌, ◌^◌, ◌≤◌, ◌<◌, ◌&&◌, length, get_or, eqb};
 ghost use Rattle.paper.specs.Record.{kind, is_node, arity};
 ghost use Rattle.paper.specs.Tree.{Tree};

@@ -13,7 +13,7 @@ use lib.IntN.{pos}
 use lib.Dec.{eqb}
 use Rattle.paper.specs.Bytes.{word}
 use Rattle.paper.specs.Record.{kind, bits}
-use Rattle.paper.specs.Tree.{Tree, integer, product, mark_of, records}
+use Rattle.paper.specs.Tree.{Tree, mark_of, records}
 use Rattle.paper.specs.Equal.{equal}
 use Rattle.paper.specs.Rules.{Term, term, term_of}
 use Rattle.paper.proofs.Tests.{and_both, true_not_false, not_so}

@@ -1,4 +1,6 @@
 // Numbers in bytes, and arithmetic on the signed 64-bit range and modulo 2^64. A number is its 64 bits throughout.
+#![tactic(auto)]
+
 ghost use Rattle.std.specs.Prelude.{◌≡◌, ◌+◌, ◌*◌, ◌%◌, ◌^◌, ◌<◌, ◌≤◌, [], ◌∷◌, ◌++◌, length, drop, ◌+ℤ◌, ◌*ℤ◌, unsigned_abs};
 ghost use Rattle.paper.specs.Bytes.{le, le2, le8, bytes, signed};
 ghost use Rattle.paper.specs.Calls.{eights};

@@ -1,7 +1,7 @@
 -- "a machine without this release refuses a marked record with 2": the judgement of a table by that machine. It differs in the table of
 -- bytes alone (`mayTableBefore`): what it holds to be wrong with a record, and the first record with which something is; where nothing is,
 -- it goes on to 3, 4 and 5 as every machine does.
-use Rattle.std.specs.Prelude.{ℕ, zero, suc, ◌+◌, ◌*◌, ◌<◌, ◌≡◌, Bool, true, false, cond, ◌&&◌, ◌||◌, not, List, [], ◌⊎◌, eqb, ltb, length, get_or}
+use Rattle.std.specs.Prelude.{ℕ, zero, suc, ◌+◌, ◌*◌, ◌<◌, ◌≡◌, true, false, cond, ◌&&◌, ◌||◌, not, List, [], ◌⊎◌, eqb, ltb, length, get_or}
 use Rattle.paper.specs.Limits.{is_limit}
 use Rattle.paper.specs.Record.{kind, count_in, mark_in, may_table_before, is_node, Flaw, sound, bad_kind, bad_byte, bad_count, flaw, is_flawed}
 use Rattle.paper.specs.Verdict.{Verdict, refused, flawed, records_in, bad_length, judged_table}

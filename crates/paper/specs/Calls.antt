@@ -1,12 +1,12 @@
 -- The calls from C: "the call returns the refusal number, and all numbers of the answer go to a further lent slice, 8 bytes each,
 -- little-endian, in the order named above. If that slice is too short, the call returns 6 before all else and changes nothing;
 -- its bytes past the answer never change."
-use Rattle.std.specs.Prelude.{ℕ, ◌*◌, Bool, true, false, cond, List, [], ◌∷◌, ◌++◌, length, drop, ltb}
+use Rattle.std.specs.Prelude.{ℕ, ◌*◌, Bool, cond, List, [], ◌∷◌, ◌++◌, length, drop, ltb}
 use Rattle.paper.specs.Bytes.{bytes}
 use Rattle.paper.specs.Record.{flaw_numbers}
 use Rattle.paper.specs.Verdict.{Verdict, verdict}
 use Rattle.paper.specs.Equal.{one}
-use Rattle.paper.specs.Answers.{Measured, weighed, valued, Compared, compared, Lent, Answer, Given, simplified}
+use Rattle.paper.specs.Answers.{Measured, weighed, valued, Compared, compared, Lent, Answer, simplified}
 
 -- the numbers of an answer, in the order that the paper names them; after them, so that
 -- no other number moves, what is wrong with the record, and last the tries

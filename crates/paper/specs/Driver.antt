@@ -4,8 +4,8 @@
 -- the node is finished."
 use Rattle.std.specs.Prelude.{ℕ, zero, suc, ◌+◌, Bool, true, false, List, [], ◌∷◌, ◌++◌, length, pos, eqb}
 use Rattle.std.proofs.Math.Option.{Option, none, some}
-use Rattle.paper.specs.Tree.{Tree, Forest, integer, symbol, sum, product, power, to_list, of_list, weight}
-use Rattle.paper.specs.Rules.{Rule, Tried, does_not_apply, applies, range_exceeded}
+use Rattle.paper.specs.Tree.{Tree, integer, symbol, sum, product, power, to_list, of_list, weight}
+use Rattle.paper.specs.Rules.{Rule, does_not_apply, applies, range_exceeded}
 
 -- what the rules, tried in their order, answer at a node
 pub data Asked : Type 0 where

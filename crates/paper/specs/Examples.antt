@@ -1,7 +1,7 @@
 -- "Marked * are the ones for the proved table": the starred examples of the paper, as one table. Letters a, b, c, d are symbols 0,
 -- 1, 2, 3. proofs/Starred proves the whole table by one statement.
 use Rattle.std.specs.Prelude.{ℕ, ◌-◌, List, [], ◌∷◌, pos, negsuc}
-use Rattle.paper.specs.Tree.{Tree, Forest, integer, symbol, sum, product, power, of_list, marked, weight}
+use Rattle.paper.specs.Tree.{Tree, integer, symbol, sum, product, power, of_list, marked, weight}
 use Rattle.paper.specs.Rules.{Rule, edition_one}
 use Rattle.paper.specs.Driver.{Ran, done, over, simplify}
 

@@ -4,7 +4,7 @@
 use Rattle.std.specs.Prelude.{ℕ, zero, suc, ◌+◌, ◌≡◌, Bool, true, false, cond, List, [], ◌∷◌, length, eqb, ltb}
 use Rattle.std.proofs.Math.Option.{Option, none, some}
 use Rattle.paper.specs.Bytes.{Bytes}
-use Rattle.paper.specs.Tree.{Tree, Forest, integer, symbol, sum, product, power, of_list, weight}
+use Rattle.paper.specs.Tree.{Tree, integer, symbol, sum, product, power, weight}
 use Rattle.paper.specs.Table.{tree_of}
 use Rattle.paper.specs.Verdict.{accepted, verdict}
 use Rattle.paper.specs.Rules.{Rule, sum_of, product_of}

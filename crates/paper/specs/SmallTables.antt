@@ -3,7 +3,7 @@ use Rattle.std.specs.Prelude.{ℕ, ◌-◌, ◌≡◌, true, false, List, [], �
 use Rattle.paper.specs.Tree.{Tree, integer, symbol, sum, product, power, nil, cons}
 use Rattle.paper.specs.Record.{sound, bad_kind, bad_byte, bad_count, flaw}
 use Rattle.paper.specs.Table.{record_of, encode}
-use Rattle.paper.specs.Verdict.{Verdict, accepted, refused, flawed, verdict}
+use Rattle.paper.specs.Verdict.{accepted, refused, flawed, verdict}
 use Rattle.paper.specs.Answers.{valued, compared}
 use Rattle.paper.specs.Calls.{eights, check_answers, value_answers, equal_answers}
 

@@ -2,7 +2,7 @@
 -- The ranges, and "two members or more", stand in WellFormed. Every record of a tree has a mark: the first number of each constructor,
 -- and of a power the number before the exponent is the mark of the exponent's record, 0 for none. "Weight, value and equality of trees
 -- ignore it."
-use Rattle.std.specs.Prelude.{ℕ, zero, suc, ◌+◌, ◌*◌, ◌%◌, ◌^◌, List, [], ◌∷◌, ℤ}
+use Rattle.std.specs.Prelude.{ℕ, suc, ◌+◌, ◌*◌, ◌%◌, ◌^◌, List, [], ◌∷◌, ℤ}
 use Rattle.paper.specs.Limits.{modulus}
 use Rattle.paper.specs.Bytes.{word}
 

@@ -1,6 +1,6 @@
 -- What an item does to what it is handed: it uses up stretches at the front, within the areas, and leaves what is past them. The paper's
 -- simplifier does, in every edition: refused it leaves all, and a run writes no more than its stretches hold.
-use Prim.Native.Nat.{ℕ, ◌+◌, ◌-◌, ◌*◌, ◌≤◌}
+use Prim.Native.Nat.{ℕ, ◌-◌, ◌*◌, ◌≤◌}
 use mathlib.Core.Path.{◌≡◌, refl, sym, ap, ◌∙◌}
 use mathlib.Core.Bool.{true, false, cond, ◌||◌}
 use mathlib.Core.List.{List, [], ◌++◌, append_assoc}

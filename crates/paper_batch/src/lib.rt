@@ -1,2 +1,4 @@
+#![tactic(auto)]
+
 // A whole site in one call, as definitions. Nothing here runs: what is believed stands in specs/, what is proved of it in proofs/.
 pub fn nothing() {}

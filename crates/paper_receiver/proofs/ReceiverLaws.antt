@@ -2,7 +2,7 @@
 -- record and area; so any pieces leave what their whole leaves. From an empty receiver the first bytes of the whole are kept, and the
 -- finish answers as the checker does on the whole. A refusal changes nothing, any other finish empties the receiver, and what comes after it
 -- is received as by a fresh one. Each theorem is a case on the limit and on the area's length over the laws of a piece.
-use Prim.Native.Nat.{ℕ, ◌+◌, ◌-◌, ◌≤◌, ◌<◌, min}
+use Prim.Native.Nat.{ℕ, ◌-◌, ◌≤◌, ◌<◌, min}
 use mathlib.Core.Path.{◌≡◌, refl, sym, ap, ◌∙◌}
 use mathlib.Core.Bool.{true, false}
 use mathlib.Core.List.{List, [], ◌∷◌, ◌++◌}

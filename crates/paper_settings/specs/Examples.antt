@@ -1,6 +1,6 @@
 -- Small areas with what the calls answer and leave, as one table: each row is one that a wrong reading of the request would get wrong.
 -- proofs/Computed proves the whole table by one statement. Slots are written byte by byte, numbers as the caller sees them.
-use Rattle.std.specs.Prelude.{ℕ, zero, suc, ◌+◌, ◌-◌, List, [], ◌∷◌, ◌++◌, map, replicate}
+use Rattle.std.specs.Prelude.{ℕ, zero, suc, ◌+◌, List, [], ◌∷◌, ◌++◌, replicate}
 use Rattle.paper_settings.specs.Settings.{Op, to_store, to_fetch, to_remove, Reply, OldReply, called, fetched_old, call_each}
 use Rattle.paper_settings.specs.Calls.{fetch_returns, fetch_answers, old_returns, old_answers}
 

@@ -3,7 +3,7 @@ use Rattle.std.specs.Prelude.{ℕ, cond, List, ◌∷◌}
 use Rattle.paper.specs.Record.{flaw_numbers}
 use Rattle.paper.specs.Answers.{Lent}
 use Rattle.paper.specs.Calls.{answer_numbers, is_too_short, returned, answered}
-use Rattle.paper_shared.specs.Answers.{Handed, OpenAnswer, OpenGiven, open_given, SharedGiven, shared_given}
+use Rattle.paper_shared.specs.Answers.{Handed, OpenAnswer, open_given, shared_given}
 
 -- the numbers of the answer: number, place, records and weight of the opened table; last, what is wrong with the record
 unfoldable pub open_numbers : OpenAnswer → List ℕ

@@ -6,7 +6,7 @@ use Rattle.std.proofs.Math.Option.{some}
 use Rattle.paper.specs.Record.{sound}
 use Rattle.paper.specs.Tree.{Tree, weight, records, value}
 use Rattle.paper.specs.Table.{encode, tree_of}
-use Rattle.paper.specs.Verdict.{Verdict, accepted}
+use Rattle.paper.specs.Verdict.{accepted}
 use Rattle.paper.specs.Rules.{rules_of}
 use Rattle.paper.specs.Admits.{AdmitsNone}
 use Rattle.paper.specs.Answers.{Lent, refused_by, simplified}

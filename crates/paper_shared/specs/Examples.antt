@@ -1,16 +1,13 @@
 -- Small sites with what the calls answer, as tables: each row is one that a wrong reading of the request would get wrong. proofs/Computed proves
 -- each table by one statement.
-use Rattle.std.specs.Prelude.{ℕ, zero, suc, ◌+◌, Bool, true, false, List, [], ◌∷◌, ◌++◌, map, length, replicate, pos}
+use Rattle.std.specs.Prelude.{ℕ, zero, suc, ◌+◌, List, [], ◌∷◌, ◌++◌, length, replicate, pos}
 use Rattle.paper.specs.Bytes.{bytes}
-use Rattle.paper.specs.Tree.{Tree, integer, symbol, sum, product, power, of_list, weight, records}
-use Rattle.paper.specs.Record.{Flaw, sound, bad_byte}
+use Rattle.paper.specs.Tree.{Tree, integer, symbol, sum, product, power, of_list}
+use Rattle.paper.specs.Record.{sound}
 use Rattle.paper.specs.Table.{encode}
-use Rattle.paper.specs.Verdict.{Verdict, refused}
 use Rattle.paper.specs.Answers.{Lent}
-use Rattle.paper.specs.Calls.{eights}
 use Rattle.paper_shared.specs.Shared.{Definition}
-use Rattle.paper_shared.specs.Answers.{Handed, OpenGiven, unopened, open_given, shared_verdict}
-use Rattle.paper_shared.specs.Calls.{open_returns, open_answers, open_leaves}
+use Rattle.paper_shared.specs.Answers.{Handed, OpenGiven, open_given, shared_verdict}
 
 abbrev a : Tree
 a = symbol 0 0

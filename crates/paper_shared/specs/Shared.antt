@@ -1,6 +1,6 @@
 -- Shared sub-formulas: "Up to 16 symbols may be defined by tables of their own, and the loader replaces each by its tree, again inside the
 -- replacement, until none is left."
-use Rattle.std.specs.Prelude.{ℕ, zero, suc, ◌%◌, Bool, true, false, cond, List, [], ◌∷◌, length, eqb, ◌≡◌, ◌⊎◌}
+use Rattle.std.specs.Prelude.{ℕ, zero, suc, ◌%◌, cond, List, [], ◌∷◌, length, eqb, ◌≡◌, ◌⊎◌}
 use Rattle.std.proofs.Math.Option.{Option, none, some}
 use Rattle.paper.specs.Limits.{modulus}
 use Rattle.paper.specs.Tree.{Tree, Forest, integer, symbol, sum, product, power, nil, cons, value}

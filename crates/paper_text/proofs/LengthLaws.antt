@@ -1,7 +1,7 @@
 -- How long a text is, and how light. A text has at most 21 characters for each unit of weight: an integer has 20 at the most, and the sign
 -- after it; parentheses are paid by the record of their node. The other way, a tree weighs less than twice its characters. Both by
 -- induction on the tree, with its members.
-use Prim.Native.Nat.{ℕ, zero, suc, ◌+◌, ◌-◌, ◌*◌, ◌/◌, ◌%◌, ◌^◌, ◌<◌, ◌≤◌}
+use Prim.Native.Nat.{ℕ, zero, suc, ◌+◌, ◌*◌, ◌/◌, ◌%◌, ◌^◌, ◌<◌, ◌≤◌}
 use mathlib.Core.Path.{◌≡◌, refl}
 use mathlib.Core.Bool.{Bool, true, false, cond}
 use mathlib.Core.List.{List, [], ◌∷◌}

@@ -1,6 +1,6 @@
 -- The reader's and the writer's answers in the paper's words. 14 is given exactly when no well-formed tree has the text; reading what was
 -- written gives the same records, and writing what was read gives the same text. Each from the two round trips.
-use Prim.Native.Nat.{ℕ, ◌+◌, ◌*◌, ◌≤◌, ◌<◌}
+use Prim.Native.Nat.{ℕ, ◌*◌, ◌≤◌, ◌<◌}
 use mathlib.Core.Path.{◌≡◌, refl, sym, ap, ◌∙◌, subst}
 use mathlib.Core.Bool.{Bool, true, false, cond}
 use mathlib.Core.List.{List, ◌++◌}

@@ -1,7 +1,7 @@
 -- The writer and the reader of formulas as text: the whole answer of each, and the lent area afterwards, as functions of the bytes handed in;
 -- and their calls from C. "1 to 5 for its table, then 6" for the writer; 14, then 3, then 6 for the reader; "all leave the area unchanged". lim is the
 -- limit, which comes first.
-use Rattle.std.specs.Prelude.{ℕ, ◌*◌, ◌≤◌, ◌<◌, ◌≡◌, Bool, true, false, cond, List, [], ◌∷◌, ◌++◌, length, drop, ltb}
+use Rattle.std.specs.Prelude.{ℕ, ◌*◌, ◌≤◌, ◌<◌, ◌≡◌, true, false, cond, List, [], ◌∷◌, ◌++◌, length, drop, ltb}
 use Rattle.std.proofs.Math.Option.{Option, none, some}
 use Rattle.paper.specs.Limits.{is_limit}
 use Rattle.paper.specs.Tree.{Tree, weight, records}

@@ -1,8 +1,8 @@
 -- Reading a text some levels deep. A group that stands deeper is not read: `skim` passes it up to its closing parenthesis and tells by its
 -- signs what it would be. So a text of any nesting is judged with a fixed depth of calls, a block of levels at a time.
-use Rattle.std.specs.Prelude.{ℕ, zero, suc, ◌+◌, ◌-◌, Bool, true, false, cond, ◌&&◌, ◌||◌, List, [], ◌∷◌, ℤ, pos, negsuc, length, eqb, ltb}
+use Rattle.std.specs.Prelude.{ℕ, zero, suc, ◌+◌, ◌-◌, Bool, true, false, cond, ◌&&◌, ◌||◌, List, [], ◌∷◌, pos, negsuc, length, eqb, ltb}
 use Rattle.std.proofs.Math.Option.{Option, none, some}
-use Rattle.paper.specs.Tree.{Tree, Forest, integer, symbol, sum, product, power, nil, cons}
+use Rattle.paper.specs.Tree.{Tree, integer, symbol, sum, product, power, nil}
 use Rattle.paper_text.specs.Text.{opens, closes, times, plus, minus, power_sign, Reading, begins, read_sum}
 
 -- ---- the rank of a tree: the more, the more places put parentheses round it. As a base all over 0, in a product all over 1, in a sum 3.

@@ -1,2 +1,4 @@
+#![tactic(auto)]
+
 // Formulas as text, as definitions. Nothing here runs: what is believed stands in specs/, what is proved of it in proofs/.
 pub fn nothing() {}

@@ -1,6 +1,6 @@
 -- The records of what is read, as the reader comes by them: a power and its base, and the members of a node after its first, one after the
 -- other.
-use Prim.Native.Nat.{ℕ, ◌+◌, ◌-◌}
+use Prim.Native.Nat.{ℕ, ◌+◌}
 use mathlib.Core.Path.{◌≡◌}
 use mathlib.Core.List.{List, [], ◌∷◌, ◌++◌}
 use native.Mathlib.Omega.{arith}

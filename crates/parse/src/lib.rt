@@ -1,5 +1,7 @@
 // Reading a text, n levels of parentheses deep: a sum from products, a product from powers, a power from a base that may hold a sum again.
 // A group that lies deeper is passed over and judged by its signs. What is read is written to an area as records, where they lie in it.
+#![tactic(auto)]
+
 ghost use Rattle.std.specs.Prelude.{◌≡◌, true, List, ℕ, suc, ◌+◌, ◌*◌, ◌^◌, ◌<◌, ◌≤◌, length, drop, get_or};
 ghost use Rattle.std.proofs.Math.Option.{some};
 ghost use Rattle.paper.specs.Tree.{Tree, weight};

@@ -1,5 +1,7 @@
 // The member that a part becomes when its turn is done, written to a table: a rest with its coefficient, a base with its exponent. Whoever
 // writes a node's record closes it.
+#![tactic(auto)]
+
 ghost use Rattle.std.specs.Prelude.{◌≡◌, Bool, ℕ, ◌+◌, ◌*◌, ◌≤◌, ◌<◌, length};
 ghost use Rattle.std.proofs.Math.Option.{none};
 ghost use Rattle.paper.specs.Tree.{Tree, Forest, product, marked, to_list, of_list, recordses};

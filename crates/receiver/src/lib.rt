@@ -1,5 +1,7 @@
 // The receiver of tables that come over the serial link in pieces: by value, and in thin functions over it that change the link task's
 // record on the spot.
+#![tactic(auto)]
+
 ghost use Rattle.std.specs.Prelude.{◌≡◌};
 ghost use Rattle.paper_receiver.specs.Receiver.{is_past, received, finish_verdict, finish_state};
 ghost use Rattle.table.specs.Judged.{verdict_of};

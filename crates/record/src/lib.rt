@@ -1,4 +1,6 @@
 // One record of a table: its fields, its number of members, and what is wrong with it.
+#![tactic(auto)]
+
 ghost use Rattle.std.specs.Prelude.{◌≡◌, not, ◌+◌, ◌*◌, ◌<◌, ◌≤◌, length};
 ghost use Rattle.paper.specs.Record.{kind, count_in, mark_in, bits, symbol_in, stray, flaw, arity, is_flawed, flaw_numbers};
 ghost use Rattle.paper.specs.Verdict.{is_positive};

@@ -1,5 +1,7 @@
 // Each defined symbol of a formula is replaced by the tree of its definition, again inside the replacement. A symbol has no members, so the
 // opened table is the formula's records in order, each record of a defined symbol replaced by the opened records of its definition.
+#![tactic(auto)]
+
 ghost use Rattle.std.specs.Prelude.{◌≡◌, List, cond, ℕ, ◌+◌, ◌-◌, ◌*◌, ◌<◌, ◌≤◌, length, get_or, eqb};
 ghost use Rattle.paper.specs.Tree.{Tree};
 ghost use Rattle.paper.specs.Record.{kind, symbol_in};

@@ -1,6 +1,6 @@
 -- Steps 1 and 4 on the way through the members: some are done, and what is kept of them stands in `out`; the others are left. What is
 -- kept of all is what is kept of the first followed by what is kept of the others, so at the end it all stands in `out`.
-use Prim.Native.Nat.{ℕ, zero, ◌+◌, ◌-◌, ◌*◌, ◌<◌, ◌≤◌}
+use Prim.Native.Nat.{ℕ, ◌+◌, ◌-◌, ◌*◌, ◌<◌, ◌≤◌}
 use mathlib.Core.Path.{◌≡◌, refl, sym, ap, ◌∙◌, subst}
 use mathlib.Core.Bool.{Bool, true, false}
 use mathlib.Core.List.{List, [], ◌∷◌, ◌++◌, append-nil, append_assoc}

@@ -1,5 +1,7 @@
 // The rules, each tried on one node of the pending records, and all of them asked in the paper's order. The records are noted, and a rule
 // that writes a node's record closes it.
+#![tactic(auto)]
+
 ghost use Rattle.std.specs.Prelude.{◌≡◌, List, ℕ};
 ghost use Rattle.paper.specs.Tree.{Tree};
 ghost use Rattle.paper.specs.Rules.{rules_of};

@@ -1,5 +1,7 @@
 // Settings that survive an upgrade: an area of slots of 32 bytes, judged whole at every call; store, fetch and remove of the new release,
 // and the reader of the old one.
+#![tactic(auto)]
+
 ghost use Rattle.std.specs.Prelude.{◌≡◌, ◌+◌, ◌*◌, ◌/◌, ◌<◌, ◌≤◌, eqb, length};
 ghost use Rattle.paper_settings.specs.Settings.{version, key_in, is_malformed, is_free, holds, slots_of, slot_of, any_newer, all_free, in_order, area_verdict};
 ghost use Rattle.paper_settings.specs.Settings.{to_store, to_remove, called, fetched, fetched_old};

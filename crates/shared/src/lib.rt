@@ -1,5 +1,7 @@
 // Formulas that share sub-formulas: up to 16 symbols are defined by tables of their own. One call opens a formula, the other opens and
 // simplifies it.
+#![tactic(auto)]
+
 ghost use Rattle.std.specs.Prelude.{◌≡◌, ◌≤◌};
 ghost use Rattle.paper.specs.Verdict.{told};
 ghost use Rattle.record.specs.Flaw.{flaw_of};

@@ -1,5 +1,7 @@
 // The entry points for C. Each call but the one that says which release this is returns the refusal number and writes the numbers of its answer
 // to a lent slice; those that take tables take the limit first. What each one promises stands in specs/Calls.
+#![tactic(auto)]
+
 mod differ_calls;
 mod receiver_calls;
 mod release_call;

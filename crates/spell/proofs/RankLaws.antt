@@ -1,6 +1,6 @@
 -- The rank of a standing tree, from its first record: its kind, and for an integer whether its 64 bits stand for a negative one; and where a
 -- rank puts parentheses.
-use Prim.Native.Nat.{ℕ, ◌-◌, ◌^◌, ◌≤◌, ◌<◌}
+use Prim.Native.Nat.{ℕ, ◌^◌, ◌≤◌, ◌<◌}
 use mathlib.Core.Path.{◌≡◌, refl, sym, ap, ◌∙◌}
 use mathlib.Core.Bool.{true, false}
 use mathlib.Core.List.{List}

@@ -1,4 +1,6 @@
 // The text of a tree that stands in records, written where it fits and measured either way.
+#![tactic(auto)]
+
 ghost use Rattle.std.specs.Prelude.{◌≡◌, [], ◌∷◌, ℕ, ◌+◌, ◌-◌, ◌*◌, ◌^◌, ◌<◌, ◌≤◌, length};
 ghost use Rattle.paper.specs.Bytes.{signed};
 ghost use Rattle.paper.specs.Tree.{Tree, Forest, records, recordses};

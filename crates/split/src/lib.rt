@@ -1,4 +1,6 @@
 // The splits of a member, read off its records: coefficient and rest, base and exponent. The rest is a view: nothing is copied.
+#![tactic(auto)]
+
 ghost use Rattle.std.specs.Prelude.{◌≡◌, ℕ, ◌+◌, ◌^◌, ◌<◌, length};
 ghost use Rattle.paper.specs.Tree.{Tree, Forest, product, records, to_list};
 ghost use Rattle.paper.specs.Rules.{others_of, product_term, term_of, factor_of};

@@ -1,5 +1,7 @@
 // The test by keys that no rule applies at a node: the keys of its members' parts are read off their notes, and kept in scratch to see
 // whether any two are the same. Where none are, and no member is one that a rule looks for, none need be asked.
+#![tactic(auto)]
+
 ghost use Rattle.std.specs.Prelude.{◌≡◌, not, List, [], ℕ, ◌+◌, ◌*◌, ◌^◌, ◌≤◌, ◌<◌, length};
 ghost use Rattle.paper.specs.Tree.{Tree, Forest, to_list, weight};
 ghost use Rattle.paper.specs.Standing.{kind_number};

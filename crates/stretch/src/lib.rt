@@ -1,4 +1,6 @@
 // Stretches of bytes, copied between two slices, shifted within one and cleared.
+#![tactic(auto)]
+
 ghost use Rattle.std.specs.Prelude.{◌≡◌, ◌+◌, ◌≤◌, length, replicate};
 ghost use Rattle.stretch.specs.Put.{part, put};
 

@@ -1,4 +1,6 @@
 // The checker of tables, which judges refusals 19 and 1 to 5, and the weight of a table.
+#![tactic(auto)]
+
 ghost use Rattle.std.specs.Prelude.{◌≡◌, false, ◌+◌, ◌*◌, ◌<◌, ◌≤◌, length, eqb};
 ghost use Rattle.paper.specs.Limits.{is_limit};
 ghost use Rattle.paper.specs.Record.{arity, weight_from};

@@ -1,4 +1,6 @@
 // Formulas as text: the reader and the writer.
+#![tactic(auto)]
+
 ghost use Rattle.std.specs.Prelude.{◌≡◌};
 ghost use Rattle.paper_text.specs.Answers.{read_given, write_given};
 ghost use Rattle.text.specs.Gives.{takes, gives};

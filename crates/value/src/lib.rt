@@ -1,4 +1,6 @@
 // The value of a table under 256 registers of 64 bits, modulo 2^64.
+#![tactic(auto)]
+
 ghost use Rattle.std.specs.Prelude.{◌≡◌, ℕ, ◌+◌, ◌*◌, ◌%◌, ◌^◌, ◌<◌, ◌≤◌, length, slice_index};
 ghost use Rattle.paper.specs.Limits.{modulus};
 ghost use Rattle.paper.specs.Tree.{Tree, records, value};

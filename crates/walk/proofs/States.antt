@@ -8,7 +8,7 @@ use Rattle.paper.specs.Rules as paper
 use Rattle.paper.specs.Rules.{all_in_range, rebuilt, outcome, combine}
 use Rattle.note.specs.Note.{note}
 use Rattle.note.specs.Noted.{encode_by, encodes_by}
-use Rattle.stretch.specs.Put.{put, part}
+use Rattle.stretch.specs.Put.{put}
 use Rattle.stretch.proofs.Laws.{take_put}
 use Rattle.part.specs.Like.{Like, node_of, split, merge, join}
 use Rattle.part.specs.Part.{Shows, From}

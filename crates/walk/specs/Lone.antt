@@ -1,6 +1,6 @@
 -- Members that are alone with their keys. An entry's two bytes of key are 15 bits of it and, highest, the bit "lone". The n entries are counted at 16 n
 -- flags, bytes from place a of `out` on, each at the flag that its 15 bits name; where a flag counts one entry alone, no other entry has its 15 bits.
-use Rattle.std.specs.Prelude.{◌≡◌, ℕ, zero, suc, ◌+◌, ◌*◌, ◌/◌, ◌%◌, ◌<◌, ◌≤◌, Bool, true, false, ◌&&◌, List, set, replicate, nat_lt, slice_index, slice_set}
+use Rattle.std.specs.Prelude.{◌≡◌, ℕ, zero, suc, ◌+◌, ◌*◌, ◌/◌, ◌%◌, ◌<◌, ◌≤◌, Bool, true, false, ◌&&◌, List, replicate, nat_lt, slice_index, slice_set}
 use Rattle.stretch.specs.Put.{put}
 use Rattle.walk.specs.Listed.{bits_of}
 

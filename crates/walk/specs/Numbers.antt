@@ -2,7 +2,7 @@
 -- place a of `out` on: a member of a product whose base is an integer at one for its exponent and at one for its base, any other at one
 -- for its spread, which is that of its base or, in a sum, of its rest. Two members of which one takes up the other share a flag. A flag
 -- holds the first entry that came, counted from 1, or 0.
-use Rattle.std.specs.Prelude.{◌≡◌, ℕ, ◌+◌, ◌*◌, ◌/◌, ◌%◌, ◌<◌, ◌≤◌, Bool, true, false, cond, ◌⊎◌, List, length, take, drop, set, ◌≢◌, nat_lt, slice_index, slice_set}
+use Rattle.std.specs.Prelude.{◌≡◌, ℕ, ◌+◌, ◌*◌, ◌/◌, ◌%◌, ◌<◌, ◌≤◌, Bool, true, false, cond, ◌⊎◌, List, length, take, drop, ◌≢◌, nat_lt, slice_index, slice_set}
 use Rattle.std.proofs.Math.Option.{none}
 use Rattle.paper.specs.Limits.{modulus}
 use Rattle.paper.specs.Bytes.{bytes, le2, word}

@@ -2,6 +2,8 @@
 // last member moves into its place and is looked at next. The members' starts and 15 bits of their parts' keys stand at the front of
 // `work`, the members that come out in `out`. A part takes up another only where their keys are the same, so one whose 15 bits are
 // others is passed by without a comparison; a member that is alone with its 15 bits, and stays, is copied at once (`lone`).
+#![tactic(auto)]
+
 ghost use Rattle.std.specs.Prelude.{◌≡◌, ℕ, ◌+◌, ◌*◌, ◌<◌, ◌≤◌, Bool, ◌&&◌, List, length, nat_lt};
 ghost use Rattle.paper.specs.Tree.{Tree, Forest, product, to_list};
 ghost use Rattle.stretch.specs.Put.{part, put};

@@ -161,7 +161,7 @@ same_length_3 c = omega (arith, c.clear.auto.d)
 abbrev Left : Type 0
 Left = tie.After-loop-i invariant_loop decreases_loop
 
-ended : (c : Left) →    let g = (known_of c.before).args in
+ended : (c : Left) → let g = (known_of c.before).args in
     let l = c.loop-i in
     called 0 l.out l.steps (cleared g.limit l.used l.work) l.answers
     ≡ still g.limit g.edition 0 0 (lengths_in g.lengths.now) g.tables.now (lent g.out.now g.steps.now g.work.now) g.answers.now

@@ -1,6 +1,5 @@
 -- `decimal::spell_number` meets its contract: the digits are put into an array from its end on, the lowest first, and copied where they
 -- fit.
-use Prim.Native.Nat.{◌-◌}
 use native.Mathlib.Omega.{arith}
 use borrow.Author.Rules.{rules}
 use lib.ListN.{length-set}

@@ -79,8 +79,7 @@ settle_requires_2 : tie.Need-settle-x-requires-in-Pending
 settle_requires_2 c κs =
     let entry = entry_of c.before.before.before.before.before.before.before.before in
     let a = c.combine_gathered-c in
-    let v = entry.requires.2 in
-    (
+    let v = entry.requires.2 in (
       _,
       entry.requires.1,
       set_stepped entry.args.edition v a.new.out a.new.work a.auto.out

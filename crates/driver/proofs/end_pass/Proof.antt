@@ -4,7 +4,6 @@ use mathlib.Core.Path.{◌≡◌, sym, subst}
 use native.Mathlib.Omega.{arith}
 use Rattle.paper.specs.Rules.{rules_of}
 use Rattle.driver.specs.declared.TakenUp.{TakenUp as Answer}
-use Rattle.driver.specs.declared.TakenUp.TheVariants as taken
 use Rattle.driver.specs.Driven.{closed_over, TakenIs, Gathers, Closed as Shut}
 use Rattle.driver.specs.Paused.{Call, Midway}
 use Rattle.driver.proofs.Between.{few_now, tries_now, gave, gathers, unchanged, finish_fits, pass_driven, taken_back}

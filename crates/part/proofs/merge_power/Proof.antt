@@ -89,22 +89,20 @@ returns : tie.Need-returns-in-Different
 returns c = (λ x t h there. power_apart h _ (bases_differ x t c (h, there)), λ p h. tt)
 
 returns_2 : tie.Need-returns-in-Is
-returns_2 c =
-    (
-      λ x t h there.
-          power_into h _ (raised x t c.before.before (h, there)) (bases_equal x t c.before.before.before (h, there))
-          (sym c.add-sum.ensures ∙ c.in-Is.is),
-      λ p h. h,
-    )
+returns_2 c = (
+  λ x t h there.
+      power_into h _ (raised x t c.before.before (h, there)) (bases_equal x t c.before.before.before (h, there))
+      (sym c.add-sum.ensures ∙ c.in-Is.is),
+  λ p h. h,
+)
 
 returns_3 : tie.Need-returns-in-Out
-returns_3 c =
-    (
-      λ x t h there.
-          power_over h _ (raised x t c.before.before (h, there)) (bases_equal x t c.before.before.before (h, there))
-          (sym c.add-sum.ensures ∙ c.in-Out.is),
-      λ p h. tt,
-    )
+returns_3 c = (
+  λ x t h there.
+      power_over h _ (raised x t c.before.before (h, there)) (bases_equal x t c.before.before.before (h, there))
+      (sym c.add-sum.ensures ∙ c.in-Out.is),
+  λ p h. tt,
+)
 
 pub merge_power_spec : {M : Type 1} → statement M
 merge_power_spec =

@@ -60,7 +60,7 @@ ends : (c : Ended) → let o = next_tree c.before in c.skip_tree-e.result ≡ (h
 ends c = let o = next_tree c.before in c.skip_tree-e.ensures note o.0 o.1
 
 room : (c : tie.Then-kind-gt-INTEGER invariant_loop decreases_loop)
-    →    let l = (head_of c.before.before.before).loop-left in
+    → let l = (head_of c.before.before.before).loop-left in
     (l.to + (c.skip_tree-e.result - l.at)) * 16 ≤ length l.out
 room c =
     let ended = c.before.before in

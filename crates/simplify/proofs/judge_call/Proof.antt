@@ -2,7 +2,6 @@
 use mathlib.Core.Path.{◌≡◌, refl, sym, ◌∙◌}
 use mathlib.Core.Bool.{true}
 use borrow.Author.Rules.{rules}
-use borrow.Author.Tests.{not-true, not-false}
 use Rattle.paper.specs.Limits.{is_limit}
 use Rattle.simplify.specs.Answer.{call_number}
 use Rattle.simplify.proofs.judge_call.Statement.{statement}

@@ -1,5 +1,5 @@
 -- `spell::tree_at`, `member_at` and `joined_at`, which call each other, meet their contracts. A tree's text is put by the law of its kind.
-use Rattle.std.proofs.Common.{◌≡◌, ℕ, ◌+◌, ◌-◌, List, length, rules, arith, refl, sym, subst, ◌∙◌}
+use Rattle.std.proofs.Common.{◌≡◌, ℕ, ◌+◌, List, length, rules, arith, refl, sym, subst, ◌∙◌}
 use lib.ListN.{set}
 use Rattle.paper.specs.Record.{kind}
 use Rattle.paper.specs.Verdict.{records_in}

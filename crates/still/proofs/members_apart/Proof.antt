@@ -4,7 +4,6 @@ use Prim.Native.Nat.{◌-◌, ◌*◌, ◌≤◌}
 use mathlib.Core.Path.{◌≡◌, sym, ap, ◌∙◌}
 use mathlib.Core.Bool.{false, not}
 use native.Mathlib.Omega.{arith}
-use borrow.Author.Tests.{not-true, not-false}
 use Rattle.paper.specs.Tree.{Forest}
 use Rattle.note.specs.Note.{note}
 use Rattle.note.specs.Noted.{TreesBy, Known}
@@ -83,14 +82,13 @@ same_length : tie.Need-shape_of-d-then-is_sought invariant_loop decreases_loop
 same_length c = c.loop-m.invariant.1.long
 
 returns : tie.Need-returns-then-is_sought invariant_loop decreases_loop
-returns c =
-    (
-      λ f q.
-          let u = first c.before.before.before q in
-          let here = c.is_sought.ensures u.tree u.there (c.kind-k.ensures ∙ kind_number_lem (noted_told u.there)) in
-          testing_sought (tested c.before.before.before q) c.loop-m-test.true (sym here ∙ c.if-is_sought.true),
-      c.loop-m.invariant.1,
-    )
+returns c = (
+  λ f q.
+      let u = first c.before.before.before q in
+      let here = c.is_sought.ensures u.tree u.there (c.kind-k.ensures ∙ kind_number_lem (noted_told u.there)) in
+      testing_sought (tested c.before.before.before q) c.loop-m-test.true (sym here ∙ c.if-is_sought.true),
+  c.loop-m.invariant.1,
+)
 
 note_at_requires : tie.Need-note_at-v-requires invariant_loop decreases_loop
 note_at_requires c κs = ((first c.before.before.before (some c.before.before.before)).tree, (first c.before.before.before (some c.before.before.before)).there)

@@ -63,13 +63,12 @@ few_apart_requires c κs =
     ((inner some.0, members_read (read c.before.before.before) some.1.there), omega (arith, room_within c.before.before))
 
 returns_2 : tie.Need-returns-then-n-lt-MANY
-returns_2 c =
-    (
-      λ t edition q k.
-          with_room (read c.before.before.before.before.before.before) q c.if-w-n.false c.few_apart.result
-          (c.few_apart.ensures.0 (inner t) (members_read (read c.before.before.before.before.before.before) q)) edition,
-      λ t q. scratched_more (16 * weight t) (omega (arith, room c.before.before.before.before.before q)) c.few_apart.ensures.1,
-    )
+returns_2 c = (
+  λ t edition q k.
+      with_room (read c.before.before.before.before.before.before) q c.if-w-n.false c.few_apart.result
+      (c.few_apart.ensures.0 (inner t) (members_read (read c.before.before.before.before.before.before) q)) edition,
+  λ t q. scratched_more (16 * weight t) (omega (arith, room c.before.before.before.before.before q)) c.few_apart.ensures.1,
+)
 
 clear_requires : tie.Need-clear-requires
 clear_requires c κs = omega (arith, room_within c.before.before)

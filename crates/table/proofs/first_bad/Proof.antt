@@ -4,7 +4,7 @@ use Prim.Native.Nat.{ℕ, ◌+◌, ◌-◌, ◌*◌, ◌<◌, ◌≤◌}
 use mathlib.Core.Path.{sym, ◌∙◌}
 use mathlib.Core.Logic.{⊎_elim}
 use native.Mathlib.Omega.{arith}
-use borrow.Author.Tests.{eqb-true, eqb-false, not-true, not-false}
+use borrow.Author.Tests.{eqb-true, eqb-false}
 use lib.ListN.{length, replicate, length-replicate}
 use Rattle.table.proofs.DueLaws.{none_set, not_set}
 use Rattle.table.proofs.OwedLaws.{Owing, begins, some_owed, one_on_top, owed_within, all_taken, bad_taken, good_taken, members_owed}

@@ -4,7 +4,6 @@ use mathlib.Core.Path.{◌≡◌, refl, sym, ◌∙◌, subst}
 use mathlib.Core.Bool.{true}
 use native.Mathlib.Omega.{arith}
 use borrow.Author.Rules.{rules}
-use borrow.Author.Tests.{not-true, not-false}
 use Rattle.paper.specs.Limits.{is_limit}
 use Rattle.paper.specs.Verdict.{Verdict, is_accepted, table_weight}
 use Rattle.paper.proofs.LimitLaws.{limit_small}

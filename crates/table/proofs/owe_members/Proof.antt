@@ -4,7 +4,7 @@ use mathlib.Core.Path.{◌≡◌, refl, sym, ap, ◌∙◌}
 use native.Mathlib.Omega.{arith}
 use borrow.Author.Rules.{rules}
 use borrow.Author.Tests.{eq-eqb, ne_eqb}
-use Rattle.paper.specs.Record.{kind, arity}
+use Rattle.paper.specs.Record.{kind}
 use Rattle.table.specs.Due.{turned, owing}
 use Rattle.table.proofs.OwedLaws.{arity_power}
 use Rattle.table.proofs.owe_members.Statement.{statement}

@@ -2,7 +2,7 @@
 -- exponent (`power-stays`).
 use Rattle.std.proofs.Common.{ℕ, not, ◌&&◌, eqb, sym, ap, ◌∙◌, subst, arith, eq-eqb, ne_eqb}
 use Rattle.paper.specs.Tree.{Tree}
-use Rattle.paper.specs.Record.{kind, mark_in}
+use Rattle.paper.specs.Record.{mark_in}
 use Rattle.split.specs.Standing.{Told}
 use Rattle.split.proofs.SplitLaws.{some_product, some_base}
 use Rattle.note.proofs.ToldLaws.{record_within, seen, seen_product}

@@ -1,6 +1,5 @@
 -- `walk::tell_lone` meets its contract: what the keys tell, and of members that they do not tell apart what the flags tell.
-use Rattle.std.proofs.Common.{◌-◌, refl, subst, arith, rules}
-use borrow.Author.Tests.{not-false}
+use Rattle.std.proofs.Common.{refl, subst, arith, rules}
 use Rattle.paper.proofs.Tests.{true_not_false}
 use Rattle.walk.specs.Lone.{LoneTold}
 use Rattle.walk.proofs.LoneLaws.{AfterKeys, after_telling}

@@ -288,8 +288,7 @@ module _ (t : ℕ) where
   pub returns : lts.Need-returns-then-n-members_of (claims t) (members_at t) reads.Post Inv μ
   returns c =
       let one = c.members_of-n.ensures in
-      let other = c.members_of.ensures in
-      (
+      let other = c.members_of.ensures in (
         λ how x y h g. end_none _ (members_fewer h g c.requires.1.0.begin (λ e. c.if-n-members_of.true (one ∙ e ∙ sym other))),
         (refl, kept_all, refl),
       )

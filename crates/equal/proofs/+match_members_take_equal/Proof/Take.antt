@@ -196,17 +196,16 @@ module _ (t : ℕ) where
   sub_k c = omega (arith, c.requires.1.1)
 
   pub loop_holds : lts.Need-loop-k-init (claims t) (take_at t) reads.Post Inv μ
-  loop_holds c =
-      (
-        record {
-          same_cells = refl;
-          from = omega arith;
-          up_to = omega arith;
-          as_long = refl;
-          looked = λ how x g h q. looked_start _ _ c.args.m (omega (arith, c.requires.1.1)) q;
-        },
-        refl,
-      )
+  loop_holds c = (
+    record {
+      same_cells = refl;
+      from = omega arith;
+      up_to = omega arith;
+      as_long = refl;
+      looked = λ how x g h q. looked_start _ _ c.args.m (omega (arith, c.requires.1.1)) q;
+    },
+    refl,
+  )
 
   pub element_copy_out_if1 : lts.Need-bounds-at-1-in-loop-k (claims t) (take_at t) reads.Post Inv μ
   element_copy_out_if1 c = search rules

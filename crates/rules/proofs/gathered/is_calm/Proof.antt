@@ -51,11 +51,10 @@ still_requires : tie.Need-still-requires
 still_requires c κs = let q = (entry_of c.before.before).requires in (q.0, q.1, omega (arith, q.2))
 
 returns_2 : tie.Need-returns
-returns_2 c =
-    (
-      λ t h. let e = ends c.before.before.before.before.before h in c.still.ensures.0 t h ∙ calm_still _ t (omega (arith, c.if-i-arity.false, e.0, e.1)),
-      λ t h. c.still.ensures.1 t h,
-    )
+returns_2 c = (
+  λ t h. let e = ends c.before.before.before.before.before h in c.still.ensures.0 t h ∙ calm_still _ t (omega (arith, c.if-i-arity.false, e.0, e.1)),
+  λ t h. c.still.ensures.1 t h,
+)
 
 pub is_calm_spec : {M : Type 1} → statement M
 is_calm_spec =

@@ -77,11 +77,10 @@ returns_2 c =
     )
 
 returns_3 : tie.Need-returns
-returns_3 c =
-    (
-      λ end u x h. quiet_not _ u x (sym (c.is_calm.ensures.0 x h.new) ∙ c.if-is_calm.false),
-      λ end u x h. past_scratch (c.is_calm.ensures.1 x h.new) end h.new_small,
-    )
+returns_3 c = (
+  λ end u x h. quiet_not _ u x (sym (c.is_calm.ensures.0 x h.new) ∙ c.if-is_calm.false),
+  λ end u x h. past_scratch (c.is_calm.ensures.1 x h.new) end h.new_small,
+)
 
 pub is_quiet_spec : {M : Type 1} → statement M
 is_quiet_spec =

@@ -20,7 +20,7 @@ abbrev Counting : Type 0
 Counting = tie.After-flag_of invariant_loop decreases_loop
 
 fits : (c : Counting)
-    →    c.args.at + c.flag_of.result < length c.loop-k.out
+    → c.args.at + c.flag_of.result < length c.loop-k.out
 fits c =
     let here = c.before.before in
     omega (arith, c.requires.2, c.loop-k.invariant.1, c.flag_of.ensures.1)

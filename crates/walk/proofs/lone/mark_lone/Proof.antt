@@ -20,7 +20,7 @@ abbrev Flagged : Type 0
 Flagged = tie.After-flag_of invariant_loop decreases_loop
 
 fits : (c : Flagged)
-    →    let g = c.args in
+    → let g = c.args in
     (g.at + c.flag_of.result < length g.out.now) × (c.loop-k.k * 4 + 3 < length c.loop-k.work)
 fits c =
     let here = c.before.before.before in

@@ -6,12 +6,11 @@ use Rattle.walk.proofs.lone.tell_lone.Statement.{statement}
 use Rattle.walk.proofs.lone.tell_lone.Tie as tie
 
 returns_2 : tie.Need-returns
-returns_2 c =
-    (
-      omega arith,
-      flags_there _ _ _ _ _ _ c.clear.ensures c.count_flags.ensures,
-      c.mark_lone.ensures,
-    )
+returns_2 c = (
+  omega arith,
+  flags_there _ _ _ _ _ _ c.clear.ensures c.count_flags.ensures,
+  c.mark_lone.ensures,
+)
 
 pub tell_lone_spec : {M : Type 1} → statement M
 tell_lone_spec =

@@ -32,8 +32,7 @@ returns_2 : tie.Need-returns-then-kind-lt-SYMBOL
 returns_2 c =
     let g = c.args in
     let x = c.place-x in
-    let y = c.place-y in
-    (
+    let y = c.place-y in (
       omega (arith, x.ensures.1),
       omega (arith, y.ensures.1),
       λ how t h.
@@ -53,8 +52,7 @@ spread_requires c κs =
 returns_3 : tie.Need-returns
 returns_3 c =
     let g = c.args in
-    let r = c.place-a-2.result in
-    (
+    let r = c.place-a-2.result in (
       omega (arith, c.place-a-2.ensures.1),
       omega (arith, c.place-a-2.ensures.1),
       λ how t h.

@@ -1,6 +1,5 @@
 -- `walk::numbers::tell_numbers` meets its contract: the members are listed, and each round keeps what was told.
 use Rattle.std.proofs.Common.{◌-◌, ◌<◌, ◌≤◌, arith, rules}
-use borrow.Author.Tests.{not-false}
 use Rattle.note.proofs.ToldLaws.{record_within}
 use Rattle.walk.specs.Numbers.{Numbered, ToldMore}
 use Rattle.walk.proofs.NumbersLaws.{listed_numbered, numbered_still, told_none, told_both}
