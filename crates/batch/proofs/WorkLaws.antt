@@ -35,7 +35,8 @@ module _ (lim ed : ℕ) (s : List ℕ) (out steps work other : List ℕ) (long :
   unfolding judgement judged_call
   judged_alike =
       ap
-      (λ (b : Bool). cond (is_limit lim) (cond (is_edition ed) (cond (is_accepted (verdict lim s)) (cond b (refused 6 0) accepted) (verdict lim s)) (refused 9 0))
+      (λ (b : Bool). cond (is_limit lim)
+      (cond (is_edition ed) (cond (is_accepted (verdict lim s)) (cond b (refused 6 0) accepted) (verdict lim s)) (refused 9 0))
       (refused 19 0))
       (cramped_alike (table_weight s))
 

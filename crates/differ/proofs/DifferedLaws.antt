@@ -11,7 +11,8 @@ use Rattle.paper.specs.Bytes.{Bytes}
 use Rattle.paper.specs.Limits.{is_limit}
 use Rattle.paper.specs.Record.{Flaw, sound}
 use Rattle.paper.specs.Verdict.{accepted, told, is_accepted, verdict}
-use Rattle.paper_differ.specs.Differ.{Differed, between, differences_of, too_few_places, refused_for, differed_tables, differed, at_front, list_after, differing}
+use Rattle.paper_differ.specs.Differ.{Differed, between, differences_of, too_few_places, refused_for, differed_tables, differed, at_front, list_after}
+use Rattle.paper_differ.specs.Differ.{differing}
 use Rattle.paper.proofs.EncodeLaws.{encode_length}
 use Rattle.paper.proofs.AcceptedLaws.{accepted_holds, holds_tree}
 use Rattle.differ.specs.Together.{Together}

@@ -83,8 +83,11 @@ tree_once t u r q v w h k e =
     let a : Told note (with_notes t ++ r) 0 t = record { tells = note_tells; wf = v; few = h; stands = record { after = r; there = refl } } in
     let b : Told note (with_notes t ++ r) 0 u = record { tells = note_tells; wf = w; few = k; stands = record { after = q; there = e } } in
     let same : t ≡ u = one_tree a b in
-    let n : length (with_notes u) ≡ length (with_notes t) = ap (λ x. length (with_notes x)) (sym same) in
-    (same, sym (drop_at (with_notes t) r (length (with_notes t)) refl) ∙ ap (drop (length (with_notes t))) e ∙ drop_at (with_notes u) q (length (with_notes t)) n)
+    let n : length (with_notes u) ≡ length (with_notes t) = ap (λ x. length (with_notes x)) (sym same) in (
+      same,
+      sym (drop_at (with_notes t) r (length (with_notes t)) refl) ∙ ap (drop (length (with_notes t))) e ∙ drop_at (with_notes u) q
+          (length (with_notes t)) n,
+    )
 
 pub set_once : {out work steps : List ℕ} {d p s : ℕ} {t u : Tree} {r q : List ℕ}
     → Set out work steps d p s t r → Set out work steps d p s u q → (t ≡ u) × (r ≡ q)

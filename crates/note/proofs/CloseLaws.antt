@@ -1,6 +1,7 @@
 -- A node that was written with 0 in place of its note, behind it its members, noted: it can be closed, and closing it makes its records
 -- those of the noted node, wherever they stand. The note is put over eight bytes of the node's own record.
-use Rattle.std.proofs.Common.{◌≡◌, ℕ, ◌+◌, ◌*◌, ◌<◌, ◌≤◌, List, ◌++◌, length, take, drop, sym, ap, ◌∙◌, append_assoc, arith, length-append, take-append-drop, length-take-le, take_at, drop_at}
+use Rattle.std.proofs.Common.{◌≡◌, ℕ, ◌+◌, ◌*◌, ◌<◌, ◌≤◌, List, ◌++◌, length, take, drop, sym, ap, ◌∙◌, append_assoc, arith, length-append}
+use Rattle.std.proofs.Common.{take-append-drop, length-take-le, take_at, drop_at}
 use Rattle.paper.specs.Bytes.{bytes}
 use Rattle.paper.specs.Tree.{Tree, mark_of, records, weight}
 use Rattle.paper.specs.WellFormed.{WF}
@@ -30,7 +31,8 @@ unclosed t = own t 0 ++ encodes_by note (inner t)
 
 pub unclosed_length : (t : Tree) → WF t → length (unclosed t) ≡ 16 * records t
 unclosed_length t w =
-    length-append (own t 0) (encodes_by note (inner t)) ∙ ap (λ n. n + length (encodes_by note (inner t))) (own_length t 0 ∙ sym (own_length t (bits_by note t)))
+    length-append (own t 0) (encodes_by note (inner t)) ∙ ap (λ n. n + length (encodes_by note (inner t)))
+    (own_length t 0 ∙ sym (own_length t (bits_by note t)))
     ∙ sym (length-append (own t (bits_by note t)) (encodes_by note (inner t))) ∙ ap length (sym (head_inner note t w)) ∙ encode_by_length note t
 
 module _ (t : Tree) (w : WF t) (l : 2 ≤ kind_number t) where

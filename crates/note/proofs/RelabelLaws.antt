@@ -2,7 +2,8 @@
 -- tree on is again trees one after the other: those behind the first one's record, then the others. So, when a record is reached,
 -- the table is as it was up to it, and behind it stand these trees with their new numbers; a node's members are the first of
 -- them.
-use Rattle.std.proofs.Common.{◌≡◌, ℕ, zero, suc, ◌+◌, ◌-◌, ◌*◌, ◌<◌, ◌≤◌, List, [], ◌∷◌, ◌++◌, length, take, drop, sym, refl, ap, ◌∙◌, subst, append_assoc, append-nil, arith, length-append, take-append-drop, length-take-le, drop-drop, take_at, take-add, drop_at}
+use Rattle.std.proofs.Common.{◌≡◌, ℕ, zero, suc, ◌+◌, ◌-◌, ◌*◌, ◌<◌, ◌≤◌, List, [], ◌∷◌, ◌++◌, length, take, drop, sym, refl, ap, ◌∙◌, subst}
+use Rattle.std.proofs.Common.{append_assoc, append-nil, arith, length-append, take-append-drop, length-take-le, drop-drop, take_at, take-add, drop_at}
 use Rattle.paper.specs.Bytes.{bytes}
 use Rattle.paper.specs.Tree.{Tree, Forest, integer, symbol, sum, product, power, nil, cons, mark_of, records, recordses, weight, weights}
 use Rattle.paper.specs.WellFormed.{WF, WFs}

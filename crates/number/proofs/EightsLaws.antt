@@ -1,5 +1,6 @@
 -- Laws of numbers in eight bytes each: one number more is written where those before it end.
-use Rattle.std.proofs.Common.{◌≡◌, ℕ, ◌+◌, ◌*◌, ◌<◌, ◌≤◌, List, [], ◌∷◌, ◌++◌, length, get_or, take, drop, sym, refl, ap, ◌∙◌, append_assoc, append-nil, add-one, arith, length-append, length-take-le, take_all, take-suc}
+use Rattle.std.proofs.Common.{◌≡◌, ℕ, ◌+◌, ◌*◌, ◌<◌, ◌≤◌, List, [], ◌∷◌, ◌++◌, length, get_or, take, drop, sym, refl, ap, ◌∙◌, append_assoc}
+use Rattle.std.proofs.Common.{append-nil, add-one, arith, length-append, length-take-le, take_all, take-suc}
 use Rattle.paper.specs.Bytes.{bytes}
 use Rattle.paper.specs.Calls.{eights}
 use Rattle.paper.proofs.BytesLaws.{length_bytes}

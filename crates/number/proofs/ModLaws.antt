@@ -1,6 +1,7 @@
 -- The product modulo 2^64 by 32-bit halves, and the turns of repeated squaring. Sums, products and powers keep congruence, so a factor
 -- and a base may be reduced first; a multiple of the modulus counts for nothing.
-use Rattle.std.proofs.Common.{◌≡◌, ℕ, zero, suc, ◌+◌, ◌*◌, ◌/◌, ◌%◌, ◌^◌, ◌<◌, sym, ap, ◌∙◌, lt_of_le_of_lt, le_of_lt, mul-le-mul_left, mul-lt-mul_of_pos_right, pow-suc, arith, pow_pos, pow-add}
+use Rattle.std.proofs.Common.{◌≡◌, ℕ, zero, suc, ◌+◌, ◌*◌, ◌/◌, ◌%◌, ◌^◌, ◌<◌, sym, ap, ◌∙◌, lt_of_le_of_lt, le_of_lt, mul-le-mul_left}
+use Rattle.std.proofs.Common.{mul-lt-mul_of_pos_right, pow-suc, arith, pow_pos, pow-add}
 use native.Mathlib.Nat.{add-mod, mod-add-div, pow-zero}
 use Rattle.paper.proofs.Congruence.{Agree, agree_of, agree_refl, agree_sym, agree_trans, agree_mod, agree_mul, agree_pow, agree_multiple}
 

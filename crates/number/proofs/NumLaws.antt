@@ -1,6 +1,8 @@
 -- What `num_of` answers, by cases, and the sum and the product of two signed numbers by their bits. A number's sign is its top bit, so
 -- with the signs known an integer's arithmetic is that of natural numbers, which is decided.
-use Rattle.std.proofs.Common.{◌≡◌, ℕ, zero, suc, ◌+◌, ◌-◌, ◌*◌, ◌/◌, ◌%◌, ◌^◌, ◌<◌, ◌≤◌, Bool, true, false, cond, ltb, ℤ, pos, negsuc, ◌+ℤ◌, ◌*ℤ◌, neg_ℤ, nat_abs, sym, refl, ap, ◌∙◌, subst, lt_of_not-le, le-div_iff_mul-le, not-le_of_lt, arith, w64, le-ltb, lt-ltb, le-leb}
+use Rattle.std.proofs.Common.{◌≡◌, ℕ, zero, suc, ◌+◌, ◌-◌, ◌*◌, ◌/◌, ◌%◌, ◌^◌, ◌<◌, ◌≤◌, Bool, true, false, cond, ltb, ℤ, pos, negsuc, ◌+ℤ◌, ◌*ℤ◌}
+use Rattle.std.proofs.Common.{neg_ℤ, nat_abs, sym, refl, ap, ◌∙◌, subst, lt_of_not-le, le-div_iff_mul-le, not-le_of_lt, arith, w64, le-ltb, lt-ltb}
+use Rattle.std.proofs.Common.{le-leb}
 use native.Mathlib.Decide.{dec_le, dec_lt}
 use borrow.Author.Tests.{lt-leb}
 use lib.IntN.{sub_ℕ, +ℤ_comm}

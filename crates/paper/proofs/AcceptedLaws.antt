@@ -163,7 +163,8 @@ module _ (s : List ℕ) (n : ℕ) (b : Bytes s) (l : n * 16 ≤ length s) (small
           integer_at s i e (mark_in s i) (bits s i) (mark_lt s i b) (bits_lt s i b) (sym (end_leaf s n i 0 (mark_in s i) (bits s i) (lit< tt) u h) ∙ q) h
       go (suc zero) k c =
           let h = sound_symbol s i b room sound_here k in
-          symbol_at s i e (mark_in s i) (symbol_in s i) (mark_lt s i b) (symbol_lt s i b) (sym (end_leaf s n i 1 (mark_in s i) (symbol_in s i) (lit< tt) u h) ∙ q) h
+          symbol_at s i e (mark_in s i) (symbol_in s i) (mark_lt s i b) (symbol_lt s i b)
+          (sym (end_leaf s n i 1 (mark_in s i) (symbol_in s i) (lit< tt) u h) ∙ q) h
       go (suc (suc zero)) k c =
           let a : arity s i ≡ count_in s i = rw k in
           sum_at s i (count_in s i) e (mark_in s i) (mark_lt s i b) (sound_count s i sound_here (rw k)) (sound_sum s i b room sound_here k) (rw a at m)

@@ -12,9 +12,11 @@ use Rattle.paper.specs.Walk.{last_of, init_of, last_first, one_removed, turn, wa
 use Rattle.paper.specs.Walk as Walk
 use Rattle.paper.specs.Rules.{fits, collapse, sum_of, product_of, on_sum_members, on_product_members, as_integer, is_the, unless, drop_all, any_of, applies_if}
 use Rattle.paper.specs.Rules.{add_zero, multiply_zero, multiply_one, all_in_range, rebuilt, outcome, combine, term, with_integer, integers_of, with_other}
-use Rattle.paper.specs.Rules.{others_of, times_one, times_each, unit, product_term, term_of, added, add_if, merge_terms, coefficient_times, times_unless, from_term}
+use Rattle.paper.specs.Rules.{others_of, times_one, times_each, unit, product_term, term_of, added, add_if, merge_terms, coefficient_times}
+use Rattle.paper.specs.Rules.{times_unless, from_term}
 use Rattle.paper.specs.Rules.{combine_like_terms, factor, factor_of, raise_if, both_integers, multiply_if, merge_factors, power_unless, from_factor}
-use Rattle.paper.specs.Rules.{combine_like_factors, edition_one, on_power_parts, power_one, power_constant, raised_if, power_power, edition_two, is_edition, rules_of}
+use Rattle.paper.specs.Rules.{combine_like_factors, edition_one, on_power_parts, power_one, power_constant, raised_if, power_power, edition_two}
+use Rattle.paper.specs.Rules.{is_edition, rules_of}
 use Rattle.paper.specs.Driver.{ask, after, tried, and_then, each, members, as_sum, as_product, open_one, opened, base_from, gather}
 use Rattle.paper.specs.Driver.{settle, gathered, visit, run, simplify}
 use Rattle.paper.specs.Answers.{measured, weighed, register, tree_value, registers_verdict, valued, cramped, judged_call, judgement, run_on, outcome_of}
@@ -46,8 +48,10 @@ unfoldable pub rules_compute : Unit {0}
 unfolding
     equality_computes to_list of_list marked last_of init_of last_first one_removed Walk.then_walk turn walk fits collapse sum_of product_of on_sum_members
     on_product_members as_integer is_the unless drop_all any_of applies_if add_zero multiply_zero multiply_one all_in_range rebuilt outcome combine term
-    with_integer integers_of with_other others_of times_one times_each unit product_term term_of added add_if merge_terms coefficient_times times_unless from_term
-    combine_like_terms factor factor_of raise_if both_integers multiply_if merge_factors power_unless from_factor combine_like_factors edition_one on_power_parts
+    with_integer integers_of with_other others_of times_one times_each unit product_term term_of added add_if merge_terms coefficient_times
+    times_unless from_term
+    combine_like_terms factor factor_of raise_if both_integers multiply_if merge_factors power_unless from_factor combine_like_factors edition_one
+    on_power_parts
     power_one power_constant raised_if power_power edition_two is_edition rules_of
 rules_compute = tt
 

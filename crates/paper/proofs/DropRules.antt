@@ -144,7 +144,8 @@ multiply_one_good = record { good = on_product_good _ members }
         ∙ drop_all_keeps one? (multiplied (λ t. exact t ρ)) (nothing ρ) (λ t k l h. ap (λ n. exact t ρ * n) h) (to_list f)
         ∙ product_list f ρ
 
-    members : (μ : ℕ) (f : Forest) → WF (product μ f) → GoodAnswer (product μ f) (applies_if (any_of one? (to_list f)) (product_of μ (drop_all one? (to_list f))))
+    members : (μ : ℕ) (f : Forest) → WF (product μ f) → GoodAnswer (product μ f)
+        (applies_if (any_of one? (to_list f)) (product_of μ (drop_all one? (to_list f))))
     members μ f w =
         drop_good one? (product_of μ) (product_of_wf μ w.2) (product_of_weight μ) (product μ f) (to_list f) (wf_list f w.1)
         (omega (arith, weights_list f)) (same μ f)

@@ -10,8 +10,10 @@ use lib.IntN.{ℤ, pos}
 use lib.Dec.{eqb, ltb}
 use Rattle.paper.specs.Tree.{Tree, integer, symbol, sum, product, power, to_list, of_list, marked}
 use Rattle.paper.specs.Equal.{equal, eq_z}
-use Rattle.paper.specs.Rules.{Tried, Rule, sum_of, product_of, on_sum_members, on_product_members, as_integer, is_the, drop_all, applies_if, add_zero, multiply_zero}
-use Rattle.paper.specs.Rules.{multiply_one, Term, term, integers_of, with_other, others_of, product_term, term_of, added, add_if, merge_terms, coefficient_times}
+use Rattle.paper.specs.Rules.{Tried, Rule, sum_of, product_of, on_sum_members, on_product_members, as_integer, is_the, drop_all, applies_if, add_zero}
+use Rattle.paper.specs.Rules.{multiply_zero}
+use Rattle.paper.specs.Rules.{multiply_one, Term, term, integers_of, with_other, others_of, product_term, term_of, added, add_if, merge_terms}
+use Rattle.paper.specs.Rules.{coefficient_times}
 use Rattle.paper.specs.Rules.{times_unless, from_term, combine_like_terms, Factor, factor, factor_of, raise_if, both_integers, multiply_if, merge_factors}
 use Rattle.paper.specs.Rules.{power_unless, from_factor, combine_like_factors, edition_one, on_power_parts, power_one, power_constant, raised_if, power_power}
 use Rattle.paper.specs.Rules.{edition_two}
@@ -60,7 +62,8 @@ unfolding multiply_one
 multiply_one_blind =
     on_products _ (λ μ l.
     ap (λ b. applies_if b (product_of 0 (drop_all (is_the (pos 1)) (map erase l)))) (any_erased (is_the (pos 1)) (the_erased (pos 1)) l)
-    ∙ applies_erased _ (product_of μ (drop_all (is_the (pos 1)) l)) _ (ap (product_of 0) (drop_erased (is_the (pos 1)) (the_erased (pos 1)) l) ∙ product_erased μ _))
+    ∙ applies_erased _ (product_of μ (drop_all (is_the (pos 1)) l)) _
+    (ap (product_of 0) (drop_erased (is_the (pos 1)) (the_erased (pos 1)) l) ∙ product_erased μ _))
 
 -- ---- step 2
 unfoldable bare : Term → Term

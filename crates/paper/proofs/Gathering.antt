@@ -122,5 +122,6 @@ branch_not_reached gs fewer lim s b v t e =
     run_alike gs fewer (weight t) t (subst WF (same_tree h.read e) h.wf)
 
 -- said directly: where the branch has an outcome of its own, no run from an accepted table has it, in either edition
-pub never_told : (ed lim : ℕ) (s : List ℕ) → Bytes s → verdict lim s ≡ accepted → (t : Tree) → tree_of s ≡ some t → ¬ (simplify_with tells (rules_of ed) t ≡ none)
+pub never_told : (ed lim : ℕ) (s : List ℕ) → Bytes s → verdict lim s ≡ accepted → (t : Tree) → tree_of s ≡ some t → ¬
+    (simplify_with tells (rules_of ed) t ≡ none)
 never_told ed lim s b v t e h = none-ne-some (simplify (rules_of ed) t) (sym h ∙ branch_not_reached (edition_good ed) tells lim s b v t e)

@@ -9,7 +9,8 @@ use Rattle.paper.specs.Calls.{returned, answered, check_answers, weight_returns,
 use Rattle.paper.proofs.Computes.{answers_compute}
 
 pub said : Sayings
-unfolding answers_compute turned_down_compared equal_trees compared_tables compared verdict_numbers measured_numbers compared_numbers answer_numbers eights is_too_short
+unfolding answers_compute turned_down_compared equal_trees compared_tables compared verdict_numbers measured_numbers compared_numbers answer_numbers
+    eights is_too_short
     returned answered check_answers weight_returns weight_answers value_answers equal_answers flaw_numbers refused_by one
 said = record {
   lengths = (refl, refl, refl, refl, refl);

@@ -13,8 +13,10 @@ use lib.Dec.{eqb, ltb}
 use Rattle.paper.specs.Tree.{Tree, integer, symbol, sum, product, power, to_list, of_list, marked}
 use Rattle.paper.specs.Equal.{eq_z}
 use Rattle.paper.specs.Walk.{walk}
-use Rattle.paper.specs.Rules.{Rule, collapse, sum_of, product_of, applies_if, any_of, as_integer, is_the, unless, drop_all, on_sum_members, on_product_members, on_power_parts, add_zero}
-use Rattle.paper.specs.Rules.{multiply_zero, multiply_one, power_one, power_constant, raised_if, power_power, all_in_range, rebuilt, outcome, combine, Term, term}
+use Rattle.paper.specs.Rules.{Rule, collapse, sum_of, product_of, applies_if, any_of, as_integer, is_the, unless, drop_all, on_sum_members}
+use Rattle.paper.specs.Rules.{on_product_members, on_power_parts, add_zero}
+use Rattle.paper.specs.Rules.{multiply_zero, multiply_one, power_one, power_constant, raised_if, power_power, all_in_range, rebuilt, outcome, combine}
+use Rattle.paper.specs.Rules.{Term, term}
 use Rattle.paper.specs.Rules.{with_other, others_of, product_term, term_of, added, merge_terms, coefficient_times, times_unless, from_term, combine_like_terms}
 use Rattle.paper.specs.Rules.{Factor, factor, factor_of, merge_factors, power_unless, from_factor, combine_like_factors, edition_one, edition_two, rules_of}
 use Rattle.paper.specs.Driver.{members}

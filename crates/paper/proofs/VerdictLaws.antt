@@ -101,6 +101,7 @@ accepted_passes lim s h =
       ends = eqb-true (tree_end s n 0) n (not-false (eqb (tree_end s n 0) n) p4.0);
     }
   where
-    known_limit : (b : Bool) → is_limit lim ≡ b → cond b (judged_table lim s) (refused 19 0) ≡ accepted → (is_limit lim ≡ true) × (judged_table lim s ≡ accepted)
+    known_limit : (b : Bool) → is_limit lim ≡ b → cond b (judged_table lim s) (refused 19 0) ≡ accepted → (is_limit lim ≡ true) ×
+        (judged_table lim s ≡ accepted)
     known_limit true p e = (p, e)
     known_limit false p e = absurd (omega (arith, ap (λ (x : Verdict). x.number) e))

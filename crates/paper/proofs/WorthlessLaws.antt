@@ -382,7 +382,8 @@ cube_is_allowed lim ed s b l n t r = go (call lim ed slow s l b)
     slow : Tree → Ran
     slow t = done t [] 0 (cube t)
 
-    go : Call lim ed slow s l → (u : Tree) × (tree_of (result (simplified_by lim ed slow s l)) ≡ some u) × ((simplified_by lim ed slow s l).answer.tries ≤ cube t)
+    go : Call lim ed slow s l → (u : Tree) × (tree_of (result (simplified_by lim ed slow s l)) ≡ some u) ×
+        ((simplified_by lim ed slow s l).answer.tries ≤ cube t)
     go (is_turned_down d) = absurd (let z = ap (λ a. a.number) d.answer in omega (arith, d.number))
     go (is_run c) =
         let v = c.holds.tree in

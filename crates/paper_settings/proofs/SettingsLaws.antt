@@ -11,7 +11,8 @@ use borrow.Author.Tests.{eq-eqb, ne_eqb, eqb-true, eqb-false}
 use lib.Dec.{eqb}
 use lib.ListN.{length, take, drop, replicate, length-append, length-drop, length-replicate, take-append-drop, replicate-append-replicate}
 use lib.Seq.{length-take-le, take_at, drop_at}
-use Rattle.paper_settings.specs.Settings.{slot_of, free_slot, Setting, slots, joined, slots_of, shown, known, used, any_newer, all_free, in_order, is_disordered}
+use Rattle.paper_settings.specs.Settings.{slot_of, free_slot, Setting, slots, joined, slots_of, shown, known, used, any_newer, all_free, in_order}
+use Rattle.paper_settings.specs.Settings.{is_disordered}
 use Rattle.paper_settings.specs.Settings.{area_verdict, Op, to_store, to_fetch, to_remove, Fits, AllFit, Reply, only, replies, Map, no_settings, with}
 use Rattle.paper_settings.specs.Settings.{without, is_full, on_map, map_of, put, take_out, on_slots, called, fetch_reply, fetched, call_each, ask_each}
 use Rattle.paper_settings.proofs.SlotLaws.{slot_length, slot_used, slot_sound, slot_key, slot_setting, free_slot_lem, free_shown, free_used, free_order}

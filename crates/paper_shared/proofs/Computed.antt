@@ -12,17 +12,20 @@ use Rattle.paper.specs.Calls.{eights, is_too_short, answered}
 use Rattle.paper.proofs.Computes.{verdict_computes, table_computes}
 use Rattle.paper_shared.specs.Shared.{defined, both, make, replaced, open_by, open_within, opened}
 use Rattle.paper_shared.specs.Answers.{length_at, lengths_from, beginning, table_at, misses, any_refused, is_among, twice, crowded, or_nought, tree_in}
-use Rattle.paper_shared.specs.Answers.{definitions_from, definitions_of, opened_of, opening_of, judged_site, opening, verdict_on, no_room, open_verdict, holding}
+use Rattle.paper_shared.specs.Answers.{definitions_from, definitions_of, opened_of, opening_of, judged_site, opening, verdict_on, no_room}
+use Rattle.paper_shared.specs.Answers.{open_verdict, holding}
 use Rattle.paper_shared.specs.Answers.{unopened, open_of, open_given, opening_by, shared_verdict}
 use Rattle.paper_shared.specs.Calls.{open_numbers, open_answers}
-use Rattle.paper_shared.specs.Examples.{symbols_of, lengths_of, tables_of, site, many_of, examples, heavy, by_bytes, computed, flawed_formula, flawed_definition}
+use Rattle.paper_shared.specs.Examples.{symbols_of, lengths_of, tables_of, site, many_of, examples, heavy, by_bytes, computed, flawed_formula}
+use Rattle.paper_shared.specs.Examples.{flawed_definition}
 use Rattle.paper_shared.specs.Examples.{plain_site, orders, ordered}
 
 -- a name that opens every definition of the opening, and `marked`, which an opening that kept a mark would use; it states nothing
 unfoldable pub opening_computes : Unit {0}
 unfolding
     verdict_computes table_computes marked defined both make replaced open_by open_within opened length_at lengths_from beginning table_at misses any_refused
-    is_among twice crowded or_nought tree_in definitions_from definitions_of opened_of opening_of judged_site opening verdict_on no_room open_verdict holding unopened
+    is_among twice crowded or_nought tree_in definitions_from definitions_of opened_of opening_of judged_site opening verdict_on no_room open_verdict
+    holding unopened
     open_of open_given opening_by shared_verdict is_limit work_bytes is_edition cramped symbols_of lengths_of tables_of site many_of
 opening_computes = tt
 
@@ -38,7 +41,8 @@ pub record Shares : Type 0 where
 
 pub shares : Shares
 unfolding
-    opening_computes examples by_bytes computed flawed_formula flawed_definition plain_site orders ordered open_numbers open_answers answered is_too_short eights
+    opening_computes examples by_bytes computed flawed_formula flawed_definition plain_site orders ordered open_numbers open_answers answered
+    is_too_short eights
     flaw_numbers
 shares = record {
   opens = refl;

@@ -120,5 +120,6 @@ module _ (lim ed : ℕ) (h : Handed) (area : List ℕ) (l : Lent) where
   unfolding shared_verdict shared_given unshared simplified_of short
   shares_as_judged = record {
     refuses = λ n. shared_given_lem (opening_by lim ed h) ∙ as_refused h short (λ v. unshared v area l) simplified_of (opening_by lim ed h) n;
-    opens = λ q v s. shared_given_lem (opening_by lim ed h) ∙ as_opened h short (λ v. unshared v area l) simplified_of (opening_by lim ed h) (ends_by lim ed h) q v s;
+    opens = λ q v s. shared_given_lem (opening_by lim ed h) ∙ as_opened h short (λ v. unshared v area l) simplified_of (opening_by lim ed h)
+        (ends_by lim ed h) q v s;
   }

@@ -42,7 +42,8 @@ module _ (ds : List Definition) (again : Tree → Option Tree) (ρ : ℕ → ℕ
     open_value (integer μ z) h = refl
     open_value (symbol μ s) h = symbol_value μ s (defined ds s) refl h
     open_value (sum μ f) h =
-        make_told (λ g. (sum_value g ρ ≡ sum_value f ρ) × (product_value g ρ ≡ product_value f ρ)) (λ v. value v ρ ≡ sum_value f ρ) (sum μ) (opens_by ds again f)
+        make_told (λ g. (sum_value g ρ ≡ sum_value f ρ) × (product_value g ρ ≡ product_value f ρ)) (λ v. value v ρ ≡ sum_value f ρ) (sum μ)
+        (opens_by ds again f)
         (opens_value f (λ s u i e. h s u i e)) (λ g e. e.0)
     open_value (product μ f) h =
         make_told (λ g. (sum_value g ρ ≡ sum_value f ρ) × (product_value g ρ ≡ product_value f ρ)) (λ v. value v ρ ≡ product_value f ρ)
@@ -52,7 +53,8 @@ module _ (ds : List Definition) (again : Tree → Option Tree) (ρ : ℕ → ℕ
         make_told (λ v. value v ρ ≡ value b ρ) (λ v. value v ρ ≡ value (power μ b ξ n) ρ) (λ u. power μ u ξ n) (open_by ds again b)
         (open_value b (λ s u i e. h s u i e)) (λ v e. ap (λ (y : ℕ). y ^ n % modulus) e)
 
-    opens_value : (f : Forest) → Held (λ s. Among s f) → Tells (λ g. (sum_value g ρ ≡ sum_value f ρ) × (product_value g ρ ≡ product_value f ρ)) (opens_by ds again f)
+    opens_value : (f : Forest) → Held (λ s. Among s f) → Tells (λ g. (sum_value g ρ ≡ sum_value f ρ) × (product_value g ρ ≡ product_value f ρ))
+        (opens_by ds again f)
     opens_value nil h = (refl, refl)
     opens_value (cons t f) h =
         both_told t f (open_by ds again t) (opens_by ds again f) (open_value t (λ s u i e. h s u (inl i) e)) (opens_value f (λ s u i e. h s u (inr i) e))
@@ -61,7 +63,8 @@ trans_told : (x y : ℕ) (ρ : ℕ → ℕ) (o : Option Tree) → x ≡ y → Te
 trans_told x y ρ none e h = tt
 trans_told x y ρ (some v) e h = h ∙ e
 
-reached_through : (ds : List Definition) (t : Tree) (s : ℕ) (u : Tree) (r : ℕ) (v : Tree) → Stands s t → defined ds s ≡ some u → Reached ds u r v → Reached ds t r v
+reached_through : (ds : List Definition) (t : Tree) (s : ℕ) (u : Tree) (r : ℕ) (v : Tree) → Stands s t → defined ds s ≡ some u → Reached ds u r v →
+    Reached ds t r v
 reached_through ds t s u r v i e (stands j d) = leads (stands i e) j d
 reached_through ds t s u r v i e (leads k j d) = leads (reached_through ds t s u _ _ i e k) j d
 

@@ -142,7 +142,8 @@ module _ (symbols : List ℕ) where
   among_words x i zero e = absurd (true_not_false e refl)
   among_words x i (suc n) e = go (or_either (eqb (get_or symbols i 0) x) (is_among x symbols (i + 1) n) e) (λ q. among_words x (i + 1) n q)
     where
-      go : (eqb (get_or symbols i 0) x ≡ true) ⊎ (is_among x symbols (i + 1) n ≡ true) → (is_among x symbols (i + 1) n ≡ true → Here x symbols (i + 1) (i + 1 + n))
+      go : (eqb (get_or symbols i 0) x ≡ true) ⊎ (is_among x symbols (i + 1) n ≡ true) →
+          (is_among x symbols (i + 1) n ≡ true → Here x symbols (i + 1) (i + 1 + n))
           → Here x symbols i (i + suc n)
       go (inl q) ih = record { at = i; lo = omega arith; hi = omega arith; is = eqb-true (get_or symbols i 0) x q }
       go (inr q) ih = let o = ih q in let l = o.lo in let u = o.hi in record { at = o.at; lo = omega arith; hi = omega arith; is = o.is }

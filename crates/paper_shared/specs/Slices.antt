@@ -13,9 +13,11 @@ open_bytes = 48
 
 pub record Slices : Type 0 where
   pub opening : (lim : ℕ) (h : Handed) (area : List ℕ)
-      → TellsIn open_bytes (open_given lim h area).answer.number (open_numbers (open_given lim h area).answer) (open_returns lim h area) (open_answers lim h area)
+      → TellsIn open_bytes (open_given lim h area).answer.number (open_numbers (open_given lim h area).answer) (open_returns lim h area)
+      (open_answers lim h area)
   pub opening_area : (lim : ℕ) (h : Handed) (area slice : List ℕ)
-      → (length slice < open_bytes → open_leaves lim h area slice ≡ area) × (open_bytes ≤ length slice → open_leaves lim h area slice ≡ (open_given lim h area).area)
+      → (length slice < open_bytes → open_leaves lim h area slice ≡ area) ×
+      (open_bytes ≤ length slice → open_leaves lim h area slice ≡ (open_given lim h area).area)
   pub shared : (lim ed : ℕ) (h : Handed) (area : List ℕ) (l : Lent)
       → TellsIn simplify_bytes (shared_given lim ed h area l).given.answer.number (answer_numbers (shared_given lim ed h area l).given.answer)
       (shared_returns lim ed h area l) (shared_answers lim ed h area l)

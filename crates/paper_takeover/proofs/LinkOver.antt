@@ -34,7 +34,8 @@ use Rattle.paper.proofs.FirstLaws.{no_flaw}
 use Rattle.paper.proofs.VerdictLaws.{accepted_passes, good_length}
 use Rattle.paper_receiver.specs.Receiver.{Receiver, is_past, kept, counted, area_after, Held, fresh, with_piece}
 use Rattle.paper_receiver.specs.Receiver.{is_short, Receipt, receipt, received, finish_verdict, received_all, whole}
-use Rattle.paper_receiver.specs.Calls.{receiver_in, receiver_numbers, held_in, receive_returns, receive_record, receive_area, no_room, finish_returns, finish_answers}
+use Rattle.paper_receiver.specs.Calls.{receiver_in, receiver_numbers, held_in, receive_returns, receive_record, receive_area, no_room, finish_returns}
+use Rattle.paper_receiver.specs.Calls.{finish_answers}
 use Rattle.paper_receiver.proofs.PieceLaws.{either_way, open_count, past_leaves, keeps_length}
 use Rattle.paper_receiver.proofs.ReceiverLaws.{unknown_receives, receives, is_long, answer_whole}
 use Rattle.paper_receiver.proofs.CallLaws.{reads_back}

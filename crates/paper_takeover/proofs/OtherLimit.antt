@@ -34,7 +34,8 @@ use Rattle.paper_batch.specs.Batch.{lengths_in, site_number, untouched, carried_
 use Rattle.paper_batch.specs.Sentences.{item, handed}
 use Rattle.paper_batch.proofs.Orderly.{simplified_orderly}
 use Rattle.paper_batch.proofs.SeparateLaws.{each_answer}
-use Rattle.paper_shared.specs.Answers.{Handed, table_at, any_refused, opened_of, Opening, turned_away, opens, opening_of, judged_site, opening, opening_by, no_room}
+use Rattle.paper_shared.specs.Answers.{Handed, table_at, any_refused, opened_of, Opening, turned_away, opens, opening_of, judged_site, opening}
+use Rattle.paper_shared.specs.Answers.{opening_by, no_room}
 use Rattle.paper_shared.specs.Answers.{holding, open_of, open_given, unshared, shared_of, shared_given}
 use Rattle.paper_shared.proofs.Refusals.{Past16, Judged, through, judged}
 use Rattle.paper_takeover.specs.OtherLimit.{SameAreas, SameCalls, ItemsUpToOld, SameSite, SameSites, ItemTooLong, ItemTooHeavy}

@@ -13,10 +13,14 @@ use lib.Dec.{eqb, ltb}
 use Rattle.paper.specs.Tree.{Tree, Forest, integer, symbol, sum, product, power, nil, cons, to_list, of_list, marked, weight}
 use Rattle.paper.specs.Equal.{eq_z}
 use Rattle.paper.specs.Walk.{walk}
-use Rattle.paper.specs.Rules.{Tried, does_not_apply, applies, range_exceeded, Rule, collapse, sum_of, product_of, on_sum_members, on_product_members, as_integer}
-use Rattle.paper.specs.Rules.{is_the, unless, drop_all, any_of, applies_if, add_zero, multiply_zero, multiply_one, all_in_range, rebuilt, outcome, combine, Term, term}
-use Rattle.paper.specs.Rules.{with_other, others_of, product_term, term_of, added, merge_terms, coefficient_times, times_unless, from_term, combine_like_terms, Factor}
-use Rattle.paper.specs.Rules.{factor, factor_of, merge_factors, power_unless, from_factor, combine_like_factors, edition_one, on_power_parts, power_one, power_constant}
+use Rattle.paper.specs.Rules.{Tried, does_not_apply, applies, range_exceeded, Rule, collapse, sum_of, product_of, on_sum_members, on_product_members}
+use Rattle.paper.specs.Rules.{as_integer}
+use Rattle.paper.specs.Rules.{is_the, unless, drop_all, any_of, applies_if, add_zero, multiply_zero, multiply_one, all_in_range, rebuilt, outcome}
+use Rattle.paper.specs.Rules.{combine, Term, term}
+use Rattle.paper.specs.Rules.{with_other, others_of, product_term, term_of, added, merge_terms, coefficient_times, times_unless, from_term}
+use Rattle.paper.specs.Rules.{combine_like_terms, Factor}
+use Rattle.paper.specs.Rules.{factor, factor_of, merge_factors, power_unless, from_factor, combine_like_factors, edition_one, on_power_parts}
+use Rattle.paper.specs.Rules.{power_one, power_constant}
 use Rattle.paper.specs.Rules.{raised_if, power_power, edition_two, rules_of}
 use Rattle.paper.specs.Driver.{Asked, no_rule, step, out_of_range, ask, Ran, done, over, Rans, dones, overs, after, tried, and_then, each, members}
 use Rattle.paper.specs.Driver.{as_sum, as_product, open_one, opened, base_from, gather, settle, gathered, visit, run, simplify}
@@ -230,7 +234,8 @@ module _ (P : ℕ → Type 0) where
 
   like_terms_only : (t : Tree) → Only t → TriedOnly (combine_like_terms t)
   unfolding combine_like_terms
-  like_terms_only = on_sum_only _ (λ μ. combine_only (sum_of μ) term_of merge_terms from_term RestOnly (sum_of_only μ) term_only merge_terms_only from_term_only)
+  like_terms_only = on_sum_only _
+      (λ μ. combine_only (sum_of μ) term_of merge_terms from_term RestOnly (sum_of_only μ) term_only merge_terms_only from_term_only)
 
   -- ---- step 6: the base of a factor
   abbrev BaseOnly : Factor → Type 0

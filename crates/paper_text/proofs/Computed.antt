@@ -23,8 +23,10 @@ use Rattle.paper_text.specs.Examples.{Spelt, spelt, formless}
 unfoldable pub text_computes : Unit {0}
 unfolding
     digits_of digits signed_digits needs enclosed text then begins tail is_digit digit_ahead read_digits below read_number negative read_leaf fit fits alone
-    also all_fit leaving closed exponent_after raised_by read_others read_base read_power product_from read_product sum_from read_sum read_within whole read_text
-    formed taken area_after room_for records_of count_of is_limit read_judged read_verdict read_answer read_given taken_numbers read_text_returns read_text_answers
+    also all_fit leaving closed exponent_after raised_by read_others read_base read_power product_from read_product sum_from read_sum read_within
+    whole read_text
+    formed taken area_after room_for records_of count_of is_limit read_judged read_verdict read_answer read_given taken_numbers read_text_returns
+    read_text_answers
     read_text_leaves bytes word count of_list weight records record_of encode is_accepted eights is_too_short returned answered
 text_computes = tt
 

@@ -259,7 +259,8 @@ group_follows k n (suc left) q h p ih =
     (λ t u r e c. closed_follows SameRank (Blocked k left n) (Blocked k (suc left) (suc n)) t u r e c
     (λ x y. (sym (back_up k left x (omega (arith, h))) ∙ y.0, let m = y.1 in omega (arith, m))))
 
-blocks_follow : (k n left : ℕ) (s : List ℕ) → left ≤ k → Blocked k left n s → Follows SameRank (Blocked k left n) (read_cut (suc left) s) (read_within (suc n) s)
+blocks_follow : (k n left : ℕ) (s : List ℕ) → left ≤ k → Blocked k left n s → Follows SameRank (Blocked k left n) (read_cut (suc left) s)
+    (read_within (suc n) s)
 unfolding read_cut read_within
 blocks_follow k zero left s h b =
     sum_follows SameRank same_rank (Blocked k left 0) (λ c q e p. (sym (blocks_step k left c q e) ∙ p.0, let l = p.1 in omega (arith, l)))
@@ -313,7 +314,8 @@ levels_exactly k s = both_ways (is_form k s) (formed (read_text s)) is_formed is
     is_judged : formed (whole (read_within (suc (length s)) s)) ≡ true → ended (read_cut (suc k) s) && blocks k k s ≡ true
     is_judged h =
         rw (
-          follows_ended (read_within (suc (length s)) s) (read_cut (suc k) s) (cut_follows k (suc (length s)) s) (whole_ended (read_within (suc (length s)) s) h),
+          follows_ended (read_within (suc (length s)) s) (read_cut (suc k) s) (cut_follows k (suc (length s)) s)
+              (whole_ended (read_within (suc (length s)) s) h),
           form_blocks k s (read_text s) (read_text_lem s) h,
         )
 

@@ -119,7 +119,8 @@ below_told bound s r h g =
     cond_told (NumberIs bound s) (ltb r.0 bound) (some r) none
     (λ e. let l = ltb-true r.0 bound e in (l, g (omega (arith, l, h)))) (λ e. tt)
 
-starts_nought : (bound : ℕ) (s : List ℕ) → bound ≤ 10 ^ 20 → digit_ahead s ≡ false → Told (NumberIs bound (nought ∷ s)) (below bound (read_digits 0 (nought ∷ s)))
+starts_nought : (bound : ℕ) (s : List ℕ) → bound ≤ 10 ^ 20 → digit_ahead s ≡ false → Told (NumberIs bound (nought ∷ s))
+    (below bound (read_digits 0 (nought ∷ s)))
 unfolding digits digits_of
 starts_nought bound s h d =
     let e : read_digits 0 (nought ∷ s) ≡ (0, s) = read_digit 0 0 s (omega arith) ∙ read_end 0 s d in
@@ -297,7 +298,8 @@ module _ (inner : List ℕ → Reading Tree) (told : (q : List ℕ) → Told (Tr
   unfolding raised_by
   raised_told s r i none f e b = tt
   raised_told s r i (some u) f e b =
-      then_told (NumberIs (2 ^ 63) (tail r)) (ItemIs s) (read_number (2 ^ 63) (tail r)) (exponent_after u (tail r)) (number_told (2 ^ 63) (tail r) (omega arith))
+      then_told (NumberIs (2 ^ 63) (tail r)) (ItemIs s) (read_number (2 ^ 63) (tail r)) (exponent_after u (tail r))
+      (number_told (2 ^ 63) (tail r) (omega arith))
       (λ v q h. exponent_told s (tail r) u v q f.0 h.0
       (e ∙ ap (λ (y : List ℕ). y ++ r) (sym f.1)
       ∙ ap (λ (y : List ℕ). enclosed (needs as-base u) (text u) ++ y) (begins_is power_sign r b ∙ ap (λ (y : List ℕ). power_sign ∷ y) h.1)))

@@ -139,7 +139,8 @@ plus_stops s = record { no_digit = refl; no_raise = refl; no_times = refl }
 -- ---- one level, where `inner` reads the trees of fewer than N records before a closing parenthesis
 module _ (inner : List ℕ → Reading Tree) (N : ℕ)
     (reads : (t : Tree) (rest : List ℕ) → WF t → records t < N → inner (text t ++ (closes ∷ rest)) ≡ some (erase t, closes ∷ rest)) where
-  group_read : (t : Tree) (rest : List ℕ) → WF t → records t < N → read_base inner ((opens ∷ (text t ++ (closes ∷ []))) ++ rest) ≡ some (grouped (erase t), rest)
+  group_read : (t : Tree) (rest : List ℕ) → WF t → records t < N → read_base inner ((opens ∷ (text t ++ (closes ∷ []))) ++ rest) ≡ some
+      (grouped (erase t), rest)
   unfolding read_base begins tail then closed
   group_read t rest w h = rw (append_assoc (text t) (closes ∷ []) rest, reads t rest w h)
 

@@ -50,7 +50,13 @@ module _ (lim : ℕ) (s area : List ℕ) where
   pub refused_write : ¬ ((write_verdict lim s area).number ≡ 0)
       → write_given lim s area
       ≡ record {
-        answer = record { number = (write_verdict lim s area).number; place = (write_verdict lim s area).place; flaw = (write_verdict lim s area).flaw; result = 0 };
+        answer = record {
+          number = (write_verdict lim s area).number;
+          place = (write_verdict lim s area).place;
+          flaw =
+              (write_verdict lim s area).flaw;
+          result = 0;
+        };
         area = area;
       }
   unfolding write_given write_answer measured area_after is_accepted

@@ -125,7 +125,8 @@ unmarked_then_read lim s area table b h t r bare g e l m =
     ∙ ap (λ (x : List ℕ). x ++ drop (length s) table) (ap encode (bare ∙ sym same_tree) ∙ sym k.written)
 
 -- "writing what was read gives the same text"
-pub read_then_written : (lim : ℕ) → is_limit lim ≡ true → (s area line : List ℕ) (t : Tree) → read_text s ≡ some t → weight t ≤ lim → 16 * records t ≤ length area
+pub read_then_written : (lim : ℕ) → is_limit lim ≡ true → (s area line : List ℕ) (t : Tree) → read_text s ≡ some t → weight t ≤ lim → 16 * records t ≤
+    length area
     → length s ≤ length line → (g : Filled Taken) → g ≡ read_given lim s area
     → write_given lim (take (16 * g.answer.records_written) g.area) line ≡ wrote (length s) (s ++ drop (length s) line)
 unfolding unwrapped

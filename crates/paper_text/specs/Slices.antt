@@ -16,7 +16,8 @@ LeavesIn n area given leaves = (slice : List ℕ) → (length slice < n → leav
 
 pub record Slices : Type 0 where
   pub reading : (lim : ℕ) (s area : List ℕ)
-      → TellsIn read_bytes (read_answer lim s area).number (taken_numbers (read_answer lim s area)) (read_text_returns lim s area) (read_text_answers lim s area)
+      → TellsIn read_bytes (read_answer lim s area).number (taken_numbers (read_answer lim s area)) (read_text_returns lim s area)
+      (read_text_answers lim s area)
   pub reading_area : (lim : ℕ) (s area : List ℕ) → LeavesIn read_bytes area (read_given lim s area).area (read_text_leaves lim s area)
   pub writing : (lim : ℕ) (s area : List ℕ)
       → TellsIn measure_bytes (write_answer lim s area).number (measured_numbers (write_answer lim s area))

@@ -81,7 +81,8 @@ module _ (s : List ℕ) (at : ℕ) where
   unfolding read_leaf then bared
   no_integer n m r = rw (n, m, ← r.reads)
 
-  pub is_integer_lem : {old new : List ℕ} {d : ℕ} (v e : ℕ) → begins ess (drop at s) ≡ false → begins minus (drop at s) ≡ false → NumberRead (2 ^ 63) s at (Is v e)
+  pub is_integer_lem : {old new : List ℕ} {d : ℕ} (v e : ℕ) → begins ess (drop at s) ≡ false → begins minus (drop at s) ≡ false → NumberRead (2 ^ 63)
+      s at (Is v e)
       → Written (record_of 0 0 0 v) old d new → Stands s at (bared (read_leaf (drop at s))) bare (Laid old d new (d + 1)) 0 e 1
   unfolding read_leaf then bared rank weight records
   is_integer_lem v e n m r y =

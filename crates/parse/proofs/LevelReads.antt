@@ -102,7 +102,8 @@ module _ (inner : List ℕ → Reading Tree) where
   }
 
   -- ---- a power by its first character
-  pub power_group : (s : List ℕ) (at : ℕ) → begins opens (drop at s) ≡ true → read_power inner (drop at s) ≡ then (then (inner (drop (at + 1) s)) closed) raising
+  pub power_group : (s : List ℕ) (at : ℕ) → begins opens (drop at s) ≡ true → read_power inner (drop at s) ≡ then
+      (then (inner (drop (at + 1) s)) closed) raising
   unfolding read_power read_base raising
   power_group s at b = rw (b, tail_there s at (sign_inside s at opens b))
 

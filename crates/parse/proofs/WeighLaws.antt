@@ -104,7 +104,8 @@ module _ (s : List ℕ) (limit k : ℕ) (shallows : shallow k s ≡ true) where
       sym (ap (weighed limit) (reads_tree r e w h l)
       ∙ rw (le-ltb limit (weight h.tree) (omega (arith, y, g))) (ap its.Is (let x = h.laid.next in omega (arith, x))))
 
-  pub reads_group : {L : Tree → Type 0} (r e w : ℕ) → Stands s 0 (bared (read_sum (read_cut k) (drop 0 s))) grouped L r e w → its.Not ≡ weighed limit (read_text s)
+  pub reads_group : {L : Tree → Type 0} (r e w : ℕ) → Stands s 0 (bared (read_sum (read_cut k) (drop 0 s))) grouped L r e w → its.Not ≡ weighed limit
+      (read_text s)
   reads_group r e w h = absurd (bared_grouped (read_sum (read_cut k) s) h.tree (drop e s) h.read)
 
   -- ---- the records of a tree that is not over the limit

@@ -3,7 +3,8 @@ use Rattle.std.specs.Prelude.{ℕ, zero, suc, ◌+◌, ◌-◌, ◌*◌, ◌^◌
 use Rattle.std.proofs.Math.Option.{Option, none, some}
 use Rattle.paper.specs.Tree.{Tree, Forest, of_list, weight, weights, recordses}
 use Rattle.paper.specs.Table.{record_of, encodes}
-use Rattle.paper_text.specs.Text.{Place, in_sum, in_product, as-base, opens, Reading, then, begins, bare, fits, all_fit, leaving, closed, read_others, read_power}
+use Rattle.paper_text.specs.Text.{Place, in_sum, in_product, as-base, opens, Reading, then, begins, bare, fits, all_fit, leaving, closed, read_others}
+use Rattle.paper_text.specs.Text.{read_power}
 use Rattle.paper_text.specs.Text as paper
 use Rattle.paper_text.specs.Levels.{rank, read_cut}
 use Rattle.parse.specs.Written.{Written, Shifted}

@@ -354,7 +354,8 @@ module _ {e v b m f w a l : ℕ} {c x : Factor} (h : ShowsNumber e v b m c) (k :
     unfolding multiply_if times_bases
     multiplies = by_integers ∙ rw (eq-eqb e f q) refl
 
-    pub number_times : {n : ℕ} → num_of (signed v *ℤ signed w) ≡ Is n → (d : Factor) × (merge_factors c x ≡ some d) × ShowsNumber e n m m d × (d.in_range ≡ true)
+    pub number_times : {n : ℕ} → num_of (signed v *ℤ signed w) ≡ Is n → (d : Factor) × (merge_factors c x ≡ some d) × ShowsNumber e n m m d ×
+        (d.in_range ≡ true)
     unfolding times_bases
     number_times {n} r =
         let z = num_of_is (signed v *ℤ signed w) n r in

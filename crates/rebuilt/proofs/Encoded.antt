@@ -96,7 +96,14 @@ mark_at μ (integer ν z) =
 mark_at μ (symbol ν s) =
     record { mark = ν; before = 1 ∷ 0 ∷ bytes 2 0; behind = 0 ∷ 0 ∷ bytes 8 s; four = refl; is = refl; other = refl }
 mark_at μ (sum ν f) =
-    record { mark = ν; before = 2 ∷ 0 ∷ bytes 2 (count f); behind = 0 ∷ 0 ∷ bytes 8 (note (sum ν f)) ++ encodes_by note f; four = refl; is = refl; other = refl }
+    record {
+      mark = ν;
+      before = 2 ∷ 0 ∷ bytes 2 (count f);
+      behind = 0 ∷ 0 ∷ bytes 8 (note (sum ν f)) ++ encodes_by note f;
+      four = refl;
+      is = refl;
+      other = refl;
+    }
 mark_at μ (product ν f) =
     let after = 0 ∷ 0 ∷ bytes 8 (note (product ν f)) ++ encodes_by note f in
     record { mark = ν; before = 3 ∷ 0 ∷ bytes 2 (count f); behind = after; four = refl; is = refl; other = refl }

@@ -167,11 +167,13 @@ module _ {ds : List Definition} {definitions which from s area₀ : List ℕ} {n
       unfolding place
       k_is = (rw (eq-eqb (kind s i) 1 symbol's) at is)
 
-      given_is : given (records_for ds (again_within ds deep)) s i ≡ instead (bytes_at s i) (λ u. make encode (again_within ds deep u)) (defined ds (symbol_in s i))
+      given_is : given (records_for ds (again_within ds deep)) s i ≡ instead (bytes_at s i) (λ u. make encode (again_within ds deep u))
+          (defined ds (symbol_in s i))
       unfolding given records_for
       given_is = rw (eq-eqb (kind s i) 1 symbol's)
 
-      piece : {xs : List ℕ} → piece_at definitions from (k - 1) ≡ xs → take (get_or from k 0 - get_or from (k - 1) 0) (drop (get_or from (k - 1) 0) definitions) ≡ xs
+      piece : {xs : List ℕ} → piece_at definitions from (k - 1) ≡ xs → take (get_or from k 0 - get_or from (k - 1) 0)
+          (drop (get_or from (k - 1) 0) definitions) ≡ xs
       unfolding piece_at
       piece e = let kk : k - 1 + 1 ≡ k = omega arith in rw kk at e
 

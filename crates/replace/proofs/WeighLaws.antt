@@ -121,7 +121,8 @@ module _ (lim : ℕ) (ds : List Definition) (definitions which from weights : Li
           → FoundAt definitions from n (get_or which x 0) u
       told_found x u d f = subst (λ (o : Option Tree). Found definitions from n (get_or which x 0) o) d f
 
-  pub knows_next : (next : List ℕ) → ((j : ℕ) → j < n → get_or next j 0 ≡ weighs lim which weights (piece_at definitions from j)) → Knows lim ds which next (r + 1)
+  pub knows_next : (next : List ℕ) → ((j : ℕ) → j < n → get_or next j 0 ≡ weighs lim which weights (piece_at definitions from j)) → Knows lim ds which
+      next (r + 1)
   knows_next next e = let q : suc r ≡ r + 1 = omega arith in subst (λ (m : ℕ). Knows lim ds which next m) q (knows_more next e)
 
 -- before the first round nothing is known
@@ -187,7 +188,8 @@ module _ (which weights s : List ℕ) (n : ℕ) where
   unfolding on_top
   on_top_none = rw (sub-zero n) (zero_joined (weigh_from (counts which weights) s 0 n))
 
-  next : (w i : ℕ) → i < n → on_top w i ≡ joined ◌+◌ (some w) (joined ◌+◌ (count_at which weights s i) (weigh_from (counts which weights) s (i + 1) (n - (i + 1))))
+  next : (w i : ℕ) → i < n → on_top w i ≡ joined ◌+◌ (some w)
+      (joined ◌+◌ (count_at which weights s i) (weigh_from (counts which weights) s (i + 1) (n - (i + 1))))
   unfolding on_top count_at here
   next w i l =
       let q : n - i ≡ suc (n - (i + 1)) = omega arith in

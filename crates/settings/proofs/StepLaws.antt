@@ -11,7 +11,8 @@ use lib.Dec.{eqb}
 use lib.ListN.{length, get_or, take, drop, get_or-eq_default}
 use lib.Seq.{drop-cons, drop-drop}
 use Rattle.paper.specs.Bytes.{le, le2, le8}
-use Rattle.paper_settings.specs.Settings.{version, key_in, unit_in, setting_in, may_table, may_be, strays, is_malformed, is_free, slots, slots_of, any_newer, all_free}
+use Rattle.paper_settings.specs.Settings.{version, key_in, unit_in, setting_in, may_table, may_be, strays, is_malformed, is_free, slots, slots_of}
+use Rattle.paper_settings.specs.Settings.{any_newer, all_free}
 use Rattle.paper_settings.proofs.SlotLaws.{sound_version}
 use Rattle.paper_settings.proofs.SettingsUpgrade.{byte_there, key_there}
 use Rattle.settings.specs.Slots.{slot_at, rest, first_in}

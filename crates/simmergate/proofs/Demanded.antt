@@ -153,4 +153,5 @@ pub c_takeover_in_place : (c d : CCall) → limit d ≡ limit c → edition d �
     → simplify_bytes ≤ length (slice c) → simplify_bytes ≤ length (slice d)
     → (given c).answer.number ≡ 0 → table d ≡ result (given c) → areas d ≡ (given c).lent → Repeats (given c) (given d)
 c_takeover_in_place c d n e b b' r r' =
-    in_place_lem (limit c) (edition c) (table c) (areas c) (given c) (call_gives c b r) (table d) (areas d) (given d) (gives_in (limit c) (edition c) d n e b' r') b
+    in_place_lem (limit c) (edition c) (table c) (areas c) (given c) (call_gives c b r) (table d) (areas d) (given d)
+    (gives_in (limit c) (edition c) d n e b' r') b

@@ -107,7 +107,8 @@ module _ (lim : ℕ) (limited : is_limit lim ≡ true) (s : List ℕ) (m : Measu
     pub cramped : (ed : ℕ) → is_edition ed ≡ true → (a : Answer) (out steps work : List ℕ)
         → short lim m.result (length out) (length steps) (length work) ≡ true → says a ≡ paper.refusal 6 0
         → gives a out steps work ≡ paper.simplified lim ed s (lent out steps work)
-    unfolding paper.simplified paper.cramped short simplified_by outcome_of judgement judged_call answer_of lent_after out_after steps_after work_after is_accepted
+    unfolding paper.simplified paper.cramped short simplified_by outcome_of judgement judged_call answer_of lent_after out_after steps_after
+        work_after is_accepted
     cramped ed known a out steps work c q =
         let k : paper.cramped lim (table_weight s) (lent out steps work) ≡ true
         = ap (λ i. paper.cramped lim i (lent out steps work)) (sym weight_is) ∙ c in

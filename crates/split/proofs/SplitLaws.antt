@@ -340,7 +340,8 @@ module _ {how : Tree → ℕ} {s : List ℕ} {i at left many last : ℕ} {f : Fo
 
 -- ---- coefficient and rest, by the kind of the record
 module _ {how : Tree → ℕ} {s : List ℕ} {i : ℕ} where
-  pub term_integer : (t : Tree) → Told how s i t → kind s i < 1 → (Is (bits s i) ≡ coefficient_of (term_of t)) × ((μ : ℕ) × ((term_of t).rest ≡ integer μ (pos 1)))
+  pub term_integer : (t : Tree) → Told how s i t → kind s i < 1 → (Is (bits s i) ≡ coefficient_of (term_of t)) ×
+      ((μ : ℕ) × ((term_of t).rest ≡ integer μ (pos 1)))
   unfolding coefficient_of term_of term
   term_integer t h k = by t (seen h)
     where

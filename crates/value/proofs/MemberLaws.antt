@@ -1,7 +1,8 @@
 -- Adding up, or multiplying, the values of members one after the other, as a loop does: what is gathered so far, joined with what the
 -- members left would give, stays what all of them give, since the operation modulo 2^64 may be grouped as one likes. Once, for an
 -- operation and what it gives for the members.
-use Rattle.std.proofs.Common.{◌≡◌, ℕ, ◌+◌, ◌-◌, ◌*◌, ◌%◌, ◌<◌, ◌≤◌, Bool, true, false, cond, ltb, List, [], ◌∷◌, sym, refl, ap, ◌∙◌, mod-eq_of_lt, mul_assoc, arith}
+use Rattle.std.proofs.Common.{◌≡◌, ℕ, ◌+◌, ◌-◌, ◌*◌, ◌%◌, ◌<◌, ◌≤◌, Bool, true, false, cond, ltb, List, [], ◌∷◌, sym, refl, ap, ◌∙◌, mod-eq_of_lt}
+use Rattle.std.proofs.Common.{mul_assoc, arith}
 use Rattle.paper.specs.Limits.{modulus}
 use Rattle.paper.specs.Tree.{Tree, Forest, nil, cons, records, recordses, value, sum_value, product_value}
 use Rattle.paper.proofs.StandingLaws.{first_of, none_of}

@@ -1,6 +1,7 @@
 -- What the record of a standing tree tells the evaluator, kind by kind: the tree's value and end come from the record's fields and,
 -- for a sum, a product or a power, from what the members that stand after it give, a power's base being its one.
-use Rattle.std.proofs.Common.{◌≡◌, ℕ, ◌+◌, ◌*◌, ◌%◌, ◌^◌, ◌<◌, ◌≤◌, List, [], ◌∷◌, length, sym, refl, ap, ◌∙◌, subst, append-nil, mod-eq_of_lt, arith, eq-eqb, ne_eqb}
+use Rattle.std.proofs.Common.{◌≡◌, ℕ, ◌+◌, ◌*◌, ◌%◌, ◌^◌, ◌<◌, ◌≤◌, List, [], ◌∷◌, length, sym, refl, ap, ◌∙◌, subst, append-nil, mod-eq_of_lt, arith}
+use Rattle.std.proofs.Common.{eq-eqb, ne_eqb}
 use native.Mathlib.Decide.{ℕ_discrete}
 use Rattle.paper.specs.Limits.{modulus}
 use Rattle.paper.specs.Tree.{Tree, Forest, sum, product, power, nil, cons, count, records, recordses, value, sum_value, product_value}

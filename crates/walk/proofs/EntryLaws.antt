@@ -1,7 +1,8 @@
 -- The members' entries at the front of `work`: an entry that is written is read back, the others stay, and what stands from the node's
 -- record on stays too; so where the last entry moves into the place of a removed one, the entries from there on are those of the last
 -- member and of the others in order. By induction on the members.
-use Rattle.std.proofs.Common.{◌≡◌, ℕ, suc, ◌+◌, ◌-◌, ◌*◌, ◌%◌, ◌<◌, ◌≤◌, Bool, List, [], ◌∷◌, ◌++◌, length, get_or, drop, sym, refl, ap, ◌∙◌, subst, append_assoc, append-nil, add-zero, arith, length-append, get_or-drop, get_or-take, drop-drop}
+use Rattle.std.proofs.Common.{◌≡◌, ℕ, suc, ◌+◌, ◌-◌, ◌*◌, ◌%◌, ◌<◌, ◌≤◌, Bool, List, [], ◌∷◌, ◌++◌, length, get_or, drop, sym, refl, ap, ◌∙◌, subst}
+use Rattle.std.proofs.Common.{append_assoc, append-nil, add-zero, arith, length-append, get_or-drop, get_or-take, drop-drop}
 use native.Mathlib.Decide.{dec_lt}
 use Rattle.paper.specs.Bytes.{bytes, le, le2}
 use Rattle.paper.specs.Tree.{Tree, Forest, nil, to_list, of_list, records, recordses, weight, weights}

@@ -2,7 +2,9 @@
 -- raised before: so a flag that counts 1 is that of one entry alone, and an entry that gets its bit shares its 15 bits with no other
 -- (OneKeyed). The bits change neither the 15 bits nor the starts. Where the last entry moves into the place of another, this stays. By
 -- induction on the entries.
-use Rattle.std.proofs.Common.{◌≡◌, ℕ, zero, suc, ◌+◌, ◌*◌, ◌/◌, ◌%◌, ◌<◌, ◌≤◌, Bool, true, false, List, length, get_or, take, drop, set, replicate, sym, refl, ap, ◌∙◌, mul-le-mul_right, arith, length-set, get_or-drop, get_or-set_other, get_or-take, get_or-set_same, drop-set-lt}
+use Rattle.std.proofs.Common.{◌≡◌, ℕ, zero, suc, ◌+◌, ◌*◌, ◌/◌, ◌%◌, ◌<◌, ◌≤◌, Bool, true, false, List, length, get_or, take, drop, set, replicate}
+use Rattle.std.proofs.Common.{sym, refl, ap, ◌∙◌, mul-le-mul_right, arith, length-set, get_or-drop, get_or-set_other, get_or-take, get_or-set_same}
+use Rattle.std.proofs.Common.{drop-set-lt}
 use mathlib.Core.Option.{none}
 use native.Mathlib.Decide.{ℕ_discrete, dec_lt}
 use lib.ListN.{length-replicate, get_or-append}
@@ -77,7 +79,8 @@ module _ (o w : List ℕ) (a n : ℕ) where
   unfolding counted
   counted_none = refl
 
-  counted_next : (k : ℕ) → set (counted o w a n k) (a + entry_flag w n k) (one_more (get_or (counted o w a n k) (a + entry_flag w n k) 0)) ≡ counted o w a n (k + 1)
+  counted_next : (k : ℕ) → set (counted o w a n k) (a + entry_flag w n k) (one_more (get_or (counted o w a n k) (a + entry_flag w n k) 0)) ≡ counted o
+      w a n (k + 1)
   unfolding counted
   counted_next k = let e : suc k ≡ k + 1 = omega arith in ap (counted o w a n) e
 

@@ -2,7 +2,9 @@
 -- of integer bases or by equal bases. A flag is filled once and keeps the entry that came first, which has its bit as long as no other
 -- comes there: so of two open entries that share a flag none has its bit, and those that had theirs before are like none. Taking bits
 -- away keeps that.
-use Rattle.std.proofs.Common.{◌≡◌, ℕ, ◌+◌, ◌-◌, ◌*◌, ◌/◌, ◌%◌, ◌<◌, ◌≤◌, Bool, true, false, cond, ltb, ◌⊎◌, List, [], ◌∷◌, length, get_or, take, drop, set, replicate, sym, refl, ap, ◌∙◌, subst, inl, inr, ⊎_elim, mul-le-mul_right, mul-lt-mul_of_pos_right, arith, length-set, get_or-set_other, get_or-set_same, drop-set-lt, le-ltb, lt-ltb}
+use Rattle.std.proofs.Common.{◌≡◌, ℕ, ◌+◌, ◌-◌, ◌*◌, ◌/◌, ◌%◌, ◌<◌, ◌≤◌, Bool, true, false, cond, ltb, ◌⊎◌, List, [], ◌∷◌, length, get_or, take, drop}
+use Rattle.std.proofs.Common.{set, replicate, sym, refl, ap, ◌∙◌, subst, inl, inr, ⊎_elim, mul-le-mul_right, mul-lt-mul_of_pos_right, arith}
+use Rattle.std.proofs.Common.{length-set, get_or-set_other, get_or-set_same, drop-set-lt, le-ltb, lt-ltb}
 use mathlib.Core.Option.{Option, none, some}
 use native.Mathlib.Decide.{ℕ_discrete, dec_lt}
 use lib.ListN.{length-replicate}
@@ -487,7 +489,8 @@ module _ {b : Bool} {o o' w w₁ w₂ : List ℕ} {a k n m f : ℕ} {t : Tree} {
         new = λ l q. absurd (omega (arith, later_two k (omega arith)));
       }
     where
-      by : (i : ℕ) → i < k → (held_at o a (first_flag b f m t) ≡ i + 1) ⊎ (held_at o a (second_flag b f m t) ≡ i + 1) → Dec (high_of w₂ i < 128) → high_of w₂ i < 128
+      by : (i : ℕ) → i < k → (held_at o a (first_flag b f m t) ≡ i + 1) ⊎ (held_at o a (second_flag b f m t) ≡ i + 1) → Dec (high_of w₂ i < 128) →
+          high_of w₂ i < 128
       by i g e (yes q) = q
       by i g e (no q) = absurd (hit_two i g e (omega arith))
 
@@ -566,7 +569,8 @@ module _ {b : Bool} {o o₁ o₂ w w₁ w₂ : List ℕ} {p a n m f k : ℕ} {ma
             (visit.kept (first_flag b f m t) (omega (arith, s.0)) ∙ s.0, visit.kept (second_flag b f m t) (omega (arith, s.1)) ∙ s.1)
 
     -- an earlier entry and this one: it loses its bit
-    earlier : (i : ℕ) (t u : Tree) → i < k → Entry b w p i t → Entry b w p k u → high_of w i < 128 → high_of w k < 128 → Meets b f m t u → 128 ≤ high_of w₂ i → ⊥
+    earlier : (i : ℕ) (t u : Tree) → i < k → Entry b w p i t → Entry b w p k u → high_of w i < 128 → high_of w k < 128 → Meets b f m t u → 128 ≤
+        high_of w₂ i → ⊥
     earlier i t u l e d q r meets bit =
         let s = g.holds i t l e q (fewer_by i (λ z. omega arith) bit) in
         let hit = (seen_by u d).hit (omega (arith, own)) i l
@@ -575,7 +579,8 @@ module _ {b : Bool} {o o₁ o₂ w w₁ w₂ : List ℕ} {p a n m f k : ℕ} {ma
         omega arith
 
     -- this one and an earlier entry: it gets none
-    now_none : (j : ℕ) (t u : Tree) → j < k → Entry b w p k t → Entry b w p j u → high_of w k < 128 → high_of w j < 128 → Meets b f m t u → 128 ≤ high_of w₂ k → ⊥
+    now_none : (j : ℕ) (t u : Tree) → j < k → Entry b w p k t → Entry b w p j u → high_of w k < 128 → high_of w j < 128 → Meets b f m t u → 128 ≤
+        high_of w₂ k → ⊥
     now_none j t u l e d q r meets bit =
         let s = g.seen j u l d r in
         let free = ((seen_by t e).new (omega (arith, own)) bit).0 in
@@ -591,7 +596,8 @@ module _ {b : Bool} {o o₁ o₂ w w₁ w₂ : List ℕ} {p a n m f k : ℕ} {ma
         by : Dec (i ≡ k) → Dec (j ≡ k) → ⊥
         by (yes x) (yes y) = apart (x ∙ sym y)
         by (yes x) (no y) =
-            now_none j t u (omega arith) (subst (λ z. Entry b w p z t) x e) d (omega (arith, q, ap (high_of w) x)) r meets (omega (arith, bit, ap (high_of w₂) x))
+            now_none j t u (omega arith) (subst (λ z. Entry b w p z t) x e) d (omega (arith, q, ap (high_of w) x)) r meets
+            (omega (arith, bit, ap (high_of w₂) x))
         by (no x) (yes y) =
             earlier i t u (omega arith) e (subst (λ z. Entry b w p z u) y d) q (omega (arith, r, ap (high_of w) y)) meets bit
         by (no x) (no y) = g.alone i j t u (omega arith) (omega arith) apart e d q r meets (fewer_by i x bit)

@@ -1,7 +1,8 @@
 -- What the parts of the walk come to: a part that left the range stays out of it, and so does the member it becomes; and the member
 -- that a part becomes weighs no more than the members that it was made of. A coefficient or an exponent adds two at most, and what it was
 -- taken up from weighs two or more unless it is an integer, when both are.
-use Rattle.std.proofs.Common.{◌≡◌, ℕ, ◌+◌, ◌≤◌, Bool, true, false, ◌&&◌, eqb, List, [], ◌∷◌, ◌++◌, length, ℤ, pos, ◌+ℤ◌, ◌*ℤ◌, sym, refl, ap, ◌∙◌, subst, arith, eqb-true}
+use Rattle.std.proofs.Common.{◌≡◌, ℕ, ◌+◌, ◌≤◌, Bool, true, false, ◌&&◌, eqb, List, [], ◌∷◌, ◌++◌, length, ℤ, pos, ◌+ℤ◌, ◌*ℤ◌, sym, refl, ap, ◌∙◌}
+use Rattle.std.proofs.Common.{subst, arith, eqb-true}
 use mathlib.Core.Option.{Option, none, some}
 use Rattle.paper.specs.Tree.{Tree, Forest, integer, symbol, sum, product, power, marked, to_list, of_list, weight}
 use Rattle.paper.specs.WellFormed.{WF}

@@ -1,6 +1,7 @@
 -- What tells in a table that a member stays: a coefficient by its record; a product by its members one after the other, where the first
 -- is an integer or none but the last may be; a power by the record of its exponent. By cases on the trees, which their first records tell.
-use Rattle.std.proofs.Common.{◌≡◌, ℕ, ◌+◌, ◌-◌, ◌*◌, ◌<◌, ◌≤◌, Bool, true, false, cond, not, ◌&&◌, eqb, ltb, List, length, ℤ, pos, sym, refl, ap, ◌∙◌, subst, arith, eq-eqb, eqb-true}
+use Rattle.std.proofs.Common.{◌≡◌, ℕ, ◌+◌, ◌-◌, ◌*◌, ◌<◌, ◌≤◌, Bool, true, false, cond, not, ◌&&◌, eqb, ltb, List, length, ℤ, pos, sym, refl, ap, ◌∙◌}
+use Rattle.std.proofs.Common.{subst, arith, eq-eqb, eqb-true}
 use Rattle.paper.specs.Bytes.{signed, word}
 use Rattle.paper.specs.Record.{kind, count_in, mark_in, bits}
 use Rattle.paper.specs.Standing.{kind_number}

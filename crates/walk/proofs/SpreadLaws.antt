@@ -1,6 +1,7 @@
 -- The spread of a tree is what its records add up to, by induction on the tree; equal trees have equal spreads, since taking a member out of a list lowers a
 -- total by its part; and that of a term's rest is the total over those members of a product that are no integers.
-use Rattle.std.proofs.Common.{◌≡◌, ℕ, zero, suc, ◌+◌, ◌-◌, ◌*◌, ◌/◌, ◌%◌, ◌<◌, ◌≤◌, Bool, false, cond, eqb, List, [], ◌∷◌, pos, sym, refl, ap, ◌∙◌, subst, mul-le-mul_right, mod-lt, arith, lit<, le-ltb, lt-ltb, eq-eqb, ne_eqb}
+use Rattle.std.proofs.Common.{◌≡◌, ℕ, zero, suc, ◌+◌, ◌-◌, ◌*◌, ◌/◌, ◌%◌, ◌<◌, ◌≤◌, Bool, false, cond, eqb, List, [], ◌∷◌, pos, sym, refl, ap, ◌∙◌}
+use Rattle.std.proofs.Common.{subst, mul-le-mul_right, mod-lt, arith, lit<, le-ltb, lt-ltb, eq-eqb, ne_eqb}
 use Rattle.paper.specs.Limits.{modulus}
 use Rattle.paper.specs.Bytes.{word}
 use Rattle.paper.specs.Record.{kind, bits, count_in}

@@ -1,7 +1,8 @@
 -- The states of the walk: what has come out, what is being looked at and what is left, so that the rest of the walk from here, put onto
 -- what was done, is the whole walk. Each step of the code leads from one such state to the next, by the law of the paper's walk for that
 -- step; where it ends, the whole walk's outcome is known.
-use Rattle.std.proofs.Common.{◌≡◌, ℕ, zero, suc, ◌+◌, ◌*◌, ◌≤◌, Bool, true, false, ◌&&◌, List, [], ◌∷◌, ◌++◌, map, length, take, drop, sym, refl, ap, ◌∙◌, arith, length-append, take-take}
+use Rattle.std.proofs.Common.{◌≡◌, ℕ, zero, suc, ◌+◌, ◌*◌, ◌≤◌, Bool, true, false, ◌&&◌, List, [], ◌∷◌, ◌++◌, map, length, take, drop, sym, refl, ap}
+use Rattle.std.proofs.Common.{◌∙◌, arith, length-append, take-take}
 use Rattle.paper.specs.Tree.{Tree, of_list, records, recordses}
 use Rattle.paper.specs.Walk.{WalkEnd, walk}
 use Rattle.paper.specs.Rules as paper

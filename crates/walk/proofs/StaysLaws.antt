@@ -1,7 +1,8 @@
 -- A member that stays is what its own part becomes, and is in range. A product with no integer is its own rest, and 1 times it is
 -- itself; one with a coefficient where the rules write it is the coefficient times the product of its other members, and is written the
 -- same; a power whose exponent has its mark is its base with that exponent. By cases on the member, and by induction on a product's members.
-use Rattle.std.proofs.Common.{◌≡◌, ℕ, ◌≤◌, Bool, true, false, cond, not, ◌&&◌, eqb, ltb, ◌⊎◌, List, [], ◌∷◌, ◌++◌, length, ℤ, pos, ◌*ℤ◌, sym, refl, ap, ◌∙◌, subst, inl, inr, arith, length-append, ltb-true, eqb-true}
+use Rattle.std.proofs.Common.{◌≡◌, ℕ, ◌≤◌, Bool, true, false, cond, not, ◌&&◌, eqb, ltb, ◌⊎◌, List, [], ◌∷◌, ◌++◌, length, ℤ, pos, ◌*ℤ◌, sym, refl}
+use Rattle.std.proofs.Common.{ap, ◌∙◌, subst, inl, inr, arith, length-append, ltb-true, eqb-true}
 use mathlib.Core.Option.{none}
 use lib.IntN.{one, *ℤ_comm, *ℤ-one}
 use borrow.Author.Tests.{not-true}

@@ -1,6 +1,7 @@
 -- The steps of the walk, from state to state. Between two turns: the parts that came out, how many members were removed, and the members
 -- that are left. Within a turn also the current part and the members that were passed by.
-use Rattle.std.proofs.Common.{◌≡◌, ℕ, ◌+◌, ◌-◌, ◌*◌, ◌<◌, ◌≤◌, Bool, true, false, cond, eqb, leb, List, [], ◌∷◌, ◌++◌, map, length, get_or, take, drop, sym, refl, ap, ◌∙◌, subst, append-nil, arith, length-append, eqb-true, leb-false, leb-true}
+use Rattle.std.proofs.Common.{◌≡◌, ℕ, ◌+◌, ◌-◌, ◌*◌, ◌<◌, ◌≤◌, Bool, true, false, cond, eqb, leb, List, [], ◌∷◌, ◌++◌, map, length, get_or, take}
+use Rattle.std.proofs.Common.{drop, sym, refl, ap, ◌∙◌, subst, append-nil, arith, length-append, eqb-true, leb-false, leb-true}
 use mathlib.Core.Option.{none, some}
 use Rattle.paper.specs.Tree.{Tree, of_list, weight, records, recordses}
 use Rattle.paper.specs.Walk.{WalkEnd, then_walk, turn, walk, last_first}

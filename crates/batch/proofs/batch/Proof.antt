@@ -39,7 +39,8 @@ returns_2 : tie.Need-returns
 returns_2 c =
     let g = (begun (judged c.before.before.before.before.before.before.before.before.before.before.before.before.before)).args in
     c.in_turn.ensures
-    ∙ carried_out_lem g.tables.now g.lengths.now g.answers.now g.limit g.edition (accepted_of c.before.before.before.before.before.before.before.before.before.before.before.before.before)
+    ∙ carried_out_lem g.tables.now g.lengths.now g.answers.now g.limit g.edition
+    (accepted_of c.before.before.before.before.before.before.before.before.before.before.before.before.before)
     (lent g.out.now g.steps.now g.work.now)
 
 pub batch_spec : {M : Type 1} → statement M

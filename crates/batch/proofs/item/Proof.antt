@@ -77,7 +77,8 @@ returns c =
 
 returns_2 : tie.Need-returns
 returns_2 c =
-    turn_of_lem c.before.before.before.before (called_of c.before.before.before.before).simplify_in-a.result.weight_in ((used c.before.before.before.before).other c.if-a-eq-RANGE.false)
+    turn_of_lem c.before.before.before.before (called_of c.before.before.before.before).simplify_in-a.result.weight_in
+    ((used c.before.before.before.before).other c.if-a-eq-RANGE.false)
 
 pub item_spec : {M : Type 1} → statement M
 item_spec =

@@ -53,14 +53,18 @@ add_digit_at c =
 returns_2 : tie.Need-returns-then-digit_at invariant_loop decreases_loop
 returns_2 c =
     let a = c.args in
-    leading_nought a.bound a.text.now a.at (first_digit c.before.before.before) c.if-text-at-lt49.true (sym c.digit_at-then-text-at-lt49.ensures ∙ c.if-digit_at.true)
+    leading_nought a.bound a.text.now a.at (first_digit c.before.before.before) c.if-text-at-lt49.true
+    (sym c.digit_at-then-text-at-lt49.ensures ∙ c.if-digit_at.true)
 
 loop_holds : tie.Need-loop-at-init invariant_loop decreases_loop
 loop_holds c =
     let a = c.args in
     let s = a.text.now in
-    let d = first_digit c.before in
-    (⊎_elim (λ w. sound_alone s a.at d (sym w.digit_at-then-text-at-lt49.ensures ∙ w.if-digit_at.false)) (λ w. sound_other s a.at d w.if-text-at-lt49.false) c.if-text-at-lt49.branch-raw, begin_digits s a.at d)
+    let d = first_digit c.before in (
+      ⊎_elim (λ w. sound_alone s a.at d (sym w.digit_at-then-text-at-lt49.ensures ∙ w.if-digit_at.false))
+          (λ w. sound_other s a.at d w.if-text-at-lt49.false) c.if-text-at-lt49.branch-raw,
+      begin_digits s a.at d,
+    )
 
 returns_3 : tie.Need-returns-then-most-v invariant_loop decreases_loop
 returns_3 c =

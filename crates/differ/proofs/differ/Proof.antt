@@ -120,7 +120,8 @@ returns_2 : tie.Need-returns-then-f-gt0
 returns_2 c =
     let a = (start_of c.before.before.before).args in
     gives_both c.answer-then-f-gt0.ensures
-    (first_refused a.limit (known_then c.before.before.before) a.a.now a.b.now a.list.now _ _ _ (judges c.before.before.before) (omega (arith, c.if-f-gt0.true)))
+    (first_refused a.limit (known_then c.before.before.before) a.a.now a.b.now a.list.now _ _ _ (judges c.before.before.before)
+    (omega (arith, c.if-f-gt0.true)))
 
 returns_3 : tie.Need-returns-then-g-gt0
 returns_3 c =
@@ -138,7 +139,8 @@ returns_4 c =
     let a = (begun c.before.before.before.before).args in
     let pairs = c.count_pairs-pairs in
     gives_both (c.answer-then-list-pairs.ensures ∙ refused c.refusal-then-list-pairs.ensures)
-    (list_refused a.limit (known_both c.before.before.before.before) a.a.now a.b.now a.list.now (one_fine c.before.before.before.before) (other_fine c.before.before.before.before) pairs.result
+    (list_refused a.limit (known_both c.before.before.before.before) a.a.now a.b.now a.list.now (one_fine c.before.before.before.before)
+    (other_fine c.before.before.before.before) pairs.result
     pairs.ensures c.if-list-pairs.true)
 
 write_pairs_requires : tie.Need-write_pairs-requires
@@ -151,7 +153,9 @@ returns_5 c =
     let pairs = c.count_pairs-pairs in
     let written = c.write_pairs in
     gives_both (c.answer-2.ensures ∙ ap (λ (v : Verdict). answered v 0 pairs.result) c.refusal-2.ensures)
-    (none_refused a.limit (known_both c.before.before.before.before.before.before.before.before) a.a.now a.b.now a.list.now (one_fine c.before.before.before.before.before.before.before.before) (other_fine c.before.before.before.before.before.before.before.before) pairs.result
+    (none_refused a.limit (known_both c.before.before.before.before.before.before.before.before) a.a.now a.b.now a.list.now
+    (one_fine c.before.before.before.before.before.before.before.before) (other_fine c.before.before.before.before.before.before.before.before)
+    pairs.result
     pairs.ensures c.if-list-pairs.false written.new.list written.ensures)
 
 pub differ_spec : {M : Type 1} → statement M

@@ -99,7 +99,8 @@ loop_again_2 c =
     let other = c.skip_tree-j in
     let more = l.invariant.0 ++ ((l.i, l.j) ∷ []) in
     let walked =
-    walked_unlike l.invariant.1 (turn_of_lem c.before.before.before.before.before.before).loop-i-test.true (unlike c.before.before.before.before.before.before) one.result other.result one.ensures other.ensures in
+    walked_unlike l.invariant.1 (turn_of_lem c.before.before.before.before.before.before).loop-i-test.true
+    (unlike c.before.before.before.before.before.before) one.result other.result one.ensures other.ensures in
     let wide = (entry_of c.before.before.before.before.before.before).requires.1 in
     let pair = c.write_pair in
     let next : pair.new.list ≡ written d more
@@ -121,5 +122,6 @@ pub write_pairs_spec : {M : Type 1} → statement M
 write_pairs_spec =
     tie.close
     (tie.spec
-    invariant_loop decreases_loop loop_holds agree_requires (λ c. omega arith) add_j (λ c. omega arith) loop_again write_pair_requires add_pairs skip_tree_requires
+    invariant_loop decreases_loop loop_holds agree_requires (λ c. omega arith) add_j (λ c. omega arith) loop_again write_pair_requires add_pairs
+    skip_tree_requires
     skip_tree_requires_2 loop_less_2 loop_again_2 same_length returns)

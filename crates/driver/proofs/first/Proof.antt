@@ -130,7 +130,8 @@ returns_2 c =
       onward s e refl (omega arith),
       λ x v.
           let b = v.begins (at_first c.before.before.before.before.before.before.before.before) in
-          let fell = steps_burst s.edition s.noted c.in-Over.n (begins entry x v (at_first c.before.before.before.before.before.before.before.before)).set.ready.wf
+          let fell = steps_burst s.edition s.noted c.in-Over.n
+          (begins entry x v (at_first c.before.before.before.before.before.before.before.before)).set.ready.wf
           (answer c.before.before.before.before.before.before.before.before x v _ c.in-Over.is) in
           subst (λ y. Begun x r.new.out r.new.work r.new.steps y) (sym e)
           (subst (λ y. Begun y r.new.out r.new.work r.new.steps (ended_at s 0 s.place c.in-Over.n s.tries)) (sym b.0)

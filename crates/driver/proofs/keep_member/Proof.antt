@@ -143,7 +143,8 @@ returns_5 c =
     let still = c.still.ensures in
     let there = tree_pending h in
     calm_kept h g.edition (kind g.out.now g.d) (shut (counted_of c.before.before.before.before.before.before.before.before)) _
-    (ap (λ a. a + 1) c.arity-n.ensures.0 ∙ calm_size h (few c.before.before.before.before.before.before.before.before h)) (few c.before.before.before.before.before.before.before.before h)
+    (ap (λ a. a + 1) c.arity-n.ensures.0 ∙ calm_size h (few c.before.before.before.before.before.before.before.before h))
+    (few c.before.before.before.before.before.before.before.before h)
     (sym (still.0 t there) ∙ c.if-still.true) (still.1 t there) _ c.copy_bytes.ensures
 
 returns_6 : tie.Need-returns

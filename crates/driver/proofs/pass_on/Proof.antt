@@ -108,8 +108,11 @@ same_length_3 c =
     (head_of c.before.before.before.before).loop-k.invariant.steps_long
 
 returns : tie.Need-returns-then-k-gt0 invariant_loop decreases_loop
-returns c =
-    (onward_both (head_of c.before.before.before.before).loop-k.invariant.onward c.keep_members-k.ensures.0, λ x v. waiting (led_on c.before.before.before.before x v) c.if-k-gt0.true)
+returns c = (
+  onward_both (head_of c.before.before.before.before).loop-k.invariant.onward c.keep_members-k.ensures.0,
+  λ x v. waiting
+      (led_on c.before.before.before.before x v) c.if-k-gt0.true,
+)
 
 end_pass_requires : tie.Need-end_pass-t-requires invariant_loop decreases_loop
 end_pass_requires c κs =
@@ -137,7 +140,8 @@ returns_2 c =
     let e : c.ended.result ≡ ended_at k 0 k.place c.in-Over.n k.tries = c.ended.ensures in (
       onward_both (onward_both (head_of led).loop-k.invariant.onward led.keep_members-k.ensures.0) (onward k e refl (omega arith)),
       λ x v. subst (λ y. WentOn x r.new.out r.new.work r.new.steps y) (sym e)
-          (fell_down (ended_at k 0 k.place c.in-Over.n k.tries) refl (omega arith) (answer c.before.before.before.before.before.before.before.before x v _ c.in-Over.is)),
+          (fell_down (ended_at k 0 k.place c.in-Over.n k.tries) refl (omega arith)
+          (answer c.before.before.before.before.before.before.before.before x v _ c.in-Over.is)),
     )
 
 same_length_7 : tie.Need-shape_of-out-in-Finished invariant_loop decreases_loop
@@ -159,11 +163,13 @@ returns_3 c =
     let entry = entry_of (head_of led) in
     let k = led.keep_members-k.result in
     let r = c.end_pass-t in
-    let e : c.ended-in-Finished.result ≡ ended_at k c.in-Finished.end c.in-Finished.place c.in-Finished.noted c.in-Finished.tries = c.ended-in-Finished.ensures in (
+    let e : c.ended-in-Finished.result ≡ ended_at k c.in-Finished.end c.in-Finished.place c.in-Finished.noted c.in-Finished.tries =
+    c.ended-in-Finished.ensures in (
       onward_both (onward_both (head_of led).loop-k.invariant.onward led.keep_members-k.ensures.0)
           (onward k e refl (answer c.before.before.before.before.before.before.before.before entry.requires.0 entry.requires.1 _ c.in-Finished.is).1),
       λ x v. subst (λ y. WentOn x r.new.out r.new.work r.new.steps y) (sym e)
-          (came_home k c.in-Finished.end c.in-Finished.place c.in-Finished.noted c.in-Finished.tries (answer c.before.before.before.before.before.before.before.before x v _ c.in-Finished.is).0),
+          (came_home k c.in-Finished.end c.in-Finished.place c.in-Finished.noted c.in-Finished.tries
+          (answer c.before.before.before.before.before.before.before.before x v _ c.in-Finished.is).0),
     )
 
 begin_requires : tie.Need-begin-s-requires invariant_loop decreases_loop
@@ -203,7 +209,8 @@ loop_again c =
     record {
       onward =
           onward_both (onward_both head.loop-k.invariant.onward led.keep_members-k.ensures.0)
-          (onward k e refl (answer c.before.before.before.before.before.before.before.before.before.before.before entry.requires.0 entry.requires.1 _ c.in-Again.is).6);
+          (onward k e refl (answer c.before.before.before.before.before.before.before.before.before.before.before entry.requires.0 entry.requires.1 _
+          c.in-Again.is).6);
       out_long = started.auto.out ∙ r.auto.out ∙ led.keep_members-k.auto.out ∙ head.loop-k.invariant.out_long;
       work_long = r.auto.work ∙ head.loop-k.invariant.work_long;
       steps_long = r.auto.steps ∙ head.loop-k.invariant.steps_long;

@@ -174,7 +174,14 @@ add_t40 : tie.Need-overflow_add-result
 add_t40 c =
     let called = called_of c.before.before.before.before in
     let copied = copied_of called in
-    omega (arith, ends_at c.before.before.before.before, called.ease-g.auto, copied.copy_bytes.auto, (tested_of copied).still.auto, (entry_called called).well_formed)
+    omega (
+      arith,
+      ends_at c.before.before.before.before,
+      called.ease-g.auto,
+      copied.copy_bytes.auto,
+      (tested_of copied).still.auto,
+      (entry_called called).well_formed,
+    )
 
 returns_3 : tie.Need-returns-in-Over
 returns_3 c =

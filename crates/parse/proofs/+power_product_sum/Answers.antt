@@ -94,7 +94,8 @@ power-returns-then-enters-clause-left t c =
       (c.follow.ensures.st_len.0, omega (arith, u0, lv, e0)),
       read_as s (place_in st) (place_in st) _ (read_power (read_cut (level_in st)) (drop (place_in st) s)) a.out.now.now _ (record_in st)
           c.follow.new.out.now (weight_in st) (weight_in st) c.follow.new.st c.follow.result
-          (up.1 (place_in st) content a.out.now.now (inside s a.out.now.now st c.requires c.enters.new.st e c.sum-m.new.out.now c.sum-m.new.st c.sum-m.result told))
+          (up.1 (place_in st) content a.out.now.now
+          (inside s a.out.now.now st c.requires c.enters.new.st e c.sum-m.new.out.now c.sum-m.new.st c.sum-m.result told))
           refl (sym (group_read s (place_in st) (level_in st) e.0 e.1)) (k.5 ∙ told.1 ∙ e.4) refl,
     )
 

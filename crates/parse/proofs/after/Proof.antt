@@ -123,7 +123,8 @@ returns_4 c =
                 turn_one n κ a.text.now old at d w a.c _ _ c.if-c-lt1-2.true
                     (first_of_more n κ a.text.now old at d w area cells a.out.now _ a.st.now _ a.m start h c.if-m-lt-BARE.false
                     fitting
-                    (several c.before.before.before.before.before.before.before.before.before.before.before.before.before c.if-c-lt1-2.true) (c.requires.2.2 c.if-m-lt-BARE.false).1 shifted e.3 e.4 e.5),
+                    (several c.before.before.before.before.before.before.before.before.before.before.before.before.before c.if-c-lt1-2.true)
+                    (c.requires.2.2 c.if-m-lt-BARE.false).1 shifted e.3 e.4 e.5),
               ),
               λ q. absurd (omega (arith, q)),
             ),

@@ -23,8 +23,16 @@ after_requires_2 c κs =
 returns_2 : tie.Need-returns-then-k-lt-POWER
 returns_2 c =
     let k = c.if-k-lt-POWER.true in
-    let l = c.if-k-lt-PRODUCT.false in
-    ((c.after-then-k-lt-POWER.ensures.0, λ e. absurd (omega (arith, e, l)), λ e. c.after-then-k-lt-POWER.ensures.1, λ e. absurd (omega (arith, e, k))), (refl, search rules))
+    let l = c.if-k-lt-PRODUCT.false in (
+      (
+        c.after-then-k-lt-POWER.ensures.0,
+        λ e. absurd (omega (arith, e, l)),
+        λ e. c.after-then-k-lt-POWER.ensures.1,
+        λ e. absurd
+            (omega (arith, e, k)),
+      ),
+      (refl, search rules),
+    )
 
 raise_requires : tie.Need-raise-requires
 raise_requires c κs =

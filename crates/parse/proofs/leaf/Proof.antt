@@ -78,7 +78,8 @@ returns_5 c =
     let a = c.args in
     let number = c.in-Is-read_number.ensures in
     let small = number_small (2 ^ 63 + 1) a.text.now (a.at + 1) _ _ (omega arith) number in
-    is_negative a.text.now a.at _ _ c.if-v-lt1.false (no_symbol_mark c.before.before.before.before.before.before.before.before.before) (minus_mark c.before.before.before.before.before.before.before)
+    is_negative a.text.now a.at _ _ c.if-v-lt1.false (no_symbol_mark c.before.before.before.before.before.before.before.before.before)
+    (minus_mark c.before.before.before.before.before.before.before)
     number _ (omega (arith, small)) c.put_record-then-sign_at-2.ensures
 
 returns_6 : tie.Need-returns-in_default-read_number-2
@@ -99,7 +100,8 @@ returns_7 : tie.Need-returns
 returns_7 c =
     let a = c.args in
     let number = c.in-Is-read_number-2.ensures in
-    is_integer_lem a.text.now a.at _ _ (no_symbol_mark c.before.before.before.before.before.before.before.before) (no_minus_mark c.before.before.before.before.before.before) number c.put_record-2.ensures
+    is_integer_lem a.text.now a.at _ _ (no_symbol_mark c.before.before.before.before.before.before.before.before)
+    (no_minus_mark c.before.before.before.before.before.before) number c.put_record-2.ensures
 
 pub leaf_spec : {M : Type 1} → statement M
 leaf_spec =

@@ -138,8 +138,11 @@ raised_requires : tie.Need-raised-i-requires
 raised_requires c κs =
     let a = c.args in
     let g = content c.before.before.before.before.before.before.before.before.before in
-    sized a.text.now g.0 (then g.1 closed) g.2 a.out.now (first_of (now c.before.before.before.before.before.before.before.before.before)) (here c.before.before.before.before.before.before.before.before.before g.0 g.1 g.2 g.3).low
-    (Grouped (a.m - 1) (place_in (now c.before.before.before.before.before.before.before.before.before) + 1) (weight_in (now c.before.before.before.before.before.before.before.before.before) - a.w) (record_in (now c.before.before.before.before.before.before.before.before.before))) (group c.before.before.before.before.before g.0 g.1 g.2 g.3)
+    sized a.text.now g.0 (then g.1 closed) g.2 a.out.now (first_of (now c.before.before.before.before.before.before.before.before.before))
+    (here c.before.before.before.before.before.before.before.before.before g.0 g.1 g.2 g.3).low
+    (Grouped (a.m - 1) (place_in (now c.before.before.before.before.before.before.before.before.before) + 1)
+    (weight_in (now c.before.before.before.before.before.before.before.before.before) - a.w)
+    (record_in (now c.before.before.before.before.before.before.before.before.before))) (group c.before.before.before.before.before g.0 g.1 g.2 g.3)
 
 taken_requires_2 : tie.Need-taken-requires-2
 taken_requires_2 c κs =
@@ -147,8 +150,10 @@ taken_requires_2 c κs =
     let g = content c.before.before.before.before.before.before.before.before.before.before.before.before.before in
     let i = here c.before.before.before.before.before.before.before.before.before.before.before.before.before g.0 g.1 g.2 g.3 in (
       (levelled a.st.now c.requires.0).0,
-      takes a.text.now g.0 _ g.2 _ (first_of (now c.before.before.before.before.before.before.before.before.before.before.before.before.before)) i.low c.raised-i.result a.w
-          (c.raised-i.ensures g.0 (then g.1 closed) g.2 (group c.before.before.before.before.before.before.before.before.before g.0 g.1 g.2 g.3)) i.light (short c.before.before.before.before.before.before.before.before.before.before.before.before.before.before.before.before.before.before),
+      takes a.text.now g.0 _ g.2 _ (first_of (now c.before.before.before.before.before.before.before.before.before.before.before.before.before)) i.low
+          c.raised-i.result a.w
+          (c.raised-i.ensures g.0 (then g.1 closed) g.2 (group c.before.before.before.before.before.before.before.before.before g.0 g.1 g.2 g.3))
+          i.light (short c.before.before.before.before.before.before.before.before.before.before.before.before.before.before.before.before.before.before),
     )
 
 returns_4 : tie.Need-returns
@@ -163,8 +168,15 @@ returns_4 c =
         λ h. (
           told.1 ∙ l.4,
           λ at o old i.
-              read_as a.text.now at at (then (then o closed) raising) _ old (first_of (now c.before.before.before.before.before.before.before.before.before.before.before.before.before.before)) (first_of a.st.now) _ a.w a.w _ _
-              (record { item = c.raised-i.result; given = told.2; is = c.raised-i.ensures at (then o closed) old (group c.before.before.before.before.before.before.before.before.before.before at o old i) }) refl refl
+              read_as a.text.now at at (then (then o closed) raising) _ old
+              (first_of (now c.before.before.before.before.before.before.before.before.before.before.before.before.before.before))
+              (first_of a.st.now) _ a.w a.w _ _
+              (record {
+                item = c.raised-i.result;
+                given = told.2;
+                is = c.raised-i.ensures at (then o closed) old
+                    (group c.before.before.before.before.before.before.before.before.before.before at o old i);
+              }) refl refl
               l.5 refl,
         ),
       ),

@@ -116,7 +116,9 @@ returns_5 c =
     let positive = c.if-v-lt1.false in
     let room = c.make_room.ensures in
     let put = c.put_record.ensures in
-    λ at o old h. is_raised s at o _ _ _ _ _ _ (fitting c.before.before.before.before.before.before.before.before.before.before.before.before.before.before.before at o old h) (sign_there c.before.before.before.before.before.before.before.before.before.before.before.before.before.before.before) number positive
+    λ at o old h. is_raised s at o _ _ _ _ _ _
+    (fitting c.before.before.before.before.before.before.before.before.before.before.before.before.before.before.before at o old h)
+    (sign_there c.before.before.before.before.before.before.before.before.before.before.before.before.before.before.before) number positive
     (power_laid room put c.put_record-2.ensures)
 
 pub raised_spec : {M : Type 1} → statement M

@@ -121,7 +121,8 @@ close_requires c κs =
 
 returns : tie.Need-returns
 returns c μ f h =
-    put_closed _ (light c.before.before.before.before μ f h) (product_node _ _) _ _ _ (low c.before.before.before.before) (unclosed_there c.before.before.before.before μ f h) _ c.close.ensures
+    put_closed _ (light c.before.before.before.before μ f h) (product_node _ _) _ _ _ (low c.before.before.before.before)
+    (unclosed_there c.before.before.before.before μ f h) _ c.close.ensures
 
 pub write_longer_spec : {M : Type 1} → statement M
 write_longer_spec =

@@ -105,7 +105,8 @@ returns_2 : tie.Need-returns
 returns_2 c x h =
     let g = (start_at c.before.before.before.before).args in
     power_answer (number_shown h) g.out.now g.m (test_of c.before.before.before.before).if-e-eq1.false _ _ (omega arith)
-    (put_closed _ (power_is_light c.before.before.before.before x h) (power_node _ _ _ _) _ _ _ (low c.before.before.before.before) (unclosed_there c.before.before.before.before x h) _ c.close.ensures)
+    (put_closed _ (power_is_light c.before.before.before.before x h) (power_node _ _ _ _) _ _ _ (low c.before.before.before.before)
+    (unclosed_there c.before.before.before.before x h) _ c.close.ensures)
 
 pub write_number_spec : {M : Type 1} → statement M
 write_number_spec =

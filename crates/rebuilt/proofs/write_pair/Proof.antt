@@ -70,7 +70,8 @@ close_requires c κs =
 
 returns : tie.Need-returns
 returns c t h =
-    put_closed _ (light c.before.before.before.before t h) (product_node _ _) _ _ _ (low c.before.before.before.before) (unclosed_there c.before.before.before.before t h) _ c.close.ensures
+    put_closed _ (light c.before.before.before.before t h) (product_node _ _) _ _ _ (low c.before.before.before.before)
+    (unclosed_there c.before.before.before.before t h) _ c.close.ensures
 
 pub write_pair_spec : {M : Type 1} → statement M
 write_pair_spec =

@@ -100,8 +100,10 @@ write_times_requires c κs =
 
 -- ---- the rest is a product without one of its members
 write_without_requires : tie.Need-write_without-requires
-write_without_requires c κs =
-    (mark_fits c.before.before, (rest c.before.before (asked c.before.before), (stands_for_lem c.before.before (asked c.before.before) _ c.in-Others.is).1, fitting c.before.before))
+write_without_requires c κs = (
+  mark_fits c.before.before,
+  (rest c.before.before (asked c.before.before), (stands_for_lem c.before.before (asked c.before.before) _ c.in-Others.is).1, fitting c.before.before),
+)
 
 -- ---- the answers
 returns : tie.Need-returns-in-One

@@ -69,7 +69,8 @@ pub returns-then-any_refused : goal.returns-then-any_refused
 returns-then-any_refused c =
     let e = c.refusal-then-any_refused.ensures in
     refuses _ _ (refused 15 0)
-    (open_15 _ _ (sym c.if-not-is_limit.ensures) (sym c.if-misses.ensures) (fine _ _ c.fault_of-f.result (c.fault_of-f.ensures ∙ c.check.ensures) c.if-f-gt0.false)
+    (open_15 _ _ (sym c.if-not-is_limit.ensures) (sym c.if-misses.ensures)
+    (fine _ _ c.fault_of-f.result (c.fault_of-f.ensures ∙ c.check.ensures) c.if-f-gt0.false)
     (sym c.if-any_refused.ensures))
     (lit≤ tt) _ e.0 e.1 (ap flaw_of e.2)
 
@@ -77,7 +78,8 @@ pub returns-then-n-gt-DEFINITIONS : goal.returns-then-n-gt-DEFINITIONS
 returns-then-n-gt-DEFINITIONS c =
     let e = c.refusal-then-n-gt-DEFINITIONS.ensures in
     refuses _ _ (refused 16 0)
-    (open_over _ _ (sym c.if-not-is_limit.ensures) (sym c.if-misses.ensures) (fine _ _ c.fault_of-f.result (c.fault_of-f.ensures ∙ c.check.ensures) c.if-f-gt0.false)
+    (open_over _ _ (sym c.if-not-is_limit.ensures) (sym c.if-misses.ensures)
+    (fine _ _ c.fault_of-f.result (c.fault_of-f.ensures ∙ c.check.ensures) c.if-f-gt0.false)
     (sym c.if-any_refused.ensures) c.if-n-gt-DEFINITIONS.true)
     (lit≤ tt) _ e.0 e.1 (ap flaw_of e.2)
 
@@ -85,7 +87,8 @@ pub returns-then-twice : goal.returns-then-twice
 returns-then-twice c =
     let e = c.refusal-then-twice.ensures in
     refuses _ _ (refused 16 0)
-    (open_twice _ _ (sym c.if-not-is_limit.ensures) (sym c.if-misses.ensures) (fine _ _ c.fault_of-f.result (c.fault_of-f.ensures ∙ c.check.ensures) c.if-f-gt0.false)
+    (open_twice _ _ (sym c.if-not-is_limit.ensures) (sym c.if-misses.ensures)
+    (fine _ _ c.fault_of-f.result (c.fault_of-f.ensures ∙ c.check.ensures) c.if-f-gt0.false)
     (sym c.if-any_refused.ensures) c.if-n-gt-DEFINITIONS.false (sym c.if-twice.ensures))
     (lit≤ tt) _ e.0 e.1 (ap flaw_of e.2)
 

@@ -11,11 +11,23 @@ returns_2 c = simp (ne_eqb _ _ c.if-kind-eq-SUM.false, eq-eqb _ _ c.if-kind-eq-P
 
 returns_3 : tie.Need-returns-then-edition-eq-WITH_POWERS
 returns_3 c =
-    simp (ne_eqb _ _ c.if-kind-eq-SUM.false, ne_eqb _ _ c.if-kind-eq-PRODUCT.false, eq-eqb _ _ c.if-kind-eq-POWER.true, eq-eqb _ _ c.if-edition-eq-WITH_POWERS.true)
+    simp (
+      ne_eqb _ _ c.if-kind-eq-SUM.false,
+      ne_eqb _ _ c.if-kind-eq-PRODUCT.false,
+      eq-eqb _ _ c.if-kind-eq-POWER.true,
+      eq-eqb _ _
+          c.if-edition-eq-WITH_POWERS.true,
+    )
 
 returns_4 : tie.Need-returns-then-kind-eq-POWER
 returns_4 c =
-    simp (ne_eqb _ _ c.if-kind-eq-SUM.false, ne_eqb _ _ c.if-kind-eq-PRODUCT.false, eq-eqb _ _ c.if-kind-eq-POWER.true, ne_eqb _ _ c.if-edition-eq-WITH_POWERS.false)
+    simp (
+      ne_eqb _ _ c.if-kind-eq-SUM.false,
+      ne_eqb _ _ c.if-kind-eq-PRODUCT.false,
+      eq-eqb _ _ c.if-kind-eq-POWER.true,
+      ne_eqb _ _
+          c.if-edition-eq-WITH_POWERS.false,
+    )
 
 returns_5 : tie.Need-returns
 returns_5 c =

@@ -37,5 +37,6 @@ pub is_free_spec : {M : Type 1} → statement M
 is_free_spec =
     tie.close
     (tie.spec
-    invariant_loop decreases_loop loop_holds (λ c. search rules) (λ c. search rules) (λ c. search rules) returns (λ c. search rules) (λ c. search rules) loop_again
+    invariant_loop decreases_loop loop_holds (λ c. search rules) (λ c. search rules) (λ c. search rules) returns (λ c. search rules)
+    (λ c. search rules) loop_again
     returns_2)

@@ -51,7 +51,8 @@ returns_2 c =
     ∙ ap (again c.loop-i.seen a.part) (keys ∙ ap (λ j. j ∷ ks) (sym c.key_of-key.ensures))
     ∙ again_seen c.loop-i.seen a.part k ks c.if-key-part.true (sym c.is_seen.ensures ∙ c.if-is_seen.true))
 
--- by the way that the c.before.before.before.before.before.before.before went: a key of the part that was not seen (its test w .0, the answer w .2 and its test w .3, the bit set w.5 and
+-- by the way that the c.before.before.before.before.before.before.before went: a key of the part that was not seen (its test w .0, the answer w .2
+-- and its test w .3, the bit set w.5 and
 -- w.6); or one of another part (the test w .0, the bits as they were w .1)
 loop_again : tie.Need-loop-i-preserved invariant_loop decreases_loop
 loop_again c =

@@ -62,7 +62,8 @@ openable c =
 returns : tie.Need-returns-then-p-gt0
 returns c =
     let p = c.prepare-p.result in
-    open_refused (limit c.before.before.before) (asked c.before.before.before) (area c.before.before.before) (told p.number p.place (flaw_of p.flaw)) c.turned_away.result c.turned_away.ensures
+    open_refused (limit c.before.before.before) (asked c.before.before.before) (area c.before.before.before) (told p.number p.place (flaw_of p.flaw))
+    c.turned_away.result c.turned_away.ensures
     (turned_as (limit c.before.before.before) (asked c.before.before.before) p c.prepare-p.ensures c.if-p-gt0.true)
 
 mul_if2 : tie.Need-overflow_mul-w
@@ -70,7 +71,8 @@ mul_if2 c = let l = small c in omega arith
 
 returns_2 : tie.Need-returns-then-opened-w
 returns_2 c =
-    open_tight (limit (planned c.before.before)) (asked (planned c.before.before)) (known c.before.before) (opens_at c.before.before) (area (planned c.before.before)) c.turned_away-then-opened-w.result c.turned_away-then-opened-w.ensures
+    open_tight (limit (planned c.before.before)) (asked (planned c.before.before)) (known c.before.before) (opens_at c.before.before)
+    (area (planned c.before.before)) c.turned_away-then-opened-w.result c.turned_away-then-opened-w.ensures
     c.if-opened-w.true
 
 -- where the areas have room, from where the opened table is about to be written

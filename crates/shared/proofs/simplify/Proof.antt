@@ -146,8 +146,14 @@ returns_3 c =
 
 open_records_requires : tie.Need-open_records-e-requires
 open_records_requires c κs =
-    let h = asked (judged (planned (free c.before.before.before.before.before))) in
-    (definitions_of h, length h.symbols, tree_in h.table, (opens_at (free c.before.before.before.before.before)).tree, openable c.before.before.before.before.before)
+    let h = asked (judged (planned (free c.before.before.before.before.before))) in (
+      definitions_of h,
+      length h.symbols,
+      tree_in h.table,
+      (opens_at (free c.before.before.before.before.before)).tree,
+      openable
+          c.before.before.before.before.before,
+    )
 
 mul_end : tie.Need-overflow_mul-end
 mul_end c = let l = few c.before.before in omega arith
@@ -169,10 +175,13 @@ returns_4 c =
     let o = opens_at e2 in
     let l = lent a.out.now a.steps.now a.work.now in
     ap (beside xs)
-    (s.ensures ∙ ap (λ (x : List ℕ). simplified a.limit a.edition x l) (table_of o.tree r.result a.opened.now xs (written c.before.before.before.before.before.before.before.before.before.before.before.before.before)))
+    (s.ensures ∙ ap (λ (x : List ℕ). simplified a.limit a.edition x l)
+    (table_of o.tree r.result a.opened.now xs (written c.before.before.before.before.before.before.before.before.before.before.before.before.before)))
     ∙ shared_done a.limit a.edition (asked (judged (planned e2))) a.opened.now a.out.now a.steps.now a.work.now
     (limited_at (planned e2)) (knows (planned e2).before).1 o xs r.result
-    (sym (ready c.before.before.before.before.before.before.before.before.before.before.before.before.before).if-is_tight.false ∙ (ready c.before.before.before.before.before.before.before.before.before.before.before.before.before).is_tight.ensures) (written c.before.before.before.before.before.before.before.before.before.before.before.before.before)
+    (sym (ready c.before.before.before.before.before.before.before.before.before.before.before.before.before).if-is_tight.false ∙
+    (ready c.before.before.before.before.before.before.before.before.before.before.before.before.before).is_tight.ensures)
+    (written c.before.before.before.before.before.before.before.before.before.before.before.before.before)
 
 pub simplify_spec : {M : Type 1} → statement M
 simplify_spec =

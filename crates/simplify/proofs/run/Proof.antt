@@ -135,7 +135,8 @@ same_length_3 c =
 
 returns : tie.Need-returns-then-e-lt1
 returns c =
-    let entry = entry_of (moved_of (made_of c.before.before.before.before.before.before.before.before.before.before.before.before.before.before.before.before)) in
+    let entry = entry_of (moved_of
+    (made_of c.before.before.before.before.before.before.before.before.before.before.before.before.before.before.before.before)) in
     let r = c.drive-e in
     let g = entry.args in
     let out = c.clear in

@@ -18,7 +18,8 @@ decreases-tree_at l = 3 * (records_in l.s.now.now - next_in l.st.now)
 abbrev pub invariant-joined_at-loop-left : goal.invariant-joined_at-loop-left
 invariant-joined_at-loop-left l = record {
   cells : length l.st ≡ 2;
-  joining : Joining l.least l.sign l.s.now (next_in l.initial.st) l.initial.left l.initial.out.now (end_in l.initial.st) (next_in l.st) l.left l.out.now (end_in l.st);
+  joining : Joining l.least l.sign l.s.now (next_in l.initial.st) l.initial.left l.initial.out.now (end_in l.initial.st) (next_in l.st) l.left
+      l.out.now (end_in l.st);
   name : l.out.ghost_name ≡ l.initial.out.ghost_name;
 }
 

@@ -54,12 +54,14 @@ loop_again c =
     (λ a. (
       omega (arith, inv.0, a.many-is),
       λ how μ f h.
-          rw (a.many-is, a.last-is) (counted_other (inv.1 how μ f h) l next.result (next.ensures how) (omega (arith, c.kind.ensures, a.if-kind-gt-INTEGER.true))),
+          rw (a.many-is, a.last-is)
+          (counted_other (inv.1 how μ f h) l next.result (next.ensures how) (omega (arith, c.kind.ensures, a.if-kind-gt-INTEGER.true))),
     ))
     (λ a. (
       omega (arith, inv.0, a.many-is),
       λ how μ f h.
-          rw (a.many-is, a.last-is) (counted_integer (inv.1 how μ f h) l next.result (next.ensures how) (omega (arith, c.kind.ensures, a.if-kind-gt-INTEGER.false))),
+          rw (a.many-is, a.last-is)
+          (counted_integer (inv.1 how μ f h) l next.result (next.ensures how) (omega (arith, c.kind.ensures, a.if-kind-gt-INTEGER.false))),
     ))
     c.if-kind-gt-INTEGER.branch-raw
 

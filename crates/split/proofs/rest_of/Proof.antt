@@ -58,8 +58,11 @@ returns_6 c =
     let k = sym c.kind-k.ensures ∙ c.if-k-ne-PRODUCT.false in
     let n = c.count.ensures.0 in
     let told = c.count_others-others.ensures in
-    let some = c.if-others-count.false in
-    (λ how t h. (refl, rest_others t h k n (told how) some c.if-others-lt-PAIR.false), λ how t h. place_others t h k n (told how) some c.if-others-lt-PAIR.false)
+    let some = c.if-others-count.false in (
+      λ how t h. (refl, rest_others t h k n (told how) some c.if-others-lt-PAIR.false),
+      λ how t h. place_others t h k n (told how) some
+          c.if-others-lt-PAIR.false,
+    )
 
 pub rest_of_spec : {M : Type 1} → statement M
 rest_of_spec =

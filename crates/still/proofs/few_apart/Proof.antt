@@ -151,7 +151,8 @@ loop_again c =
           let e = c.part_key-key.ensures (first t q).tree (known c.before.before.before.before.before.before.before.before q) in
           let seen = ap (λ m. among m ks) (sym e) ∙ sym (c.is_kept.ensures ks (room t q)) ∙ c.if-is_kept.false in
           rw c.records_of-at.ensures
-          (testing_step (tested t q) t.loop-m-test.true (passed c.before.before.before.before.before.before.before.before q) (ap not seen) v c.note_at-v.result e (known c.before.before.before.before.before.before.before.before q).note_known
+          (testing_step (tested t q) t.loop-m-test.true (passed c.before.before.before.before.before.before.before.before q) (ap not seen) v
+          c.note_at-v.result e (known c.before.before.before.before.before.before.before.before q).note_known
           (keys_more (room t q) v (omega (arith, b)) (omega (arith, places t q, t.loop-m-test.true)) kept.new.d kept.ensures)),
     )
 
@@ -165,6 +166,7 @@ pub few_apart_spec : {M : Type 1} → statement M
 few_apart_spec =
     tie.close
     (tie.spec
-    invariant_loop decreases_loop loop_holds kind_requires is_sought_requires same_length returns note_at_requires part_key_requires is_kept_requires same_length_2
+    invariant_loop decreases_loop loop_holds kind_requires is_sought_requires same_length returns note_at_requires part_key_requires is_kept_requires
+    same_length_2
     returns_2 mul_write8 add_write8 write8_requires (λ c κs. search rules) add_at (λ c. omega arith) (λ c. omega arith) loop_again same_length_3
     returns_3)

@@ -137,7 +137,8 @@ loop_again c =
           ∙ sym (c.is_new.ensures ks (room t q))
           ∙ c.if-not-is_new.false in
           rw c.records_of-at.ensures
-          (testing_step (tested t q) t.loop-m-test.true (passed c.before.before.before.before.before.before.before.before q) not_among v c.note_at-v.result e (known c.before.before.before.before.before.before.before.before q).note_known
+          (testing_step (tested t q) t.loop-m-test.true (passed c.before.before.before.before.before.before.before.before q) not_among v
+          c.note_at-v.result e (known c.before.before.before.before.before.before.before.before q).note_known
           (kept_more (room t q) v (omega (arith, b)) kept.new.d kept.ensures)),
     )
 
@@ -151,5 +152,6 @@ pub members_apart_spec : {M : Type 1} → statement M
 members_apart_spec =
     tie.close
     (tie.spec
-    invariant_loop decreases_loop loop_holds kind_requires is_sought_requires same_length returns note_at_requires part_key_requires is_new_requires same_length_2
+    invariant_loop decreases_loop loop_holds kind_requires is_sought_requires same_length returns note_at_requires part_key_requires is_new_requires
+    same_length_2
     returns_2 keep_key_requires (λ c κs. search rules) add_at (λ c. omega arith) (λ c. omega arith) loop_again same_length_3 returns_3)

@@ -45,8 +45,11 @@ returns_3 c =
 
 returns_4 : tie.Need-returns
 returns_4 c =
-    let k = c.kind-k.ensures in
-    (λ t q. power_still _ t (omega (arith, k, kind_number_lem (noted_told q), c.if-k-lt-POWER.false)) c.if-edition-eq-EDITION_TWO.false, λ t q. scratched_none _ _ _)
+    let k = c.kind-k.ensures in (
+      λ t q. power_still _ t (omega (arith, k, kind_number_lem (noted_told q), c.if-k-lt-POWER.false)) c.if-edition-eq-EDITION_TWO.false,
+      λ t q.
+          scratched_none _ _ _,
+    )
 
 pub still_spec : {M : Type 1} → statement M
 still_spec =

@@ -81,8 +81,10 @@ add_members_apart c = omega (arith, behind c.before.before.before.before.before.
 
 members_apart_requires : tie.Need-members_apart-requires
 members_apart_requires c κs =
-    let some = (start c.before.before.before.before.before.before.before.before).requires.1 in
-    ((inner some.0, members_read (read c.before.before.before.before.before.before.before.before) some.1.there), (omega (arith, room_within c.before.before.before.before.before.before.before, c.clear.auto.d), omega arith))
+    let some = (start c.before.before.before.before.before.before.before.before).requires.1 in (
+      (inner some.0, members_read (read c.before.before.before.before.before.before.before.before) some.1.there),
+      (omega (arith, room_within c.before.before.before.before.before.before.before, c.clear.auto.d), omega arith),
+    )
 
 returns_3 : tie.Need-returns
 returns_3 c =
@@ -96,7 +98,8 @@ returns_3 c =
       λ t edition q k.
           with_room (read c.before.before.before.before.before.before.before.before.before.before.before) q c.if-w-n.false c.members_apart.result
           (c.members_apart.ensures.0 (inner t) (members_read (read c.before.before.before.before.before.before.before.before.before.before.before) q)) edition,
-      λ t q. scratched_more (16 * weight t) (room c.before.before.before.before.before.before.before.before.before.before q) (scratched_both cleared c.members_apart.ensures.1),
+      λ t q. scratched_more (16 * weight t) (room c.before.before.before.before.before.before.before.before.before.before q)
+          (scratched_both cleared c.members_apart.ensures.1),
     )
 
 pub still_members_spec : {M : Type 1} → statement M

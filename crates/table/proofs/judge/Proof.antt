@@ -37,7 +37,8 @@ returns_2 : tie.Need-returns-then-s-lt1
 unfolding is_accepted
 returns_2 c =
     let a = (entry_of c.before.before.before).args in
-    finds_refused _ _ Length c.refused-then-s-lt1.result c.refused-then-s-lt1.ensures (sym (length_zero a.limit (known c.before.before) a.s.now c.if-s-lt1.true)) refl
+    finds_refused _ _ Length c.refused-then-s-lt1.result c.refused-then-s-lt1.ensures
+    (sym (length_zero a.limit (known c.before.before) a.s.now c.if-s-lt1.true)) refl
 
 returns_3 : tie.Need-returns-then-s-gt0
 unfolding is_accepted

@@ -93,5 +93,6 @@ pub look_spec : {M : Type 1} → statement M
 look_spec =
     tie.close
     (tie.spec
-    invariant_loop decreases_loop loop_holds returns glance_requires (λ c. search rules) returns_2 (λ c. search rules) (λ c. search rules) add_w (λ c. search rules)
+    invariant_loop decreases_loop loop_holds returns glance_requires (λ c. search rules) returns_2 (λ c. search rules) (λ c. search rules) add_w
+    (λ c. search rules)
     add_owed (λ c. search rules) add_owed_2 add_i loop_less loop_again returns_3 returns_4)

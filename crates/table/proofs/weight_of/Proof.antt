@@ -38,4 +38,5 @@ pub weight_of_spec : {M : Type 1} → statement M
 weight_of_spec =
     tie.close
     (tie.spec
-    invariant_loop decreases_loop loop_holds (λ c κs. omega arith) (λ c. omega arith) (λ c. omega arith) (λ c. omega arith) (λ c. omega arith) loop_again returns)
+    invariant_loop decreases_loop loop_holds (λ c κs. omega arith) (λ c. omega arith) (λ c. omega arith) (λ c. omega arith) (λ c. omega arith)
+    loop_again returns)

@@ -54,7 +54,8 @@ returns_3 c =
     let v = (c.value_at-v.ensures h.tree (holds_tree c.args.limit c.args.s.now h)).value in
     let told = v ∙ same_value (held c.fill-regs.result) (register c.args.registers.now) c.fill-regs.ensures h.tree h.wf in
     c.with_result-2.ensures ∙ ap (λ (w : Verdict). with_result w c.value_at-v.result) c.refusal-2.ensures
-    ∙ value_told c.args.limit c.args.s.now c.args.registers.now h (fine c.before.before.before.before.before.before.before.before) c.if-registers-ne-REGISTER_BYTES.false c.value_at-v.result told
+    ∙ value_told c.args.limit c.args.s.now c.args.registers.now h (fine c.before.before.before.before.before.before.before.before)
+    c.if-registers-ne-REGISTER_BYTES.false c.value_at-v.result told
 
 pub value_spec : {M : Type 1} → statement M
 value_spec =

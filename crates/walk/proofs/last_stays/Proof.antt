@@ -156,5 +156,6 @@ pub last_stays_spec : {M : Type 1} → statement M
 last_stays_spec =
     tie.close
     (tie.spec
-    invariant_loop decreases_loop count_requires add_at loop_holds kind_requires returns skip_tree_requires sub_left loop_less loop_again kind_requires_2 returns_2
+    invariant_loop decreases_loop count_requires add_at loop_holds kind_requires returns skip_tree_requires sub_left loop_less loop_again
+    kind_requires_2 returns_2
     returns_3 mark_requires is_coefficient_requires returns_4)

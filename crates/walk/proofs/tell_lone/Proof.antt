@@ -45,7 +45,8 @@ returns_2 c =
     let g = c.args in
     let told = c.tell_lone in
     let is = c.if-not-tell_lone.false in
-    told_after (subst (AfterKeys g.out.now told.new.out g.work.now told.new.work g.d g.n) is (by_keys c.before.before.before.before.before.before.before.before.before.before.before.before))
+    told_after (subst (AfterKeys g.out.now told.new.out g.work.now told.new.work g.d g.n) is
+    (by_keys c.before.before.before.before.before.before.before.before.before.before.before.before))
     c.tell_numbers.ensures
 
 pub tell_lone_spec : {M : Type 1} → statement M

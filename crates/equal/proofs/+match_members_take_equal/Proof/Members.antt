@@ -367,8 +367,10 @@ module _ (t : ℕ) where
   come_out_requires c κs =
       let head = head_of (turn_of_lem c.before.before.before.before) in
       let as_many = as_many_at head in
-      let same : c.members_of-then-e-lt1.result ≡ number_of as_many = c.members_of-then-e-lt1.ensures ∙ sym (other_count as_many) in
-      (ap length (cells_same c.before.before.before.before) ∙ head.loop-left.invariant.0.two, omega (arith, same, used_now head, ap used_in (cells_same c.before.before.before.before)))
+      let same : c.members_of-then-e-lt1.result ≡ number_of as_many = c.members_of-then-e-lt1.ensures ∙ sym (other_count as_many) in (
+        ap length (cells_same c.before.before.before.before) ∙ head.loop-left.invariant.0.two,
+        omega (arith, same, used_now head, ap used_in (cells_same c.before.before.before.before)),
+      )
 
   pub returns_2 : lts.Need-returns-then-e-lt1 (claims t) (members_at t) reads.Post Inv μ
   returns_2 c =
@@ -386,7 +388,9 @@ module _ (t : ℕ) where
             (λ v o. took_none v (parts_of y) _ _ _ _ c.take_equal-e.result c.if-e-lt1.true (took c.before.before.before.before.before how v y o g)))),
         (
           c.come_out.ensures ∙ set_back entry _ count.result (omega (arith, same, used_now head, ap used_in (cells_same c.before.before.before.before.before))),
-          kept_on (kept_now head) (subst (λ n. Kept n head.loop-left.ticks.now (ticks_after c.before.before.before.before.before)) (base_is head.before) (kept_after c.before.before.before.before.before)),
+          kept_on (kept_now head)
+              (subst (λ n. Kept n head.loop-left.ticks.now (ticks_after c.before.before.before.before.before)) (base_is head.before)
+              (kept_after c.before.before.before.before.before)),
           c.take_equal-e.ensures.1.2 ∙ head.loop-left.invariant.1,
         ),
       )
@@ -419,7 +423,8 @@ module _ (t : ℕ) where
           kept = kept_on l.invariant.0.kept (kept_after c.before.before);
           matched = λ how x y h g.
               subst (λ p. MatchedTo head.before how x y (ticks_after c.before.before) p (l.left - 1)) (sym place)
-              (matched_more (l.invariant.0.matched how x y h g) turn.loop-left-test.true (none_passed _ _) (ticks_after c.before.before) e (λ v o. says how v y o g));
+              (matched_more (l.invariant.0.matched how x y h g) turn.loop-left-test.true (none_passed _ _) (ticks_after c.before.before) e
+              (λ v o. says how v y o g));
         },
         c.take_equal-e.ensures.1.2 ∙ l.invariant.1,
       )
@@ -448,7 +453,8 @@ module _ (t : ℕ) where
   pub past_exponent_requires : lts.Need-past_exponent-requires (claims t) (members_at t) reads.Post Inv μ
   past_exponent_requires c κs =
       let some = (start_of c.before.before.before.before.before.before.before.before.before).requires.1.0 in
-      let done = all c.before.before.before.before.before.before.before.before.before (omega (arith, c.loop-left-test.false)) some.how some.one some.other some.one_there some.other_there in
+      let done = all c.before.before.before.before.before.before.before.before.before (omega (arith, c.loop-left-test.false)) some.how some.one
+      some.other some.one_there some.other_there in
       members_passable some.one_there some.other_there some.begin (place_in c.loop-left.at) done.0 done.1
 
   pub returns_3 : lts.Need-returns (claims t) (members_at t) reads.Post Inv μ
@@ -461,7 +467,8 @@ module _ (t : ℕ) where
             let done = all c.before.before.before.before.before.before.before.before.before.before (omega (arith, c.loop-left-test.false)) how x y h g in
             c.past_exponent.ensures ∙ members_end h g entry.requires.1.0.begin (place_in c.loop-left.at) done.0 done.1,
         (
-          c.come_out-2.ensures ∙ set_back entry _ count.result (omega (arith, same, used_now c.before.before.before.before.before.before.before.before.before.before)),
+          c.come_out-2.ensures ∙ set_back entry _ count.result
+              (omega (arith, same, used_now c.before.before.before.before.before.before.before.before.before.before)),
           kept_now c.before.before.before.before.before.before.before.before.before.before,
           c.loop-left.invariant.1,
         ),

@@ -299,7 +299,14 @@ module _ (t : ℕ) where
       (λ w.
       let free : Free = record { before = c.before.before.before; if-is_candidate = w.if-is_candidate } in
       let compared : Compared
-      = record { before = record { before = record { before = free; match_members-arg-1 = w.match_members-arg-1 }; match_members-arg-then-is_candidate-1 = w.match_members-arg-then-is_candidate-1 }; match_members-e = w.match_members-e } in
+      = record {
+        before = record {
+          before = record { before = free; match_members-arg-1 = w.match_members-arg-1 };
+          match_members-arg-then-is_candidate-1 =
+              w.match_members-arg-then-is_candidate-1;
+        };
+        match_members-e = w.match_members-e;
+      } in
       let back = ticked_back (ticked compared) in
       let now = ap (λ s. s.now) w.ticks-is in (
         record {
@@ -310,7 +317,8 @@ module _ (t : ℕ) where
           looked = λ how x g h q.
               subst (λ us. Looking head how x g us past.result (l.k + 1)) (sym now)
               (looked_next (l.invariant.0.looked how x g h q) (more turn) _ past.result (back _ (sym (no_tick free))) (past.ensures how)
-              (λ z u v. is_none (equal x u) _ w.match_members-e.result (told compared how x u h v) (omega (arith, w.if-e-gt0.false)) (omega (arith, records_pos x))));
+              (λ z u v. is_none (equal x u) _ w.match_members-e.result (told compared how x u h v) (omega (arith, w.if-e-gt0.false))
+              (omega (arith, records_pos x))));
         },
         ap (λ s. s.ghost_name) w.ticks-is ∙ w.match_members-e.ensures.1.2 ∙ l.invariant.1,
       ))

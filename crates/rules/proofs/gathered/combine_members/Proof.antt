@@ -139,7 +139,8 @@ returns_3 c =
     let walk = walked_of (came_of c.before.before.before.before.before.before.before) in
     let entry = entry_of walk in
     λ t rest h none.
-    combines h (node entry h) (ends c.before.before.before.before.before.before.before h) (came (came_of c.before.before.before.before.before.before.before) h).0 _ walk.mark-mark.ensures.0 entry.requires.1 none
+    combines h (node entry h) (ends c.before.before.before.before.before.before.before h)
+    (came (came_of c.before.before.before.before.before.before.before) h).0 _ walk.mark-mark.ensures.0 entry.requires.1 none
     entry.args.edition
     (walked walk h).done c.make_node.new.out c.make_node.new.work c.make_node.result
     (c.make_node.ensures _ _ _ (emerged c.before.before.before.before.before.before.before h))

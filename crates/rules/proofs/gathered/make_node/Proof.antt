@@ -115,7 +115,8 @@ returns_4 c =
     let back = c.copy_back-2.ensures in
     let at = made_of (named_of c.before.before.before.before.before.before.before) in
     λ l m rest h.
-    goes_back h (made at h) 0 _ _ _ _ (c.is_quiet.ensures.1 _ _ _ (seen c.before.before.before.before.before.before.before h)) c.is_quiet.auto.work back.0 back.1
+    goes_back h (made at h) 0 _ _ _ _ (c.is_quiet.ensures.1 _ _ _ (seen c.before.before.before.before.before.before.before h)) c.is_quiet.auto.work
+    back.0 back.1
     c.step_of-step.ensures
 
 pub make_node_spec : {M : Type 1} → statement M

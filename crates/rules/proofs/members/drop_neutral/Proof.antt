@@ -84,8 +84,12 @@ returns_2 c =
 
 returns_3 : tie.Need-returns
 returns_3 c =
-    λ t rest h.
-    (finds_none (node (kind_of_lem c.before) h) (drops (entry_of (kind_of_lem c.before)).args.sum) (sym (searched c.before h) ∙ c.if-any_member.false), refl, refl)
+    λ t rest h. (
+      finds_none (node (kind_of_lem c.before) h) (drops (entry_of (kind_of_lem c.before)).args.sum)
+          (sym (searched c.before h) ∙ c.if-any_member.false),
+      refl,
+      refl,
+    )
 
 pub drop_neutral_spec : {M : Type 1} → statement M
 drop_neutral_spec =

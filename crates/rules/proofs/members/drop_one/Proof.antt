@@ -118,7 +118,8 @@ returns c =
     λ a b rest h.
     let t = made c.before.before.before.before.before.before h in
     let at = there c.before.before.before.before.before.before h in
-    (closed_pending t (light c.before.before.before.before.before.before h).0 (node c.before.before.before.before.before.before h) _ _ rest _ at.1 at.0 (c.close.ensures t (can_close c.before.before.before.before.before.before h))).0
+    (closed_pending t (light c.before.before.before.before.before.before h).0 (node c.before.before.before.before.before.before h) _ _ rest _ at.1
+    at.0 (c.close.ensures t (can_close c.before.before.before.before.before.before h))).0
 
 pub drop_one_spec : {M : Type 1} → statement M
 drop_one_spec =

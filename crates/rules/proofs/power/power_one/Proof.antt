@@ -142,8 +142,13 @@ returns_3 : tie.Need-returns
 returns_3 c =
     let at = skipped_of c.before.before.before.before.before in
     λ t rest h.
-    let s = power (power_of at) h in
-    (s.base, one_applies s (sym (exponent c.before.before.before.before.before h) ∙ c.if-bits-ne1.false), base_moved s _ _ (place at h) c.shift_right.ensures, refl)
+    let s = power (power_of at) h in (
+      s.base,
+      one_applies s (sym (exponent c.before.before.before.before.before h) ∙ c.if-bits-ne1.false),
+      base_moved s _ _ (place at h)
+          c.shift_right.ensures,
+      refl,
+    )
 
 pub power_one_spec : {M : Type 1} → statement M
 power_one_spec =

@@ -57,5 +57,6 @@ pub count_flags_spec : {M : Type 1} → statement M
 count_flags_spec =
     tie.close
     (tie.spec
-    invariant_loop decreases_loop loop_holds flag_of_requires add_a slice_read_more (λ c κs. search rules) slice_write_out (λ c. search rules) (λ c. search rules)
+    invariant_loop decreases_loop loop_holds flag_of_requires add_a slice_read_more (λ c κs. search rules) slice_write_out (λ c. search rules)
+    (λ c. search rules)
     loop_again same_length returns)

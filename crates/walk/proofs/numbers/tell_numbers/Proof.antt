@@ -62,8 +62,11 @@ returns_2 : tie.Need-returns-then-put_down-ge-VAIN invariant_loop decreases_loop
 returns_2 c = c.put_down.ensures.1
 
 loop_holds : tie.Need-loop-r-init invariant_loop decreases_loop
-loop_holds c =
-    ((some_open c.before.before.before.before.before.before.before.before.before).0, (some_open c.before.before.before.before.before.before.before.before.before).1, told_none _ _ _ _ _ _)
+loop_holds c = (
+  (some_open c.before.before.before.before.before.before.before.before.before).0,
+  (some_open c.before.before.before.before.before.before.before.before.before).1,
+  told_none _ _ _ _ _ _,
+)
 
 room_requires : tie.Need-room-requires invariant_loop decreases_loop
 room_requires c κs =

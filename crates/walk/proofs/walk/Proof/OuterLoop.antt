@@ -119,7 +119,8 @@ walk_again c =
           let v = u.state l o w h in
           let t = first v less in
           let k = copied c.before.before.before t.tree t.entry c.if-x-gt0.true in
-          let both = and_both (is_lone (high c.before.before.before) (told_of (around_looked c.before.before.before)).tell_lone-told.result) (stays terms t.tree) k.0 in
+          let both = and_both (is_lone (high c.before.before.before) (told_of (around_looked c.before.before.before)).tell_lone-told.result)
+          (stays terms t.tree) k.0 in
           let alone = bit_set c.before.before.before both.0 in
           outer_lone v less _ _ (omega (arith, its_room (around_looked c.before.before.before) less)) alone.0 alone.1
           (stays_itself terms t.tree t.entry.there.wf both.1) k.1 k.2;
