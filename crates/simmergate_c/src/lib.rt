@@ -2,7 +2,9 @@
 #![tactic(auto)]
 
 ghost use Rattle.std.specs.Prelude.{◌≡◌};
-ghost use Rattle.simmergate.specs.Calls.{BatchCall, CheckCall, DifferCall, EqualCall, FetchCall, FinishCall, OldFetchCall, OpenCall, ReadTextCall, ReceiveCall, RemoveCall, SharedCall, SimplifyCall, StoreCall, ValueCall, WeightCall, WriteTextCall};
+ghost use Rattle.simmergate.specs.Calls.{CheckCall, WeightCall, ValueCall, EqualCall, SimplifyCall, BatchCall, DifferCall};
+ghost use Rattle.simmergate.specs.Calls.{ReadTextCall, WriteTextCall, ReceiveCall, FinishCall, StoreCall, FetchCall, OldFetchCall, RemoveCall};
+ghost use Rattle.simmergate.specs.Calls.{OpenCall, SharedCall};
 ghost use Rattle.simmergate.specs.Release.{release};
 
 // Judges a table. The answer: number, place, what is wrong with the record, which byte.
