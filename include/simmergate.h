@@ -205,17 +205,17 @@ extern "C" {
 
      simmergate_check                2,344        2,344   whatever the depth
      simmergate_weight               2,344        2,344   whatever the depth
-     simmergate_value              100,496      526,480
+     simmergate_value              100,512      526,496
      simmergate_equal              126,440      672,232
      simmergate_differ               2,408        2,408   whatever the depth
      simmergate_simplify           124,824      657,304   by either edition
      simmergate_batch              124,936      657,416   by either edition
-     simmergate_receive                 32           32   whatever the piece
+     simmergate_receive                 72           72   whatever the piece
      simmergate_receive_finish       2,360        2,360   whatever the depth
      simmergate_open                 4,104        4,104   whatever the depth
      simmergate_simplify_shared    125,432      657,912   by either edition
-     simmergate_write_text          98,488      524,472
-     simmergate_read_text          123,448      655,928   for any text
+     simmergate_write_text          98,504      524,488
+     simmergate_read_text          123,512      655,992   for any text
      simmergate_settings_store       1,192        1,192   whatever the area
      simmergate_settings_fetch       1,192        1,192   whatever the area
      simmergate_settings_fetch_1     1,192        1,192   whatever the area

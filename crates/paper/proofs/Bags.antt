@@ -1,4 +1,4 @@
--- What `sameBag` says, for any test that is an equivalence: every element occurs as often in the one list as in the other. Each
+-- What `same_bag` says, for any test that is an equivalence: every element occurs as often in the one list as in the other. Each
 -- element of the first list takes away one that it equals, which lowers both counts by the same.
 use Prim.Native.Nat.{◌+◌}
 use mathlib.Core.Path.{◌≡◌, refl, sym, ap, ◌∙◌}
@@ -25,7 +25,7 @@ module _ {A : Type 0} where
   First p l none = occurs p l ≡ 0
   First p l (some m) = (y : A) × (p y ≡ true) × Taken y l m
 
-  -- `removeFirst` takes out one member that p holds of, and fails only where there is none
+  -- `remove_first` takes out one member that p holds of, and fails only where there is none
   pub remove_first_first : (p : A → Bool) (l : List A) → First p l (remove_first p l)
   unfolding remove_first take_if keeping occurs one
   remove_first_first p [] = refl

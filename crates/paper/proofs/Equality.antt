@@ -16,7 +16,7 @@ use Rattle.paper.proofs.Bags.{equivalence_sym, equivalence_trans, equivalence_by
 pub use Rattle.paper.proofs.Bags.{Equivalence}
 use Rattle.paper.proofs.EqualView.{level, Level, at_integer, at_symbol, at_sum, at_product, at_power, level_view}
 
--- `matched` is `sameBag`, at `equal`
+-- `matched` is `same_bag`, at `equal`
 pub matched_bag : (f : Forest) (l : List Tree) → matched f l ≡ same_bag equal (to_list f) l
 unfolding matched same_bag to_list
 matched_bag nil l = refl

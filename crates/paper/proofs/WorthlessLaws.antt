@@ -393,12 +393,12 @@ cube_is_allowed lim ed s b l n t r = go (call lim ed slow s l b)
           subst (λ x. (simplified_by lim ed slow s l).answer.tries ≤ cube x) (same_tree c.holds.read r) (omega (arith, ap (λ a. a.tries) c.answer)),
         )
 
--- one whose result has another value than the table under some assignment, on some accepted call: it fails `keeps-value`
+-- one whose result has another value than the table under some assignment, on some accepted call: it fails `keeps_value`
 pub straying_is_refused : (lim ed : ℕ) (f : Simplifier) (s : List ℕ) → Bytes s → (l : Lent) → (f s l).answer.number ≡ 0 → (t : Tree) → tree_of s ≡ some t
     → (ρ : ℕ → ℕ) → ((u : Tree) → tree_of (result (f s l)) ≡ some u → ¬ (value u ρ ≡ value t ρ)) → ¬ KeepsValue lim ed f
 straying_is_refused lim ed f s b l n t r ρ other k = let x = k s b l n t r in other x.0 x.1 (x.2 ρ)
 
--- one that changes a lent byte though it refuses by another number than 7, on some call: it fails `leaves-alone`
+-- one that changes a lent byte though it refuses by another number than 7, on some call: it fails `leaves_alone`
 pub scribbling_is_refused : (lim ed : ℕ) (f : Simplifier) (s : List ℕ) → Bytes s → (l : Lent) (v : Verdict) → 1 ≤ v.number → ¬ (v.number ≡ 7)
     → (f s l).answer ≡ refused_by v → ¬ ((f s l).lent ≡ l) → ¬ LeavesAlone lim ed f
 scribbling_is_refused lim ed f s b l v h g e changed alone = changed (alone s b l v h g e)

@@ -1,5 +1,5 @@
 -- "a machine without this release refuses a marked record with 2": the judgement of a table by that machine. It differs in the table of
--- bytes alone (`mayTableBefore`): what it holds to be wrong with a record, and the first record with which something is; where nothing is,
+-- bytes alone (`may_table_before`): what it holds to be wrong with a record, and the first record with which something is; where nothing is,
 -- it goes on to 3, 4 and 5 as every machine does.
 use Rattle.std.specs.Prelude.{ℕ, zero, suc, ◌+◌, ◌*◌, ◌<◌, ◌≡◌, true, false, cond, ◌&&◌, ◌||◌, not, List, [], ◌⊎◌, eqb, ltb, length, get_or}
 use Rattle.paper.specs.Limits.{is_limit}

@@ -1,4 +1,4 @@
--- The limits in figures, each from both sides: lines for words of the paper that a law speaking of `isLimit`, `workBytes` and so on
+-- The limits in figures, each from both sides: lines for words of the paper that a law speaking of `is_limit`, `work_bytes` and so on
 -- would let pass, whatever these were. (The length of a table: Sayings, `lengths`; the answer slices: Slices.)
 use Rattle.std.specs.Prelude.{ℕ, ◌*◌, ◌≤◌, ◌<◌, ◌≡◌, true, false, List, length, replicate}
 use Rattle.paper.specs.Tree.{Tree, symbol, records, weight}

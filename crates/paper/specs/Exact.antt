@@ -1,5 +1,5 @@
 -- The value with no reduction, in the natural numbers: what statements about rules speak of. Taken modulo 2^64 once it is the paper's value
--- (proofs/Value: `value-exact`).
+-- (proofs/Value: `value_exact`).
 use Rattle.std.specs.Prelude.{ℕ, ◌+◌, ◌*◌, ◌^◌}
 use Rattle.paper.specs.Bytes.{word}
 use Rattle.paper.specs.Tree.{Tree, Forest, integer, symbol, sum, product, power, nil, cons}

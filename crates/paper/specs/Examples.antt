@@ -238,7 +238,7 @@ examples_two =
     ∷ gives (times (raised (times (a ∷ b ∷ [])) 1 ∷ c ∷ c ∷ a ∷ [])) 19 (times (raised a 2 ∷ b ∷ raised c 2 ∷ [])) (6 ∷ 6 ∷ []) 1 14
     ∷ []
 
--- ---- "Which line of the sheet?": x # m is the tree x with the mark m at its root, `toThe b m e` the power of b to e, the exponent's record
+-- ---- "Which line of the sheet?": x # m is the tree x with the mark m at its root, `to_the b m e` the power of b to e, the exponent's record
 -- having the mark m
 abbrev ◌#◌ : Tree → ℕ → Tree
 ◌#◌ t m = marked m t

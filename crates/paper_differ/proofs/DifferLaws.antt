@@ -1,5 +1,5 @@
 -- The walk of two trees in step, at a node: that two first records agree is inverted once into evidence (`Alike`), and the pairs of two trees
--- are their own or those of their members in step (`differ-node`). So no pair is reported exactly when the trees are the same, and then the
+-- are their own or those of their members in step (`differ_node`). So no pair is reported exactly when the trees are the same, and then the
 -- tables' bytes are. Every law is proved of a tree from its members' (`by_members`).
 use Prim.Native.Nat.{ℕ, ◌+◌}
 use mathlib.Core.Path.{◌≡◌, refl, sym, ap, ap₂, ◌∙◌, subst}

@@ -1,5 +1,5 @@
 -- The walk reports exactly the pairs that it comes to and that do not agree, each once, in walking order, and no more than the shorter tree has
--- records. A pair of the list is the trees' own or one of their members' in step (`differ-node`), and every law is proved of a tree from its
+-- records. A pair of the list is the trees' own or one of their members' in step (`differ_node`), and every law is proved of a tree from its
 -- members' (`by_members`).
 use Prim.Native.Nat.{ℕ, ◌+◌, ◌*◌, ◌/◌, ◌<◌, ◌≤◌, min}
 use mathlib.Core.Path.{◌≡◌, refl, ap, ◌∙◌, subst}

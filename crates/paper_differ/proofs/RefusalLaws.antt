@@ -1,6 +1,6 @@
 -- The call is refused exactly as the request's words have it: the tests of the definition, taken one after the other, are those of the words,
 -- and a refusal's answer tells its verdict and its table. The list is chosen by the number that is answered: after a refusal it stays, without one
--- it begins with every pair (`refused-stays`, `accepted-lists`).
+-- it begins with every pair (`refused_stays`, `accepted_lists`).
 use Prim.Native.Nat.{ℕ, ◌*◌, ◌/◌, ◌≤◌}
 use mathlib.Core.Path.{◌≡◌, refl, sym, ap, ◌∙◌, subst}
 use mathlib.Core.Bool.{Bool, true, false}

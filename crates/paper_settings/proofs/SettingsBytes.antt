@@ -1,5 +1,5 @@
 -- Fetch and remove by the area's bytes, on any area that is not refused, whatever versions stand side by side in it: the slot that has the key tells
--- the answer, and its bytes are what goes out. In slots in order a key stands once, so the first slot that has it is that slot (`shown-at`,
+-- the answer, and its bytes are what goes out. In slots in order a key stands once, so the first slot that has it is that slot (`shown_at`,
 -- `out_at`, by induction over the order); a slot's bytes are the area's.
 use Prim.Native.Nat.{ℕ, zero, suc, ◌+◌, ◌*◌, ◌/◌, ◌<◌, ◌≤◌}
 use mathlib.Core.Path.{◌≡◌, refl, sym, ap, ◌∙◌}

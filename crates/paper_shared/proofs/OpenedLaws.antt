@@ -1,5 +1,5 @@
 -- What holds of opened trees. A property that each node passes on from its members, and each replacement has, holds of what is opened
--- (`opens-so`); so what is opened is well-formed, has no defined symbol left, and stays the same where more may be opened.
+-- (`opens_so`); so what is opened is well-formed, has no defined symbol left, and stays the same where more may be opened.
 -- From as deep as there are definitions on, more depth changes nothing: a tree that is not opened then has a circle, which no depth opens.
 use Prim.Native.Nat.{ℕ, zero, suc, ◌+◌, ◌≤◌}
 use mathlib.Core.Path.{◌≡◌, refl, sym, ap, ◌∙◌, subst}

@@ -1,4 +1,4 @@
--- A site and a shared formula at the two limits. Up to the old limit the verdicts are the same (paper's `limits-agree`), and with the `work` that each
+-- A site and a shared formula at the two limits. Up to the old limit the verdicts are the same (paper's `limits_agree`), and with the `work` that each
 -- limit asks for so are the judgements, and then the answers and the bytes; of a site by induction on the items. What the higher limit opens passes
 -- every test but those that ask for the limit.
 use Prim.Native.Nat.{ℕ, zero, suc, ◌+◌, ◌*◌, ◌≤◌, ◌<◌}

@@ -59,7 +59,7 @@ mixed_lengths_again = whole_lengths mixed_lengths mixed.answers
 unfoldable pub mixed_weight : ℕ
 mixed_weight = whole_weight mixed_lengths mixed_tables mixed.answers
 
--- the second site, in just that room: its numbers, and those of `againInPlace`
+-- the second site, in just that room: its numbers, and those of `again_in_place`
 unfoldable pub second : Site
 second = in_turn (simplified 3072 1) wanted_lengths wanted_again (lends 176 11)
 

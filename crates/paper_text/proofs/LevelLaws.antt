@@ -1,6 +1,6 @@
 -- The judge by blocks of levels is exact, and so is the cut reader on a text that is shallow enough. What is skimmed of a text written by
 -- the writer has the rank of its tree, and no reader asks more of a group than its rank: so the cut reader follows the whole one
--- (`cut-follows`), and the whole one follows the cut one where every block is read (`blocks-follow`, by the length).
+-- (`cut_follows`), and the whole one follows the cut one where every block is read (`blocks_follow`, by the length).
 use Prim.Native.Nat.{ℕ, zero, suc, ◌+◌, ◌-◌, ◌*◌, ◌<◌, ◌≤◌}
 use mathlib.Core.Path.{◌≡◌, refl, sym, ap, ◌∙◌, subst}
 use mathlib.Core.Bool.{Bool, true, false, cond, ◌&&◌, not}

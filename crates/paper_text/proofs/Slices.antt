@@ -1,6 +1,6 @@
 -- The answer slices of the two calls on text, and what a refusal leaves. What a call from C returns and leaves is chosen by one test of the slice's
--- length, so each side of that test is one equation (`text-slices`); what a call answers and leaves is chosen by its verdict, so where the verdict
--- refuses, the area stays (`refused-read`, `refused-write`).
+-- length, so each side of that test is one equation (`text_slices`); what a call answers and leaves is chosen by its verdict, so where the verdict
+-- refuses, the area stays (`refused_read`, `refused-write`).
 use Prim.Native.Nat.{ℕ, ◌*◌}
 use mathlib.Core.Path.{◌≡◌, refl}
 use mathlib.Core.List.{List}

@@ -1,5 +1,5 @@
 -- The records of a tree written as a reader comes by them: a leaf at once; a sum, a product or a power when its first member stands already, by
--- `node-written`; members one after the other.
+-- `node_written`; members one after the other.
 use Prim.Native.Nat.{ℕ, suc, ◌+◌, ◌-◌, ◌*◌, ◌%◌, ◌^◌, ◌<◌}
 use mathlib.Core.Path.{◌≡◌, refl, sym, ap, ◌∙◌, subst}
 use mathlib.Core.List.{List, [], ◌∷◌, ◌++◌, append_assoc, append-nil}

@@ -1,5 +1,5 @@
 -- The keys of parts in the walk: a member's key is that of its part, a part that takes up another keeps its key, and one takes up another
--- only where 15 bits of their keys are the same. By the law of keys where one part takes up another (`part-key`).
+-- only where 15 bits of their keys are the same. By the law of keys where one part takes up another (`part_key_lem`).
 use Rattle.std.proofs.Common.{◌≡◌, Bool, true, false, sym, refl, ap, ◌∙◌}
 use mathlib.Core.Option.{Option, none, some}
 use Rattle.paper.specs.Tree.{Tree}

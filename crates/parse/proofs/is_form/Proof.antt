@@ -1,4 +1,4 @@
--- `parse::is_form` meets its contract: the first block has to end where the text does, and each further one to be read (`levels-exactly`).
+-- `parse::is_form` meets its contract: the first block has to end where the text does, and each further one to be read (`levels_exactly`).
 use Rattle.parse.proofs.BlockLaws.{no_form, left_over, by_blocks, never_grouped}
 use borrow.Author.Rules.{rules}
 use Rattle.parse.proofs.is_form.Statement.{statement}

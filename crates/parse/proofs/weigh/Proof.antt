@@ -1,4 +1,4 @@
--- `parse::weigh` meets its contract: a text deeper than half the limit has a tree over it, or none (`nested-weighs`).
+-- `parse::weigh` meets its contract: a text deeper than half the limit has a tree over it, or none (`nested_weighs`).
 use mathlib.Core.Path.{sym, ◌∙◌}
 use native.Mathlib.Omega.{arith}
 use Rattle.parse.proofs.WeighLaws.{too_heavy, no_text}

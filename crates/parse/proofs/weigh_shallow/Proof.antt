@@ -1,4 +1,4 @@
--- `parse::weigh_shallow` meets its contract: a shallow text is read whole (`shallow-exactly`).
+-- `parse::weigh_shallow` meets its contract: a shallow text is read whole (`shallow_exactly`).
 use Rattle.parse.proofs.WeighLaws.{reads_none, reads_more, reads_heavy, reads_light, reads_group}
 use borrow.Author.Rules.{rules}
 use Rattle.parse.proofs.weigh_shallow.Statement.{statement}

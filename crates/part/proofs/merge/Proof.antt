@@ -1,5 +1,5 @@
 -- `part::merge` meets its contract: the part is a term, a wide one, a power or a number, and what the function for that form promises is what is to be
--- shown of it. The part shows a factor or a term by its form (`of-term`, `of-wide`, `of-power`, `of_number`).
+-- shown of it. The part shows a factor or a term by its form (`of_term`, `of_wide`, `of_power`, `of_number`).
 use mathlib.Core.Path.{subst}
 use borrow.Author.Rules.{rules}
 use Rattle.note.specs.Note.{note}

@@ -1,5 +1,5 @@
 -- `part::merge_power` meets its contract. A base that is no integer is like an equal base only, so the comparison of the two bases decides:
--- where they differ the two stay apart (`bases-differ`), where they are equal (`bases-equal`) the sum of the exponents is made and judged.
+-- where they differ the two stay apart (`bases_differ`), where they are equal (`bases_equal`) the sum of the exponents is made and judged.
 -- Each return is the law of its case.
 use mathlib.Core.Path.{◌≡◌, sym, ◌∙◌}
 use mathlib.Core.Bool.{true, false}

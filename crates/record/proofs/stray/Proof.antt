@@ -24,7 +24,7 @@ returns c =
 loop_holds : tie.Need-loop-j-init invariant_loop decreases_loop
 loop_holds c = (omega arith, refl)
 
--- Here, and in `loop-again`, MAY meets `mayTable`: the test of MAY[k][j] is handed to a law about `mayBe k j`, which is admitted
+-- Here, and in `loop-again`, MAY meets `may_table`: the test of MAY[k][j] is handed to a law about `may_be k j`, which is admitted
 -- because the two tables are the same numbers.
 returns_2 : tie.Need-returns-then-k-j-eq0 invariant_loop decreases_loop
 unfolding may_be may_table

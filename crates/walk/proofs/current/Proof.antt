@@ -1,4 +1,4 @@
--- `walk::current` meets its contract: the member stands where its entry's start says (`entry-there`), with as many records as
+-- `walk::current` meets its contract: the member stands where its entry's start says (`entry_there`), with as many records as
 -- skipping it over tells, and its part there is what was asked for.
 use Rattle.std.proofs.Common.{◌+◌, ◌-◌, arith, rules}
 use Rattle.paper.specs.Tree.{Tree}

@@ -1,4 +1,4 @@
--- `walk::finish` meets its contract. A member that comes out as it stands is what its part becomes (`stays-itself`), so there is room for it
+-- `walk::finish` meets its contract. A member that comes out as it stands is what its part becomes (`stays_itself`), so there is room for it
 -- and it is kept; of any other the writer's answer is the answer.
 use Rattle.std.proofs.Common.{◌≡◌, ◌*◌, Bool, true, false, ◌&&◌, sym, ap, ◌∙◌, subst, arith, rules}
 use Rattle.paper.specs.Tree.{Tree, records}

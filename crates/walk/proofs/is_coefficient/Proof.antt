@@ -1,5 +1,5 @@
 -- `walk::is_coefficient` meets its contract: another tree than an integer tells so by its kind, and of an integer the number and the mark are
--- read (`coefficient-at`).
+-- read (`coefficient_at`).
 use Rattle.std.proofs.Common.{not, ◌&&◌, eqb, sym, ap, ◌∙◌, arith, eq-eqb, ne_eqb}
 use Rattle.paper.specs.Record.{mark_in}
 use Rattle.note.proofs.ToldLaws.{record_within}

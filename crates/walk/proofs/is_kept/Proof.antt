@@ -1,4 +1,4 @@
--- `walk::is_kept` meets its contract: where it took up no other, the member at the entry's start is looked at (`entry-there`).
+-- `walk::is_kept` meets its contract: where it took up no other, the member at the entry's start is looked at (`entry_there`).
 use Rattle.std.proofs.Common.{◌&&◌, sym, ap, ◌∙◌, arith, rules}
 use Rattle.note.specs.Note.{note}
 use Rattle.note.proofs.ToldLaws.{record_within, some_told}

@@ -1,5 +1,5 @@
 -- `walk::meet` meets its contract: where the entry's 15 bits are others than those of the current part's key, the part does not take up the
--- member's (`apart-by-key`); else the member stands where its entry's start says (`entry-there`), and merging with it there is what was
+-- member's (`apart_by_key`); else the member stands where its entry's start says (`entry_there`), and merging with it there is what was
 -- asked for.
 use Rattle.std.proofs.Common.{◌%◌, sym, ap, ◌∙◌, arith, rules}
 use Rattle.note.proofs.ToldLaws.{record_within}

@@ -1,5 +1,5 @@
 -- `walk::product_stays` meets its contract. Where the first member is no integer the others are looked at in their turn; else the product stays
--- only with one more member, which the record after the integer's tells of (`two-stay`).
+-- only with one more member, which the record after the integer's tells of (`two_stay`).
 use Rattle.std.proofs.Common.{◌≡◌, ℕ, ◌+◌, ◌<◌, Bool, ◌&&◌, sym, ap, ◌∙◌, arith, rules}
 use Rattle.paper.specs.Tree.{Tree, Forest, product, mark_of, to_list}
 use Rattle.paper.specs.Record.{kind}

@@ -1,5 +1,5 @@
 -- `walk::stays` meets its contract: of a sum's members only products are looked into, of a product's only powers, by the record of the
--- exponent (`power-stays`).
+-- exponent (`power_stays`).
 use Rattle.std.proofs.Common.{ℕ, not, ◌&&◌, eqb, sym, ap, ◌∙◌, subst, arith, eq-eqb, ne_eqb}
 use Rattle.paper.specs.Tree.{Tree}
 use Rattle.paper.specs.Record.{mark_in}

@@ -1,5 +1,5 @@
 -- `rules::members::drop_members` meets its contract: where one member alone is kept, the node of it is itself, and it is moved to where the node
--- ended (`lone-put`); where one member alone is dropped, those before it are moved (`one-put`); else what is kept is copied and put back.
+-- ended (`lone_put`); where one member alone is dropped, those before it are moved (`one_put`); else what is kept is copied and put back.
 use Prim.Native.Nat.{ℕ, ◌+◌}
 use mathlib.Core.Path.{◌≡◌, sym, ◌∙◌}
 use mathlib.Core.List.{List}

@@ -1,5 +1,5 @@
 -- `rules::members::drop_one` meets its contract: the members before the dropped one are moved over its record, the node's record is written
--- before them with one member less (`around-put`), and closed.
+-- before them with one member less (`around_put`), and closed.
 use Prim.Native.Nat.{ℕ, ◌+◌, ◌-◌, ◌*◌, ◌≤◌}
 use mathlib.Core.Path.{◌≡◌, ap, ◌∙◌}
 use mathlib.Core.List.{List, ◌++◌}

@@ -1,4 +1,4 @@
--- `walk::lone::flag_of` meets its contract: the 15 bits times n stay far below 2^64, and the flag is one of the 16 n (`flag-of-bits`).
+-- `walk::lone::flag_of` meets its contract: the 15 bits times n stay far below 2^64, and the flag is one of the 16 n (`flag_of_bits`).
 use Rattle.std.proofs.Common.{ℕ, ◌*◌, ◌/◌, ◌%◌, ◌≤◌, ap, mul-le-mul_right, arith, rules}
 use Rattle.walk.specs.Lone.{entry_flag}
 use Rattle.walk.proofs.LoneLaws.{flag_of_bits}

@@ -1,4 +1,4 @@
--- `walk::numbers::place` meets its contract: the upper half of 64 bits times the number of flags fits, and the flag is one of them (`place-lt`).
+-- `walk::numbers::place` meets its contract: the upper half of 64 bits times the number of flags fits, and the flag is one of them (`place_lt`).
 use Rattle.std.proofs.Common.{◌*◌, ◌/◌, ◌%◌, ◌<◌, sym, ap, ◌∙◌, subst, rules}
 use Rattle.paper.specs.Limits.{modulus}
 use Rattle.walk.specs.Numbers.{place_of}

@@ -1,4 +1,4 @@
--- `walk::numbers::put` meets its contract: both flags are read before either is filled (`both-filled`).
+-- `walk::numbers::put` meets its contract: both flags are read before either is filled (`both_filled`).
 use Rattle.std.proofs.Common.{ℕ, ◌+◌, ◌*◌, List, sym, ap, ◌∙◌, subst, arith, rules}
 use Rattle.note.proofs.ToldLaws.{record_within, some_told}
 use Rattle.note.specs.Note.{note}

@@ -1,4 +1,4 @@
--- `walk::numbers::put_down` meets its contract: after each turn the entries before entry k, or some of them, were visited (`passed-more`).
+-- `walk::numbers::put_down` meets its contract: after each turn the entries before entry k, or some of them, were visited (`passed_more`).
 use Rattle.std.proofs.Common.{◌+◌, ◌-◌, ◌*◌, ◌<◌, ◌≤◌, length, arith, rules}
 use Rattle.walk.specs.Numbers.{Passed}
 use Rattle.walk.proofs.NumbersLaws.{numbered_still, cleared_length, passed_none, passed_more, passed_told}

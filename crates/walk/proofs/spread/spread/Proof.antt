@@ -1,5 +1,5 @@
 -- `walk::spread::spread` meets its contract: what the records up to record j add is what is added so far, and all of them add the tree's
--- spread (`tree-spread`).
+-- spread (`tree_spread`).
 use Rattle.std.proofs.Common.{◌≡◌, ◌-◌, ◌%◌, ◌≤◌, sym, ap, ◌∙◌, arith}
 use Rattle.paper.specs.Limits.{modulus}
 use Rattle.paper.specs.Tree.{records}

@@ -1,4 +1,4 @@
--- `walk::spread::stirred` meets its contract: halves of 64 bits, multiplied, fit 64 bits with another half added (`half-whole`).
+-- `walk::spread::stirred` meets its contract: halves of 64 bits, multiplied, fit 64 bits with another half added (`half_whole`).
 use Rattle.std.proofs.Common.{◌+◌, ◌*◌, ◌/◌, ◌%◌, ap, rules}
 use Rattle.walk.specs.Spread.{stirred}
 use Rattle.walk.proofs.SpreadLaws.{wrapped, half_sum, half_product, half_whole}

@@ -1,6 +1,6 @@
 -- The returns of the walk. Its ways out meet behind the outer loop (`left`): either the outer test failed, and the state between two turns
 -- holds with no member left; or the label was left by the break, where a merge left the range, and then the paper's rule leaves it too.
--- After the break the answer is `Over`. Otherwise it is the one that the numbers of the walk's end give, which says what the state says (`says-answer`).
+-- After the break the answer is `Over`. Otherwise it is the one that the numbers of the walk's end give, which says what the state says (`says_answer`).
 use Rattle.std.proofs.Common.{◌≡◌, ℕ, ◌*◌, ◌≤◌, Bool, true, false, List, length, take, drop, sym, ap, ◌∙◌, subst, ⊎_elim, arith, rules}
 use Rattle.paper.specs.Tree.{Tree}
 use Rattle.paper.proofs.Tests.{true_not_false}
