@@ -27,6 +27,14 @@ OTHERS = {
     "badCount": "bad_count_record",
     "aPower": "power_table",
 }
+# What no line declares by itself, and types with a dash.
+MORE = {
+    "as-base": "as_base",
+    "Handed-again": "HandedAgain",
+    "Link-shown": "LinkShown",
+    "Restored-whole": "RestoredWhole",
+    "Six-finds-room": "SixFindsRoom",
+}
 KIT = re.compile(r"(?m)^ *(?:pub )?(?:ghost )?use ((?:Prim|mathlib|native|lib|borrow|contract|denote|mir|prog|seplogic|types|Rattle\.std)[\w.'’ℕ]*)\.\{([^}]*)\}")
 
 
@@ -88,6 +96,7 @@ def table():
             # a field stands behind a dot or in its record, and may share the name (`of_field`)
             new[n] = b if n not in specs and n not in laws else b + "_lem"
     new.update(OTHERS)
+    new.update(MORE)
     clash = collections.defaultdict(set)
     for a, b in new.items():
         clash[b].add(a)

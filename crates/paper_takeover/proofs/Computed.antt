@@ -14,7 +14,7 @@ use Rattle.paper_takeover.specs.TakenOver.{answers_in, written_text, read_record
 use Rattle.paper_takeover.specs.Examples.{lends, site, tables_again, wanted_tables, lengths_again, weight_again, numbers_again, wanted_numbers, told_again}
 use Rattle.paper_takeover.specs.Examples.{line, wanted_line, arrived, wanted_records, three_held, shares, shares_again}
 
-pub record Handed-again : Type 0 where
+pub record HandedAgain : Type 0 where
   pub tables : tables_again ≡ wanted_tables
   pub lengths : lengths_again ≡ 48 ∷ 48 ∷ []
   pub weight : weight_again ≡ 10
@@ -26,7 +26,7 @@ pub record Handed-again : Type 0 where
   pub shared : shares_again shares.table ≡ 0 ∷ 0 ∷ 3 ∷ 1 ∷ 0 ∷ 7 ∷ 5 ∷ 0 ∷ 0 ∷ 4 ∷ []
   pub shared_again : shares_again wanted_records ≡ 0 ∷ 0 ∷ 3 ∷ 0 ∷ 0 ∷ 5 ∷ 5 ∷ 0 ∷ 0 ∷ 3 ∷ []
 
-pub handed_again : Handed-again
+pub handed_again : HandedAgain
 unfolding
     batch_computes opening_computes text_computes is_done restored restored_lengths restored_weight again_each again answers_in answer_in flaw_from
     written_text read_records text_in write_verdict write_answer write_given with_table shared_of shared_given unshared lends site tables_again wanted_tables

@@ -25,7 +25,7 @@ use Rattle.paper_takeover.specs.OverExamples.{refused_numbers, refused_whole, co
 use Rattle.paper_takeover.proofs.LinkOver.{calls_take_over}
 use Rattle.paper_takeover.proofs.TextOver.{text_takes_over_at}
 
-pub record Link-shown : Type 0 where
+pub record LinkShown : Type 0 where
   pub comes : received_whole ≡ wanted_whole
   pub each : numbers ≡ 0 ∷ 0 ∷ 0 ∷ []
   pub table : table_come ≡ encode 2*a
@@ -35,7 +35,7 @@ pub record Link-shown : Type 0 where
   pub just : over_just ≡ refused 3 0
   pub longer : over_longer ≡ refused 1 0
 
-pub link_shown : Link-shown
+pub link_shown : LinkShown
 unfolding
     batch_computes receiver_computes held_bytes after_call after_calls returns over_by 2*a cuts received_whole wanted_whole numbers table_come
     refused_numbers refused_whole copied_table over_just over_longer

@@ -16,7 +16,7 @@ use Rattle.paper_takeover.specs.SiteExamples.{mixed_lengths, mixed_tables, mixed
 use Rattle.paper_takeover.specs.SiteExamples.{second, second_numbers, in_place_numbers, wanted_second, returns_whole, returns_results, crowded, crowded_numbers}
 use Rattle.paper_takeover.specs.SiteExamples.{crowded_weight, crowded_again}
 
-pub record Restored-whole : Type 0 where
+pub record RestoredWhole : Type 0 where
   pub tables : mixed_again ≡ wanted_again
   pub lengths : mixed_lengths_again ≡ wanted_lengths
   pub weight : mixed_weight ≡ 11
@@ -41,7 +41,7 @@ none_six_lem (x ∷ xs) e =
     let h = and_both (not (eqb x.number 6)) (none_six xs) e in
     (eqb-false x.number 6 (not-true (eqb x.number 6) h.0), none_six_lem xs h.1)
 
-pub restored_computed : Restored-whole
+pub restored_computed : RestoredWhole
 unfolding
     batch_computes none_six is_done again restored_whole whole_lengths whole_weight again_in_place mixed_lengths mixed_tables mixed mixed_again
     wanted_again wanted_lengths mixed_lengths_again mixed_weight second second_numbers in_place_numbers wanted_second returns_whole returns_results
@@ -59,11 +59,11 @@ restored_computed =
     }
 
 -- an item that had 6 finds room the second time, though there is room for all that is restored: that no item had 6 is needed
-pub record Six-finds-room : Type 0 where
+pub record SixFindsRoom : Type 0 where
   pub first : crowded_numbers ≡ 0 ∷ 6 ∷ []
   pub weight : crowded_weight ≡ 5
   pub second_time : crowded_again ≡ 0 ∷ 0 ∷ []
 
-pub six_computed : Six-finds-room
+pub six_computed : SixFindsRoom
 unfolding batch_computes is_done again restored_whole whole_lengths whole_weight crowded crowded_numbers crowded_weight crowded_again
 six_computed = record { first = refl; weight = refl; second_time = refl }

@@ -12,7 +12,7 @@ use lib.ListN.{length}
 use lib.IntN.{pos}
 use Rattle.paper.proofs.Tests.{and_left}
 use Rattle.paper.specs.Tree.{Tree, integer, symbol, sum, product, power, of_list}
-use Rattle.paper_text.specs.Text.{opens, closes, times, plus, minus, power_sign, ess, nought, Place, in_sum, in_product, as-base}
+use Rattle.paper_text.specs.Text.{opens, closes, times, plus, minus, power_sign, ess, nought, Place, in_sum, in_product, as_base}
 use Rattle.paper_text.specs.Text.{needs, Reading, then, begins, tail, digit_ahead, is_digit, read_digits, below, read_number, negative, read_leaf}
 use Rattle.paper_text.specs.Text.{Item, bare, grouped, fit, fits, alone, also, all_fit, leaving, closed, exponent_after, raised_by, read_others}
 use Rattle.paper_text.specs.Text.{read_base, read_power, product_from, read_product, sum_from, read_sum}
@@ -218,11 +218,11 @@ module _ (R : Tree → Tree → Type 0) (like : Alike R) (P : List ℕ → Type 
     unfolding read_power plain
     power_follows s h =
         then_follows (Like R) (Like R) P P (read_base inner s) (read_base inner' s)
-        (λ i r. cond (begins power_sign r) (raised_by (tail r) (fits as-base i)) (some (i, r)))
-        (λ i r. cond (begins power_sign r) (raised_by (tail r) (fits as-base i)) (some (i, r))) (base_follows s h)
-        (λ i j r e k. cond_follows (Like R) P (begins power_sign r) (raised_by (tail r) (fits as-base i)) (some (i, r))
-        (raised_by (tail r) (fits as-base j)) (some (j, r))
-        (λ b. raised_follows (tail r) (fits as-base i) (fits as-base j) (fits_like as-base i j e) (past_tail power_sign r refl b k))
+        (λ i r. cond (begins power_sign r) (raised_by (tail r) (fits as_base i)) (some (i, r)))
+        (λ i r. cond (begins power_sign r) (raised_by (tail r) (fits as_base i)) (some (i, r))) (base_follows s h)
+        (λ i j r e k. cond_follows (Like R) P (begins power_sign r) (raised_by (tail r) (fits as_base i)) (some (i, r))
+        (raised_by (tail r) (fits as_base j)) (some (j, r))
+        (λ b. raised_follows (tail r) (fits as_base i) (fits as_base j) (fits_like as_base i j e) (past_tail power_sign r refl b k))
         (λ b. (e, refl, k)))
 
     product_from_follows : (i j : Item) (r : List ℕ) (l m : List Item) → Like R i j → Likes R l m → P r

@@ -12,7 +12,7 @@ use lib.ListN.{length, length-append}
 use lib.IntN.{pos, negsuc}
 use Rattle.paper.specs.Tree.{Tree, Forest, integer, symbol, sum, product, power, nil, cons, count, weight, weights}
 use Rattle.paper.specs.WellFormed.{WF, WFs}
-use Rattle.paper_text.specs.Text.{closes, times, plus, power_sign, nought, digits, digits_of, signed_digits, Place, in_sum, in_product, as-base}
+use Rattle.paper_text.specs.Text.{closes, times, plus, power_sign, nought, digits, digits_of, signed_digits, Place, in_sum, in_product, as_base}
 use Rattle.paper_text.specs.Text.{needs, enclosed, text, joined, others}
 use Rattle.paper_text.proofs.DigitLaws.{quotient_below}
 use Rattle.paper_text.proofs.RoundTrip.{digits_one, enclosed_long}
@@ -49,7 +49,7 @@ spare (power μ b ξ e) = 21
 -- a member with its parentheses and a sign; a base with its parentheses
 member_length : (t : Tree) → (length (text t) + spare t ≤ 21 * weight t)
     → (length (enclosed (needs in_sum t) (text t)) + 1 ≤ 21 * weight t) × (length (enclosed (needs in_product t) (text t)) + 1 ≤ 21 * weight t)
-    × (length (enclosed (needs as-base t) (text t)) ≤ 21 * weight t + 1)
+    × (length (enclosed (needs as_base t) (text t)) ≤ 21 * weight t + 1)
 unfolding needs enclosed spare
 member_length (integer μ (pos n)) h = (h, h, omega (arith, h))
 member_length (integer μ (negsuc n)) h = let e = length-append (text (integer μ (negsuc n))) (closes ∷ []) in (h, h, omega (arith, h, e))
@@ -70,7 +70,7 @@ mutual
   spare_left (power μ b ξ n) w =
       let m = (member_length b (spare_left b w.0)).2 in
       let d = digits_length n (let h = w.2 in omega (arith, h)) in
-      let e = length-append (enclosed (needs as-base b) (text b)) (power_sign ∷ digits n) in
+      let e = length-append (enclosed (needs as_base b) (text b)) (power_sign ∷ digits n) in
       omega (arith, m, d, e)
 
   sum_length : (f : Forest) → 2 ≤ count f → WFs f → length (joined in_sum plus f) + 1 ≤ 21 * weights f
@@ -129,9 +129,9 @@ mutual
   weight_by_text (product μ f) w = let l = joined_weighs in_product times f w.0 w.1 in omega (arith, l)
   weight_by_text (power μ b ξ e) w =
       let l = weight_by_text b w.0 in
-      let c = enclosed_long (needs as-base b) (text b) in
+      let c = enclosed_long (needs as_base b) (text b) in
       let d = digits_one e in
-      let a = length-append (enclosed (needs as-base b) (text b)) (power_sign ∷ digits e) in
+      let a = length-append (enclosed (needs as_base b) (text b)) (power_sign ∷ digits e) in
       omega (arith, l, c, d, a)
 
   joined_weighs : (p : Place) (sign : ℕ) (f : Forest) → 2 ≤ count f → WFs f → weights f + 2 ≤ 2 * length (joined p sign f)

@@ -15,7 +15,7 @@ use Rattle.paper.specs.Tree.{Tree, integer, symbol, sum, product, power, of_list
 use Rattle.paper.specs.WellFormed.{WF}
 use Rattle.paper.proofs.Tests.{never, and_left, and_right, true_not_false, both_ways}
 use Rattle.paper.proofs.Value.{weight_pos}
-use Rattle.paper_text.specs.Text.{opens, closes, Place, in_sum, in_product, as-base, needs, text}
+use Rattle.paper_text.specs.Text.{opens, closes, Place, in_sum, in_product, as_base, needs, text}
 use Rattle.paper_text.specs.Text.{Reading, then, begins, tail, grouped, closed, read_within, whole, read_text}
 use Rattle.paper.specs.Erased.{erase}
 use Rattle.paper_text.specs.Levels.{rank, sign_rank, stand_in, greater, mark, leaves, skim_from, skim, read_cut}
@@ -40,7 +40,7 @@ SameRank t u = rank t ≡ rank u
 unfoldable pub needs_rank : Place → ℕ → Bool
 needs_rank in_sum r = leb 3 r
 needs_rank in_product r = leb 2 r
-needs_rank as-base r = leb 1 r
+needs_rank as_base r = leb 1 r
 
 pub needs_by_rank : (p : Place) (t : Tree) → needs p t ≡ needs_rank p (rank t)
 unfolding needs needs_rank rank
@@ -56,12 +56,12 @@ needs_by_rank in_product (symbol μ s) = refl
 needs_by_rank in_product (sum μ f) = refl
 needs_by_rank in_product (product μ f) = refl
 needs_by_rank in_product (power μ b ξ e) = refl
-needs_by_rank as-base (integer μ (pos n)) = refl
-needs_by_rank as-base (integer μ (negsuc n)) = refl
-needs_by_rank as-base (symbol μ s) = refl
-needs_by_rank as-base (sum μ f) = refl
-needs_by_rank as-base (product μ f) = refl
-needs_by_rank as-base (power μ b ξ e) = refl
+needs_by_rank as_base (integer μ (pos n)) = refl
+needs_by_rank as_base (integer μ (negsuc n)) = refl
+needs_by_rank as_base (symbol μ s) = refl
+needs_by_rank as_base (sum μ f) = refl
+needs_by_rank as_base (product μ f) = refl
+needs_by_rank as_base (power μ b ξ e) = refl
 
 same_rank : Alike SameRank
 unfolding rank

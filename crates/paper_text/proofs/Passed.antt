@@ -12,7 +12,7 @@ use Rattle.paper.specs.Tree.{Tree, Forest, integer, symbol, sum, product, power,
 use Rattle.paper.specs.WellFormed.{WF, WFs}
 use Rattle.paper.proofs.Value.{weight_pos}
 use Rattle.paper_text.specs.Text.{opens, closes, times, plus, minus, power_sign, ess, nought, digits, digits_of, signed_digits, Place, in_sum, in_product}
-use Rattle.paper_text.specs.Text.{as-base, needs, enclosed, text, joined, others}
+use Rattle.paper_text.specs.Text.{as_base, needs, enclosed, text, joined, others}
 use Rattle.paper_text.specs.Levels.{rank, sign_rank}
 use Rattle.paper_text.proofs.DigitLaws.{digits_after}
 use Rattle.paper_text.proofs.Follows.{plain}
@@ -39,7 +39,7 @@ shown_in_product (sum μ f) = omega arith
 shown_in_product (product μ f) = omega arith
 shown_in_product (power μ b ξ e) = omega arith
 
-shown_as_base : (t : Tree) → shown as-base t ≤ 1
+shown_as_base : (t : Tree) → shown as_base t ≤ 1
 unfolding shown needs rank
 shown_as_base (integer μ (pos n)) = omega arith
 shown_as_base (integer μ (negsuc n)) = omega arith
@@ -137,12 +137,12 @@ module _ {X S : Type 0} (F : S → List ℕ → X) (note : S → ℕ → S) (Ok 
     text_passed (sum μ f) a rest w o = joined_passed in_sum plus f a rest refl shown_in_sum w.0 w.1 o
     text_passed (product μ f) a rest w o = joined_passed in_product times f a rest refl shown_in_product w.0 w.1 o
     text_passed (power μ b ξ e) a rest w o =
-        ap (F a) (append_assoc (enclosed (needs as-base b) (text b)) (power_sign ∷ digits e) rest)
-        ∙ member_passed as-base b a ((power_sign ∷ digits e) ++ rest) w.0
+        ap (F a) (append_assoc (enclosed (needs as_base b) (text b)) (power_sign ∷ digits e) rest)
+        ∙ member_passed as_base b a ((power_sign ∷ digits e) ++ rest) w.0
         (k.lighter a (weight b) (2 + weight b - 2) (omega arith) o) (λ c more q. text_passed b c more w.0 q)
-        ∙ k.step (note a (shown as-base b)) power_sign (digits e ++ rest) refl
-        ∙ digits_passed (note (note a (shown as-base b)) 1) e rest
-        ∙ ap (λ (c : S). F c rest) (k.greater_later a (shown as-base b) 1 (shown_as_base b))
+        ∙ k.step (note a (shown as_base b)) power_sign (digits e ++ rest) refl
+        ∙ digits_passed (note (note a (shown as_base b)) 1) e rest
+        ∙ ap (λ (c : S). F c rest) (k.greater_later a (shown as_base b) 1 (shown_as_base b))
 
     joined_passed : (p : Place) (sign : ℕ) (f : Forest) (a : S) (rest : List ℕ) → plain sign ≡ true → ((t : Tree) → shown p t ≤ sign_rank sign)
         → 2 ≤ count f → WFs f → Ok a (1 + weights f - 2) → F a (joined p sign f ++ rest) ≡ F (note a (sign_rank sign)) rest

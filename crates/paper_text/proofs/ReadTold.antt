@@ -14,7 +14,7 @@ use Rattle.paper.proofs.Tests.{and_left, and_right}
 use Rattle.paper.specs.Tree.{Tree, integer, symbol, sum, product, count, of_list}
 use Rattle.paper.specs.WellFormed.{WF, WFs, Mark}
 use Rattle.paper_text.specs.Text.{opens, closes, times, plus, minus, power_sign, ess, nought, digits, digits_of, signed_digits, Place, in_sum, in_product}
-use Rattle.paper_text.specs.Text.{as-base, needs, enclosed, text, joined, others, Reading, then, begins, tail, digit_ahead, is_digit, read_digits, below}
+use Rattle.paper_text.specs.Text.{as_base, needs, enclosed, text, joined, others, Reading, then, begins, tail, digit_ahead, is_digit, read_digits, below}
 use Rattle.paper_text.specs.Text.{read_number, negative, read_leaf, Item, bare, grouped, fit, fits, alone, also, all_fit, leaving, closed, exponent_after}
 use Rattle.paper_text.specs.Text.{raised_by, read_others, read_base, read_power, product_from, read_product, sum_from, read_sum, read_within, whole, read_text}
 use Rattle.paper_text.proofs.DigitLaws.{read_digit, read_end, digits_after, quotient_below}
@@ -287,13 +287,13 @@ module _ (inner : List ℕ → Reading Tree) (told : (q : List ℕ) → Told (Tr
       (λ b. then_told (TreeIs s) (ItemIs s) (read_leaf s) (λ t r. some (bare t, r)) (leaf_told s) (λ t r h. h))
 
   exponent_told : (s q : List ℕ) (b : Tree) (e : ℕ) (r : List ℕ) → WF b → e < 2 ^ 63
-      → s ≡ enclosed (needs as-base b) (text b) ++ (power_sign ∷ (digits e ++ r)) → Told (ItemIs s) (exponent_after b q e r)
+      → s ≡ enclosed (needs as_base b) (text b) ++ (power_sign ∷ (digits e ++ r)) → Told (ItemIs s) (exponent_after b q e r)
   unfolding exponent_after tree_in spelled text
   exponent_told s q b zero r w h g = tt
   exponent_told s q b (suc e) r w h g =
-      ((w, omega arith, h, no_mark, no_mark), g ∙ sym (append_assoc (enclosed (needs as-base b) (text b)) (power_sign ∷ digits (suc e)) r))
+      ((w, omega arith, h, no_mark, no_mark), g ∙ sym (append_assoc (enclosed (needs as_base b) (text b)) (power_sign ∷ digits (suc e)) r))
 
-  raised_told : (s r : List ℕ) (i : Item) → (o : Option Tree) → FitIs as-base i o → s ≡ spelled i ++ r → begins power_sign r ≡ true
+  raised_told : (s r : List ℕ) (i : Item) → (o : Option Tree) → FitIs as_base i o → s ≡ spelled i ++ r → begins power_sign r ≡ true
       → Told (ItemIs s) (raised_by (tail r) o)
   unfolding raised_by
   raised_told s r i none f e b = tt
@@ -302,14 +302,14 @@ module _ (inner : List ℕ → Reading Tree) (told : (q : List ℕ) → Told (Tr
       (number_told (2 ^ 63) (tail r) (omega arith))
       (λ v q h. exponent_told s (tail r) u v q f.0 h.0
       (e ∙ ap (λ (y : List ℕ). y ++ r) (sym f.1)
-      ∙ ap (λ (y : List ℕ). enclosed (needs as-base u) (text u) ++ y) (begins_is power_sign r b ∙ ap (λ (y : List ℕ). power_sign ∷ y) h.1)))
+      ∙ ap (λ (y : List ℕ). enclosed (needs as_base u) (text u) ++ y) (begins_is power_sign r b ∙ ap (λ (y : List ℕ). power_sign ∷ y) h.1)))
 
   power_told : (s : List ℕ) → Told (ItemIs s) (read_power inner s)
   unfolding read_power
   power_told s =
-      then_told (ItemIs s) (ItemIs s) (read_base inner s) (λ i r. cond (begins power_sign r) (raised_by (tail r) (fits as-base i)) (some (i, r))) (base_told s)
-      (λ i r h. cond_told (ItemIs s) (begins power_sign r) (raised_by (tail r) (fits as-base i)) (some (i, r))
-      (λ b. raised_told s r i (fits as-base i) (fit_told as-base i h.0) h.1 b) (λ b. h))
+      then_told (ItemIs s) (ItemIs s) (read_base inner s) (λ i r. cond (begins power_sign r) (raised_by (tail r) (fits as_base i)) (some (i, r))) (base_told s)
+      (λ i r h. cond_told (ItemIs s) (begins power_sign r) (raised_by (tail r) (fits as_base i)) (some (i, r))
+      (λ b. raised_told s r i (fits as_base i) (fit_told as_base i h.0) h.1 b) (λ b. h))
 
   product_from_lem : (s q : List ℕ) (i : Item) (l : List Item) → WF (tree_in i) → WFitems l → s ≡ spelled i ++ (spelled_all times l ++ q)
       → Told (ItemIs s) (product_from inner i q l)

@@ -12,7 +12,7 @@ use lib.ListN.{length, length-append}
 use lib.IntN.{pos, negsuc}
 use Rattle.paper.specs.Tree.{Tree, Forest, integer, symbol, sum, product, power, nil, cons, count, to_list, records, recordses}
 use Rattle.paper.specs.WellFormed.{WF, WFs}
-use Rattle.paper_text.specs.Text.{opens, closes, times, plus, minus, power_sign, ess, nought, digits, signed_digits, Place, in_sum, in_product, as-base}
+use Rattle.paper_text.specs.Text.{opens, closes, times, plus, minus, power_sign, ess, nought, digits, signed_digits, Place, in_sum, in_product, as_base}
 use Rattle.paper_text.specs.Text.{needs, enclosed, text, joined, others, Reading, then, begins, tail, digit_ahead, is_digit, negative, read_leaf}
 use Rattle.paper_text.specs.Text.{Item, bare, grouped, fit, fits, alone, also, all_fit, leaving, closed, exponent_after, raised_by, read_others}
 use Rattle.paper_text.specs.Text.{read_base, read_power, product_from, read_product, sum_from, read_sum, read_within, whole, read_text, digits_of}
@@ -44,12 +44,12 @@ needs_erased in_product (symbol μ s) = refl
 needs_erased in_product (sum μ f) = refl
 needs_erased in_product (product μ f) = refl
 needs_erased in_product (power μ b ξ e) = refl
-needs_erased as-base (integer μ (pos n)) = refl
-needs_erased as-base (integer μ (negsuc n)) = refl
-needs_erased as-base (symbol μ s) = refl
-needs_erased as-base (sum μ f) = refl
-needs_erased as-base (product μ f) = refl
-needs_erased as-base (power μ b ξ e) = refl
+needs_erased as_base (integer μ (pos n)) = refl
+needs_erased as_base (integer μ (negsuc n)) = refl
+needs_erased as_base (symbol μ s) = refl
+needs_erased as_base (sum μ f) = refl
+needs_erased as_base (product μ f) = refl
+needs_erased as_base (power μ b ξ e) = refl
 
 -- its parentheses are right there
 pub item_fits : (p : Place) (t : Tree) → fits p (item_of (needs p t) (erase t)) ≡ some (erase t)
@@ -150,7 +150,7 @@ module _ (inner : List ℕ → Reading Tree) (N : ℕ)
   leaf_base s rest t b e = rw (b, e)
 
   pub base_read : (t : Tree) (rest : List ℕ) → WF t → records t < N → digit_ahead rest ≡ false
-      → read_base inner (enclosed (needs as-base t) (text t) ++ rest) ≡ some (item_of (needs as-base t) (erase t), rest)
+      → read_base inner (enclosed (needs as_base t) (text t) ++ rest) ≡ some (item_of (needs as_base t) (erase t), rest)
   unfolding needs enclosed text item_of signed_digits begins is_digit erase
   base_read (integer μ (pos n)) rest w h d =
       leaf_base (digits n ++ rest) rest (integer 0 (pos n))
@@ -173,13 +173,13 @@ module _ (inner : List ℕ → Reading Tree) (N : ℕ)
   raised_read b (suc e) rest h g d = rw (number_read (2 ^ 63) (suc e) rest g (omega (arith, g)) d)
 
   power_goes : (b : Tree) (e : ℕ) (rest : List ℕ) → WF b → 1 ≤ e → e < 2 ^ 63 → records b < N → digit_ahead rest ≡ false
-      → read_power inner ((enclosed (needs as-base b) (text b) ++ (power_sign ∷ digits e)) ++ rest) ≡ some (bare (power 0 (erase b) 0 e), rest)
+      → read_power inner ((enclosed (needs as_base b) (text b) ++ (power_sign ∷ digits e)) ++ rest) ≡ some (bare (power 0 (erase b) 0 e), rest)
   unfolding read_power then begins tail digit_ahead is_digit
   power_goes b e rest w h g l d =
       rw (
-        append_assoc (enclosed (needs as-base b) (text b)) (power_sign ∷ digits e) rest,
+        append_assoc (enclosed (needs as_base b) (text b)) (power_sign ∷ digits e) rest,
         base_read b (power_sign ∷ (digits e ++ rest)) w l refl,
-        item_fits as-base b,
+        item_fits as_base b,
       )
       (raised_read (erase b) e rest h g d)
 
@@ -349,9 +349,9 @@ mutual
   text_long (product μ f) w = joined_long in_product times f w.0 w.1
   text_long (power μ b ξ e) w =
       let l = text_long b w.0 in
-      let c = enclosed_long (needs as-base b) (text b) in
+      let c = enclosed_long (needs as_base b) (text b) in
       let d = digits_one e in
-      let a = length-append (enclosed (needs as-base b) (text b)) (power_sign ∷ digits e) in
+      let a = length-append (enclosed (needs as_base b) (text b)) (power_sign ∷ digits e) in
       omega (arith, l, c, d, a)
 
   joined_long : (p : Place) (sign : ℕ) (f : Forest) → 2 ≤ count f → WFs f → 1 + recordses f ≤ length (joined p sign f)

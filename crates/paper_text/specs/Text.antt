@@ -47,7 +47,7 @@ signed_digits (negsuc n) = minus ∷ digits (suc n)
 -- ---- the writer: "puts parentheses round a sum inside anything, round a product inside a product or as a base, and round a power
 -- or a negative integer as a base, and nowhere else"
 pub data Place : Type 0 where
-  in_sum in_product as-base : Place
+  in_sum in_product as_base : Place
 
 unfoldable pub needs : Place → Tree → Bool
 needs in_sum (integer μ z) = false
@@ -60,12 +60,12 @@ needs in_product (symbol μ s) = false
 needs in_product (sum μ f) = true
 needs in_product (product μ f) = true
 needs in_product (power μ b ξ e) = false
-needs as-base (integer μ (pos n)) = false
-needs as-base (integer μ (negsuc n)) = true
-needs as-base (symbol μ s) = false
-needs as-base (sum μ f) = true
-needs as-base (product μ f) = true
-needs as-base (power μ b ξ e) = true
+needs as_base (integer μ (pos n)) = false
+needs as_base (integer μ (negsuc n)) = true
+needs as_base (symbol μ s) = false
+needs as_base (sum μ f) = true
+needs as_base (product μ f) = true
+needs as_base (power μ b ξ e) = true
 
 unfoldable pub enclosed : Bool → List ℕ → List ℕ
 enclosed true s = opens ∷ (s ++ (closes ∷ []))
@@ -77,7 +77,7 @@ unfoldable mutual
   text (symbol μ s) = ess ∷ digits s
   text (sum μ f) = joined in_sum plus f
   text (product μ f) = joined in_product times f
-  text (power μ b ξ e) = enclosed (needs as-base b) (text b) ++ (power_sign ∷ digits e)
+  text (power μ b ξ e) = enclosed (needs as_base b) (text b) ++ (power_sign ∷ digits e)
 
   -- the members, each as it stands at that place, with a sign between two
   pub joined : Place → ℕ → Forest → List ℕ
@@ -193,7 +193,7 @@ module _ (inner : List ℕ → Reading Tree) where
 
   unfoldable pub read_power : List ℕ → Reading Item
   read_power s =
-      then (read_base s) (λ i r. cond (begins power_sign r) (raised_by (tail r) (fits as-base i)) (some (i, r)))
+      then (read_base s) (λ i r. cond (begins power_sign r) (raised_by (tail r) (fits as_base i)) (some (i, r)))
 
   unfoldable pub product_from : Item → List ℕ → List Item → Reading Item
   product_from i r [] = some (i, r)

@@ -9,7 +9,7 @@ use borrow.Author.Tests.{ltb-true, ltb-false, lt-leb, le-leb}
 use lib.Dec.{ltb, leb}
 use lib.ListN.{length, drop}
 use Rattle.paper.specs.Tree.{Tree, power, weight}
-use Rattle.paper_text.specs.Text.{closes, power_sign, Place, in_sum, in_product, as-base, needs, Reading, then}
+use Rattle.paper_text.specs.Text.{closes, power_sign, Place, in_sum, in_product, as_base, needs, Reading, then}
 use Rattle.paper_text.specs.Text.{begins, read_number, closed, exponent_after, raised_by, bare, grouped, fit, fits}
 use Rattle.paper_text.specs.Text as paper
 use Rattle.paper_text.specs.Levels.{rank}
@@ -116,7 +116,7 @@ needs_from : (p : Place) (t : Tree) → needs p t ≡ leb (bound p) (rank t)
 unfolding bound needs_rank
 needs_from in_sum t = needs_by_rank in_sum t
 needs_from in_product t = needs_by_rank in_product t
-needs_from as-base t = needs_by_rank as-base t
+needs_from as_base t = needs_by_rank as_base t
 
 pub record FitIs (p : Place) (s : List ℕ) (at : ℕ) (o : Reading paper.Item) (L : Tree → Type 0) (e w : ℕ) : Type 0 where
   pub item : paper.Item
@@ -191,32 +191,32 @@ module _ (s : List ℕ) (at : ℕ) (o : Reading paper.Item) where
   not_raised L (Bare k e w q) h b = restand h (rw (h.read, b))
   not_raised L (Grouped k e w q) h b = restand h (rw (h.read, b))
 
-  pub unfit_raised : (n : ℕ) → Told (Misfit as-base s n) o → begins power_sign (drop n s) ≡ true → then o raising ≡ none
+  pub unfit_raised : (n : ℕ) → Told (Misfit as_base s n) o → begins power_sign (drop n s) ≡ true → then o raising ≡ none
   unfolding then raising raised_by
   unfit_raised n h b = go o h
     where
-      go : (o : Reading paper.Item) → Told (Misfit as-base s n) o → then o raising ≡ none
+      go : (o : Reading paper.Item) → Told (Misfit as_base s n) o → then o raising ≡ none
       go none h = refl
       go (some (i, r)) h = rw (h.place, b, h.unfit)
 
-  raising_read : (L : Tree → Type 0) (e w : ℕ) (f : FitIs as-base s at o L e w) → begins power_sign (drop e s) ≡ true
+  raising_read : (L : Tree → Type 0) (e w : ℕ) (f : FitIs as_base s at o L e w) → begins power_sign (drop e s) ≡ true
       → then o raising ≡ then (read_number (2 ^ 63) (drop (e + 1) s)) (exponent_after f.tree (drop (e + 1) s))
   unfolding then raising raised_by
   raising_read L e w f b = rw (f.read, b, f.fits_there, tail_there s e (sign_inside s e power_sign b))
 
-  pub no_exponent : (L : Tree → Type 0) (e w : ℕ) → FitIs as-base s at o L e w → begins power_sign (drop e s) ≡ true
+  pub no_exponent : (L : Tree → Type 0) (e w : ℕ) → FitIs as_base s at o L e w → begins power_sign (drop e s) ≡ true
       → NumberRead (2 ^ 63) s (e + 1) No → then o raising ≡ none
   unfolding then
   no_exponent L e w f b r = raising_read L e w f b ∙ rw (← r.reads)
 
-  pub exponent_nought : (L : Tree → Type 0) (e w v g : ℕ) → FitIs as-base s at o L e w → begins power_sign (drop e s) ≡ true
+  pub exponent_nought : (L : Tree → Type 0) (e w v g : ℕ) → FitIs as_base s at o L e w → begins power_sign (drop e s) ≡ true
       → NumberRead (2 ^ 63) s (e + 1) (Is v g) → v < 1
       → then o raising ≡ none
   unfolding then exponent_after
   exponent_nought L e w zero g f b r h = raising_read L e w f b ∙ rw (← r.reads)
   exponent_nought L e w (suc v) g f b r h = absurd (omega (arith, h))
 
-  pub is_raised : (L L' : Tree → Type 0) (e w v g : ℕ) → FitIs as-base s at o L e w → begins power_sign (drop e s) ≡ true
+  pub is_raised : (L L' : Tree → Type 0) (e w v g : ℕ) → FitIs as_base s at o L e w → begins power_sign (drop e s) ≡ true
       → NumberRead (2 ^ 63) s (e + 1) (Is v g)
       → 1 ≤ v → ((t : Tree) → L t → L' (power 0 t 0 v)) → Stands s at (then o raising) bare L' 1 g (w + 2)
   unfolding then exponent_after rank weight

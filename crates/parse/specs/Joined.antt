@@ -3,7 +3,7 @@ use Rattle.std.specs.Prelude.{ℕ, zero, suc, ◌+◌, ◌-◌, ◌*◌, ◌^◌
 use Rattle.std.proofs.Math.Option.{Option, none, some}
 use Rattle.paper.specs.Tree.{Tree, Forest, of_list, weight, weights, recordses}
 use Rattle.paper.specs.Table.{record_of, encodes}
-use Rattle.paper_text.specs.Text.{Place, in_sum, in_product, as-base, opens, Reading, then, begins, bare, fits, all_fit, leaving, closed, read_others}
+use Rattle.paper_text.specs.Text.{Place, in_sum, in_product, as_base, opens, Reading, then, begins, bare, fits, all_fit, leaving, closed, read_others}
 use Rattle.paper_text.specs.Text.{read_power}
 use Rattle.paper_text.specs.Text as paper
 use Rattle.paper_text.specs.Levels.{rank, read_cut}
@@ -23,7 +23,7 @@ pub record Rows (old : List ℕ) (i : ℕ) (new : List ℕ) (q c : ℕ) (l : Lis
 unfoldable pub bound : Place → ℕ
 bound in_sum = 3
 bound in_product = 2
-bound as-base = 1
+bound as_base = 1
 
 -- ---- nodes of one kind: members at place p, read by r, with a sign between two; `from` makes the node of items
 pub record Nodes (r : List ℕ → Reading paper.Item) (p : Place) (sign : ℕ) (k : ℕ) (node : Forest → Tree)

@@ -4,7 +4,7 @@ use Rattle.std.specs.Prelude.{ℕ, ◌+◌, ◌-◌, ◌*◌, ◌≤◌, ◌<◌
 use Rattle.std.proofs.Math.Option.{Option, none, some}
 use Rattle.paper.specs.Tree.{Tree, weight, records}
 use Rattle.paper.specs.Table.{encode}
-use Rattle.paper_text.specs.Text.{closes, Reading, then, begins, tail, power_sign, as-base, fits, raised_by, bare, grouped}
+use Rattle.paper_text.specs.Text.{closes, Reading, then, begins, tail, power_sign, as_base, fits, raised_by, bare, grouped}
 use Rattle.paper_text.specs.Text as paper
 use Rattle.paper_text.specs.Levels.{rank, stand_in, skim_from, blocks, shallow}
 use Rattle.parse.specs.Written.{Written}
@@ -46,7 +46,7 @@ bared o = then o (λ t r. some (bare t, r))
 
 -- a `^` may follow
 unfoldable pub raising : paper.Item → List ℕ → Reading paper.Item
-raising i r = cond (begins power_sign r) (raised_by (tail r) (fits as-base i)) (some (i, r))
+raising i r = cond (begins power_sign r) (raised_by (tail r) (fits as_base i)) (some (i, r))
 
 -- the item as a member at a place that puts parentheses from rank p on
 abbrev pub fitted : ℕ → Item → Member

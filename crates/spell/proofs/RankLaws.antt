@@ -14,7 +14,7 @@ use Rattle.paper.specs.Bytes.{word}
 use Rattle.paper.specs.Tree.{Tree, integer}
 use Rattle.paper.specs.WellFormed.{InRange}
 use Rattle.paper.specs.Record.{kind, bits}
-use Rattle.paper_text.specs.Text.{Place, in_sum, in_product, as-base, needs}
+use Rattle.paper_text.specs.Text.{Place, in_sum, in_product, as_base, needs}
 use Rattle.paper_text.specs.Levels.{rank}
 use Rattle.paper.specs.Standing.{TreeIn}
 use Rattle.paper.proofs.Seen.{seen_integer, seen_symbol, seen_sum, seen_product, seen_power}
@@ -60,7 +60,7 @@ by_least : (p : Place) (r : ℕ) → needs_rank p r ≡ leb (least_rank p) r
 unfolding needs_rank least_rank
 by_least in_sum r = refl
 by_least in_product r = refl
-by_least as-base r = refl
+by_least as_base r = refl
 
 module _ (p : Place) (t : Tree) (r least : ℕ) (e : r ≡ rank t) (q : least ≡ least_rank p) where
   pub bare_there : r < least → needs p t ≡ false

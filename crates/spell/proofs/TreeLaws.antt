@@ -10,7 +10,7 @@ use Rattle.paper.specs.Tree.{Tree, Forest, sum, product, power, records, records
 use Rattle.paper.specs.Record.{kind, count_in, bits, symbol_in}
 use Rattle.paper.specs.Verdict.{records_in}
 use Rattle.paper_text.specs.Text.{opens, closes, times, plus, power_sign, ess, digits, signed_digits}
-use Rattle.paper_text.specs.Text.{Place, in_sum, in_product, as-base, needs, enclosed, text, joined}
+use Rattle.paper_text.specs.Text.{Place, in_sum, in_product, as_base, needs, enclosed, text, joined}
 use Rattle.paper.specs.Standing.{TreeIn, TreesIn, SomeTree, SomeTrees}
 use Rattle.paper.proofs.EncodeLaws.{signed_word}
 use Rattle.paper.proofs.Seen.{seen_kind, seen_integer, seen_symbol, seen_sum, seen_product, seen_power}
@@ -105,7 +105,7 @@ module _ {s : List ℕ} {i : ℕ} where
     unfolding records least_rank
     exponent_inside h =
         let q = seen_power (seen h.there) k in
-        let b = (g as-base q.1 refl (base h.tree q.0 q.1 q.2 q.3 h.there q.4)).next in
+        let b = (g as_base q.1 refl (base h.tree q.0 q.1 q.2 q.3 h.there q.4)).next in
         let z = ap records q.4 in
         let w = tree_within h.there in
         omega (arith, b, z, w)
@@ -116,8 +116,8 @@ module _ {s : List ℕ} {i : ℕ} where
     sign_room h l =
         let q = seen_power (seen h.there) k in
         let b = base h.tree q.0 q.1 q.2 q.3 h.there q.4 in
-        let m = g as-base q.1 refl b in
-        let w = (room_after (needs as-base q.1) q.1 b l m.next m.text_put.end).fits in
+        let m = g as_base q.1 refl b in
+        let w = (room_after (needs as_base q.1) q.1 b l m.next m.text_put.end).fits in
         omega (arith, w)
 
     pub power_put : (t : Tree) → TreeIn s i t → {o2 : List ℕ} {e : ℕ} → Put (power_sign ∷ digits (bits s r.next)) o' r.end o2 e
@@ -125,12 +125,12 @@ module _ {s : List ℕ} {i : ℕ} where
     unfolding text records least_rank
     power_put t h {o2} {e} d =
         let q = seen_power (seen h) k in
-        let b = g as-base q.1 refl (base t q.0 q.1 q.2 q.3 h q.4) in
+        let b = g as_base q.1 refl (base t q.0 q.1 q.2 q.3 h q.4) in
         let x = b.next in
         let z : bits s r.next ≡ q.3 = ap (bits s) x ∙ q.5.exponent_bits in
         rw q.4 (record {
           next = omega (arith, x);
-          text_put = subst (λ y. Put (enclosed (needs as-base q.1) (text q.1) ++ (power_sign ∷ digits y)) o at o2 e) z (then_put b.text_put d);
+          text_put = subst (λ y. Put (enclosed (needs as_base q.1) (text q.1) ++ (power_sign ∷ digits y)) o at o2 e) z (then_put b.text_put d);
         })
 
 -- ---- a member: bare, or in parentheses

@@ -1,7 +1,7 @@
 -- Text put to an area: where it ends, always, and the area, where it fits.
 use Rattle.std.specs.Prelude.{ℕ, ◌+◌, ◌-◌, ◌*◌, ◌^◌, ◌≤◌, ◌<◌, ◌≡◌, List, length, get_or}
 use Rattle.paper.specs.Verdict.{records_in}
-use Rattle.paper_text.specs.Text.{Place, in_sum, in_product, as-base}
+use Rattle.paper_text.specs.Text.{Place, in_sum, in_product, as_base}
 use Rattle.stretch.specs.Put.{put}
 use Rattle.spell.specs.declared.Spelt.{Spelt}
 
@@ -19,7 +19,7 @@ pub record TextPut (i n : ℕ) (p o : List ℕ) (at : ℕ) (o' : List ℕ) (r : 
 unfoldable pub least_rank : Place → ℕ
 least_rank in_sum = 3
 least_rank in_product = 2
-least_rank as-base = 1
+least_rank as_base = 1
 
 -- what follows from record i on ends at a place that is a number of 64 bits: a record has at most 65 characters
 pub record Roomy (s : List ℕ) (i at : ℕ) : Type 0 where

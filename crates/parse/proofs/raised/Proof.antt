@@ -6,7 +6,7 @@ use mathlib.Core.List.{List}
 use mathlib.Core.Path.{◌≡◌, sym, ap, ◌∙◌}
 use native.Mathlib.Omega.{arith}
 use lib.ListN.{length, drop}
-use Rattle.paper_text.specs.Text.{Reading, as-base, begins}
+use Rattle.paper_text.specs.Text.{Reading, as_base, begins}
 use Rattle.paper_text.specs.Text as paper
 use Rattle.paper_text.proofs.PlaceLaws.{sign_inside}
 use Rattle.parse.specs.declared.Member.{Member}
@@ -24,11 +24,11 @@ asked : (c : tie.After-fit) (m : Member) → c.fit.result ≡ m
     → let a = c.args in
     let s = a.text.now in
     (at : ℕ) (o : Reading paper.Item) (old : List ℕ) → ItemIs s at o (Laid old a.d a.out.now) a.i
-    → MemberIs as-base s at o (Laid old a.d a.out.now) (next_of a.i) m
+    → MemberIs as_base s at o (Laid old a.d a.out.now) (next_of a.i) m
 unfolding bound
 asked c m e at o old h =
     let a = c.args in
-    member as-base a.text.now at o (Laid old a.d a.out.now) a.i m h (sym e ∙ c.fit.ensures)
+    member as_base a.text.now at o (Laid old a.d a.out.now) a.i m h (sym e ∙ c.fit.ensures)
 
 -- a `^` follows it
 raises : (c : tie.After-fit) → let a = c.args in begins 94 (drop (next_of a.i) a.text.now) ≡ true
@@ -40,7 +40,7 @@ raises c =
 fitting : (c : tie.In-Fit) → let a = c.args in
     let s = a.text.now in
     (at : ℕ) (o : Reading paper.Item) (old : List ℕ) → ItemIs s at o (Laid old a.d a.out.now) a.i
-    → FitIs as-base s at o (Laid old a.d a.out.now c.in-Fit.q) c.in-Fit.e c.in-Fit.w
+    → FitIs as_base s at o (Laid old a.d a.out.now c.in-Fit.q) c.in-Fit.e c.in-Fit.w
 fitting c at o old h = (asked c.before _ c.in-Fit.is at o old h).1
 
 -- where it lies

@@ -4,7 +4,7 @@ use lib.ListN.{set}
 use Rattle.paper.specs.Record.{kind}
 use Rattle.paper.specs.Verdict.{records_in}
 use Rattle.paper.specs.Standing.{SomeTree, SomeTrees}
-use Rattle.paper_text.specs.Text.{in_sum, in_product, as-base}
+use Rattle.paper_text.specs.Text.{in_sum, in_product, as_base}
 use Rattle.spell.specs.Spelt.{least_rank, next_in, end_in, spelt}
 use Rattle.spell.specs.declared.Spelt.{Spelt}
 use Rattle.spell.proofs.CellLaws.{end_set, next_set, both_set, TreePut, room_as, put_as, tree_as, member_as, joined_as, spelt_as}
@@ -198,7 +198,7 @@ tree_at-member_at-requires t c =
       (
         (n.0, p.0.1),
         subst (SomeTree a.s.now.now) (sym n.1) (base_there p.1 k),
-        (as-base, refl),
+        (as_base, refl),
         room_as (sym n.1) (sym n.2) (behind p.1 p.2),
       ),
     )
