@@ -331,7 +331,7 @@ fn asks_equal(env: &impl Env) -> bool {
     matches!(env.arg(FIRST_WORD, &mut word), Ok(n) if n == EQUAL.len()) && word == EQUAL
 }
 
-// How many words the command line has, the program's own among them; of more than any mode takes it counts so many as show that.
+// Counts the words of the command line, the program's own included, and stops at TOO_MANY: no mode takes so many.
 fn count_words(env: &impl Env) -> usize {
     for i in 0..TOO_MANY {
         if let Err(FillError::NotPresent) = env.arg(i, &mut []) {
