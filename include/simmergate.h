@@ -220,7 +220,7 @@ extern "C" {
      simmergate_settings_fetch       1,208        1,208   whatever the area
      simmergate_settings_fetch_1     1,208        1,208   whatever the area
      simmergate_settings_remove      1,272        1,272   whatever the area
-     simmergate_release                  8            8
+     simmergate_release                 32           32
 
    On 64-bit Arm a level may take more, so that the names are larger there (arm/archive, tests/arm).
 
