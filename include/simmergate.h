@@ -203,28 +203,26 @@ extern "C" {
    the other. Of memcpy and its like the return address alone is counted; a loader that binds them at their first call
    may take some 2,000 bytes more, which the names below have room for.
 
-     simmergate_check                2,344        2,344   whatever the depth
-     simmergate_weight               2,344        2,344   whatever the depth
-     simmergate_value              100,512      526,496
-     simmergate_equal              126,440      672,232
-     simmergate_differ               2,408        2,408   whatever the depth
-     simmergate_simplify           124,824      657,304   by either edition
-     simmergate_batch              124,936      657,416   by either edition
-     simmergate_receive                 72           72   whatever the piece
-     simmergate_receive_finish       2,360        2,360   whatever the depth
-     simmergate_open                 4,104        4,104   whatever the depth
-     simmergate_simplify_shared    125,432      657,912   by either edition
-     simmergate_write_text          98,504      524,488
-     simmergate_read_text          123,512      655,992   for any text
-     simmergate_settings_store       1,192        1,192   whatever the area
-     simmergate_settings_fetch       1,192        1,192   whatever the area
-     simmergate_settings_fetch_1     1,192        1,192   whatever the area
-     simmergate_settings_remove      1,192        1,192   whatever the area
+     simmergate_check                2,184        2,184   whatever the depth
+     simmergate_weight               2,184        2,184   whatever the depth
+     simmergate_value              100,496      526,480
+     simmergate_equal              126,312      672,104
+     simmergate_differ               2,280        2,280   whatever the depth
+     simmergate_simplify            75,896      395,384   by either edition
+     simmergate_batch               76,024      395,512   by either edition
+     simmergate_receive                104          104   whatever the piece
+     simmergate_receive_finish       2,216        2,216   whatever the depth
+     simmergate_open                 4,760        4,760   whatever the depth
+     simmergate_simplify_shared     76,840      396,328   by either edition
+     simmergate_write_text          98,472      524,456
+     simmergate_read_text          123,616      656,096   for any text
+     simmergate_settings_store       1,224        1,224   whatever the area
+     simmergate_settings_fetch       1,208        1,208   whatever the area
+     simmergate_settings_fetch_1     1,208        1,208   whatever the area
+     simmergate_settings_remove      1,272        1,272   whatever the area
      simmergate_release                 32           32
 
-   On 64-bit Arm equality, reading and writing a text take up to 96 bytes a level in place of 80, 80 and 64, so that the
-   names are larger there (arm/archive, tests/arm); the other calls need what they need here, and at most 300 bytes
-   more.
+   On 64-bit Arm a level may take more, so that the names are larger there (arm/archive, tests/arm).
 
    SIMMERGATE_STACK bytes, or SIMMERGATE_STACK_16384, are enough for every call.
 

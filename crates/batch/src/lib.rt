@@ -20,16 +20,13 @@ const LISTS: u32 = 8;
 fn adds_up(lengths: &[u8], given: usize) -> bool
     ensures { result ≡ eqb (total (lengths_in lengths.now)) given }
 {
-    let n = lengths.len() / LENGTH;
     let mut left = given as u64;
-    let mut i: usize = 0;
-    while i < n {
+    for i in 0..lengths.len() / LENGTH {
         let next = number::read8(lengths, i * LENGTH);
         if left < next {
             return false;
         }
         left -= next;
-        i += 1;
     }
     left < 1
 }
@@ -38,16 +35,11 @@ fn adds_up(lengths: &[u8], given: usize) -> bool
 fn turns_down(tables: &[u8], lengths: &[u8], answers: &[u8]) -> bool
     ensures { result ≡ turns_down tables.now lengths.now answers.now }
 {
-    if 0 < lengths.len() % LENGTH {
+    let n = lengths.len() / LENGTH;
+    if 0 < lengths.len() % LENGTH || ITEMS < n {
         return true;
     }
-    if ITEMS < lengths.len() / LENGTH {
-        return true;
-    }
-    if adds_up(lengths, tables.len()) {
-        return answers.len() / PLACE < lengths.len() / LENGTH;
-    }
-    true
+    !adds_up(lengths, tables.len()) || answers.len() / PLACE < n
 }
 
 // What the call returns: 19 for a limit that there is not, 9 for such an edition, then 8, or 0.
@@ -105,11 +97,9 @@ fn in_turn(
         ≡ still limit edition 0 0 (lengths_in lengths.now) tables.now
         (lent out.old steps.old work.old) answers.old }
 {
-    let n = lengths.len() / LENGTH;
-    let mut i: usize = 0;
-    let mut at: usize = 0;
-    let mut used: usize = 0;
-    while i < n {
+    let mut at = 0;
+    let mut used = 0;
+    for i in 0..lengths.len() / LENGTH {
         let end = at + number::read8(lengths, i * LENGTH) as usize;
         let o = record::SIZE * used;
         let s = used;
@@ -124,7 +114,6 @@ fn in_turn(
             &mut answers[p..],
         );
         at = end;
-        i += 1;
     }
     if 0 < used {
         stretch::clear(work, 0, simplify::work_bytes(limit));

@@ -12,8 +12,8 @@ use denote.Triple.Clauses.{AtExit}
 use lib.ListN.{length, drop, length-drop}
 use Rattle.paper.specs.Once.{Once}
 use Rattle.paper_text.specs.Text.{Reading, digits}
-use Rattle.decimal.specs.declared.Digits.{Digits}
-use Rattle.decimal.specs.declared.Digits.TheVariants.{No, Is}
+use Rattle.std.specs.Prelude.{Some, None}
+use Rattle.std.specs.declared.option.Option.{Option}
 use Rattle.decimal.specs.Digits.{means, Ahead}
 use Rattle.decimal.proofs.digit_at.Reads as digit-at-reads
 use Rattle.decimal.proofs.digit_at.Kinds as digit-at-kinds
@@ -38,17 +38,17 @@ left_of : Reading ℕ → ℕ
 left_of none = 0
 left_of (some r) = length r.1
 
-same_number : (s : List ℕ) (at : ℕ) (r r' : Digits) → Ahead s at r → Ahead s at r' → means s r ≡ means s r' → r ≡ r'
+same_number : (s : List ℕ) (at : ℕ) (r r' : Option (ℕ × ℕ)) → Ahead s at r → Ahead s at r' → means s r ≡ means s r' → r ≡ r'
 unfolding there number_of left_of
-same_number s at No No f g e = refl
-same_number s at No (Is v k) f g e = absurd (let z : ◌≡◌ {A = ℕ} 0 1 = ap there e in omega (arith, z))
-same_number s at (Is v k) No f g e = absurd (let z : ◌≡◌ {A = ℕ} 1 0 = ap there e in omega (arith, z))
-same_number s at (Is v k) (Is w j) f g e =
+same_number s at None None f g e = refl
+same_number s at None (Some r) f g e = absurd (let z : ◌≡◌ {A = ℕ} 0 1 = ap there e in omega (arith, z))
+same_number s at (Some r) None f g e = absurd (let z : ◌≡◌ {A = ℕ} 1 0 = ap there e in omega (arith, z))
+same_number s at (Some (v, k)) (Some (w, j)) f g e =
     let m : length (drop k s) ≡ length (drop j s) = ap left_of e in
     let l = length-drop {A = ℕ} k s in
     let l' = length-drop {A = ℕ} j s in
     let n : k ≡ j = omega (arith, m, l, l', f.1, g.1) in
-    ap₂ (λ (x y : ℕ). Is x y) (ap number_of e) n
+    ap₂ (λ (x y : ℕ). Some (x, y)) (ap number_of e) n
 
 pub read_number_once : Once 1 read-number-kinds.ps read-number-kinds.r read-number-reads.Pre read-number-reads.Post
 read_number_once κs a v v' x x' h p q = same_number a.0.now a.1.0 v v' p.ahead q.ahead (p.reads ∙ sym q.reads)

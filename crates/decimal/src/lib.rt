@@ -10,62 +10,43 @@ const BASE: u64 = 10;
 
 const GREATEST: u64 = 9;
 
-// The character after the digits.
-const PAST_DIGITS: u8 = b'9' + 1;
-
 // The most digits of a number of 64 bits.
 const MOST_DIGITS: usize = 20;
-
-// A number and the place after its last digit, or no number that the writer would write.
-#[derive(Clone, Copy)]
-pub enum Digits {
-    No,
-    Is(u64, usize),
-}
 
 // A digit stands at `at`.
 pub fn digit_at(text: &[u8], at: usize) -> bool
     ensures { result ≡ digit_ahead (drop at text.now) }
 {
-    if text.len() <= at {
-        return false;
-    }
-    if text[at] < b'0' {
-        return false;
-    }
-    text[at] < PAST_DIGITS
+    text.get(at).is_some_and(u8::is_ascii_digit)
 }
 
-// The number below `bound` whose digits begin at `at`: 0 stands alone, no other begins with 0.
-pub fn read_number(text: &[u8], at: usize, bound: u64) -> Digits
+// The number below `bound` whose digits begin at `at`, and the place after its last digit: 0 stands alone, no other begins with 0. None:
+// no number that the writer would write. The place is a part of the answer, so the loop counts it.
+pub fn read_number(text: &[u8], at: usize, bound: u64) -> Option<(u64, usize)>
     requires { bound ≤ 2 ^ 63 + 1 }
     ensures { NumberRead bound text.now at result }
 {
     if !digit_at(text, at) {
-        return Digits::No;
+        return None;
     }
-    if text[at] < b'1' {
-        if digit_at(text, at + 1) {
-            return Digits::No;
-        }
+    if text[at] == b'0' && digit_at(text, at + 1) {
+        return None;
     }
     let most = bound / BASE;
     let mut v: u64 = 0;
     let mut e = at;
     while digit_at(text, e) {
         if most < v {
-            return Digits::No;
+            return None;
         }
-        v = BASE * v + (text[e] - b'0') as u64;
+        v = BASE * v + u64::from(text[e] - b'0');
         e += 1;
     }
-    if v < bound {
-        return Digits::Is(v, e);
-    }
-    Digits::No
+    if v < bound { Some((v, e)) } else { None }
 }
 
-// Spells v from `at` on, where its digits lie in the area, and answers the place after them.
+// Spells v from `at` on, where its digits lie in the area, and answers the place after them. The lowest digit comes first, so the loop goes
+// back from the end until one digit is left: how many turns that takes is told by the number alone.
 pub fn spell_number(v: u64, out: &mut [u8], at: usize) -> usize
     requires { at < 2 ^ 63 }
     ensures { NumberSpelt v out.old at out.new result }

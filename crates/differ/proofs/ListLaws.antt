@@ -9,7 +9,7 @@ use Rattle.paper.specs.Calls.{eights}
 use Rattle.paper_differ.specs.Differ.{numbers_of, at_front}
 use Rattle.paper.proofs.BytesLaws.{length_bytes}
 use Rattle.stretch.specs.Put.{put}
-use Rattle.stretch.proofs.Laws.{put_put, put_none, length_put}
+use Rattle.stretch.proofs.Laws.{put_put, put_none}
 
 numbers_length : (ds : List (ℕ × ℕ)) → length (eights (numbers_of ds)) ≡ 16 * length ds
 unfolding eights numbers_of
@@ -38,10 +38,6 @@ written d ds = put d 0 (eights (numbers_of ds))
 pub written_none : (d : List ℕ) → written d [] ≡ d
 unfolding written eights numbers_of
 written_none d = put_none d 0
-
-pub written_length : (d : List ℕ) (ds : List (ℕ × ℕ)) → 16 * length ds ≤ length d → length (written d ds) ≡ length d
-unfolding written
-written_length d ds h = length_put d 0 (eights (numbers_of ds)) (omega (arith, numbers_length ds))
 
 pub written_more : (d : List ℕ) (ds : List (ℕ × ℕ)) (p i j : ℕ) → length ds ≡ p → p * 16 + 16 ≤ length d
     → put (written d ds) (p * 16) (bytes 8 i ++ bytes 8 j) ≡ written d (ds ++ ((i, j) ∷ []))

@@ -1,6 +1,7 @@
 // What differs between two tables: their trees walked in step, and the pairs of record numbers where they do not agree. Where two records
 // agree they have equally many members, so that the walk is one record further on in both tables; where they do not it is past both trees.
-// So there is no recursion. The walk is taken twice, to count the pairs and to write them, and the list is as it was where it is too short.
+// So there is no recursion. The walk is taken twice, with no list to count the pairs and then to write them, and the list is as it was where it
+// is too short.
 #![tactic(auto)]
 
 ghost use Rattle.std.specs.Prelude.{◌≡◌, ◌++◌, ◌+◌, ◌*◌, ◌≤◌, length};
@@ -10,53 +11,17 @@ ghost use Rattle.paper.specs.Standing.{TreeIn, SomeTree};
 ghost use Rattle.paper_differ.specs.Differ.{alike, differences_of, at_front, differing};
 ghost use Rattle.stretch.specs.Put.{put};
 ghost use Rattle.differ.specs.Together.{Together};
-ghost use Rattle.table.specs.Judged.{verdict_of};
-ghost use Rattle.differ.specs.Differed.{says, answered, gives};
+ghost use Rattle.differ.specs.Differed.{gives};
 
-use record::Flaw;
-use table::Fault;
-
-// The answer: the refusal's number and place, what is wrong with the record, which table is refused, and the number of pairs.
-#[derive(Clone, Copy)]
-pub struct Differed {
-    pub number: u32,
-    pub place: usize,
-    pub flaw: Flaw,
-    pub which: u8,
-    pub pairs: usize,
-}
+use table::{Refusal, Refused, Which};
 
 // Record i of a and record j of b agree: all their 16 bytes are the same, those of a tree's record that have no meaning being zero.
 fn agree(a: &[u8], i: usize, b: &[u8], j: usize) -> bool
     requires { SomeTree a.now i × SomeTree b.now j }
     ensures { (t u : Tree) → TreeIn a.now i t → TreeIn b.now j u → result ≡ alike t u }
 {
-    if number::read8(a, i * record::SIZE) != number::read8(b, j * record::SIZE) {
-        return false;
-    }
-    record::bits(a, i) == record::bits(b, j)
-}
-
-// The number of pairs.
-fn count_pairs(a: &[u8], b: &[u8]) -> usize
-    requires { Together a.now b.now }
-    ensures { result ≡ length (differences_of a.now b.now) }
-{
-    let n = a.len() / record::SIZE;
-    let mut i = 0;
-    let mut j = 0;
-    let mut pairs = 0;
-    while i < n {
-        if agree(a, i, b, j) {
-            i += 1;
-            j += 1;
-        } else {
-            pairs += 1;
-            i = split::skip_tree(a, i);
-            j = split::skip_tree(b, j);
-        }
-    }
-    pairs
+    number::read8(a, i * record::SIZE) == number::read8(b, j * record::SIZE)
+        && record::bits(a, i) == record::bits(b, j)
 }
 
 // The bytes of a pair in the list.
@@ -71,61 +36,66 @@ fn write_pair(list: &mut [u8], p: usize, i: usize, j: usize)
     number::write8(list, p * PAIR + number::SIZE, j as u64);
 }
 
-// Writes the pairs at the front of the list, in walking order; its bytes past them stay.
-fn write_pairs(a: &[u8], b: &[u8], list: &mut [u8])
-    requires { Together a.now b.now × (16 * length (differences_of a.now b.now) ≤ length list.old) }
-    ensures { list.new ≡ at_front (differences_of a.now b.now) list.old }
+// Writes the pairs at the front of the list, in walking order, as many as it has room for, and answers how many there are. Where there is room
+// for all, the bytes past them stay.
+fn write_pairs(a: &[u8], b: &[u8], list: &mut [u8]) -> usize
+    requires { Together a.now b.now }
+    ensures all { result ≡ length (differences_of a.now b.now) }
+    ensures written { 16 * length (differences_of a.now b.now) ≤ length list.old
+        → list.new ≡ at_front (differences_of a.now b.now) list.old }
 {
     let n = a.len() / record::SIZE;
+    let room = list.len() / PAIR;
     let mut i = 0;
     let mut j = 0;
     let mut pairs = 0;
+    // No `for`: a turn goes one record on or past a whole tree.
     while i < n {
         if agree(a, i, b, j) {
             i += 1;
             j += 1;
         } else {
-            write_pair(list, pairs, i, j);
+            if pairs < room {
+                write_pair(list, pairs, i, j);
+            }
             pairs += 1;
             i = split::skip_tree(a, i);
             j = split::skip_tree(b, j);
         }
     }
+    pairs
 }
 
-// The answer: what is refused, and which table; the number of pairs.
-fn answer(f: Fault, which: u8, pairs: usize) -> Differed
-    ensures { says result ≡ answered (verdict_of f) which pairs }
-{
-    let flaw = f.flaw;
-    Differed {
-        number: f.number,
-        place: f.place,
-        flaw: flaw,
-        which: which,
-        pairs: pairs,
-    }
-}
-
-// Judges the limit, the first table, then the second, then whether the list has two places of eight bytes for each pair; then writes the pairs.
-pub fn differ(limit: usize, a: &[u8], b: &[u8], list: &mut [u8]) -> Differed
+// Judges the limit, the first table, then the second, then whether the list has two places of eight bytes for each pair; then writes the pairs, and
+// answers how many there are.
+pub fn differ(limit: usize, a: &[u8], b: &[u8], list: &mut [u8]) -> Result<usize, Refused>
     ensures { gives result list.new ≡ differing limit a.now b.now list.old }
 {
     if !table::is_limit(limit) {
-        return answer(table::refusal(table::LIMIT, 0), table::NEITHER, 0);
+        return Err(Refused {
+            refusal: Refusal::Limit,
+            which: Which::Neither,
+        });
     }
-    let f = table::fault_of(table::check(limit, a));
-    if 0 < f.number {
-        return answer(f, table::FIRST, 0);
+    if let Err(refusal) = table::check(limit, a) {
+        return Err(Refused {
+            refusal,
+            which: Which::First,
+        });
     }
-    let g = table::fault_of(table::check(limit, b));
-    if 0 < g.number {
-        return answer(g, table::SECOND, 0);
+    if let Err(refusal) = table::check(limit, b) {
+        return Err(Refused {
+            refusal,
+            which: Which::Second,
+        });
     }
-    let pairs = count_pairs(a, b);
+    let pairs = write_pairs(a, b, &mut []);
     if list.len() / PAIR < pairs {
-        return answer(table::refusal(table::ROOM, 0), table::NEITHER, 0);
+        return Err(Refused {
+            refusal: Refusal::Room,
+            which: Which::Neither,
+        });
     }
     write_pairs(a, b, list);
-    answer(table::refusal(0, 0), table::NEITHER, pairs)
+    Ok(pairs)
 }

@@ -16,17 +16,20 @@ use Rattle.paper.specs.Rules.{rules_of}
 use Rattle.paper.specs.Verdict.{table_weight}
 use Rattle.paper.specs.Driver.{over, each, members}
 use Rattle.paper.specs.Cost.{cost}
-use Rattle.paper.proofs.EncodeLaws.{recordses_weights, records_pos, records_weight}
+use Rattle.paper.proofs.EncodeLaws.{recordses_weights, records_weight}
 use Rattle.rules.specs.Asked.{Ready}
 use Rattle.stretch.specs.Put.{part, put}
 use Rattle.driver.specs.declared.Stand.{Stand}
+use Rattle.std.specs.Prelude.{None, Some, Result, Ok, Err}
+use Rattle.driver.specs.declared.LeftRange.{LeftRange}
+use Rattle.driver.specs.declared.Settled.{Settled}
 use Rattle.driver.specs.declared.TakenUp.{TakenUp}
 use Rattle.driver.specs.declared.TakenUp.TheVariants as taken
 use Rattle.driver.specs.declared.Turn.TheVariants as turn
 use Rattle.driver.specs.Driven.{kind_number, with_notes, encode_all, weight_all, first_record, inside, opened_runs, passed, closed_over}
 use Rattle.driver.specs.Driven.{Set, Back, TakenIs, KeptWhole, KeptIs, Drove, Gave, Gathers, Closed}
 use Rattle.driver.specs.Paused.{begun_at, joined_to, kept_by, ended_at, entered, returned, Onward, Call, call, run_of, Called, Fell, Reached, Come, Gathering}
-use Rattle.driver.specs.Paused.{Midway, Resumed, Begun, WentOn, TurnIs}
+use Rattle.driver.specs.Paused.{Midway, Resumed, WentOn, TurnIs}
 use Rattle.driver.proofs.Forests.{members_weigh, front_long}
 use Rattle.driver.proofs.Weighs.{weighs_all, weighs_tree}
 use Rattle.driver.proofs.Places.{front_of_lem}
@@ -404,23 +407,22 @@ module _ {c : Call} {out work steps : List ℕ} {s : Stand} (v : Midway c out wo
 
     module _ (out'' work'' steps'' : List ℕ) (lo2 : length out'' ≡ length out') (lw2 : length work'' ≡ length work) (lz2 : length steps'' ≡ length steps) where
       -- what became of the gathered node, as `take_up` tells it, and by the call's own edition and node
-      abbrev Took : TakenUp → Type 0
+      abbrev Took : Result TakenUp LeftRange → Type 0
       Took = TakenIs (rules_of s.edition) pass_driven.to c.rest out' out'' work'' steps steps'' s.node s.end s.noted
 
-      told : (x : TakenUp) → Took x
+      told : (x : Result TakenUp LeftRange) → Took x
           → TakenIs (rules_of edition) pass_driven.to c.rest out' out'' work'' steps steps'' node s.end s.noted x
       told x y =
           subst (λ i. TakenIs (rules_of edition) pass_driven.to c.rest out' out'' work'' steps steps'' i s.end s.noted x) v.node_is
           (subst (λ i. TakenIs (rules_of i) pass_driven.to c.rest out' out'' work'' steps steps'' s.node s.end s.noted x) v.edition_is y)
 
-      pub turned_over : (n : ℕ) → Took (taken.Over n)
-          → TurnIs c out'' work'' steps'' s (turn.Over n)
-      turned_over n y =
-          driving.burst v.come pass_driven lo' v.gathering.work_long v.gathering.steps_long changed n (told (taken.Over n) y)
+      pub turned_over : (l : LeftRange) → Took (Err l) → TurnIs c out'' work'' steps'' s (Err l)
+      turned_over l y =
+          driving.burst v.come pass_driven lo' v.gathering.work_long v.gathering.steps_long changed l.steps (told (Err l) y)
 
       -- it is finished, after as many tries
       came : {f r n σ τ : ℕ} → Drove (run_of c) c.rest c.out out'' work'' c.steps steps'' node c.stand.noted f r n (v.o + v.b) σ
-          → τ ≡ c.stand.tries + σ → s.tries ≤ τ → TurnIs c out'' work'' steps'' s (turn.Finished f r n τ)
+          → τ ≡ c.stand.tries + σ → s.tries ≤ τ → TurnIs c out'' work'' steps'' s (Ok (turn.Finished f r n τ))
       came {σ = σ} a e h = (
         record {
           o = v.o + v.b;
@@ -434,17 +436,17 @@ module _ {c : Call} {out work steps : List ℕ} {s : Stand} (v : Midway c out wo
         h,
       )
 
-      pub turned_finished : (r : ℕ) → Took (taken.Finished r)
-          → TurnIs c out'' work'' steps'' s (turn.Finished s.end r s.noted (s.tries + 1 + (s.end - s.node)))
+      pub turned_finished : (r : ℕ) → Took (Ok (taken.Finished r))
+          → TurnIs c out'' work'' steps'' s (Ok (turn.Finished s.end r s.noted (s.tries + 1 + (s.end - s.node))))
       turned_finished r y =
           let nd = v.node_is in
-          came (driving.finished v.come pass_driven lo' v.gathering.work_long v.gathering.steps_long changed (told (taken.Finished r) y))
+          came (driving.finished v.come pass_driven lo' v.gathering.work_long v.gathering.steps_long changed (told (Ok (taken.Finished r)) y))
           (omega (arith, v.tries_are)) (omega arith)
 
-      module _ (f r : ℕ) (y : Took (taken.Quiet f r)) where
+      module _ (f r : ℕ) (y : Took (Ok (taken.Quiet f r))) where
         home : Drove (run_of c) c.rest c.out out'' work'' c.steps steps'' node c.stand.noted
             f r (s.noted + 1) (v.o + v.b) (v.τ + (v.υ + 1) + 1 + (f - node))
-        home = driving.quieted v.come pass_driven lo' v.gathering.work_long v.gathering.steps_long changed (told (taken.Quiet f r) y)
+        home = driving.quieted v.come pass_driven lo' v.gathering.work_long v.gathering.steps_long changed (told (Ok (taken.Quiet f r)) y)
 
         pub quiet_fits : (s.node ≤ f) × (s.tries + 1 + 1 + (f - s.node) < 2 ^ 63 + 65538) × (s.noted < 65536)
         quiet_fits =
@@ -454,25 +456,25 @@ module _ {c : Call} {out work steps : List ℕ} {s : Stand} (v : Midway c out wo
             let nd = v.node_is in
             (omega arith, omega (arith, tries_now v, home.end, v.called.few), omega (arith, few_now v))
 
-        pub turned_quiet : TurnIs c out'' work'' steps'' s (turn.Finished f r (s.noted + 1) (s.tries + 1 + 1 + (f - s.node)))
+        pub turned_quiet : TurnIs c out'' work'' steps'' s (Ok (turn.Finished f r (s.noted + 1) (s.tries + 1 + 1 + (f - s.node))))
         turned_quiet = let nd = v.node_is in came home (omega (arith, v.tries_are)) (omega arith)
 
-      module _ (r m : ℕ) (y : Took (taken.Stepped r m)) where
+      module _ (it : Settled) (y : Took (Ok (taken.Stepped it))) where
         again_come : Come edition c.tree c.rest c.out c.work c.steps node c.stand.place
-            c.stand.noted out'' work'' steps'' r m (v.o + v.b)
-            (v.τ + (v.υ + 1) + (m - s.noted))
+            c.stand.noted out'' work'' steps'' it.at it.noted (v.o + v.b)
+            (v.τ + (v.υ + 1) + (it.noted - s.noted))
         again_come =
-            driving.again v.come pass_driven lo' v.gathering.work_long v.gathering.steps_long changed (told (taken.Stepped r m) y) lo2 lw2 lz2
+            driving.again v.come pass_driven lo' v.gathering.work_long v.gathering.steps_long changed (told (Ok (taken.Stepped it)) y) lo2 lw2 lz2
 
-        pub again_fits : (s.noted ≤ m) × (s.tries + 1 + (m - s.noted) < 2 ^ 63 + 65536)
+        pub again_fits : (s.noted ≤ it.noted) × (s.tries + 1 + (it.noted - s.noted) < 2 ^ 63 + 65536)
         again_fits =
             let more = y.2 in
             let n = again_come.noted_end in
             let l = again_come.lighter in
             (omega arith, omega (arith, tries_now v, v.called.few))
 
-        pub turned_again : TurnIs c out'' work'' steps'' s (turn.Again r m (s.tries + 1 + (m - s.noted)))
-        turned_again = (v.o + v.b, v.τ + (v.υ + 1) + (m - s.noted), again_come, v.openings_are, omega (arith, v.tries_are), y.2, omega arith)
+        pub turned_again : TurnIs c out'' work'' steps'' s (Ok (turn.Again it.at it.noted (s.tries + 1 + (it.noted - s.noted))))
+        turned_again = (v.o + v.b, v.τ + (v.υ + 1) + (it.noted - s.noted), again_come, v.openings_are, omega (arith, v.tries_are), y.2, omega arith)
 
 -- ---- members kept one after the other
 same_stand : {ed₁ pl₁ nt₁ op₁ ti₁ nd₁ en₁ le₁ ga₁ pr₁ pl₂ ti₂ en₂ le₂ ga₂ : ℕ} → pl₁ ≡ pl₂ → ti₁ ≡ ti₂ → en₁ ≡ en₂ → le₁ ≡ le₂ → ga₁ ≡ ga₂
@@ -509,25 +511,23 @@ module _ {c : Call} {out work steps : List ℕ} (s : Stand) (i r : ℕ) (v : Mid
   pub kept_ready : (s.node < s.end + r) × ((t : Tree) × (rest : List ℕ) × Ready out work (s.end + r) (s.place + r) t rest)
   kept_ready = (omega (arith, node_fits v), (more.x, encode_all more.xs ++ c.rest, next_ready v more.is))
 
-  module _ {out' : List ℕ} {n : ℕ} (lo : length out' ≡ length out)
-      (says : (t : Tree) (rest : List ℕ) → Ready out work (s.end + r) (s.place + r) t rest
-      → KeptIs (rules_of s.edition) (kind out s.node) t out out' (s.end + r) n) where
-    answer : KeptIs (rules_of s.edition) (kind out s.node) more.x out out' (s.end + r) n
-    answer = says more.x (encode_all more.xs ++ c.rest) (next_ready v more.is)
-
-    pub kept_next : 1 ≤ n → Midway c out' work steps (kept_by s (i + 1) (r + n))
-    kept_next some = subst (λ x. Midway c out' work steps x) (kept_more s i r n) (next_kept v more.is (answer.whole some) lo)
+  module _ {out' : List ℕ} (lo : length out' ≡ length out) where
+    pub kept_next : (n : ℕ) → ((t : Tree) (rest : List ℕ) → Ready out work (s.end + r) (s.place + r) t rest
+        → KeptIs (rules_of s.edition) (kind out s.node) t out out' (s.end + r) (Some n))
+        → Midway c out' work steps (kept_by s (i + 1) (r + n))
+    kept_next n says =
+        subst (λ x. Midway c out' work steps x) (kept_more s i r n)
+        (next_kept v more.is (says more.x (encode_all more.xs ++ c.rest) (next_ready v more.is)).1 lo)
 
     -- it is to be driven: scratch alone has changed
-    pub kept_still : Midway c out' work steps (kept_by s i r)
-    kept_still = past_changed v out' answer.before lo
-
-pub at_node : {c : Call} {out work steps : List ℕ} {s : Stand} → Midway c out work steps s → Begun c out work steps s
-at_node v = record { refused = λ h. absurd (omega (arith, node_fits v)); midway = λ h. v }
+    pub kept_still : ((t : Tree) (rest : List ℕ) → Ready out work (s.end + r) (s.place + r) t rest
+        → KeptIs (rules_of s.edition) (kind out s.node) t out out' (s.end + r) None)
+        → Midway c out' work steps (kept_by s i r)
+    kept_still says = past_changed v out' (says more.x (encode_all more.xs ++ c.rest) (next_ready v more.is)) lo
 
 -- ---- a pass begins again
 module _ {c : Call} {out₁ work₁ steps₁ : List ℕ} {s : Stand} (v : Midway c out₁ work₁ steps₁ s) (out work steps : List ℕ) (q n τ : ℕ)
-    (a : TurnIs c out work steps s (turn.Again q n τ)) where
+    (a : TurnIs c out work steps s (Ok (turn.Again q n τ))) where
   pub again_room : (s.node * 16 + 16 ≤ length out) × (q * 16 + 16 ≤ length work) × (n + s.openings < 65536) × (n ≤ length steps)
   again_room =
       let f = begin_fits v.called a.2 in
@@ -539,25 +539,12 @@ module _ {c : Call} {out₁ work₁ steps₁ : List ℕ} {s : Stand} (v : Midway
       → Midway c out' work steps (begun_at s q n τ (arity work q))
   again_midway out' w lo = begun v.called a.2 s v.node_is v.edition_is a.3 τ a.4 out' w lo
 
--- ---- it waits, or is at its end
-pub waiting : {c : Call} {out work steps : List ℕ} {s : Stand} → Midway c out work steps s → 1 ≤ s.left → WentOn c out work steps s
-waiting v h = record { waits = λ z. v; ends = λ z. absurd (omega arith) }
-
-pub fell_down : {c : Call} {out work steps : List ℕ} (s : Stand) → s.left ≡ 0 → s.end < 1 → Fell c s.noted → WentOn c out work steps s
-fell_down s l e f = record { waits = λ h. absurd (omega arith); ends = λ h. record { refused = λ z. f; reached = λ z. absurd (omega arith) } }
-
+-- ---- it is at its end
 pub came_home : {c : Call} {out work steps : List ℕ} (s : Stand) (e q n τ : ℕ)
     → Reached c out work steps (ended_at s e q n τ) e → WentOn c out work steps (ended_at s e q n τ)
-came_home s e q n τ r =
-    record {
-      waits = λ h. absurd (omega arith);
-      ends = λ h. record { refused = λ z. absurd (omega (arith, r.drove.end, records_pos r.drove.to)); reached = λ z. r };
-    }
+came_home s e q n τ r = record { waits = λ h. absurd (omega arith); ends = λ h. r }
 
 -- ---- the edition stays, and the tries do not fall
-pub onward_none : (s : Stand) → Onward s s
-onward_none s = record { edition = refl; tries = omega arith }
-
 pub onward_both : {s t r : Stand} → Onward s t → Onward t r → Onward s r
 onward_both a b = record { edition = b.edition ∙ a.edition; tries = omega (arith, a.tries, b.tries) }
 

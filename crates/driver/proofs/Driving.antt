@@ -13,6 +13,8 @@ use Rattle.paper.specs.WellFormed.{WF}
 use Rattle.paper.specs.Rules.{rules_of}
 use Rattle.paper.specs.Driver.{done, over, no_rule, ask, after, each, members}
 use Rattle.paper.proofs.Simplified.{simplify_again}
+use Rattle.std.specs.Prelude.{Ok}
+use Rattle.driver.specs.declared.Settled.{Settled}
 use Rattle.driver.specs.declared.TakenUp.TheVariants as taken
 use Rattle.driver.specs.Driven.{with_notes, passed, Set, Back, Came, Burst, TakenIs, Drove}
 use Rattle.driver.specs.Paused.{Come}
@@ -129,7 +131,7 @@ module _ {ed : ℕ} {t : Tree} {rest out₀ work₀ steps₀ : List ℕ} {d p s 
           )
 
       -- it is finished: the driver would ask each of its records once more
-      pub finished : {out'' work'' steps'' : List ℕ} {r : ℕ} → TakenIs (rules_of ed) a.to rest out' out'' work'' steps' steps'' d e j (taken.Finished r)
+      pub finished : {out'' work'' steps'' : List ℕ} {r : ℕ} → TakenIs (rules_of ed) a.to rest out' out'' work'' steps' steps'' d e j (Ok (taken.Finished r))
           → Drove (drives ed t) rest out₀ out'' work'' steps₀ steps'' d s e r j (o + b) (τ + (υ + 1) + (e - d))
       finished x =
           let size : records a.to ≡ e - d = omega (arith, a.end) in
@@ -150,7 +152,7 @@ module _ {ed : ℕ} {t : Tree} {rest out₀ work₀ steps₀ : List ℕ} {d p s 
           }
 
       -- one step was taken, to a tree that admits none: the driver would ask each of its records once more
-      pub quieted : {out'' work'' steps'' : List ℕ} {f r : ℕ} → TakenIs (rules_of ed) a.to rest out' out'' work'' steps' steps'' d e j (taken.Quiet f r)
+      pub quieted : {out'' work'' steps'' : List ℕ} {f r : ℕ} → TakenIs (rules_of ed) a.to rest out' out'' work'' steps' steps'' d e j (Ok (taken.Quiet f r))
           → Drove (drives ed t) rest out₀ out'' work'' steps₀ steps'' d s f r (j + 1) (o + b) (τ + (υ + 1) + 1 + (f - d))
       quieted {f = f} x =
           let k = x.0 in
@@ -179,19 +181,19 @@ module _ {ed : ℕ} {t : Tree} {rest out₀ work₀ steps₀ : List ℕ} {d p s 
           }
 
       -- steps were taken, and the driver begins again
-      module _ {out'' work'' steps'' : List ℕ} {r m : ℕ}
-          (x : TakenIs (rules_of ed) a.to rest out' out'' work'' steps' steps'' d e j (taken.Stepped r m)) where
+      module _ {out'' work'' steps'' : List ℕ} {z : Settled}
+          (x : TakenIs (rules_of ed) a.to rest out' out'' work'' steps' steps'' d e j (Ok (taken.Stepped z))) where
         stepped_kept : Kept ed a.to x.1.ks x.0
         stepped_kept = steps_keep ed less.0 x.1.taken
 
         pub again : length out'' ≡ length out' → length work'' ≡ length work' → length steps'' ≡ length steps'
-            → Come ed t rest out₀ work₀ steps₀ d p s out'' work'' steps'' r m (o + b) (τ + (υ + 1) + (m - j))
+            → Come ed t rest out₀ work₀ steps₀ d p s out'' work'' steps'' z.at z.noted (o + b) (τ + (υ + 1) + (z.noted - j))
         again lo' lw' lz' =
             let c = x.1 in
             let k = stepped_kept in
             let l = less.1 in
             let before = v.ks ++ a.ks in
-            let tries : length c.ks ≡ m - j = omega (arith, c.noted_end) in
+            let tries : length c.ks ≡ z.noted - j = omega (arith, c.noted_end) in
             record {
               set_up = v.set_up;
               u = x.0;

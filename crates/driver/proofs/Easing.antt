@@ -10,10 +10,10 @@ use Rattle.paper.specs.Rules.{rules_of}
 use Rattle.paper.proofs.Value.{weight_pos}
 use Rattle.rules.specs.declared.Combined.TheVariants.{No, Nothing, Pending}
 use Rattle.rules.specs.Asked.{CombinedIs}
+use Rattle.std.specs.Prelude.{Result, Ok, Err}
+use Rattle.driver.specs.declared.LeftRange.{LeftRange}
 use Rattle.driver.specs.declared.Settled.{Settled}
-use Rattle.driver.specs.declared.Settled.TheVariants as settled
-use Rattle.driver.specs.declared.Eased.TheVariants as eased
-use Rattle.driver.specs.Driven.{no_step, Set, eased_of, SettledIs, EasedIs}
+use Rattle.driver.specs.Driven.{no_step, Set, SettledIs}
 use Rattle.driver.proofs.Places.{noted_one}
 use Rattle.driver.proofs.Runs.{step_kept}
 use Rattle.driver.proofs.Stepping.{step_first}
@@ -33,15 +33,16 @@ module _ (ed : ℕ) {out work steps : List ℕ} {d p s : ℕ} {t : Tree} {rest :
             steps_room = h.steps_room;
           }
 
-      pub eased_same : (out'' work'' steps'' : List ℕ) (x : Settled) → SettledIs (rules_of ed) t rest out' out'' work'' steps steps'' d s x
-          → EasedIs (rules_of ed) t rest out out'' work'' steps steps'' d p s (eased_of x)
-      eased_same out'' work'' steps'' (settled.At q n) y =
+      pub eased_same : (out'' work'' steps'' : List ℕ) (x : Result Settled LeftRange)
+          → SettledIs (rules_of ed) t rest out' out'' work'' steps steps'' d s x → SettledIs (rules_of ed) t rest out out'' work'' steps steps'' d s x
+      eased_same out'' work'' steps'' (Ok x) y =
           let c = y.1 in
           (y.0, record { ks = c.ks; taken = c.taken; stands = c.stands; kept = c.kept ∙ a.1; noted_end = c.noted_end; noted = c.noted }, y.2)
-      eased_same out'' work'' steps'' (settled.Over n) y = y
+      eased_same out'' work'' steps'' (Err l) y = y
 
     -- no rule applies
-    pub eased_none : CombinedIs (rules_of ed) t rest out out' work' d p Nothing → EasedIs (rules_of ed) t rest out out' work' steps steps d p s (eased.At p s)
+    pub eased_none : CombinedIs (rules_of ed) t rest out out' work' d p Nothing
+        → SettledIs (rules_of ed) t rest out out' work' steps steps d s (Ok (record { at = p; noted = s }))
     eased_none a =
         (t, record { ks = []; taken = no_step; stands = a.1; kept = a.2; noted_end = omega arith; noted = sym (append-nil (take s steps)) }, a.0)
 
@@ -68,9 +69,10 @@ module _ (ed : ℕ) {out work steps : List ℕ} {d p s : ℕ} {t : Tree} {rest :
       noted_first : (ks : List ℕ) → take (s + 1) (set steps s k) ++ ks ≡ take s steps ++ (k ∷ ks)
       noted_first ks = ap (λ (i : List ℕ). i ++ ks) (noted_one steps s k step_room) ∙ append_assoc (take s steps) (k ∷ []) ks
 
-      pub eased_step : (out'' work'' steps'' : List ℕ) (x : Settled) → SettledIs (rules_of ed) a.0 rest out' out'' work'' (set steps s k) steps'' d (s + 1) x
-          → EasedIs (rules_of ed) t rest out out'' work'' steps steps'' d p s (eased_of x)
-      eased_step out'' work'' steps'' (settled.At r n) y =
+      pub eased_step : (out'' work'' steps'' : List ℕ) (x : Result Settled LeftRange)
+          → SettledIs (rules_of ed) a.0 rest out' out'' work'' (set steps s k) steps'' d (s + 1) x
+          → SettledIs (rules_of ed) t rest out out'' work'' steps steps'' d s x
+      eased_step out'' work'' steps'' (Ok x) y =
           let c = y.1 in (
             y.0,
             record {
@@ -83,4 +85,4 @@ module _ (ed : ℕ) {out work steps : List ℕ} {d p s : ℕ} {t : Tree} {rest :
             },
             y.2,
           )
-      eased_step out'' work'' steps'' (settled.Over n) y = let y4 = y.4 in (y.0, k ∷ y.1, step_first a.1 y.2, y.3, y4 ∙ omega arith)
+      eased_step out'' work'' steps'' (Err l) y = let y4 = y.4 in (y.0, k ∷ y.1, step_first a.1 y.2, y.3, y4 ∙ omega arith)

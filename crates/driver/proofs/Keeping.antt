@@ -28,6 +28,7 @@ use Rattle.rules.proofs.Finished.{few_none}
 use Rattle.stretch.specs.Put.{part, put}
 use Rattle.stretch.proofs.Laws.{take_put, take_put_end}
 use Rattle.driver.specs.Driven.{with_notes, kind_number, inside, opened_runs, Set, KeptWhole, KeptIs, Drove, Gave}
+use Rattle.std.specs.Prelude.{Some}
 use Rattle.driver.proofs.Forests.{records_first, all_many}
 use Rattle.driver.proofs.Places.{advance, part_there, ends_after}
 use Rattle.driver.proofs.Runs.{drives, no_rule_on}
@@ -71,24 +72,23 @@ module _ {out work rest : List ℕ} {d p : ℕ} {t : Tree} (h : Ready out work d
         ∙ take_put out₁ (d * 16) (part work (p * 16) (n * 16)) (d * 16) (omega arith) (omega (arith, h.out_room, scratch.long)) ∙ scratch.before
 
     kept_is : (ed k : ℕ) → ask (rules_of ed) t ≡ no_rule → n ≤ length (members t) + 1 → (eqb (kind work p) k && is_node k) ≡ false
-        → KeptIs (rules_of ed) k t out out' d n
-    kept_is ed k asked few shut =
-        record {
-          before = kept_before;
-          whole =
-              λ some. record {
-                none = few_none ed t h.wf asked (omega arith);
-                shut = subst (λ j. (eqb j k && is_node k) ≡ false) pending_kind shut;
-                size = size;
-                wrote = kept_wrote;
-              };
-        }
+        → KeptIs (rules_of ed) k t out out' d (Some n)
+    kept_is ed k asked few shut = (
+      kept_before,
+      record {
+        none = few_none ed t h.wf asked (omega arith);
+        shut = subst (λ j. (eqb j k && is_node k) ≡ false) pending_kind shut;
+        size = size;
+        wrote = kept_wrote;
+      },
+    )
 
   unopened : kind work p < 2 → (k : ℕ) (a : Bool) → eqb (kind work p) k ≡ a → (a && is_node k) ≡ false
   unopened l k false e = refl
   unopened l k true e = leaf_no_node k (omega (arith, l, eqb-true (kind work p) k e))
 
-  pub leaf_kept : (ed k : ℕ) → kind work p < 2 → (out' : List ℕ) → out' ≡ put out (d * 16) (part work (p * 16) 16) → KeptIs (rules_of ed) k t out out' d 1
+  pub leaf_kept : (ed k : ℕ) → kind work p < 2 → (out' : List ℕ) → out' ≡ put out (d * 16) (part work (p * 16) 16)
+      → KeptIs (rules_of ed) k t out out' d (Some 1)
   leaf_kept ed k l out' e =
       let leaf : kind_number t < 2 = omega (arith, pending_kind) in
       kept_is (record { long = refl; before = refl; past = refl }) (size_of_leaf t leaf) e ed k (no_rule_on ed t leaf) (omega arith)
@@ -100,13 +100,9 @@ module _ {out work rest : List ℕ} {d p : ℕ} {t : Tree} (h : Ready out work d
 
   pub calm_kept : (ed k : ℕ) → (eqb (kind work p) k && is_node k) ≡ false → (n : ℕ) → n ≡ records t → records t ≤ arity work p + 1 → still_by ed t ≡ true
       → {out₁ : List ℕ} → Scratched out out₁ (d * 16) (16 * weight t) → (out' : List ℕ) → out' ≡ put out₁ (d * 16) (part work (p * 16) (n * 16))
-      → KeptIs (rules_of ed) k t out out' d n
+      → KeptIs (rules_of ed) k t out out' d (Some n)
   calm_kept ed k shut n size few calm scratch out' e =
       kept_is scratch size e ed k (still_no_rule ed t (still_by_lem ed t calm)) (omega (arith, pending_arity)) shut
-
-  -- it is to be driven
-  pub not_kept : (ed k : ℕ) (out' : List ℕ) → take (d * 16) out' ≡ take (d * 16) out → KeptIs (rules_of ed) k t out out' d 0
-  not_kept ed k out' same = record { before = same; whole = λ some. absurd (omega arith) }
 
 -- ---- what it is gathered to
 module _ (ed : ℕ) {t : Tree} {rest out work steps : List ℕ} {d p s : ℕ} (h : Set out work steps d p s t rest) {k n : ℕ} {out' : List ℕ}

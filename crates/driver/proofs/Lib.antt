@@ -4,7 +4,6 @@ pub mod Weighs
 pub mod Finishing
 pub mod Counting
 pub mod Places
-pub mod Cells
 pub mod Stepping
 pub mod Easing
 pub mod Taking
@@ -15,5 +14,6 @@ pub mod Keeping
 pub mod Membering
 pub mod Passing
 pub mod Between
+pub mod Levels
 pub mod Closing
 pub mod Unique

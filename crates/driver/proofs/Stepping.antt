@@ -10,7 +10,8 @@ use Rattle.paper.specs.WellFormed.{WF}
 use Rattle.paper.specs.Rules.{Rule, rules_of}
 use Rattle.paper.specs.Driver.{over, no_rule, step, out_of_range, ask, after}
 use Rattle.paper.proofs.Value.{weight_pos}
-use Rattle.rules.specs.declared.Asked.TheVariants.{Nothing, Step}
+use Rattle.std.specs.Prelude.{Some, None, Ok}
+use Rattle.rules.specs.declared.Applied.{Applied}
 use Rattle.rules.specs.Asked.{AskedIs}
 use Rattle.note.specs.Note.{note}
 use Rattle.note.specs.Noted.{TreeBy}
@@ -138,9 +139,10 @@ module _ {ed : ℕ} {out₀ work₀ steps₀ : List ℕ} {d p s : ℕ} {out work
   burst e = (v.u, v.came.ks, v.came.taken, e, v.came.noted_end)
 
   module _ (out' work' : List ℕ) (lo : length out' ≡ length out) (lw : length work' ≡ length work) where
-    pub stepped : (k q : ℕ) → AskedIs (rules_of ed) v.u v.rest out out' work' d at (Step k q)
-        → CInv ed out₀ work₀ steps₀ d p s out' work' (set steps n k) q (n + 1)
-    stepped k q a =
+    pub stepped : (x : Applied) → AskedIs (rules_of ed) v.u v.rest out out' work' d at (Ok (Some x))
+        → CInv ed out₀ work₀ steps₀ d p s out' work' (set steps n x.step) x.at (n + 1)
+    stepped x a =
+        let k = x.step in
         let c = v.came in
         record {
           t = v.t;
@@ -154,14 +156,14 @@ module _ {ed : ℕ} {out₀ work₀ steps₀ : List ℕ} {d p s : ℕ} {out work
                 stands = a.2;
                 kept = a.3 ∙ c.kept;
                 noted_end = omega (arith, c.noted_end, length-append c.ks (k ∷ []));
-                noted = noted_one steps n k step_fits ∙ ap (λ (x : List ℕ). x ++ (k ∷ [])) c.noted ∙ append_assoc (take s steps₀) c.ks (k ∷ []);
+                noted = noted_one steps n k step_fits ∙ ap (λ (y : List ℕ). y ++ (k ∷ [])) c.noted ∙ append_assoc (take s steps₀) c.ks (k ∷ []);
               };
           out_long = lo ∙ v.out_long;
           work_long = lw ∙ v.work_long;
           steps_long = length-set steps n k ∙ v.steps_long;
         }
 
-    pub idle : AskedIs (rules_of ed) v.u v.rest out out' work' d at Nothing
+    pub idle : AskedIs (rules_of ed) v.u v.rest out out' work' d at (Ok None)
         → (u : Tree) × Came (rules_of ed) v.t u v.rest out₀ out' work' steps₀ steps d s at n × (ask (rules_of ed) u ≡ no_rule)
     idle a =
         let c = v.came in (

@@ -1,8 +1,8 @@
 -- Two answers of `drive` that meet its contract, as the check reads it from the source, are the same, and so are the records done, what is
 -- pending, the steps noted and their number, the openings and the tries: the paper's run on the tree is one, and its result, its steps and what is left tell
 -- the places. Of what is scratch, and of all but the number of steps after a refusal, nothing is said.
-use Prim.Native.Nat.{ℕ, zero, suc, ◌+◌, ◌*◌}
-use mathlib.Core.Path.{◌≡◌, refl, sym, ap, ◌∙◌}
+use Prim.Native.Nat.{ℕ, ◌+◌, ◌*◌}
+use mathlib.Core.Path.{◌≡◌, sym, ap, ◌∙◌}
 use mathlib.Core.List.{List, ◌++◌}
 use native.Mathlib.Omega.{arith}
 use borrow.Fn.Kinds.{Dens, ended_of}
@@ -11,21 +11,24 @@ use denote.Triple.Clauses.{AtExit}
 use lib.ListN.{length, take, drop}
 use Rattle.paper.specs.Tree.{Tree, records}
 use Rattle.paper.specs.Driver.{done, over}
+use Rattle.std.specs.Prelude.{Result, Ok, Err}
+use Rattle.driver.specs.declared.LeftRange.{LeftRange}
 use Rattle.driver.specs.declared.Stand.{Stand}
 use Rattle.driver.specs.Driven.{with_notes}
-use Rattle.driver.specs.Paused.{stand_of, Call, call, Called, Fell, Reached, DrivenTo}
+use Rattle.driver.specs.Paused.{Call, call, Called, Fell, Reached, DrivenTo}
 use Rattle.driver.proofs.drive.Reads as reads
 use Rattle.driver.proofs.drive.Kinds as kinds
 
 -- what is done, pending and noted after an answer, in one call and in another
-abbrev Left : (o o' w w' z z' : List ℕ) (s s' : Stand) → ℕ → Type 0
-Left o o' w w' z z' s s' zero = s.noted ≡ s'.noted
-Left o o' w w' z z' s s' (suc e) =
-    (take (suc e * 16) o ≡ take (suc e * 16) o') × (drop (s.place * 16) w ≡ drop (s.place * 16) w') × (take s.noted z ≡ take s.noted z')
+abbrev Left : (o o' w w' z z' : List ℕ) (s s' : Stand) → Result ℕ LeftRange → Type 0
+Left o o' w w' z z' s s' (Ok e) =
+    (take (e * 16) o ≡ take (e * 16) o') × (drop (s.place * 16) w ≡ drop (s.place * 16) w') × (take s.noted z ≡ take s.noted z')
     × (s.place ≡ s'.place) × (s.noted ≡ s'.noted) × (s.openings ≡ s'.openings) × (s.tries ≡ s'.tries)
+Left o o' w w' z z' s s' (Err l) = Unit {0}
 
 module _ (c : Call) (o o' w w' z z' : List ℕ) (s s' : Stand) (long : length w ≡ length w') where
-  reached_once : (e e' : ℕ) → Reached c o w z s (suc e) → Reached c o' w' z' s' (suc e') → (suc e ≡ suc e') × Left o o' w w' z z' s s' (suc e)
+  reached_once : (e e' : ℕ) → Reached c o w z s e → Reached c o' w' z' s' e'
+      → (◌≡◌ {A = Result ℕ LeftRange} (Ok e) (Ok e')) × Left o o' w w' z z' s s' (Ok e)
   reached_once e e' a a' =
       let h = a.drove in
       let h' = a'.drove in
@@ -36,10 +39,10 @@ module _ (c : Call) (o o' w w' z z' : List ℕ) (s s' : Stand) (long : length w 
       let tries : a.τ ≡ a'.τ = cc in
       let d = c.stand.node in
       let k = c.stand.noted in
-      let end : suc e ≡ suc e' = h.end ∙ ap (λ t. d + records t) tree ∙ sym h'.end in
+      let end : e ≡ e' = h.end ∙ ap (λ t. d + records t) tree ∙ sym h'.end in
       let noted : s.noted ≡ s'.noted = h.noted_end ∙ ap (λ (l : List ℕ). k + length l) steps ∙ sym h'.noted_end in
       let place : s.place ≡ s'.place = omega (arith, h.place, h'.place) in (
-        end,
+        ap (λ i. Ok i) end,
         (
           h.wrote ∙ ap (λ t. take (d * 16) c.out ++ with_notes t) tree ∙ sym h'.wrote ∙ ap (λ i. take (i * 16) o') (sym end),
           h.left ∙ sym h'.left ∙ ap (λ i. drop (i * 16) w') (sym place),
@@ -57,24 +60,26 @@ module _ (c : Call) (o o' w w' z z' : List ℕ) (s s' : Stand) (long : length w 
       let steps : h.0 ≡ h'.0 = cc in
       h.2 ∙ ap (λ i. c.stand.noted + i) steps ∙ sym h'.2
 
-  driven_once : (e e' : ℕ) → DrivenTo c o w z s e → DrivenTo c o' w' z' s' e' → (e ≡ e') × Left o o' w w' z z' s s' e
-  driven_once zero zero h h' = (refl, fell_once s.noted s'.noted (h.refused (omega arith)) (h'.refused (omega arith)))
-  driven_once zero (suc e') h h' =
-      let a = (h.refused (omega arith)).1 in
-      let b = (h'.reached (omega arith)).drove.ran in
+  driven_once : (r r' : Result ℕ LeftRange) → DrivenTo c o w z s r → DrivenTo c o' w' z' s' r' → (r ≡ r') × Left o o' w w' z z' s s' r
+  driven_once (Err l) (Err l') h h' =
+      let same : l.steps ≡ l'.steps = fell_once l.steps l'.steps h h' in
+      (ap (λ i. Err (record { steps = i })) same, tt)
+  driven_once (Err l) (Ok e') h h' =
+      let a = h.1 in
+      let b = h'.drove.ran in
       absurd (let q : ◌≡◌ {A = ℕ} 0 1 = cc in omega arith)
-  driven_once (suc e) zero h h' =
-      let a = (h.reached (omega arith)).drove.ran in
-      let b = (h'.refused (omega arith)).1 in
+  driven_once (Ok e) (Err l') h h' =
+      let a = h.drove.ran in
+      let b = h'.1 in
       absurd (let q : ◌≡◌ {A = ℕ} 0 1 = cc in omega arith)
-  driven_once (suc e) (suc e') h h' = reached_once e e' (h.reached (omega arith)) (h'.reached (omega arith))
+  driven_once (Ok e) (Ok e') h h' = reached_once e e' h h'
 
-pub drive_once : (κs : Lfts 4) (a : Dens κs kinds.ps) (t : Tree) (rest : List ℕ) (r r' : ℕ) (x x' : AtExit (ended_of 4 kinds.ps kinds.r) κs)
-    → Called (call a.0.now a.1.0.now a.1.1.0.now (stand_of a.1.1.1.0.now) t rest)
+pub drive_once : (κs : Lfts 4) (a : Dens κs kinds.ps) (t : Tree) (rest : List ℕ) (r r' : Result ℕ LeftRange) (x x' : AtExit (ended_of 4 kinds.ps kinds.r) κs)
+    → Called (call a.0.now a.1.0.now a.1.1.0.now a.1.1.1.0.now t rest)
     → length x.1.0.now ≡ length x'.1.0.now → reads.Post κs a r x → reads.Post κs a r' x'
     → (r ≡ r') × Left x.0.now x'.0.now x.1.0.now x'.1.0.now x.1.1.0.now x'.1.1.0.now
-    (stand_of x.1.1.1.0.now) (stand_of x'.1.1.1.0.now) r
+    x.1.1.1.0.now x'.1.1.1.0.now r
 drive_once κs a t rest r r' x x' h l p p' =
-    driven_once (call a.0.now a.1.0.now a.1.1.0.now (stand_of a.1.1.1.0.now) t rest)
+    driven_once (call a.0.now a.1.0.now a.1.1.0.now a.1.1.1.0.now t rest)
     x.0.now x'.0.now x.1.0.now x'.1.0.now
-    x.1.1.0.now x'.1.1.0.now (stand_of x.1.1.1.0.now) (stand_of x'.1.1.1.0.now) l r r' (p.1 t rest h) (p'.1 t rest h)
+    x.1.1.0.now x'.1.1.0.now x.1.1.1.0.now x'.1.1.1.0.now l r r' (p t rest h) (p' t rest h)

@@ -2,6 +2,7 @@
 -- records, `take (d * 16) out`; `work` the pending ones, `drop (p * 16) work`; `steps` the steps so far, `take s steps`. Done and pending nodes
 -- have their notes in them.
 use Rattle.std.specs.Prelude.{ℕ, ◌+◌, ◌*◌, ◌≤◌, ◌<◌, ◌^◌, ◌≡◌, false, cond, ◌&&◌, List, [], ◌∷◌, ◌++◌, length, take, drop, eqb, pos}
+use Rattle.std.specs.Prelude.{Option as Maybe, Some, None, Result, Ok, Err}
 use Rattle.std.proofs.Math.Option.{Option, none}
 unfoldable pub use Rattle.paper.specs.Standing.{kind_number}
 use Rattle.paper.specs.Bytes.{word}
@@ -14,8 +15,8 @@ use Rattle.paper.specs.Admits.{openings_at, AdmitsNone, AllAdmitNone}
 use Rattle.paper.specs.Driver.{ask, no_rule, step, out_of_range, members, Ran, done, over, Rans, dones, overs, as_sum, as_product, opened, base_from, gather}
 use Rattle.note.specs.Note.{note}
 use Rattle.note.specs.Noted.{encode_by, encodes_by}
+use Rattle.driver.specs.declared.LeftRange.{LeftRange}
 use Rattle.driver.specs.declared.Settled.{Settled}
-use Rattle.driver.specs.declared.Settled.TheVariants as settled
 use Rattle.driver.specs.declared.Eased.{Eased}
 use Rattle.driver.specs.declared.Eased.TheVariants as eased
 use Rattle.driver.specs.declared.TakenUp.{TakenUp}
@@ -113,41 +114,36 @@ pub record Came (rs : List Rule) (t u : Tree) (rest out out' work' steps steps' 
 abbrev pub Burst : (rs : List Rule) (t : Tree) (s n : ℕ) → Type 0
 Burst rs t s n = (u : Tree) × (ks : List ℕ) × Steps rs t ks u × (ask rs u ≡ out_of_range) × (n ≡ s + length ks)
 
--- `At q n`, no rule applies any more; `Over n`, a rule left the range
-abbrev pub SettledIs : (rs : List Rule) (t : Tree) (rest out out' work' steps steps' : List ℕ) (d s : ℕ) → Settled → Type 0
-SettledIs rs t rest out out' work' steps steps' d s (settled.At q n) =
-    (u : Tree) × Came rs t u rest out out' work' steps steps' d s q n × (ask rs u ≡ no_rule)
-SettledIs rs t rest out out' work' steps steps' d s (settled.Over n) = Burst rs t s n
-
--- the answer on a tree that is settled, of a gathered node
-abbrev pub eased_of : Settled → Eased
-eased_of (settled.At q n) = eased.At q n
-eased_of (settled.Over n) = eased.Over n
+-- no rule applies any more at a; or a rule left the range
+abbrev pub SettledIs : (rs : List Rule) (t : Tree) (rest out out' work' steps steps' : List ℕ) (d s : ℕ) → Result Settled LeftRange → Type 0
+SettledIs rs t rest out out' work' steps steps' d s (Ok a) =
+    (u : Tree) × Came rs t u rest out out' work' steps steps' d s a.at a.noted × (ask rs u ≡ no_rule)
+SettledIs rs t rest out out' work' steps steps' d s (Err l) = Burst rs t s l.steps
 
 -- `Quiet e`, one step came from the gathered node t, at record p, to a tree that stands after what is done, up to record e, and what followed t is
 -- pending; and where t's members admit no rule and no opening, and none of them opens, neither does that tree; else as of a tree that is settled
-abbrev pub EasedIs : (rs : List Rule) (t : Tree) (rest out out' work' steps steps' : List ℕ) (d p s : ℕ) → Eased → Type 0
-EasedIs rs t rest out out' work' steps steps' d p s (eased.Quiet e) =
+abbrev pub EasedIs : (rs : List Rule) (t : Tree) (rest out out' work' steps steps' : List ℕ) (d p s : ℕ) → Result Eased LeftRange → Type 0
+EasedIs rs t rest out out' work' steps steps' d p s (Ok (eased.Quiet e)) =
     (k : ℕ) × (u : Tree) × (ask rs t ≡ step k u) × (e ≡ d + records u) × (take (e * 16) out' ≡ take (d * 16) out ++ with_notes u)
     × (drop ((p + records t) * 16) work' ≡ rest) × (take (s + 1) steps' ≡ take s steps ++ (k ∷ []))
     × (AllAdmitNone rs (members t) → openings_at t ≡ 0 → AdmitsNone rs u)
-EasedIs rs t rest out out' work' steps steps' d p s (eased.At q n) = SettledIs rs t rest out out' work' steps steps' d s (settled.At q n)
-EasedIs rs t rest out out' work' steps steps' d p s (eased.Over n) = SettledIs rs t rest out out' work' steps steps' d s (settled.Over n)
+EasedIs rs t rest out out' work' steps steps' d p s (Ok (eased.Settled a)) = SettledIs rs t rest out out' work' steps steps' d s (Ok a)
+EasedIs rs t rest out out' work' steps steps' d p s (Err l) = SettledIs rs t rest out out' work' steps steps' d s (Err l)
 
 -- `Finished r`, no rule applies to the gathered node g: it stays among what is done, up to record e, and rest is pending from record r on; `Quiet f
 -- q`, one step came from g to a tree that stands among what is done, up to record f, and rest is pending from record q on; it admits none where g's
--- parts do; `Stepped q n`, steps came from g to a node to which no rule applies, and which is pending; `Over n`, a rule left the range
-abbrev pub TakenIs : (rs : List Rule) (g : Tree) (rest out out' work' steps steps' : List ℕ) (d e s : ℕ) → TakenUp → Type 0
-TakenIs rs g rest out out' work' steps steps' d e s (taken.Finished r) =
+-- parts do; `Stepped a`, steps came from g to a node to which no rule applies, and which is pending; `Err`, a rule left the range
+abbrev pub TakenIs : (rs : List Rule) (g : Tree) (rest out out' work' steps steps' : List ℕ) (d e s : ℕ) → Result TakenUp LeftRange → Type 0
+TakenIs rs g rest out out' work' steps steps' d e s (Ok (taken.Finished r)) =
     (ask rs g ≡ no_rule) × (take (e * 16) out' ≡ take (e * 16) out) × (drop (r * 16) work' ≡ rest) × (r * 16 + length rest ≡ length work')
     × (take s steps' ≡ take s steps)
-TakenIs rs g rest out out' work' steps steps' d e s (taken.Quiet f q) =
+TakenIs rs g rest out out' work' steps steps' d e s (Ok (taken.Quiet f q)) =
     (k : ℕ) × (u : Tree) × (ask rs g ≡ step k u) × (f ≡ d + records u) × (take (f * 16) out' ≡ take (d * 16) out ++ with_notes u)
     × (drop (q * 16) work' ≡ rest) × (q * 16 + length rest ≡ length work') × (take (s + 1) steps' ≡ take s steps ++ (k ∷ []))
     × (AllAdmitNone rs (members g) → openings_at g ≡ 0 → AdmitsNone rs u)
-TakenIs rs g rest out out' work' steps steps' d e s (taken.Stepped q n) =
-    (u : Tree) × Came rs g u rest out out' work' steps steps' d s q n × (s < n) × (ask rs u ≡ no_rule)
-TakenIs rs g rest out out' work' steps steps' d e s (taken.Over n) = Burst rs g s n
+TakenIs rs g rest out out' work' steps steps' d e s (Ok (taken.Stepped a)) =
+    (u : Tree) × Came rs g u rest out out' work' steps steps' d s a.at a.noted × (s < a.noted) × (ask rs u ≡ no_rule)
+TakenIs rs g rest out out' work' steps steps' d e s (Err l) = Burst rs g s l.steps
 
 -- of the pending tree t, a member of a node of kind k, and its n records: it admits no rule and no opening, is not opened in that node, and stands
 -- after what is done, e records
@@ -157,10 +153,10 @@ pub record KeptWhole (rs : List Rule) (k : ℕ) (t : Tree) (out out' : List ℕ)
   pub size : n ≡ records t
   pub wrote : take ((e + n) * 16) out' ≡ take (e * 16) out ++ with_notes t
 
--- what the answer n says: 0, t is to be driven; else it is kept so. What is done stays.
-pub record KeptIs (rs : List Rule) (k : ℕ) (t : Tree) (out out' : List ℕ) (e n : ℕ) : Type 0 where
-  pub before : take (e * 16) out' ≡ take (e * 16) out
-  pub whole : 1 ≤ n → KeptWhole rs k t out out' e n
+-- what the answer says: none, t is to be driven; else it is kept so. What is done stays.
+abbrev pub KeptIs : (rs : List Rule) (k : ℕ) (t : Tree) (out out' : List ℕ) (e : ℕ) → Maybe ℕ → Type 0
+KeptIs rs k t out out' e None = take (e * 16) out' ≡ take (e * 16) out
+KeptIs rs k t out out' e (Some n) = (take (e * 16) out' ≡ take (e * 16) out) × KeptWhole rs k t out out' e n
 
 -- the run r is done, after o openings and τ tries: its tree stands at the end of what is done, rest is what is pending, and its
 -- steps are noted

@@ -1,37 +1,34 @@
 -- The driver between two members: where it stands, by its numbers; what it was called on; and what holds while it waits for a member that is a
 -- node. It has come, by steps and passes, from the tree that it was called on to a node to which no rule applies, and has gathered the results of some
 -- of that node's members behind the node's first record; the others are pending.
-use Rattle.std.specs.Prelude.{ℕ, ◌+◌, ◌-◌, ◌*◌, ◌≤◌, ◌<◌, ◌^◌, ◌≡◌, List, [], ◌∷◌, ◌++◌, length, take, drop, get_or}
+use Rattle.std.specs.Prelude.{ℕ, ◌+◌, ◌-◌, ◌*◌, ◌≤◌, ◌<◌, ◌^◌, ◌≡◌, List, ◌∷◌, ◌++◌, length, take, drop, Option, Some, None, Result, Ok, Err, MatchResult}
 use Rattle.paper.specs.Tree.{Tree, weight}
 use Rattle.paper.specs.WellFormed.{WF, WFl}
 use Rattle.paper.specs.Rules.{rules_of}
 use Rattle.paper.specs.Driver.{ask, no_rule, Ran, over, Rans, dones, overs, after, each, members, simplify}
 use Rattle.paper.specs.Cost.{cost}
 use Rattle.stretch.specs.Put.{part, put}
+use Rattle.driver.specs.declared.LeftRange.{LeftRange}
 use Rattle.driver.specs.declared.Stand.{Stand}
 use Rattle.driver.specs.declared.Turn.{Turn}
 use Rattle.driver.specs.declared.Turn.TheVariants as turn
 use Rattle.driver.specs.Driven.{kind_number, with_notes, encode_all, records_all, weight_all, inside, opened_runs, Set, SetAll, Drove}
 
--- ---- the driver's numbers, as its cells hold them
-abbrev pub stand_of : List ℕ → Stand
-stand_of l =
+-- ---- where the driver stands: at the beginning the tree is pending at record p, and nothing is done, noted or tried
+abbrev pub first_stand : (ed p : ℕ) → Stand
+first_stand ed p =
     record {
-      edition = get_or l 0 0;
-      place = get_or l 1 0;
-      noted = get_or l 2 0;
-      openings = get_or l 3 0;
-      tries = get_or l 4 0;
-      node = get_or l 5 0;
-      end = get_or l 6 0;
-      left = get_or l 7 0;
-      gathered = get_or l 8 0;
-      prior = get_or l 9 0;
+      edition = ed;
+      place = p;
+      noted = 0;
+      openings = 0;
+      tries = 0;
+      node = 0;
+      end = 0;
+      left = 0;
+      gathered = 0;
+      prior = 0;
     }
-
-abbrev pub cells : Stand → List ℕ
-cells s =
-    s.edition ∷ s.place ∷ s.noted ∷ s.openings ∷ s.tries ∷ s.node ∷ s.end ∷ s.left ∷ s.gathered ∷ s.prior ∷ []
 
 -- a pass begins at the record q of work, whose tree has a members
 abbrev pub begun_at : Stand → (q n τ a : ℕ) → Stand
@@ -154,7 +151,7 @@ pub record Called (c : Call) : Type 0 where
   pub few : c.stand.node + c.stand.noted + c.stand.openings + weight c.tree < 65536
   pub few_tries : c.stand.tries + cost (weight c.tree) < 2 ^ 63
 
--- ---- what the answer e says: 0, a rule left the range; else the run is done, and its result ends there
+-- ---- what the answer says: a rule left the range, n steps being completed; or the run is done, and its result ends at e
 abbrev pub Fell : Call → ℕ → Type 0
 Fell c n = (k : ℕ) × (run_of c ≡ over k) × (n ≡ c.stand.noted + k)
 
@@ -167,20 +164,17 @@ pub record Reached (c : Call) (out work steps : List ℕ) (s : Stand) (e : ℕ) 
   pub node_is : s.node ≡ c.stand.node
   pub edition_is : s.edition ≡ c.stand.edition
 
-pub record DrivenTo (c : Call) (out work steps : List ℕ) (s : Stand) (e : ℕ) : Type 0 where
-  pub refused : e < 1 → Fell c s.noted
-  pub reached : 1 ≤ e → Reached c out work steps s e
+abbrev pub DrivenTo : (c : Call) (out work steps : List ℕ) → Stand → Result ℕ LeftRange → Type 0
+DrivenTo c out work steps s r = MatchResult r (λ e. Reached c out work steps s e) (λ l. Fell c l.steps)
 
--- ten cells say where the driver stands, and a tree is set up there
-abbrev pub Drivable : (out work steps st : List ℕ) → Type 0
-Drivable out work steps st = (length st ≡ 10) × ((t : Tree) × (rest : List ℕ) × Called (call out work steps (stand_of st) t rest))
+-- a tree is set up where the driver stands
+abbrev pub Drivable : (out work steps : List ℕ) → Stand → Type 0
+Drivable out work steps s = (t : Tree) × (rest : List ℕ) × Called (call out work steps s t rest)
 
 -- what a run from there leaves and answers, on whatever tree is set up there
-abbrev pub Drives : (out work steps st out' work' steps' st' : List ℕ) (r : ℕ) → Type 0
-Drives out work steps st out' work' steps' st' r =
-    (length st' ≡ 10)
-    × ((t : Tree) (rest : List ℕ) → Called (call out work steps (stand_of st) t rest)
-    → DrivenTo (call out work steps (stand_of st) t rest) out' work' steps' (stand_of st') r)
+abbrev pub Drives : (out work steps : List ℕ) → Stand → (out' work' steps' : List ℕ) → Stand → Result ℕ LeftRange → Type 0
+Drives out work steps s out' work' steps' s' r =
+    (t : Tree) (rest : List ℕ) → Called (call out work steps s t rest) → DrivenTo (call out work steps s t rest) out' work' steps' s' r
 
 -- ---- on the way
 -- members gathered before others
@@ -273,26 +267,21 @@ pub record Resumed (c : Call) (out work steps : List ℕ) (s : Stand) (g : ℕ) 
   pub steps_long : length steps ≡ length steps₁
   pub back : s ≡ returned s₂ s₁.node s₁.left s₁.gathered s₁.prior
 
--- the driver is to go on: from the beginning where g is 0, else from the result of the member that it waited for
-pub record GoesOn (c : Call) (out work steps : List ℕ) (s : Stand) (g : ℕ) : Type 0 where
-  pub begins : g ≤ 0 → (c ≡ call out work steps s c.tree c.rest) × Called c
-  pub resumes : 1 ≤ g → Resumed c out work steps s g
-
--- it is at a node, or a rule left the range
-pub record Begun (c : Call) (out work steps : List ℕ) (s : Stand) : Type 0 where
-  pub refused : s.end < 1 → (s.left ≡ 0) × Fell c s.noted
-  pub midway : 1 ≤ s.end → Midway c out work steps s
+-- the driver is to go on: from the beginning; or from the result of the member that it waited for
+abbrev pub GoesOn : (c : Call) (out work steps : List ℕ) → Stand → Option ℕ → Type 0
+GoesOn c out work steps s None = (c ≡ call out work steps s c.tree c.rest) × Called c
+GoesOn c out work steps s (Some g) = Resumed c out work steps s g
 
 -- it waits for a member, or is at its end
 pub record WentOn (c : Call) (out work steps : List ℕ) (s : Stand) : Type 0 where
   pub waits : 1 ≤ s.left → Midway c out work steps s
-  pub ends : s.left ≤ 0 → DrivenTo c out work steps s s.end
+  pub ends : s.left ≤ 0 → Reached c out work steps s s.end
 
 -- how a pass ended, at s
-abbrev pub TurnIs : (c : Call) (out work steps : List ℕ) (s : Stand) → Turn → Type 0
-TurnIs c out work steps s (turn.Finished e q n τ) = Reached c out work steps (ended_at s e q n τ) e × (s.tries ≤ τ)
-TurnIs c out work steps s (turn.Again q n τ) =
+abbrev pub TurnIs : (c : Call) (out work steps : List ℕ) (s : Stand) → Result Turn LeftRange → Type 0
+TurnIs c out work steps s (Ok (turn.Finished e q n τ)) = Reached c out work steps (ended_at s e q n τ) e × (s.tries ≤ τ)
+TurnIs c out work steps s (Ok (turn.Again q n τ)) =
     (o : ℕ) × (υ : ℕ)
     × Come c.stand.edition c.tree c.rest c.out c.work c.steps c.stand.node c.stand.place c.stand.noted out work steps q n o υ
     × (s.openings ≡ c.stand.openings + o) × (τ ≡ c.stand.tries + υ) × (s.noted < n) × (s.tries ≤ τ)
-TurnIs c out work steps s (turn.Over n) = Fell c n
+TurnIs c out work steps s (Err l) = Fell c l.steps

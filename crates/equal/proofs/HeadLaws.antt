@@ -20,7 +20,7 @@ use Rattle.paper.proofs.Tests.{and_both, true_not_false, not_so}
 use Rattle.note.proofs.ToldLaws.{seen_power, node_bits}
 use Rattle.split.specs.Standing.{Told}
 use Rattle.split.specs.Rest.{coefficient_of}
-use Rattle.number.specs.declared.Num.TheVariants.{Is}
+use Rattle.std.proofs.Common.{Ok}
 use Rattle.note.proofs.ToldLaws.{seen, record_within, power_tree}
 use Rattle.split.proofs.SplitLaws.{no_integer, term_integer, term_other}
 use Rattle.equal.specs.Head.{same_head, begin_alike, is_candidate, is_whole, has_two, rests_differ}
@@ -127,7 +127,7 @@ module _ {how : Tree → ℕ} {s : List ℕ} where
   unfolding term
   whole_rest h e = ap (λ (x : Term). x.rest) (whole_term h e)
 
-  pub whole_coefficient : {i : ℕ} {t : Tree} → Told how s i t → is_whole s i ≡ true → Is 1 ≡ coefficient_of (term_of t)
+  pub whole_coefficient : {i : ℕ} {t : Tree} → Told how s i t → is_whole s i ≡ true → Ok 1 ≡ coefficient_of (term_of t)
   unfolding term coefficient_of word
   whole_coefficient h e = sym (ap coefficient_of (whole_term h e))
 

@@ -1,7 +1,7 @@
+pub mod KindTests
 pub mod SameLaws
 pub mod TwoLaws
 pub mod HeadLaws
-pub mod CellLaws
 pub mod TickLaws
 pub mod MemberLaws
 pub mod MatchLaws

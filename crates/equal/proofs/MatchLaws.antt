@@ -22,10 +22,11 @@ use Rattle.split.proofs.SplitLaws.{no_integer}
 use Rattle.note.proofs.ToldLaws.{seen, FirstOf, first_of, none_of}
 use Rattle.note.specs.Plain.{parts_of}
 use Rattle.equal.specs.Head.{members_in}
-use Rattle.equal.specs.Matching.{is_passed, without, unticked, Takeable}
-use Rattle.equal.proofs.SameLaws.{taken_length}
+use Rattle.std.specs.Prelude.{Option, Some, None}
+use Rattle.equal.specs.Matching.{is_passed, without, unticked, match_of, Takeable, Took}
+use Rattle.equal.proofs.SameLaws.{taken_length, is_equal_lem, is_different}
 use Rattle.equal.proofs.MemberLaws.{members_there, members_few, same_members}
-use Rattle.equal.proofs.TickLaws.{unticked_all}
+use Rattle.equal.proofs.TickLaws.{unticked_all, alone_differs, alone_equal}
 
 -- ---- the trees of a row, one by one: an integer that is passed over, and any other
 module _ (skip : Bool) {how : Tree → ℕ} {s : List ℕ} {i : ℕ} {t : Tree} (h : Told how s i t) (f : Forest) where
@@ -184,3 +185,12 @@ module _ {how : Tree → ℕ} {a : List ℕ} {i : ℕ} {b : List ℕ} {j : ℕ} 
     members_start =
         matched_start us ones_there
         (omega (arith, ap length all_others, count_list (parts_of t), count_list (parts_of u), ones_there.counted, others_there.counted))
+
+-- ---- a row of one tree that has no tick: the search in it says whether the two are equal
+pub took_alone : (t u : Tree) (us vs : List ℕ) (e : ℕ) (r : Option ℕ) → get_or us 0 0 ≡ 0 → Took t (cons u nil) 0 us vs e r
+    → r ≡ match_of (equal t u) e
+took_alone t u us vs e r free q = by r q
+  where
+    by : (r : Option ℕ) → Took t (cons u nil) 0 us vs e r → r ≡ match_of (equal t u) e
+    by None q = is_different e (alone_differs t u us free q)
+    by (Some x) q = is_equal_lem (alone_equal t u us free vs q.1) q.0

@@ -22,8 +22,9 @@ use Rattle.note.specs.Plain.{parts_of, parts_in}
 use Rattle.note.proofs.NotedLaws.{kind_lt}
 use Rattle.note.proofs.ToldLaws.{seen, seen_sum, seen_product, kind_number_lem, count_number, record_within, sum_trees, product_trees, power_tree}
 use Rattle.split.specs.Standing.{Told, ToldTrees}
+use Rattle.std.specs.Prelude.{Some, None}
 use Rattle.equal.specs.Head.{begin_alike, members_in, past_exponent}
-use Rattle.equal.specs.Matching.{end_of, Passable, Comparable, Takeable}
+use Rattle.equal.specs.Matching.{match_of, Passable, Comparable, Takeable}
 use Rattle.equal.proofs.SameLaws.{Powers, PowersEnd, powers, bases_differ, bases_equal, bag_lengths}
 use Rattle.equal.proofs.HeadLaws.{begin_kinds, leaves_alike}
 
@@ -161,12 +162,12 @@ module _ {how : Tree → ℕ} {a : List ℕ} {i : ℕ} {b : List ℕ} {j : ℕ} 
     bases_end : (e : ℕ) → same_members t u ≡ true → e ≡ i + 1 + recordses (parts_of t) → PowersEnd a i b j t u e
     bases_end e q x = bases_equal h g (bases l) e (sym bases_match ∙ q) (omega (arith, bases_size))
 
-    past_power : (e : ℕ) → PowersEnd a i b j t u e → past_exponent a i b j e ≡ end_of (equal t u) (i + records t)
+    past_power : (e : ℕ) → PowersEnd a i b j t u e → past_exponent a i b j e ≡ match_of (equal t u) (i + records t)
     unfolding past_exponent
     past_power e p = rw (le-ltb (kind b j) 4 (omega (arith, kinds))) (by (eqb (bits a e) (bits b (j + (e - i)))) refl)
       where
-        by : (q : Bool) → eqb (bits a e) (bits b (j + (e - i))) ≡ q → cond q (e + 1) 0 ≡ end_of (equal t u) (i + records t)
-        by true d = rw (p.yes_if (eqb-true _ _ d)) p.size
+        by : (q : Bool) → eqb (bits a e) (bits b (j + (e - i))) ≡ q → cond q (Some (e + 1)) None ≡ match_of (equal t u) (i + records t)
+        by true d = rw (p.yes_if (eqb-true _ _ d)) (ap Some p.size)
         by false d = rw (p.no_if (eqb-false _ _ d)) refl
 
   -- ---- trees of which the members differ, or are not as many
@@ -198,12 +199,12 @@ module _ {how : Tree → ℕ} {a : List ℕ} {i : ℕ} {b : List ℕ} {j : ℕ} 
           other_within = λ l. (bases_end (omega (arith, kinds)) e q x).other_within;
         }
 
-    pub members_end : past_exponent a i b j e ≡ end_of (equal t u) (i + records t)
+    pub members_end : past_exponent a i b j e ≡ match_of (equal t u) (i + records t)
     unfolding past_exponent
     members_end = by (dec_le 4 (kind a i))
       where
-        by : Dec (4 ≤ kind a i) → past_exponent a i b j e ≡ end_of (equal t u) (i + records t)
+        by : Dec (4 ≤ kind a i) → past_exponent a i b j e ≡ match_of (equal t u) (i + records t)
         by (yes l) = past_power l e (bases_end l e q x)
         by (no l) =
             let y : e ≡ i + records t = omega (arith, members_size t (omega (arith, kind_number_lem h))) in
-            rw (lt-ltb (kind b j) 4 (omega (arith, kinds)), all_match (omega arith), q) y
+            rw (lt-ltb (kind b j) 4 (omega (arith, kinds)), all_match (omega arith), q) (ap Some y)

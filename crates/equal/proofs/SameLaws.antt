@@ -21,8 +21,9 @@ use Rattle.note.proofs.ToldLaws.{Seen, an_integer, a_symbol, a_sum, a_product, a
 use Rattle.split.specs.Standing.{Told}
 use Rattle.note.proofs.KeyLaws.{same_kind}
 use Rattle.note.proofs.ToldLaws.{seen, kind_number_lem, bits_number, tree_within, power_tree}
+use Rattle.std.proofs.lemmas.Option.{none-some, same_Some}
 use Rattle.equal.specs.Matching.{match_of}
-use Rattle.equal.specs.declared.Match.TheVariants.{Different, Ends}
+use Rattle.std.specs.Prelude.{Some, None}
 
 pub taken_length : {u : Tree} {l m : List Tree} → Taken u l m → length l ≡ 1 + length m
 taken_length here = omega arith
@@ -67,18 +68,18 @@ pub record PowersEnd (a : List ℕ) (i : ℕ) (b : List ℕ) (j : ℕ) (t u : Tr
   pub no_if : (bits a e ≡ bits b (j + (e - i)) → ⊥) → equal t u ≡ false
 
 -- what an answer tells of the test
-pub match_ends : (q : Bool) (x e : ℕ) → match_of q x ≡ Ends e → (q ≡ true) × (e ≡ x)
-match_ends true x e h = (refl, cc)
-match_ends false x e h = let z : ◌≡◌ {A = ℕ} 0 1 = cc in absurd (omega arith)
+pub match_ends : (q : Bool) (x e : ℕ) → match_of q x ≡ Some e → (q ≡ true) × (e ≡ x)
+match_ends true x e h = (refl, sym (same_Some x e h))
+match_ends false x e h = absurd (none-some e h)
 
-pub match_differs : (q : Bool) (x : ℕ) → match_of q x ≡ Different → q ≡ false
-match_differs true x h = let z : ◌≡◌ {A = ℕ} 0 1 = cc in absurd (omega arith)
+pub match_differs : (q : Bool) (x : ℕ) → match_of q x ≡ None → q ≡ false
+match_differs true x h = absurd (none-some x (sym h))
 match_differs false x h = refl
 
-pub is_equal_lem : {q : Bool} {x e : ℕ} → q ≡ true → x ≡ e → Ends x ≡ match_of q e
+pub is_equal_lem : {q : Bool} {x e : ℕ} → q ≡ true → x ≡ e → Some x ≡ match_of q e
 is_equal_lem {q} {x} {e} h r = rw (h, r)
 
-pub is_different : {q : Bool} (e : ℕ) → q ≡ false → Different ≡ match_of q e
+pub is_different : {q : Bool} (e : ℕ) → q ≡ false → None ≡ match_of q e
 is_different {q} e h = rw h
 
 -- members that are the same multiset are equally many

@@ -1,6 +1,6 @@
 -- How two trees begin: their first records, and those of the bases of powers. Equal trees begin alike (proofs/HeadLaws). And what these
 -- records say of where the trees end.
-use Rattle.std.specs.Prelude.{ℕ, ◌+◌, ◌-◌, Bool, true, cond, not, ◌&&◌, List, eqb, ltb}
+use Rattle.std.specs.Prelude.{Option, Some, None, ℕ, ◌+◌, ◌-◌, Bool, true, cond, not, ◌&&◌, List, eqb, ltb}
 use Rattle.paper.specs.Record.{kind, count_in, bits}
 use Rattle.note.specs.Plain.{parts_in}
 
@@ -19,9 +19,9 @@ unfoldable pub members_in : List ℕ → ℕ → ℕ
 members_in s i = parts_in s i (kind s i)
 
 -- where the tree at record i of a ends, its matched members, equal to those of the tree at record j of b, ending before record e: of powers
--- the exponents follow, and 0 says that they differ
-unfoldable pub past_exponent : List ℕ → ℕ → List ℕ → ℕ → ℕ → ℕ
-past_exponent a i b j e = cond (ltb (kind b j) 4) e (cond (eqb (bits a e) (bits b (j + (e - i)))) (e + 1) 0)
+-- the exponents follow, and none says that they differ
+unfoldable pub past_exponent : List ℕ → ℕ → List ℕ → ℕ → ℕ → Option ℕ
+past_exponent a i b j e = cond (ltb (kind b j) 4) (Some e) (cond (eqb (bits a e) (bits b (j + (e - i)))) (Some (e + 1)) None)
 
 -- the tree at record i is its own rest: neither an integer nor a product
 unfoldable pub is_whole : List ℕ → ℕ → Bool

@@ -1,6 +1,6 @@
 -- What matching compares and answers: the trees of a row with or without its integers, those that are not ticked, and what the code asks
 -- for.
-use Rattle.std.specs.Prelude.{ℕ, zero, suc, ◌+◌, ◌-◌, ◌*◌, ◌^◌, ◌≤◌, ◌<◌, ◌≡◌, Bool, true, false, cond, ◌&&◌, List, [], ◌∷◌, length, get_or, eqb, ltb}
+use Rattle.std.specs.Prelude.{Option, Some, None, ℕ, ◌+◌, ◌-◌, ◌*◌, ◌^◌, ◌≤◌, ◌<◌, ◌≡◌, Bool, true, false, cond, ◌&&◌, List, [], ◌∷◌, length, get_or, eqb, ltb}
 use Rattle.std.proofs.Math.Option.{none, some}
 use Rattle.paper.specs.Tree.{Tree, Forest, nil, cons, records, recordses, to_list, weight}
 use Rattle.paper.specs.Record.{kind}
@@ -9,18 +9,11 @@ use Rattle.paper.specs.Standing.{TreeIn}
 use Rattle.paper.specs.Equal.{remove_first, equal}
 use Rattle.split.specs.Standing.{Told, ToldTrees}
 use Rattle.equal.specs.Head.{begin_alike}
-use Rattle.equal.specs.declared.Match.{Match}
-use Rattle.equal.specs.declared.Match.TheVariants.{Different, Ends}
 
 -- the answer of a comparison: equal, the first tree ending before record e; or not
-abbrev pub match_of : Bool → ℕ → Match
-match_of true e = Ends e
-match_of false e = Different
-
--- the same as a number: the record before which the first tree ends, or 0, before which no tree does
-abbrev pub end_of : Bool → ℕ → ℕ
-end_of true e = e
-end_of false e = 0
+abbrev pub match_of : Bool → ℕ → Option ℕ
+match_of true e = Some e
+match_of false e = None
 
 -- the trees of f, without its integers where they are passed over
 unfoldable pub without : Bool → Forest → List Tree
@@ -45,20 +38,9 @@ pub record Comparable (a : List ℕ) (i : ℕ) (b : List ℕ) (j room : ℕ) : T
   pub other_there : Told how b j other
   pub enough : records other ≤ room
 
--- ---- the cells that the levels of a comparison share: the record of the first table at which it stands, and how many ticks are in use
-abbrev pub place_in : List ℕ → ℕ
-place_in at = get_or at 0 0
-
-abbrev pub used_in : List ℕ → ℕ
-used_in at = get_or at 1 0
-
-abbrev pub moved : (place used : ℕ) → List ℕ
-moved i u = i ∷ u ∷ []
-
--- there are two cells, the ticks in use are among those lent, and tables and ticks are as short as slices are
-pub record Level (a b at us : List ℕ) : Type 0 where
-  pub two : length at ≡ 2
-  pub within : used_in at ≤ length us
+-- the ticks in use are among those lent, and tables and ticks are as short as slices are
+pub record Level (a b : List ℕ) (used : ℕ) (us : List ℕ) : Type 0 where
+  pub within : used ≤ length us
   pub one_short : length a < 2 ^ 63
   pub other_short : length b < 2 ^ 63
   pub ticks_short : length us < 2 ^ 63
@@ -103,11 +85,11 @@ pub record Takeable (a : List ℕ) (i : ℕ) (b : List ℕ) (j m room : ℕ) : T
   pub others_there : ToldTrees how b j m others
   pub enough : recordses others ≤ room
 
--- what taking the first unticked tree of g, whose ticks are those from tick u on, that equals t, which ends before record e, answers: 0, there
--- being none; or e, it being ticked
-abbrev pub Took : Tree → Forest → ℕ → List ℕ → List ℕ → ℕ → ℕ → Type 0
-Took t g u us us' e zero = remove_first (equal t) (unticked us u g) ≡ none
-Took t g u us us' e (suc x) = (suc x ≡ e) × (remove_first (equal t) (unticked us u g) ≡ some (unticked us' u g))
+-- what taking the first unticked tree of g, whose ticks are those from tick u on, that equals t, which ends before record e, answers: none,
+-- there being none; or e, it being ticked
+abbrev pub Took : Tree → Forest → ℕ → List ℕ → List ℕ → ℕ → Option ℕ → Type 0
+Took t g u us us' e None = remove_first (equal t) (unticked us u g) ≡ none
+Took t g u us us' e (Some x) = (x ≡ e) × (remove_first (equal t) (unticked us u g) ≡ some (unticked us' u g))
 
 -- n trees stand in the one table, m in the other; without those passed over, and without the ticked ones, there are as many
 pub record Matchable (a : List ℕ) (i n : ℕ) (skip : Bool) (b : List ℕ) (j m : ℕ) (us : List ℕ) : Type 0 where

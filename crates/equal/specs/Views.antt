@@ -5,13 +5,6 @@ use Rattle.split.specs.Standing.{Told, ToldTrees}
 use Rattle.split.specs.Rest.{Lessened}
 use Rattle.split.specs.declared.Rest.{Rest}
 use Rattle.split.specs.declared.Rest.TheVariants.{One, At, Others}
-use Rattle.equal.specs.declared.Match.{Match}
-use Rattle.equal.specs.declared.Match.TheVariants.{Different, Ends}
-
--- an answer is yes
-abbrev pub is_equal : Match → Bool
-is_equal Different = false
-is_equal (Ends e) = true
 
 -- a rest is 1
 abbrev pub is_one : Rest → Bool

@@ -30,15 +30,13 @@ fn note_from(s: &&[u8], i: usize) -> u64
     }
     let mut sum = RECORD_NOTE + k as u64 * KEY;
     let mut at = i + 1;
-    let mut left = parts(*s, i, k);
-    while 0 < left {
+    for _ in 0..parts(*s, i, k) {
         let n = note_from(s, at);
-        sum = std::num::wrapping_add_u64(sum, added(record::kind(*s, at), n));
+        sum = sum.wrapping_add(added(record::kind(*s, at), n));
         at += records_of(n);
-        left -= 1;
     }
     if record::PRODUCT < k {
-        return std::num::wrapping_add_u64(sum, added_exponent(record::bits(*s, at)));
+        return sum.wrapping_add(added_exponent(record::bits(*s, at)));
     }
     sum
 }
@@ -48,6 +46,5 @@ pub fn tree_note(s: &[u8], i: usize) -> u64
     requires { (t : Tree) × TreeIn s.now i t × (weight t < 65536) }
     ensures { (t : Tree) → TreeIn s.now i t → weight t < 65536 → result ≡ note t }
 {
-    let t = s;
-    note_from(&t, i)
+    note_from(&s, i)
 }

@@ -1,30 +1,12 @@
--- The product modulo 2^64 by 32-bit halves, and the turns of repeated squaring. Sums, products and powers keep congruence, so a factor
--- and a base may be reduced first; a multiple of the modulus counts for nothing.
+-- The turns of repeated squaring. Products and powers keep congruence, so a factor and a base may be reduced first.
 use Rattle.std.proofs.Common.{◌≡◌, ℕ, zero, suc, ◌+◌, ◌*◌, ◌/◌, ◌%◌, ◌^◌, ◌<◌, sym, ap, ◌∙◌, lt_of_le_of_lt, le_of_lt, mul-le-mul_left}
 use Rattle.std.proofs.Common.{mul-lt-mul_of_pos_right, pow-suc, arith, pow_pos, pow-add}
-use native.Mathlib.Nat.{add-mod, mod-add-div, pow-zero}
-use Rattle.paper.proofs.Congruence.{Agree, agree_of, agree_refl, agree_sym, agree_trans, agree_mod, agree_mul, agree_pow, agree_multiple}
+use native.Mathlib.Nat.{pow-zero}
+use Rattle.paper.proofs.Congruence.{Agree, agree_of, agree_refl, agree_trans, agree_mod, agree_mul, agree_pow}
 
 -- the product of two numbers below 2^k
 pub below : (k : ℕ) {a b : ℕ} → a < 2 ^ k → b < 2 ^ k → a * b < 2 ^ (k + k)
 below k {a} {b} h l = rw (pow-add 2 k k) (lt_of_le_of_lt (mul-le-mul_left a (le_of_lt l)) (mul-lt-mul_of_pos_right h (pow_pos k)))
-
--- the product of two numbers of two digits in base P, modulo P * P
-module _ (P a₀ a₁ b₀ b₁ : ℕ) where
-  digits : Agree (P * P) (a₀ * b₀ + (a₁ * b₀ % P + a₀ * b₁ % P) % P * P) ((a₀ + P * a₁) * (b₀ + P * b₁))
-  digits =
-      let middle : ℕ = a₁ * b₀ + a₀ * b₁ in
-      agree_sym
-      (agree_trans (agree_of (omega (arith, ap (λ (n : ℕ). n * P) (sym (mod-add-div middle P)))))
-      (agree_trans (agree_multiple (a₀ * b₀ + middle % P * P) (middle / P + a₁ * b₁))
-      (agree_of (ap (λ (n : ℕ). a₀ * b₀ + n * P) (add-mod (a₁ * b₀) (a₀ * b₁) P)))))
-
-pub halves : (P a b : ℕ)
-    → (a % P * (b % P) + (a / P * (b % P) % P + a % P * (b / P) % P) % P * P) % (P * P) ≡ (a * b) % (P * P)
-halves P a b =
-    (digits P (a % P) (a / P) (b % P) (b / P)).agree
-    ∙ ap (λ (x : ℕ). (x * (b % P + P * (b / P))) % (P * P)) (mod-add-div a P)
-    ∙ ap (λ (x : ℕ). (a * x) % (P * P)) (mod-add-div b P)
 
 -- a power of a square
 square : (b h : ℕ) → (b * b) ^ h ≡ b ^ (h + h)

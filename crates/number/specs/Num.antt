@@ -1,19 +1,12 @@
--- What arithmetic on the signed 64-bit range answers, and the paper's meaning of each case: `Is b`, the number is in the range, and b
--- is its 64 bits; `Out`, it is outside "the signed 64-bit range".
-use Rattle.std.specs.Prelude.{ℕ, cond, ℤ, pos, neg_ℤ, nat_le}
+-- What arithmetic on the signed 64-bit range answers, and the paper's meaning of each case: `Ok b`, the number is in the range, and b
+-- is its 64 bits; `Err`, it is outside "the signed 64-bit range".
+use Rattle.std.specs.Prelude.{ℕ, cond, ℤ, Result, Ok, Err}
 use Rattle.paper.specs.Bytes.{word}
 use Rattle.paper.specs.Rules.{fits}
-use Rattle.number.specs.declared.Num.{Num}
-use Rattle.number.specs.declared.Num.TheVariants.{Is, Out}
+use Rattle.number.specs.declared.OutOfRange.{OutOfRange}
 
-unfoldable pub num_of : ℤ → Num
-num_of z = cond (fits z) (Is (word z)) Out
+abbrev pub out_of_range : Result ℕ OutOfRange
+out_of_range = Err record {}
 
--- for the sizes that `mul` multiplies: n where it is at most the limit
-unfoldable pub within : ℕ → ℕ → Num
-within n limit = cond (nat_le n limit) (Is n) Out
-
--- and the bits of minus n
-abbrev pub minus : Num → Num
-minus (Is n) = Is (word (neg_ℤ (pos n)))
-minus Out = Out
+unfoldable pub num_of : ℤ → Result ℕ OutOfRange
+num_of z = cond (fits z) (Ok (word z)) out_of_range

@@ -15,16 +15,12 @@ use Rattle.paper_text.specs.Text as paper
 use Rattle.paper_text.specs.Levels.{rank}
 use Rattle.paper_text.proofs.PlaceLaws.{sign_inside, tail_there}
 use Rattle.paper_text.proofs.ReadTold.{Told}
-use Rattle.paper.proofs.Tests.{never}
 use Rattle.paper.proofs.EncodeLaws.{records_weight}
 use Rattle.paper_text.proofs.LevelLaws.{needs_rank, needs_by_rank}
-use Rattle.decimal.specs.declared.Digits.TheVariants.{No, Is}
+use Rattle.std.specs.Prelude.{Some, None}
 use Rattle.decimal.specs.Digits.{NumberRead}
 use Rattle.parse.specs.declared.Item.{Item}
-use Rattle.parse.specs.declared.Item.TheVariants.{Not, Bare, Grouped}
-use Rattle.parse.specs.declared.Member.{Member}
-use Rattle.parse.specs.declared.Member.TheVariants.{Unfit, Fit}
-use Rattle.parse.specs.Parsed.{Laid, Stands, ItemIs, bared, raising, fitted, next_of, Sized}
+use Rattle.parse.specs.Parsed.{Laid, Stands, Found, wrap, bared, raising, fitted}
 use Rattle.parse.specs.Joined.{bound}
 
 -- what stands in one reading stands in another that reads it too
@@ -80,19 +76,24 @@ bared_grouped o t r e = go o (subst (BaredIs o) e (bared_is o))
     go none h = h
     go (some (u, q)) h = apart t u h.0
 
+pub bare_found : (s : List ℕ) (at : ℕ) (o : Reading Tree) (L : ℕ → Tree → Type 0) (i : Item) → Found s at (bared o) L i
+    → Stands s at (bared o) bare (L i.end) i.form.rank i.next i.weight
+bare_found s at o L i h = go i.form.grouped h
+  where
+    go : (g : Bool) → Stands s at (bared o) (wrap g) (L i.end) i.form.rank i.next i.weight → Stands s at (bared o) bare (L i.end) i.form.rank i.next i.weight
+    go false y = y
+    go true y = absurd (bared_grouped o y.tree (drop i.next s) y.read)
+
 -- ---- a group
-module _ (s : List ℕ) (at : ℕ) (o : Reading Tree) (L : ℕ → Tree → Type 0) where
-  pub nothing_closed : ItemIs s (at + 1) (bared o) L Not → then o closed ≡ none
+module _ (s : List ℕ) (at : ℕ) (o : Reading Tree) where
+  pub nothing_closed : bared o ≡ none → then o closed ≡ none
   unfolding then
   nothing_closed h = rw (bared_none o h)
 
-  pub group_closed : (k e w q : ℕ) → ItemIs s (at + 1) (bared o) L (Grouped k e w q) → then o closed ≡ none
-  group_closed k e w q h = absurd (bared_grouped o h.tree (drop e s) h.read)
-
-  pub is_closed : (k e w q : ℕ) → begins closes (drop e s) ≡ true → ItemIs s (at + 1) (bared o) L (Bare k e w q)
-      → Stands s at (then o closed) grouped (L q) k (e + 1) w
+  pub is_closed : {L : Tree → Type 0} {k e w : ℕ} → begins closes (drop e s) ≡ true → Stands s (at + 1) (bared o) bare L k e w
+      → Stands s at (then o closed) grouped L k (e + 1) w
   unfolding then closed
-  is_closed k e w q b h =
+  is_closed {L} {k} {e} {w} b h =
       let i = sign_inside s e closes b in
       let a = h.ahead in
       let l = h.light in
@@ -107,9 +108,9 @@ module _ (s : List ℕ) (at : ℕ) (o : Reading Tree) (L : ℕ → Tree → Type
         laid = h.laid;
       }
 
-  pub not_closed : (k e w q : ℕ) → begins closes (drop e s) ≡ false → ItemIs s (at + 1) (bared o) L (Bare k e w q) → then o closed ≡ none
+  pub not_closed : {L : Tree → Type 0} {k e w : ℕ} → begins closes (drop e s) ≡ false → Stands s (at + 1) (bared o) bare L k e w → then o closed ≡ none
   unfolding then closed
-  not_closed k e w q b h = rw (bared_bare o h.tree (drop e s) h.read, b)
+  not_closed {L} {k} {e} {w} b h = rw (bared_bare o h.tree (drop e s) h.read, b)
 
 -- ---- an item as a member
 needs_from : (p : Place) (t : Tree) → needs p t ≡ leb (bound p) (rank t)
@@ -134,9 +135,9 @@ pub record Misfit (p : Place) (s : List ℕ) (n : ℕ) (i : paper.Item) (r : Lis
   pub unfit : fits p i ≡ none
   pub place : r ≡ drop n s
 
-abbrev pub MemberIs : Place → List ℕ → ℕ → Reading paper.Item → (ℕ → Tree → Type 0) → ℕ → Member → Type 0
-MemberIs p s at o L n Unfit = Told (Misfit p s n) o
-MemberIs p s at o L n (Fit e w q) = (e ≡ n) × FitIs p s at o (L q) e w
+abbrev pub MemberIs : Place → List ℕ → ℕ → Reading paper.Item → (Tree → Type 0) → ℕ → ℕ → Bool → Type 0
+MemberIs p s at o L e w true = FitIs p s at o L e w
+MemberIs p s at o L e w false = Told (Misfit p s e) o
 
 fit_is : {p : Place} {s : List ℕ} {at : ℕ} {o : Reading paper.Item} {wrap : Tree → paper.Item} {L : Tree → Type 0} {k e w : ℕ}
     (h : Stands s at o wrap L k e w) → fits p (wrap h.tree) ≡ some h.tree → FitIs p s at o L e w
@@ -153,43 +154,35 @@ fit_is {wrap = wrap} h f =
       laid = h.laid;
     }
 
-module _ (p : Place) (s : List ℕ) (at : ℕ) (o : Reading paper.Item) (L : ℕ → Tree → Type 0) (k e w q : ℕ) where
-  need : {wrap : Tree → paper.Item} (h : Stands s at o wrap (L q) k e w) (b : Bool) → leb (bound p) k ≡ b → needs p h.tree ≡ b
+module _ (p : Place) (s : List ℕ) (at : ℕ) (o : Reading paper.Item) (L : Tree → Type 0) (k e w : ℕ) where
+  need : {wrap : Tree → paper.Item} (h : Stands s at o wrap L k e w) (b : Bool) → leb (bound p) k ≡ b → needs p h.tree ≡ b
   need h b y = needs_from p h.tree ∙ ap (leb (bound p)) (sym h.ranked) ∙ y
 
-  bare_member : Stands s at o bare (L q) k e w → MemberIs p s at o L e (cond (ltb k (bound p)) (Fit e w q) Unfit)
+  bare_member : Stands s at o bare L k e w → (b : Bool) → ltb k (bound p) ≡ b → MemberIs p s at o L e w b
   unfolding fits fit
-  bare_member h = go (ltb k (bound p)) refl
-    where
-      go : (b : Bool) → ltb k (bound p) ≡ b → MemberIs p s at o L e (cond b (Fit e w q) Unfit)
-      go true y = (refl, fit_is h (rw (need h false (lt-leb (bound p) k (ltb-true k (bound p) y)))))
-      go false y =
-          subst (Told (Misfit p s e)) (sym h.read)
-          (record { unfit = rw (need h true (le-leb (bound p) k (ltb-false k (bound p) y))); place = refl })
+  bare_member h true y = fit_is h (rw (need h false (lt-leb (bound p) k (ltb-true k (bound p) y))))
+  bare_member h false y =
+      subst (Told (Misfit p s e)) (sym h.read)
+      (record { unfit = rw (need h true (le-leb (bound p) k (ltb-false k (bound p) y))); place = refl })
 
-  grouped_member : Stands s at o grouped (L q) k e w → MemberIs p s at o L e (cond (ltb k (bound p)) Unfit (Fit e w q))
+  grouped_member : Stands s at o grouped L k e w → (b : Bool) → leb (bound p) k ≡ b → MemberIs p s at o L e w b
   unfolding fits fit
-  grouped_member h = go (ltb k (bound p)) refl
-    where
-      go : (b : Bool) → ltb k (bound p) ≡ b → MemberIs p s at o L e (cond b Unfit (Fit e w q))
-      go false y = (refl, fit_is h (rw (need h true (le-leb (bound p) k (ltb-false k (bound p) y)))))
-      go true y =
-          subst (Told (Misfit p s e)) (sym h.read)
-          (record { unfit = rw (need h false (lt-leb (bound p) k (ltb-true k (bound p) y))); place = refl })
+  grouped_member h true y = fit_is h (rw (need h true y))
+  grouped_member h false y = subst (Told (Misfit p s e)) (sym h.read) (record { unfit = rw (need h false y); place = refl })
 
-pub member : (p : Place) (s : List ℕ) (at : ℕ) (o : Reading paper.Item) (L : ℕ → Tree → Type 0) (i : Item) (m : Member) → ItemIs s at o L i
-    → m ≡ fitted (bound p) i → MemberIs p s at o L (next_of i) m
-member p s at o L Not m h e = subst (MemberIs p s at o L 0) (sym e) (subst (Told (Misfit p s 0)) (sym h) tt)
-member p s at o L (Bare k e w q) m h y = subst (MemberIs p s at o L e) (sym y) (bare_member p s at o L k e w q h)
-member p s at o L (Grouped k e w q) m h y = subst (MemberIs p s at o L e) (sym y) (grouped_member p s at o L k e w q h)
+  member_as : (g : Bool) → Stands s at o (wrap g) L k e w → (b : Bool) → cond g (leb (bound p) k) (ltb k (bound p)) ≡ b → MemberIs p s at o L e w b
+  member_as true h b y = grouped_member h b y
+  member_as false h b y = bare_member h b y
+
+pub member : (p : Place) (s : List ℕ) (at : ℕ) (o : Reading paper.Item) (L : ℕ → Tree → Type 0) (i : Item) → Found s at o L i → (b : Bool)
+    → fitted (bound p) i.form ≡ b → MemberIs p s at o (L i.end) i.next i.weight b
+member p s at o L i h b y = member_as p s at o (L i.end) i.form.rank i.next i.weight i.form.grouped h b y
 
 -- ---- a power
 module _ (s : List ℕ) (at : ℕ) (o : Reading paper.Item) where
-  pub not_raised : (L : ℕ → Tree → Type 0) (i : Item) → ItemIs s at o L i → begins power_sign (drop (next_of i) s) ≡ false → ItemIs s at (then o raising) L i
+  pub not_raised : (L : ℕ → Tree → Type 0) (i : Item) → Found s at o L i → begins power_sign (drop i.next s) ≡ false → Found s at (then o raising) L i
   unfolding then raising
-  not_raised L Not h b = rw h
-  not_raised L (Bare k e w q) h b = restand h (rw (h.read, b))
-  not_raised L (Grouped k e w q) h b = restand h (rw (h.read, b))
+  not_raised L i h b = restand h (rw (h.read, b))
 
   pub unfit_raised : (n : ℕ) → Told (Misfit as_base s n) o → begins power_sign (drop n s) ≡ true → then o raising ≡ none
   unfolding then raising raised_by
@@ -205,19 +198,19 @@ module _ (s : List ℕ) (at : ℕ) (o : Reading paper.Item) where
   raising_read L e w f b = rw (f.read, b, f.fits_there, tail_there s e (sign_inside s e power_sign b))
 
   pub no_exponent : (L : Tree → Type 0) (e w : ℕ) → FitIs as_base s at o L e w → begins power_sign (drop e s) ≡ true
-      → NumberRead (2 ^ 63) s (e + 1) No → then o raising ≡ none
+      → NumberRead (2 ^ 63) s (e + 1) None → then o raising ≡ none
   unfolding then
   no_exponent L e w f b r = raising_read L e w f b ∙ rw (← r.reads)
 
   pub exponent_nought : (L : Tree → Type 0) (e w v g : ℕ) → FitIs as_base s at o L e w → begins power_sign (drop e s) ≡ true
-      → NumberRead (2 ^ 63) s (e + 1) (Is v g) → v < 1
+      → NumberRead (2 ^ 63) s (e + 1) (Some (v, g)) → v < 1
       → then o raising ≡ none
   unfolding then exponent_after
   exponent_nought L e w zero g f b r h = raising_read L e w f b ∙ rw (← r.reads)
   exponent_nought L e w (suc v) g f b r h = absurd (omega (arith, h))
 
   pub is_raised : (L L' : Tree → Type 0) (e w v g : ℕ) → FitIs as_base s at o L e w → begins power_sign (drop e s) ≡ true
-      → NumberRead (2 ^ 63) s (e + 1) (Is v g)
+      → NumberRead (2 ^ 63) s (e + 1) (Some (v, g))
       → 1 ≤ v → ((t : Tree) → L t → L' (power 0 t 0 v)) → Stands s at (then o raising) bare L' 1 g (w + 2)
   unfolding then exponent_after rank weight
   is_raised L L' e w zero g f b r h step = absurd (omega (arith, h))
@@ -237,32 +230,6 @@ module _ (s : List ℕ) (at : ℕ) (o : Reading paper.Item) where
         laid = step f.tree f.laid;
       }
 
--- ---- the sign after an item, and the place of a member
-pub after_no : (s : List ℕ) (i : Item) (n c : ℕ) (r : Bool) → n ≡ next_of i → r ≡ begins c (drop n s) → r ≡ false → begins c (drop (next_of i) s) ≡ false
-after_no s i n c true e q h = never (sym h)
-after_no s i n c false e q h = ap (λ (x : ℕ). begins c (drop x s)) (sym e) ∙ sym q
-
-pub after_yes : (s : List ℕ) (i : Item) (n c : ℕ) (r : Bool) → n ≡ next_of i → r ≡ begins c (drop n s) → r ≡ true → begins c (drop (next_of i) s) ≡ true
-after_yes s i n c true e q h = ap (λ (x : ℕ). begins c (drop x s)) (sym e) ∙ sym q
-after_yes s i n c false e q h = never h
-
-abbrev pub Placed : List ℕ → ℕ → ℕ → Member → Type 0
-Placed s d n Unfit = Unit {0}
-Placed s d n (Fit e w q) = (e ≡ n) × (w + 1 ≤ 2 * length s) × (d ≤ q) × (q + 1 ≤ 2 * e) × (e ≤ length s)
-
-pub placed : (s : List ℕ) (d p : ℕ) (i : Item) (m : Member) → Sized s d i → m ≡ fitted p i → Placed s d (next_of i) m
-placed s d p Not m h y = subst (Placed s d 0) (sym y) tt
-placed s d p (Bare k e w q) m h y = subst (Placed s d e) (sym y) (go (ltb k p))
-  where
-    go : (b : Bool) → Placed s d e (cond b (Fit e w q) Unfit)
-    go true = (refl, h.0, h.1, h.2, h.3)
-    go false = tt
-placed s d p (Grouped k e w q) m h y = subst (Placed s d e) (sym y) (go (ltb k p))
-  where
-    go : (b : Bool) → Placed s d e (cond b Unfit (Fit e w q))
-    go true = tt
-    go false = (refl, h.0, h.1, h.2, h.3)
-
 -- ---- the record after an item: a tree has no more records than weight, and weighs less than twice its characters
 module _ (s : List ℕ) (at : ℕ) (o : Reading paper.Item) (old new : List ℕ) (d : ℕ) (low : d ≤ 2 * at) where
   pub stands_sized : {wrap : Tree → paper.Item} {k e w q : ℕ} → Stands s at o wrap (Laid old d new q) k e w
@@ -275,8 +242,3 @@ module _ (s : List ℕ) (at : ℕ) (o : Reading paper.Item) (old new : List ℕ)
       let x = h.laid.next in
       let r = records_weight h.tree in
       (omega (arith, l, n), omega (arith, x), omega (arith, x, r, g, l, low, a), n)
-
-  pub sized : (i : Item) → ItemIs s at o (Laid old d new) i → Sized s d i
-  sized Not h = tt
-  sized (Bare k e w q) h = stands_sized h
-  sized (Grouped k e w q) h = stands_sized h

@@ -2,7 +2,7 @@
 -- group is read one level deeper or passed over.
 use Prim.Native.Nat.{ℕ, zero, suc, ◌+◌, ◌-◌, ◌≤◌, ◌<◌}
 use mathlib.Core.Path.{◌≡◌, refl, sym, ap, ◌∙◌, subst}
-use mathlib.Core.Bool.{true, false}
+use mathlib.Core.Bool.{Bool, true, false, cond}
 use mathlib.Core.List.{List, ◌∷◌}
 use mathlib.Core.Option.{Option, none, some}
 use native.Mathlib.Omega.{arith}
@@ -14,9 +14,9 @@ use Rattle.paper_text.specs.Text.{read_base, read_power, product_from, read_prod
 use Rattle.paper_text.specs.Levels.{rank, skim, read_cut}
 use Rattle.paper_text.proofs.PlaceLaws.{sign_inside, tail_there}
 use Rattle.paper_text.proofs.RoundTrip.{none_follows}
+use Rattle.std.specs.Prelude.{Some, None}
 use Rattle.parse.specs.declared.Item as code
-use Rattle.parse.specs.declared.Item.TheVariants.{Not, Bare, Grouped}
-use Rattle.parse.specs.Parsed.{Laid, ItemIs, bared, raising, next_of}
+use Rattle.parse.specs.Parsed.{Laid, Stands, ItemIs, Found, wrap, bared, raising}
 use Rattle.parse.proofs.ItemLaws.{restand}
 use Rattle.parse.specs.Joined.{Nodes, Kind, bound, lone_in, whole}
 use Rattle.parse.proofs.LaidLaws.{sum_laid, product_laid}
@@ -63,32 +63,29 @@ module _ (inner : List ℕ → Reading Tree) where
   unfolding read_product whole
   product_whole s = refl
 
-  -- no sign follows the first member
-  pub sum_alone : (s : List ℕ) (at : ℕ) (L : ℕ → Tree → Type 0) (i : code.Item) → ItemIs s at (read_product inner (drop at s)) L i
-      → begins plus (drop (next_of i) s) ≡ false
-      → ItemIs s at (bared (read_sum inner (drop at s))) L (lone_in 2 i)
+  -- no sign follows the first member: in a sum it stands bare
+  sum_alone : (s : List ℕ) (at : ℕ) (L : ℕ → Tree → Type 0) (i : code.Item) (g : Bool) → i.form.grouped ≡ g
+      → Stands s at (read_product inner (drop at s)) (wrap g) (L i.end) i.form.rank i.next i.weight → begins plus (drop i.next s) ≡ false
+      → ItemIs s at (bared (read_sum inner (drop at s))) L (cond g None (Some i))
   unfolding read_sum bared then sum_from alone leaving
-  sum_alone s at L Not h b = rw h
-  sum_alone s at L (Bare k e w q) h b =
-      restand h (rw (h.read, none_follows (read_product inner) plus (length (drop e s)) (drop e s) b))
-  sum_alone s at L (Grouped k e w q) h b = rw (h.read, none_follows (read_product inner) plus (length (drop e s)) (drop e s) b)
+  sum_alone s at L i true q h b = rw (h.read, none_follows (read_product inner) plus (length (drop i.next s)) (drop i.next s) b)
+  sum_alone s at L i false q h b =
+      subst (λ (g : Bool). Stands s at (bared (read_sum inner (drop at s))) (wrap g) (L i.end) i.form.rank i.next i.weight) (sym q)
+      (restand h (rw (h.read, none_follows (read_product inner) plus (length (drop i.next s)) (drop i.next s) b)))
 
-  pub product_alone : (s : List ℕ) (at : ℕ) (L : ℕ → Tree → Type 0) (i : code.Item) → ItemIs s at (read_power inner (drop at s)) L i
-      → begins times (drop (next_of i) s) ≡ false
-      → ItemIs s at (read_product inner (drop at s)) L (lone_in 3 i)
+  product_alone : (s : List ℕ) (at : ℕ) (L : ℕ → Tree → Type 0) (i : code.Item) → Found s at (read_power inner (drop at s)) L i
+      → begins times (drop i.next s) ≡ false → Found s at (read_product inner (drop at s)) L i
   unfolding read_product then product_from
-  product_alone s at L Not h b = rw h
-  product_alone s at L (Bare k e w q) h b =
-      restand h (rw (h.read, none_follows (read_power inner) times (length (drop e s)) (drop e s) b))
-  product_alone s at L (Grouped k e w q) h b =
-      restand h (rw (h.read, none_follows (read_power inner) times (length (drop e s)) (drop e s) b))
+  product_alone s at L i h b = restand h (rw (h.read, none_follows (read_power inner) times (length (drop i.next s)) (drop i.next s) b))
 
   pub sum_kind : Kind 2 sums
   unfolding bound
   sum_kind = record {
     bounded = refl;
     lays = λ s z t l h r. sum_laid s z t l h r;
-    alone = λ s at old d new i h b. subst (λ o. ItemIs s at o (Laid old d new) (lone_in 2 i)) (sum_whole (drop at s)) (sum_alone s at (Laid old d new) i h b);
+    alone =
+        λ s at old d new i h b. subst (λ o. ItemIs s at o (Laid old d new) (lone_in 2 i)) (sum_whole (drop at s))
+        (sum_alone s at (Laid old d new) i i.form.grouped refl h b);
   }
 
   pub product_kind : Kind 3 products

@@ -12,3 +12,4 @@ pub mod GroupLaws
 pub mod BlockLaws
 pub mod WeighLaws
 pub mod Unique
+pub mod SignLaws

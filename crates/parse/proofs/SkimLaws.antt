@@ -1,5 +1,5 @@
 -- One character of a group that is passed over.
-use Prim.Native.Nat.{ℕ, zero, suc, ◌+◌, ◌-◌, ◌^◌, ◌≤◌, ◌<◌}
+use Prim.Native.Nat.{max, ℕ, zero, suc, ◌+◌, ◌-◌, ◌^◌, ◌≤◌, ◌<◌}
 use mathlib.Core.Path.{◌≡◌, refl, sym, ap, ◌∙◌}
 use mathlib.Core.List.{List, ◌∷◌}
 use mathlib.Core.Option.{none}
@@ -11,24 +11,24 @@ use Rattle.paper.specs.Table.{encode, record_of}
 use Rattle.paper_text.specs.Text.{then, begins, tail, closed, grouped}
 use Rattle.paper_text.specs.Levels.{rank, sign_rank, stand_in, greater, mark, leaves, skim_from, skim}
 use Rattle.paper_text.proofs.PlaceLaws.{from_here, at_end}
-use Rattle.parse.specs.declared.Pace.TheVariants.{Out, Goes}
+use Rattle.std.specs.Prelude.{Some, None}
 use Rattle.parse.specs.Written.{Written}
 use Rattle.parse.proofs.TreesWritten.{nought_stands, minus_one_stands, product_stands, sum_stands}
 use Rattle.parse.specs.Parsed.{Laid, Stands, StepIs}
 
-pub opened : (c d k : ℕ) → c ≡ 40 → k ≤ 3 → StepIs c d k (Goes (d + 1) k)
+pub opened : (c d k : ℕ) → c ≡ 40 → k ≤ 3 → StepIs c d k (Some ((d + 1), k))
 unfolding skim_from
 opened c d k h l = ((λ s. rw (eq-eqb c 40 h, suc_is d)), omega arith, l)
   where
     suc_is : (d : ℕ) → d + 1 ≡ suc d
     suc_is d = omega arith
 
-pub ends : (c d k : ℕ) → (c ≡ 40 → ⊥) → c ≡ 41 → d < 1 → StepIs c d k Out
+pub ends : (c d k : ℕ) → (c ≡ 40 → ⊥) → c ≡ 41 → d < 1 → StepIs c d k None
 unfolding skim_from leaves
 ends c zero k n h l = λ s. rw (ne_eqb c 40 n, eq-eqb c 41 h)
 ends c (suc d) k n h l = absurd (omega (arith, l))
 
-pub closes_one : (c d k : ℕ) → (c ≡ 40 → ⊥) → c ≡ 41 → 1 ≤ d → k ≤ 3 → StepIs c d k (Goes (d - 1) k)
+pub closes_one : (c d k : ℕ) → (c ≡ 40 → ⊥) → c ≡ 41 → 1 ≤ d → k ≤ 3 → StepIs c d k (Some ((d - 1), k))
 unfolding skim_from leaves
 closes_one c zero k n h l m = absurd (omega (arith, l))
 closes_one c (suc d) k n h l m = ((λ s. rw (ne_eqb c 40 n, eq-eqb c 41 h, one_less d)), omega arith, m)
@@ -40,20 +40,16 @@ other : (c d k : ℕ) → (c ≡ 40 → ⊥) → (c ≡ 41 → ⊥) → (s : Lis
 unfolding skim_from
 other c d k n m s = rw (ne_eqb c 40 n, ne_eqb c 41 m)
 
-pub deeper : (c d k : ℕ) → (c ≡ 40 → ⊥) → (c ≡ 41 → ⊥) → 0 < d → k ≤ 3 → StepIs c d k (Goes d k)
+pub deeper : (c d k : ℕ) → (c ≡ 40 → ⊥) → (c ≡ 41 → ⊥) → 0 < d → k ≤ 3 → StepIs c d k (Some (d, k))
 unfolding mark
 deeper c zero k n m h l = absurd (omega (arith, h))
 deeper c (suc d) k n m h l = ((λ s. other c (suc d) k n m s), omega arith, l)
 
-pub raises : (c d k r : ℕ) → (c ≡ 40 → ⊥) → (c ≡ 41 → ⊥) → d ≤ 0 → r ≡ sign_rank c → r ≤ 3 → k < r → StepIs c d k (Goes d r)
+pub greatest : (c d k r : ℕ) → (c ≡ 40 → ⊥) → (c ≡ 41 → ⊥) → d ≤ 0 → r ≡ sign_rank c → r ≤ 3 → k ≤ 3 → StepIs c d k (Some (d, max k r))
 unfolding mark greater
-raises c zero k r n m h e l g = ((λ s. other c 0 k n m s ∙ ap (λ (x : ℕ). skim_from 0 x s) (omega (arith, e, g))), omega arith, l)
-raises c (suc d) k r n m h e l g = absurd (omega (arith, h))
-
-pub stays : (c d k r : ℕ) → (c ≡ 40 → ⊥) → (c ≡ 41 → ⊥) → d ≤ 0 → r ≡ sign_rank c → k ≤ 3 → r ≤ k → StepIs c d k (Goes d k)
-unfolding mark greater
-stays c zero k r n m h e l g = ((λ s. other c 0 k n m s ∙ ap (λ (x : ℕ). skim_from 0 x s) (omega (arith, e, g))), omega arith, l)
-stays c (suc d) k r n m h e l g = absurd (omega (arith, h))
+greatest c zero k r n m h e l g =
+    ((λ s. other c 0 k n m s ∙ ap (λ (x : ℕ). skim_from 0 x s) (omega (arith, e))), omega arith, omega (arith, l, g))
+greatest c (suc d) k r n m h e l g = absurd (omega (arith, h))
 
 -- ---- the loop: what is passed from place e on is what is passed of the group
 pub record Passing (s : List ℕ) (at k d e : ℕ) : Type 0 where
@@ -72,7 +68,7 @@ pub begin_passing : (s : List ℕ) (at : ℕ) → at < length s → Passing s at
 unfolding skim
 begin_passing s at h = record { rest = refl; from = omega arith; within = omega (arith, h); shallow = omega arith; low = omega arith }
 
-pub pass_on : (s : List ℕ) (at k d e d' k' : ℕ) → e < length s → Passing s at k d e → StepIs (get_or s e 0) d k (Goes d' k') → Passing s at k' d' (e + 1)
+pub pass_on : (s : List ℕ) (at k d e d' k' : ℕ) → e < length s → Passing s at k d e → StepIs (get_or s e 0) d k (Some (d', k')) → Passing s at k' d' (e + 1)
 pass_on s at k d e d' k' h p q =
     let f = p.from in
     let g = p.shallow in
@@ -107,7 +103,7 @@ stand_in_records (suc zero) = refl
 stand_in_records (suc (suc zero)) = refl
 stand_in_records (suc (suc (suc k))) = refl
 
-pub passed_out : (s : List ℕ) (at k d e : ℕ) {old new : List ℕ} {j : ℕ} → e < length s → Passing s at k d e → StepIs (get_or s e 0) d k Out
+pub passed_out : (s : List ℕ) (at k d e : ℕ) {old new : List ℕ} {j : ℕ} → e < length s → Passing s at k d e → StepIs (get_or s e 0) d k None
     → Written (encode (stand_in k)) old j new → Stands s at (then (skim (drop (at + 1) s)) closed) grouped (Laid old j new (j + 1)) k (e + 1) 1
 unfolding then closed begins tail
 passed_out s at k d e {old} {new} {j} h p q y =

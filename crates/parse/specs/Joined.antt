@@ -1,5 +1,6 @@
 -- Members one after the other, as the loops of `sum` and `product` read them, and the cells that the levels of the reader share.
-use Rattle.std.specs.Prelude.{ℕ, zero, suc, ◌+◌, ◌-◌, ◌*◌, ◌^◌, ◌≤◌, ◌<◌, ◌≡◌, Bool, true, false, cond, List, ◌∷◌, ◌++◌, ltb, length, drop, get_or}
+use Rattle.std.specs.Prelude.{ℕ, zero, suc, ◌+◌, ◌-◌, ◌*◌, ◌^◌, ◌≤◌, ◌<◌, ◌≡◌, Bool, true, false, cond, ◌&&◌}
+use Rattle.std.specs.Prelude.{List, ◌∷◌, ◌++◌, ltb, length, drop, get_or, Some, None}
 use Rattle.std.proofs.Math.Option.{Option, none, some}
 use Rattle.paper.specs.Tree.{Tree, Forest, of_list, weight, weights, recordses}
 use Rattle.paper.specs.Table.{record_of, encodes}
@@ -8,10 +9,12 @@ use Rattle.paper_text.specs.Text.{read_power}
 use Rattle.paper_text.specs.Text as paper
 use Rattle.paper_text.specs.Levels.{rank, read_cut}
 use Rattle.parse.specs.Written.{Written, Shifted}
-use Rattle.parse.specs.Parsed.{Laid, ItemIs, bared, raising, fitted, next_of}
+use Rattle.std.specs.declared.option.Option as code
+use Rattle.parse.specs.Parsed.{Laid, ItemIs, Found, bared, raising}
 use Rattle.parse.specs.declared.Item.{Item}
-use Rattle.parse.specs.declared.Item.TheVariants.{Not, Bare, Grouped}
-use Rattle.parse.specs.declared.Member.TheVariants.{Unfit, Fit}
+use Rattle.parse.specs.declared.Form.{Form}
+use Rattle.parse.specs.declared.Read as level
+use Rattle.parse.specs.declared.Read.TheVariants.{Nothing, Bare, Grouped, Another}
 
 -- the members l after the first: their records from record i on, up to q; with the first they are c
 pub record Rows (old : List ℕ) (i : ℕ) (new : List ℕ) (q c : ℕ) (l : List Tree) : Type 0 where
@@ -51,41 +54,42 @@ first_of st = get_or st 4 0
 abbrev pub kind_of : List ℕ → ℕ
 kind_of st = get_or st 5 0
 
--- an item in the cells, w having been read before it, and its number
-abbrev pub Gives : Item → ℕ → ℕ → List ℕ → Type 0
-Gives Not m w st = m ≡ 0
-Gives (Bare k e v q) m w st = (m ≡ 1 + k) × (k ≤ 3) × (place_in st ≡ e) × (weight_in st ≡ w + v) × (record_in st ≡ q)
-Gives (Grouped k e v q) m w st = (m ≡ 5 + k) × (k ≤ 3) × (place_in st ≡ e) × (weight_in st ≡ w + v) × (record_in st ≡ q)
+-- what a level tells of an item that stands so, and how the item stands that it tells of
+abbrev pub Is : Form → level.Read
+Is f = cond f.grouped (Grouped f.rank) (Bare f.rank)
+
+abbrev pub FormIs : level.Read → code.Option Form → Type 0
+FormIs m None = (f : Form) → m ≡ Is f → ⊥
+FormIs m (Some f) = m ≡ Is f
+
+-- what a level tells of what it has read
+abbrev pub told : code.Option Item → level.Read
+told None = Nothing
+told (Some i) = Is i.form
+
+-- an item in the cells, w having been read before it
+abbrev pub InCells : code.Option Item → ℕ → List ℕ → Type 0
+InCells None w st = Unit {0}
+InCells (Some i) w st = (i.form.rank ≤ 3) × (place_in st ≡ i.next) × (weight_in st ≡ w + i.weight) × (record_in st ≡ i.end)
+
+abbrev pub Gives : code.Option Item → level.Read → ℕ → List ℕ → Type 0
+Gives i m w st = (m ≡ told i) × InCells i w st
 
 -- an item that the cells can take
-abbrev pub InRank : Item → ℕ → Type 0
-InRank Not w = Unit {0}
-InRank (Bare k e v q) w = (k ≤ 3) × (w + v < 2 ^ 64)
-InRank (Grouped k e v q) w = (k ≤ 3) × (w + v < 2 ^ 64)
+abbrev pub InRank : code.Option Item → ℕ → Type 0
+InRank None w = Unit {0}
+InRank (Some i) w = (i.form.rank ≤ 3) × (w + i.weight < 2 ^ 64)
 
-abbrev pub weight_of : Item → ℕ
-weight_of Not = 0
-weight_of (Bare k e w q) = w
-weight_of (Grouped k e w q) = w
+-- the item with nothing beside it, in a node of kind x, and what a level tells of it
+abbrev pub lone_in : ℕ → Item → code.Option Item
+lone_in x i = cond (ltb x 3 && i.form.grouped) None (Some i)
 
-abbrev pub record_after : Item → ℕ
-record_after Not = 0
-record_after (Bare k e w q) = q
-record_after (Grouped k e w q) = q
+abbrev pub lone_as : ℕ → Form → level.Read
+lone_as x f = cond (ltb x 3 && f.grouped) Nothing (Is f)
 
-abbrev pub FitsIs : ℕ → Item → Bool → Type 0
-FitsIs p i true = fitted p i ≡ Fit (next_of i) (weight_of i) (record_after i)
-FitsIs p i false = fitted p i ≡ Unfit
-
--- the item with nothing beside it, in a node of kind x
-abbrev pub lone_in : ℕ → Item → Item
-lone_in x Not = Not
-lone_in x (Bare k e w q) = Bare k e w q
-lone_in x (Grouped k e w q) = cond (ltb x 3) Not (Grouped k e w q)
-
--- the reading o of s from `at` on, w having been read before it, its records from record d on, in the cells and the number m
-pub record Read (s : List ℕ) (at : ℕ) (o : Reading paper.Item) (old : List ℕ) (d : ℕ) (new : List ℕ) (w : ℕ) (st : List ℕ) (m : ℕ) : Type 0 where
-  pub item : Item
+-- the reading o of s from `at` on, w having been read before it, its records from record d on, in the cells; m tells of it
+pub record Read (s : List ℕ) (at : ℕ) (o : Reading paper.Item) (old : List ℕ) (d : ℕ) (new : List ℕ) (w : ℕ) (st : List ℕ) (m : level.Read) : Type 0 where
+  pub item : code.Option Item
   pub given : Gives item m w st
   pub is : ItemIs s at o (Laid old d new) item
 
@@ -158,44 +162,46 @@ pub record Kind (x : ℕ) {r : List ℕ → Reading paper.Item} {p : Place} {nod
   pub lays : {old o1 o2 o3 o4 : List ℕ} {d q0 q c : ℕ} → Shifted o1 d q0 o2 → Written (record_of x c 0 0) o3 d o4
       → (t : Tree) (l : List Tree) → Laid old d o1 q0 t
       → Rows o2 (q0 + 1) o3 q c l → Laid old d o4 q (node (of_list (t ∷ l)))
-  pub alone : (s : List ℕ) (at : ℕ) (old : List ℕ) (d : ℕ) (new : List ℕ) (i : Item) → ItemIs s at (r (drop at s)) (Laid old d new) i
-      → begins (45 - x) (drop (next_of i) s) ≡ false → ItemIs s at (whole n (drop at s)) (Laid old d new) (lone_in x i)
+  pub alone : (s : List ℕ) (at : ℕ) (old : List ℕ) (d : ℕ) (new : List ℕ) (i : Item) → Found s at (r (drop at s)) (Laid old d new) i
+      → begins (45 - x) (drop i.next s) ≡ false → ItemIs s at (whole n (drop at s)) (Laid old d new) (lone_in x i)
 
 -- ---- what the parts of a level ask and tell
 -- numbers that a text of this length can have in the cells
 abbrev pub Held : List ℕ → List ℕ → Type 0
 Held s st = (first_of st ≤ record_in st) × (record_in st + 1 ≤ 2 * place_in st) × (weight_in st + 1 ≤ 2 * place_in st) × (place_in st ≤ length s)
 
-abbrev pub AfterAsks : List ℕ → List ℕ → ℕ → ℕ → Type 0
-AfterAsks s st c m = (length st ≡ 6) × (c < 2 ^ 63) × (1 ≤ m → Held s st)
+abbrev pub AfterAsks : List ℕ → List ℕ → ℕ → level.Read → Type 0
+AfterAsks s st c m = (length st ≡ 6) × (c < 2 ^ 63) × ((f : Form) → m ≡ Is f → Held s st)
 
--- a member m of a node of kind x, read after c others: at 9 another follows, else this is what is read
-abbrev pub AfterIs : ℕ → List ℕ → ℕ → ℕ → List ℕ → List ℕ → List ℕ → List ℕ → ℕ → Type 0
+-- a member m of a node of kind x, read after c others: another follows, or this is what is read
+abbrev pub AfterIs : ℕ → List ℕ → ℕ → level.Read → List ℕ → List ℕ → List ℕ → List ℕ → level.Read → Type 0
 AfterIs x s c m out st out' st' a =
     (r : List ℕ → Reading paper.Item) (p : Place) (node : Forest → Tree) (from : paper.Item → List ℕ → List paper.Item → Reading paper.Item)
     (n : Nodes r p (45 - x) (5 - x) node from)
     → Kind x n → (old : List ℕ) (at d w : ℕ) (area cells : List ℕ) → Turn n s old at d w c area cells
     → Read s (place_in cells) (r (drop (place_in cells) s)) area (record_in cells) out (weight_in cells) st m → first_of st ≡ d → length out ≡ length area
-    → (9 ≤ a → (1 ≤ m) × (place_in st' ≡ place_in st + 1) × Turn n s old at d w (suc c) out' st') × (a < 9 → Read s at (whole n (drop at s)) old d out' w st' a)
+    → (a ≡ Another → ((f : Form) × (m ≡ Is f)) × (place_in st' ≡ place_in st + 1) × Turn n s old at d w (suc c) out' st')
+    × ((a ≡ Another → ⊥) → Read s at (whole n (drop at s)) old d out' w st' a)
 
-abbrev pub Followed : ℕ → List ℕ → ℕ → ℕ → List ℕ → List ℕ → List ℕ → List ℕ → ℕ → Type 0
+abbrev pub Followed : ℕ → List ℕ → ℕ → level.Read → List ℕ → List ℕ → List ℕ → List ℕ → level.Read → Type 0
 Followed x s c m out st out' st' a = (level_in st' ≡ level_in st) × (first_of st' ≡ first_of st) × AfterIs x s c m out st out' st' a
 
 -- the content of a group that begins at `at`, w having been read before it
-pub record Inside (s : List ℕ) (at : ℕ) (o : Reading Tree) (old out st : List ℕ) (w m : ℕ) : Type 0 where
+pub record Inside (s : List ℕ) (at : ℕ) (o : Reading Tree) (old out st : List ℕ) (w : ℕ) (m : level.Read) : Type 0 where
   pub read : Read s (at + 1) (bared o) old (first_of st) out w st m
   pub low : first_of st ≤ 2 * at
   pub light : w ≤ 2 * at
 
-abbrev pub RaiseAsks : List ℕ → List ℕ → List ℕ → ℕ → ℕ → Type 0
+abbrev pub RaiseAsks : List ℕ → List ℕ → List ℕ → ℕ → level.Read → Type 0
 RaiseAsks s out st w m =
-    (length st ≡ 6) × (8 < m → (record_in st ≤ 2 * place_in st) × (weight_in st ≤ 2 * place_in st))
-    × (m ≤ 8 → (level_in st + 1 < 2 ^ 64) × ((at : ℕ) × (o : Reading Tree) × (old : List ℕ) × Inside s at o old out st w m))
+    (length st ≡ 6) × (m ≡ Another → (record_in st ≤ 2 * place_in st) × (weight_in st ≤ 2 * place_in st))
+    × ((m ≡ Another → ⊥) → (level_in st + 1 < 2 ^ 64) × ((at : ℕ) × (o : Reading Tree) × (old : List ℕ) × Inside s at o old out st w m))
 
-abbrev pub RaiseIs : List ℕ → List ℕ → List ℕ → ℕ → ℕ → List ℕ → List ℕ → ℕ → Type 0
+abbrev pub RaiseIs : List ℕ → List ℕ → List ℕ → ℕ → level.Read → List ℕ → List ℕ → level.Read → Type 0
 RaiseIs s out st w m out' st' a =
-    (8 < m → (level_in st' ≡ level_in st) × Read s (place_in st) (read_power (read_cut 0) (drop (place_in st) s)) out (record_in st) out' (weight_in st) st' a)
-    × (m ≤ 8 → (level_in st' ≡ level_in st + 1)
+    (m ≡ Another → (level_in st' ≡ level_in st)
+    × Read s (place_in st) (read_power (read_cut 0) (drop (place_in st) s)) out (record_in st) out' (weight_in st) st' a)
+    × ((m ≡ Another → ⊥) → (level_in st' ≡ level_in st + 1)
     × ((at : ℕ) (o : Reading Tree) (old : List ℕ) → Inside s at o old out st w m → Read s at (then (then o closed) raising) old (first_of st) out' w st' a))
 
 abbrev pub EntersIs : List ℕ → List ℕ → List ℕ → Bool → Type 0
@@ -213,5 +219,5 @@ abbrev pub Left : List ℕ → List ℕ → Type 0
 Left st st' = (length st' ≡ 6) × (level_in st' ≡ level_in st)
 
 -- what f reads, that many levels deep, from the cells' place on
-abbrev pub ReadFrom : List ℕ → (ℕ → List ℕ → Reading paper.Item) → List ℕ → List ℕ → List ℕ → List ℕ → ℕ → Type 0
+abbrev pub ReadFrom : List ℕ → (ℕ → List ℕ → Reading paper.Item) → List ℕ → List ℕ → List ℕ → List ℕ → level.Read → Type 0
 ReadFrom s f old st new st' m = Read s (place_in st) (f (level_in st) (drop (place_in st) s)) old (record_in st) new (weight_in st) st' m

@@ -25,18 +25,23 @@ use Rattle.paper.proofs.MarkSentences.{factor_begins}
 use Rattle.paper.proofs.MergeFactors.{times_bases, add_exponents}
 use Rattle.note.proofs.ToldLaws.{Seen, an_integer, a_symbol, a_sum, a_product, a_power}
 use Rattle.note.specs.Note.{note}
-use Rattle.number.specs.declared.Num.TheVariants.{Is, Out}
-use Rattle.number.specs.Num.{num_of}
+use Rattle.std.proofs.Common.{Option as Answer, None, Some, Result, Ok, Err}
+use Rattle.std.specs.Result.{IsErr}
+use Rattle.std.specs.Option.{is_some}
+use Rattle.number.specs.Num.{num_of, out_of_range}
 use Rattle.number.proofs.NumLaws.{num_of_is, num_of_is_out, add_exponents_lem}
 use Rattle.split.specs.Standing.{Told}
 use Rattle.note.proofs.ToldLaws.{seen, mark_number}
 use Rattle.split.specs.Rest.{coefficient_of}
 use Rattle.split.proofs.SplitLaws.{base_power, base_itself}
+use Rattle.equal.specs.Matching.{match_of}
 use Rattle.equal.proofs.RestLaws.{integer_apart}
-use Rattle.part.specs.Like.{Like, split, join}
+use Rattle.equal.proofs.SameLaws.{match_ends, match_differs}
+use Rattle.part.specs.Like.{Like, split, merge, join}
 use Rattle.part.specs.Part.{Sized, ShowsTerm, ShowsWide, ShowsPower, ShowsNumber, Shows, in_range, MergedIs}
 use Rattle.part.specs.declared.Part.TheVariants as part
-use Rattle.part.specs.declared.Merged.{Merged}
+use Rattle.part.specs.declared.Part.{Part}
+use Rattle.number.specs.declared.OutOfRange.{OutOfRange}
 
 pub sized : (s : List ℕ) (i k : ℕ) (t : Tree) → Told note s i t → k ≡ records t → Sized s i k t
 sized s i k t h e = record { there = h; size = e }
@@ -44,7 +49,7 @@ sized s i k t h e = record { there = h; size = e }
 -- ---- the first part of a member
 -- the coefficient that is read off a member: in range, and its bits; or not
 module _ (t : Tree) where
-  pub coefficient_is : WF t → {v : ℕ} → Is v ≡ coefficient_of (term_of t)
+  pub coefficient_is : WF t → {v : ℕ} → Ok v ≡ coefficient_of (term_of t)
       → ((term_of t).coefficient ≡ signed v) × (v < 2 ^ 64) × ((term_of t).in_range ≡ true)
   unfolding coefficient_of
   coefficient_is w {v} e = by (term_of t).in_range refl
@@ -54,30 +59,30 @@ module _ (t : Tree) where
 
       by : (b : Bool) → (term_of t).in_range ≡ b → (z ≡ signed v) × (v < 2 ^ 64) × ((term_of t).in_range ≡ true)
       by true p =
-          let d : Is v ≡ Is (word z) = e ∙ ap (λ b. cond b (Is (word z)) Out) p in
+          let d : Ok v ≡ Ok (word z) = e ∙ ap (λ b. cond b (Ok (word z)) out_of_range) p in
           let same : v ≡ word z = cc in
           (sym (ap signed same ∙ signed_word z ((term_of_wf t w).coefficient_in_range p)), omega (arith, word_lt z), p)
       by false p =
-          let d : Is v ≡ Out = e ∙ ap (λ b. cond b (Is (word z)) Out) p in
+          let d : Ok v ≡ out_of_range = e ∙ ap (λ b. cond b (Ok (word z)) out_of_range) p in
           absurd (let o : ◌≡◌ {A = ℕ} 0 1 = cc in omega arith)
 
-  pub coefficient_out : Out ≡ coefficient_of (term_of t) → (term_of t).in_range ≡ false
+  pub coefficient_out : out_of_range ≡ coefficient_of (term_of t) → (term_of t).in_range ≡ false
   unfolding coefficient_of
   coefficient_out e = by (term_of t).in_range refl
     where
       by : (b : Bool) → (term_of t).in_range ≡ b → (term_of t).in_range ≡ false
       by true p =
-          let d : Out ≡ Is (word (term_of t).coefficient) = e ∙ ap (λ b. cond b (Is (word (term_of t).coefficient)) Out) p in
+          let d : out_of_range ≡ Ok (word (term_of t).coefficient) = e ∙ ap (λ b. cond b (Ok (word (term_of t).coefficient)) out_of_range) p in
           absurd (let o : ◌≡◌ {A = ℕ} 0 1 = cc in omega arith)
       by false p = p
 
 module _ (s : List ℕ) (i : ℕ) (t : Tree) (h : Told note s i t) where
-  pub term_part : {n : ℕ} → Is n ≡ coefficient_of (term_of t) → ShowsTerm s n i (term_of t)
+  pub term_part : {n : ℕ} → Ok n ≡ coefficient_of (term_of t) → ShowsTerm s n i (term_of t)
   term_part e =
       let c = coefficient_is t h.wf e in
       record { member = t; there = h; mark = refl; rest = refl; coefficient = c.0; bits = c.1; good = c.2 }
 
-  pub wide_part : Out ≡ coefficient_of (term_of t) → ShowsWide s i (term_of t)
+  pub wide_part : out_of_range ≡ coefficient_of (term_of t) → ShowsWide s i (term_of t)
   wide_part e = record { member = t; there = h; rest = refl; wide = coefficient_out t e }
 
 factor_of_good : (t : Tree) → (factor_of t).in_range ≡ true
@@ -215,7 +220,7 @@ module _ (c : Term) (u : Tree) where
       total : c.coefficient +ℤ (term_of u).coefficient ≡ signed n +ℤ signed m
       total = rw (h.coefficient, other) refl
 
-      pub term_into : {v : ℕ} → num_of (signed n +ℤ signed m) ≡ Is v
+      pub term_into : {v : ℕ} → num_of (signed n +ℤ signed m) ≡ Ok v
           → (d : Term) × (merge_terms c (term_of u) ≡ some d) × ShowsTerm s v i d × (d.in_range ≡ true)
       unfolding added
       term_into {v} q =
@@ -235,7 +240,7 @@ module _ (c : Term) (u : Tree) where
             in-range,
           )
 
-      pub term_over : num_of (signed n +ℤ signed m) ≡ Out → (d : Term) × (merge_terms c (term_of u) ≡ some d) × (d.in_range ≡ false)
+      pub term_over : num_of (signed n +ℤ signed m) ≡ out_of_range → (d : Term) × (merge_terms c (term_of u) ≡ some d) × (d.in_range ≡ false)
       unfolding added
       term_over q =
           (added c (term_of u), takes, rw (h.good, good, ap fits total ∙ num_of_is_out (signed n +ℤ signed m) q) refl)
@@ -250,16 +255,16 @@ module _ {c x : Factor} {e f : ℕ} (one : Raised c e) (other : Raised x f) wher
   total_is : c.exponent + x.exponent ≡ e + f
   total_is = omega (arith, one.exponent, other.exponent)
 
-  judged : num_of (signed e +ℤ signed f) ≡ cond (ltb (e + f) (2 ^ 63)) (Is (e + f)) Out
+  judged : num_of (signed e +ℤ signed f) ≡ cond (ltb (e + f) (2 ^ 63)) (Ok (e + f)) out_of_range
   judged = add_exponents_lem e f one.most other.most
 
-  pub exponents_in : {v : ℕ} → num_of (signed e +ℤ signed f) ≡ Is v → Raised (add_exponents c x) v
+  pub exponents_in : {v : ℕ} → num_of (signed e +ℤ signed f) ≡ Ok v → Raised (add_exponents c x) v
   unfolding add_exponents
   exponents_in {v} q = by (ltb (e + f) (2 ^ 63)) refl
     where
       by : (t : Bool) → ltb (e + f) (2 ^ 63) ≡ t → Raised (add_exponents c x) v
       by true p =
-          let z : Is v ≡ Is (e + f) = sym q ∙ judged ∙ ap (λ t. cond t (Is (e + f)) Out) p in
+          let z : Ok v ≡ Ok (e + f) = sym q ∙ judged ∙ ap (λ t. cond t (Ok (e + f)) out_of_range) p in
           let same : v ≡ e + f = cc in
           record {
             exponent = omega (arith, total_is);
@@ -267,16 +272,16 @@ module _ {c x : Factor} {e f : ℕ} (one : Raised c e) (other : Raised x f) wher
             good = rw (one.good, other.good, total_is, p) refl;
           }
       by false p =
-          let z : Is v ≡ Out = sym q ∙ judged ∙ ap (λ t. cond t (Is (e + f)) Out) p in
+          let z : Ok v ≡ out_of_range = sym q ∙ judged ∙ ap (λ t. cond t (Ok (e + f)) out_of_range) p in
           absurd (let o : ◌≡◌ {A = ℕ} 0 1 = cc in omega arith)
 
-  pub exponents_out : num_of (signed e +ℤ signed f) ≡ Out → (add_exponents c x).in_range ≡ false
+  pub exponents_out : num_of (signed e +ℤ signed f) ≡ out_of_range → (add_exponents c x).in_range ≡ false
   unfolding add_exponents
   exponents_out q = by (ltb (e + f) (2 ^ 63)) refl
     where
       by : (t : Bool) → ltb (e + f) (2 ^ 63) ≡ t → (add_exponents c x).in_range ≡ false
       by true p =
-          let z : Out ≡ Is (e + f) = sym q ∙ judged ∙ ap (λ t. cond t (Is (e + f)) Out) p in
+          let z : out_of_range ≡ Ok (e + f) = sym q ∙ judged ∙ ap (λ t. cond t (Ok (e + f)) out_of_range) p in
           absurd (let o : ◌≡◌ {A = ℕ} 0 1 = cc in omega arith)
       by false p = rw (one.good, other.good, total_is, p) refl
 
@@ -313,7 +318,7 @@ module _ {s : List ℕ} {e i k n : ℕ} {c : Factor} (h : ShowsPower s e i k n c
     unfolding raise_if add_exponents
     raises = one_way ∙ rw q refl
 
-    pub power_into : {v : ℕ} → num_of (signed e +ℤ signed f) ≡ Is v → (d : Factor) × (merge_factors c x ≡ some d) × ShowsPower s v i k n d × (d.in_range ≡ true)
+    pub power_into : {v : ℕ} → num_of (signed e +ℤ signed f) ≡ Ok v → (d : Factor) × (merge_factors c x ≡ some d) × ShowsPower s v i k n d × (d.in_range ≡ true)
     unfolding add_exponents
     power_into r =
         let z = exponents_in one_raised other r in (
@@ -331,7 +336,7 @@ module _ {s : List ℕ} {e i k n : ℕ} {c : Factor} (h : ShowsPower s e i k n c
           z.good,
         )
 
-    pub power_over : num_of (signed e +ℤ signed f) ≡ Out → (d : Factor) × (merge_factors c x ≡ some d) × (d.in_range ≡ false)
+    pub power_over : num_of (signed e +ℤ signed f) ≡ out_of_range → (d : Factor) × (merge_factors c x ≡ some d) × (d.in_range ≡ false)
     power_over r = (add_exponents c x, raises, exponents_out one_raised other r)
 
 -- an integer base that meets one that is none
@@ -354,7 +359,7 @@ module _ {e v b m f w a l : ℕ} {c x : Factor} (h : ShowsNumber e v b m c) (k :
     unfolding multiply_if times_bases
     multiplies = by_integers ∙ rw (eq-eqb e f q) refl
 
-    pub number_times : {n : ℕ} → num_of (signed v *ℤ signed w) ≡ Is n → (d : Factor) × (merge_factors c x ≡ some d) × ShowsNumber e n m m d ×
+    pub number_times : {n : ℕ} → num_of (signed v *ℤ signed w) ≡ Ok n → (d : Factor) × (merge_factors c x ≡ some d) × ShowsNumber e n m m d ×
         (d.in_range ≡ true)
     unfolding times_bases
     number_times {n} r =
@@ -375,7 +380,7 @@ module _ {e v b m f w a l : ℕ} {c x : Factor} (h : ShowsNumber e v b m c) (k :
           in-range,
         )
 
-    pub number_times_over : num_of (signed v *ℤ signed w) ≡ Out → (d : Factor) × (merge_factors c x ≡ some d) × (d.in_range ≡ false)
+    pub number_times_over : num_of (signed v *ℤ signed w) ≡ out_of_range → (d : Factor) × (merge_factors c x ≡ some d) × (d.in_range ≡ false)
     unfolding times_bases
     number_times_over r = (
       times_bases c x (signed v *ℤ signed w),
@@ -408,7 +413,7 @@ module _ {e v b m f w a l : ℕ} {c x : Factor} (h : ShowsNumber e v b m c) (k :
       unfolding raise_if add_exponents
       merges = by_bits ∙ rw (ap (λ b. eq_z (signed v) (signed b)) (sym q) ∙ eq_z_self (signed v)) refl
 
-      pub number_raised : {n : ℕ} → num_of (signed e +ℤ signed f) ≡ Is n
+      pub number_raised : {n : ℕ} → num_of (signed e +ℤ signed f) ≡ Ok n
           → (d : Factor) × (merge_factors c x ≡ some d) × ShowsNumber n v b m d × (d.in_range ≡ true)
       unfolding add_exponents
       number_raised r =
@@ -427,11 +432,11 @@ module _ {e v b m f w a l : ℕ} {c x : Factor} (h : ShowsNumber e v b m c) (k :
             z.good,
           )
 
-      pub number_raised_over : num_of (signed e +ℤ signed f) ≡ Out → (d : Factor) × (merge_factors c x ≡ some d) × (d.in_range ≡ false)
+      pub number_raised_over : num_of (signed e +ℤ signed f) ≡ out_of_range → (d : Factor) × (merge_factors c x ≡ some d) × (d.in_range ≡ false)
       number_raised_over r = (add_exponents c x, merges, exponents_out one_of other_of r)
 
 -- ---- what the code's answers say
-module _ (s : List ℕ) (t : Tree) (r : Merged) where
+module _ (s : List ℕ) (t : Tree) (r : Result (Answer Part) OutOfRange) where
   pub of_term : (n i : ℕ) → ((c : Term) → ShowsTerm s n i c → MergedIs true s c (term_of t) r)
       → (b : Bool) (x : Like b) → Shows b s (part.Term n i) x → MergedIs b s x (split b t) r
   of_term n i f true x h = f x h
@@ -451,6 +456,17 @@ module _ (s : List ℕ) (t : Tree) (r : Merged) where
       → (b : Bool) (x : Like b) → Shows b s (part.Number e v a m) x → MergedIs b s x (split b t) r
   of_number e v a m f true x h = absurd h
   of_number e v a m f false x h = f x h
+
+-- an end is found where the two trees are equal
+pub end_found : (r : Answer ℕ) (q : Bool) (e : ℕ) → r ≡ match_of q e → is_some r ≡ q
+end_found (Some x) q e h = sym (match_ends q e x (sym h)).0
+end_found None q e h = sym (match_differs q e (sym h))
+
+-- an error says that it leaves the range
+pub error_says : (b : Bool) (s : List ℕ) (c x : Like b) (r : Result (Answer Part) OutOfRange) → IsErr r
+    → (d : Like b) × (merge b c x ≡ some d) × (in_range b d ≡ false) → MergedIs b s c x r
+error_says b s c x (Ok v) e h = absurd (let o : ◌≡◌ {A = ℕ} 0 1 = cc in omega arith)
+error_says b s c x (Err u) e h = h
 
 -- a part that stands in a record, and a later member
 pub term_stands : (s : List ℕ) (n i : ℕ) (b : Bool) (x : Like b) → Shows b s (part.Term n i) x → (t : Tree) × Told note s i t

@@ -5,6 +5,7 @@ use mathlib.Core.Path.{◌≡◌, sym, ◌∙◌, subst}
 use mathlib.Core.Bool.{Bool, false}
 use mathlib.Core.List.{List}
 use mathlib.Core.Option.{some, some-injective}
+use Rattle.std.proofs.Common.{Option, None, Some, Result, Ok, Err}
 use native.Mathlib.Omega.{arith}
 use borrow.Fn.Kinds.{Dens, ended_of}
 use contract.Lifetimes.{Lfts}
@@ -16,8 +17,7 @@ use Rattle.split.specs.Standing.{Told}
 use Rattle.part.specs.Like.{Like, split, merge}
 use Rattle.part.specs.Part.{Sized, Shows, in_range, MergedIs}
 use Rattle.part.specs.declared.Part.{Part}
-use Rattle.part.specs.declared.Merged.{Merged}
-use Rattle.part.specs.declared.Merged.TheVariants.{Apart, Into, Over}
+use Rattle.number.specs.declared.OutOfRange.{OutOfRange}
 use Rattle.part.proofs.part_of.Reads as part-reads
 use Rattle.part.proofs.part_of.Kinds as part-kinds
 use Rattle.part.proofs.merge.Reads as reads
@@ -38,37 +38,38 @@ pub part_of_once : (κs : Lfts 1) (a : Dens κs part-kinds.ps) (t : Tree) (r r' 
 part_of_once κs a t r r' x x' h p p' = record { shown = split a.1.1.1.0 t; one = p.0 t h; other = p'.0 t h }
 
 -- both say no, or leave the range, or show what the current part becomes
-abbrev SayAlike : (b : Bool) → List ℕ → Merged → Merged → Type 0
-SayAlike b s Apart Apart = Unit {0}
-SayAlike b s Apart (Into c) = ⊥
-SayAlike b s Apart Over = ⊥
-SayAlike b s (Into c) Apart = ⊥
-SayAlike b s (Into c) (Into c') = Alike b s c c'
-SayAlike b s (Into c) Over = ⊥
-SayAlike b s Over Apart = ⊥
-SayAlike b s Over (Into c) = ⊥
-SayAlike b s Over Over = Unit {0}
+abbrev SayAlike : (b : Bool) → List ℕ → Result (Option Part) OutOfRange → Result (Option Part) OutOfRange → Type 0
+SayAlike b s (Ok None) (Ok None) = Unit {0}
+SayAlike b s (Ok None) (Ok (Some c)) = ⊥
+SayAlike b s (Ok None) (Err _) = ⊥
+SayAlike b s (Ok (Some c)) (Ok None) = ⊥
+SayAlike b s (Ok (Some c)) (Ok (Some c')) = Alike b s c c'
+SayAlike b s (Ok (Some c)) (Err _) = ⊥
+SayAlike b s (Err _) (Ok None) = ⊥
+SayAlike b s (Err _) (Ok (Some c)) = ⊥
+SayAlike b s (Err _) (Err _) = Unit {0}
 
 module _ (b : Bool) (s : List ℕ) (c x : Like b) where
   -- where one answer says that the part takes up the other, the part that it becomes is one
   same_part : (d d' : Like b) → merge b c x ≡ some d → merge b c x ≡ some d' → d ≡ d'
   same_part d d' e e' = some-injective d d' (sym e ∙ e')
 
-  merged_once : (r r' : Merged) → MergedIs b s c x r → MergedIs b s c x r' → SayAlike b s r r'
-  merged_once Apart Apart h h' = tt
-  merged_once Apart (Into p) h h' = let e = h'.1 in absurd (let z : ◌≡◌ {A = ℕ} 0 1 = cc in omega arith)
-  merged_once Apart Over h h' = let e = h'.1 in absurd (let z : ◌≡◌ {A = ℕ} 0 1 = cc in omega arith)
-  merged_once (Into p) Apart h h' = let e = h.1 in absurd (let z : ◌≡◌ {A = ℕ} 0 1 = cc in omega arith)
-  merged_once (Into p) (Into p') h h' =
+  merged_once : (r r' : Result (Option Part) OutOfRange) → MergedIs b s c x r → MergedIs b s c x r' → SayAlike b s r r'
+  merged_once (Ok None) (Ok None) h h' = tt
+  merged_once (Ok None) (Ok (Some p)) h h' = let e = h'.1 in absurd (let z : ◌≡◌ {A = ℕ} 0 1 = cc in omega arith)
+  merged_once (Ok None) (Err _) h h' = let e = h'.1 in absurd (let z : ◌≡◌ {A = ℕ} 0 1 = cc in omega arith)
+  merged_once (Ok (Some p)) (Ok None) h h' = let e = h.1 in absurd (let z : ◌≡◌ {A = ℕ} 0 1 = cc in omega arith)
+  merged_once (Ok (Some p)) (Ok (Some p')) h h' =
       record { shown = h.0; one = h.2; other = subst (Shows b s p') (sym (same_part h.0 h'.0 h.1 h'.1)) h'.2 }
-  merged_once (Into p) Over h h' =
+  merged_once (Ok (Some p)) (Err _) h h' =
       absurd (true_not_false h.3 (subst (λ y. in_range b y ≡ false) (sym (same_part h.0 h'.0 h.1 h'.1)) h'.2))
-  merged_once Over Apart h h' = let e = h.1 in absurd (let z : ◌≡◌ {A = ℕ} 0 1 = cc in omega arith)
-  merged_once Over (Into p) h h' =
+  merged_once (Err _) (Ok None) h h' = let e = h.1 in absurd (let z : ◌≡◌ {A = ℕ} 0 1 = cc in omega arith)
+  merged_once (Err _) (Ok (Some p)) h h' =
       absurd (true_not_false h'.3 (subst (λ y. in_range b y ≡ false) (sym (same_part h'.0 h.0 h'.1 h.1)) h.2))
-  merged_once Over Over h h' = tt
+  merged_once (Err _) (Err _) h h' = tt
 
-pub merge_once : (κs : Lfts 2) (a : Dens κs kinds.ps) (b : Bool) (x : Like b) (t : Tree) (r r' : Merged) (y y' : AtExit (ended_of 2 kinds.ps kinds.r) κs)
+pub merge_once : (κs : Lfts 2) (a : Dens κs kinds.ps) (b : Bool) (x : Like b) (t : Tree) (r r' : Result (Option Part) OutOfRange)
+    (y y' : AtExit (ended_of 2 kinds.ps kinds.r) κs)
     → let s = a.0.now in
     let c = a.1.0 in
     let at = a.1.1.0 in

@@ -2,19 +2,18 @@
 -- and the mark of the member at record i; `Wide i`, the term of the member at record i, whose coefficient is out of range;
 -- `Power e i k m`, the exponent e, the base of k records at record i, no integer, and the mark m; `Number e v b m`, the exponent e, the
 -- integer base with the bits v and the mark b, which need not stand in a record, and the mark m.
-use Rattle.std.specs.Prelude.{ℕ, ◌^◌, ◌<◌, ◌≤◌, ◌≡◌, Bool, true, false, List}
+use Rattle.std.specs.Prelude.{ℕ, ◌^◌, ◌<◌, ◌≤◌, ◌≡◌, Bool, true, false, List, Option, None, Some, Result, Ok, Err}
 use Rattle.std.proofs.Math.Option.{none, some}
 use Rattle.paper.specs.Bytes.{signed}
 use Rattle.paper.specs.Tree.{Tree, integer, power, records}
 use Rattle.paper.specs.WellFormed.{WF}
 use Rattle.paper.specs.Rules.{as_integer, Term, term_of, Factor}
 use Rattle.note.specs.Note.{note}
+use Rattle.number.specs.declared.OutOfRange.{OutOfRange}
 use Rattle.split.specs.Standing.{Told}
 use Rattle.part.specs.Like.{Like, merge}
 use Rattle.part.specs.declared.Part.{Part}
 use Rattle.part.specs.declared.Part.TheVariants as part
-use Rattle.part.specs.declared.Merged.{Merged}
-use Rattle.part.specs.declared.Merged.TheVariants.{Apart, Into, Over}
 
 -- a tree of k records stands at record i
 pub record Sized (s : List ℕ) (i k : ℕ) (t : Tree) : Type 0 where
@@ -72,22 +71,22 @@ From p (part.Wide i) = p ≤ i
 From p (part.Power e i k m) = p ≤ i
 From p (part.Number e v c m) = Unit {0}
 
-abbrev pub IntoFrom : ℕ → Merged → Type 0
-IntoFrom p Apart = Unit {0}
-IntoFrom p (Into c) = From p c
-IntoFrom p Over = Unit {0}
+abbrev pub IntoFrom : ℕ → Result (Option Part) OutOfRange → Type 0
+IntoFrom p (Ok None) = Unit {0}
+IntoFrom p (Ok (Some c)) = From p c
+IntoFrom p (Err _) = Unit {0}
 
 -- whether all partial results of a part were in range
 abbrev pub in_range : (b : Bool) → Like b → Bool
 in_range true c = c.in_range
 in_range false c = c.in_range
 
--- the answer to "does the current part c take up the later part x": `Apart`, no; `Into p`, it does, in range, and p shows what it
--- becomes; `Over`, it does, and leaves the range
-abbrev pub MergedIs : (b : Bool) → List ℕ → Like b → Like b → Merged → Type 0
-MergedIs b s c x Apart = merge b c x ≡ none
-MergedIs b s c x (Into p) = (d : Like b) × (merge b c x ≡ some d) × Shows b s p d × (in_range b d ≡ true)
-MergedIs b s c x Over = (d : Like b) × (merge b c x ≡ some d) × (in_range b d ≡ false)
+-- the answer to "does the current part c take up the later part x": `None`, no; `Some p`, it does, in range, and p shows what it
+-- becomes; `Err`, it does, and leaves the range
+abbrev pub MergedIs : (b : Bool) → List ℕ → Like b → Like b → Result (Option Part) OutOfRange → Type 0
+MergedIs b s c x (Ok None) = merge b c x ≡ none
+MergedIs b s c x (Ok (Some p)) = (d : Like b) × (merge b c x ≡ some d) × Shows b s p d × (in_range b d ≡ true)
+MergedIs b s c x (Err _) = (d : Like b) × (merge b c x ≡ some d) × (in_range b d ≡ false)
 
 -- a part and a later member, and room for the ticks of a comparison
 pub record Mergeable (s : List ℕ) (p : Part) (at room : ℕ) : Type 0 where

@@ -13,7 +13,7 @@ ghost use Rattle.part.specs.Like.{Like, split};
 ghost use Rattle.part.specs.Part.{Sized, Shows, ShowsTerm, ShowsWide, ShowsPower, ShowsNumber};
 ghost use Rattle.part.specs.Part.{From, MergedIs, IntoFrom, Mergeable};
 
-use number::Num;
+use number::OutOfRange;
 
 // The records of a power beside its base's: its own and its exponent's.
 pub const AROUND: usize = 2;
@@ -39,14 +39,6 @@ pub enum Part {
     },
 }
 
-// Whether a part takes up a later one: it does not; it does, and what it becomes; it does, and leaves the range.
-#[derive(Clone, Copy)]
-pub enum Merged {
-    Apart,
-    Into(Part),
-    Over,
-}
-
 // The term of the member at record `at`, with a look first whether it is its own rest, or an integer, as most members are.
 fn term_of(s: &[u8], at: usize) -> Part
     requires { SomeTold s.now at }
@@ -61,8 +53,8 @@ fn term_of(s: &[u8], at: usize) -> Part
     }
     let n = split::coefficient(s, at);
     match n {
-        Num::Is(v) => Part::Term(v, at),
-        Num::Out => Part::Wide(at),
+        Ok(v) => Part::Term(v, at),
+        Err(OutOfRange) => Part::Wide(at),
     }
 }
 
@@ -97,59 +89,62 @@ pub fn part_of(s: &[u8], at: usize, size: usize, terms: bool) -> Part
     Part::Power {
         exponent: e,
         base: at,
-        size: size,
+        size,
         mark: m,
     }
 }
 
 // The term with the coefficient n and the rest of the member at record i, where it meets the member at record `at`, with a look first
 // whether their rests are seen to differ, as most are.
-fn merge_term(s: &[u8], n: u64, i: usize, at: usize, ticks: &mut [u8]) -> Merged
+fn merge_term(
+    s: &[u8],
+    n: u64,
+    i: usize,
+    at: usize,
+    ticks: &mut [u8],
+) -> Result<Option<Part>, OutOfRange>
     requires { Comparable s.now i s.now at (length ticks.old) }
     ensures merged_is { (c : Term) (t : Tree) → ShowsTerm s.now n i c → Told note s.now at t
         → MergedIs true s.now c (term_of t) result }
     ensures place { (p : ℕ) → p ≤ i → IntoFrom p result }
 {
     if equal::rests_differ(s, i, at) {
-        return Merged::Apart;
+        return Ok(None);
     }
     if equal::same_rest(s, i, at, ticks) {
         return add_term(s, n, i, at);
     }
-    Merged::Apart
+    Ok(None)
 }
 
 // The term with the coefficient n and the rest of the member at record i, where the member at record `at` has the same rest.
-fn add_term(s: &[u8], n: u64, i: usize, at: usize) -> Merged
+fn add_term(s: &[u8], n: u64, i: usize, at: usize) -> Result<Option<Part>, OutOfRange>
     requires { SomeTold s.now at }
     ensures merged_is { (c : Term) (t : Tree) → ShowsTerm s.now n i c → Told note s.now at t
         → equal c.rest (term_of t).rest ≡ true → MergedIs true s.now c (term_of t) result }
     ensures place { (p : ℕ) → p ≤ i → IntoFrom p result }
 {
-    let later = split::coefficient(s, at);
-    match later {
-        Num::Is(m) => {
-            let sum = number::add(n, m);
-            match sum {
-                Num::Is(v) => Merged::Into(Part::Term(v, i)),
-                Num::Out => Merged::Over,
-            }
-        }
-        Num::Out => Merged::Over,
-    }
+    let m = split::coefficient(s, at)?;
+    let sum = number::add(n, m)?;
+    Ok(Some(Part::Term(sum, i)))
 }
 
 // The term of the member at record `wide`, whose coefficient is out of range, where it meets the member at record `at`.
-fn merge_wide(s: &[u8], wide: usize, at: usize, ticks: &mut [u8]) -> Merged
+fn merge_wide(
+    s: &[u8],
+    wide: usize,
+    at: usize,
+    ticks: &mut [u8],
+) -> Result<Option<Part>, OutOfRange>
     requires { Comparable s.now wide s.now at (length ticks.old) }
     ensures merged_is { (c : Term) (t : Tree) → ShowsWide s.now wide c → Told note s.now at t
         → MergedIs true s.now c (term_of t) result }
     ensures place { (p : ℕ) → IntoFrom p result }
 {
     if equal::same_rest(s, wide, at, ticks) {
-        return Merged::Over;
+        return Err(OutOfRange);
     }
-    Merged::Apart
+    Ok(None)
 }
 
 // The factor with the exponent e, the base at record i, no integer, and the mark m, where it meets the member at record `at`.
@@ -161,34 +156,35 @@ fn merge_power(
     m: usize,
     at: usize,
     ticks: &mut [u8],
-) -> Merged
+) -> Result<Option<Part>, OutOfRange>
     requires { Comparable s.now i s.now at (length ticks.old) }
     ensures merged_is { (c : Factor) (t : Tree) → ShowsPower s.now e i k m c → Told note s.now at t
         → MergedIs false s.now c (factor_of t) result }
     ensures place { (p : ℕ) → p ≤ i → IntoFrom p result }
 {
     let j = split::base(s, at);
-    let found = equal::same(s, i, s, j, ticks);
-    match found {
-        equal::Match::Different => Merged::Apart,
-        equal::Match::Ends(_) => {
-            let sum = number::add(e, split::exponent(s, at));
-            match sum {
-                Num::Is(f) => Merged::Into(Part::Power {
-                    exponent: f,
-                    base: i,
-                    size: k,
-                    mark: m,
-                }),
-                Num::Out => Merged::Over,
-            }
-        }
+    if equal::same(s, i, s, j, ticks).is_none() {
+        return Ok(None);
     }
+    let exponent = number::add(e, split::exponent(s, at))?;
+    Ok(Some(Part::Power {
+        exponent,
+        base: i,
+        size: k,
+        mark: m,
+    }))
 }
 
 // The factor with the exponent e, the integer base v with the mark b, and the mark m, where it meets the member at record `at`: equal
 // exponents multiply the bases, and the product takes the mark m; equal bases add the exponents.
-fn merge_number(s: &[u8], e: u64, v: u64, b: usize, m: usize, at: usize) -> Merged
+fn merge_number(
+    s: &[u8],
+    e: u64,
+    v: u64,
+    b: usize,
+    m: usize,
+    at: usize,
+) -> Result<Option<Part>, OutOfRange>
     requires { SomeTold s.now at }
     ensures merged_is { (c : Factor) (t : Tree) → ShowsNumber e v b m c → Told note s.now at t
         → MergedIs false s.now c (factor_of t) result }
@@ -196,39 +192,33 @@ fn merge_number(s: &[u8], e: u64, v: u64, b: usize, m: usize, at: usize) -> Merg
 {
     let j = split::base(s, at);
     if record::INTEGER < record::kind(s, j) {
-        return Merged::Apart;
+        return Ok(None);
     }
     let w = record::bits(s, j);
     let f = split::exponent(s, at);
     if e == f {
-        let product = number::mul(v, w);
-        return match product {
-            Num::Is(x) => Merged::Into(Part::Number {
-                exponent: e,
-                base: x,
-                base_mark: m,
-                mark: m,
-            }),
-            Num::Out => Merged::Over,
-        };
+        let base = number::mul(v, w)?;
+        return Ok(Some(Part::Number {
+            exponent: e,
+            base,
+            base_mark: m,
+            mark: m,
+        }));
     }
     if v != w {
-        return Merged::Apart;
+        return Ok(None);
     }
-    let sum = number::add(e, f);
-    match sum {
-        Num::Is(x) => Merged::Into(Part::Number {
-            exponent: x,
-            base: v,
-            base_mark: b,
-            mark: m,
-        }),
-        Num::Out => Merged::Over,
-    }
+    let exponent = number::add(e, f)?;
+    Ok(Some(Part::Number {
+        exponent,
+        base: v,
+        base_mark: b,
+        mark: m,
+    }))
 }
 
-// The current part, where it meets the member at record `at`.
-pub fn merge(s: &[u8], c: Part, at: usize, ticks: &mut [u8]) -> Merged
+// Whether the current part takes up the member at record `at`: it does not; it does, and what it becomes; it does, and leaves the range.
+pub fn merge(s: &[u8], c: Part, at: usize, ticks: &mut [u8]) -> Result<Option<Part>, OutOfRange>
     requires { Mergeable s.now c at (length ticks.old) }
     ensures merged_is { (b : Bool) (x : Like b) (t : Tree) → Shows b s.now c x → Told note s.now at t
         → MergedIs b s.now x (split b t) result }
@@ -238,16 +228,16 @@ pub fn merge(s: &[u8], c: Part, at: usize, ticks: &mut [u8]) -> Merged
         Part::Term(n, i) => merge_term(s, n, i, at, ticks),
         Part::Wide(i) => merge_wide(s, i, at, ticks),
         Part::Power {
-            exponent: e,
-            base: i,
-            size: k,
-            mark: m,
-        } => merge_power(s, e, i, k, m, at, ticks),
+            exponent,
+            base,
+            size,
+            mark,
+        } => { merge_power(s, exponent, base, size, mark, at, ticks) }
         Part::Number {
-            exponent: e,
-            base: v,
-            base_mark: b,
-            mark: m,
-        } => merge_number(s, e, v, b, m, at),
+            exponent,
+            base,
+            base_mark,
+            mark,
+        } => { merge_number(s, exponent, base, base_mark, mark, at) }
     }
 }

@@ -5,6 +5,7 @@
 use Prim.Native.Nat.{ℕ, ◌+◌, ◌*◌, ◌^◌, ◌<◌, ◌≤◌}
 use mathlib.Core.Path.{◌≡◌, refl, sym, ap, ◌∙◌}
 use mathlib.Core.Bool.{Bool, true, false}
+use Rattle.std.specs.Prelude.{Ok}
 use mathlib.Core.List.{List, [], ◌∷◌, ◌++◌}
 use native.Mathlib.Omega.{arith}
 use borrow.Author.Tests.{eq-eqb, ne_eqb, lt-ltb}
@@ -29,7 +30,6 @@ use Rattle.note.proofs.ToldLaws.{seen, mark_number}
 use Rattle.part.specs.Part.{ShowsTerm, ShowsPower, ShowsNumber}
 use Rattle.part.proofs.PartLaws.{same_bits}
 use Rattle.rebuilt.specs.Written.{timed, WrittenIs, Fitting}
-use Rattle.rebuilt.specs.declared.Written.TheVariants.{To}
 use Rattle.rebuilt.proofs.Encoded.{marked_records, pair_records, longer_records, power_records}
 
 -- the member x, a tree and whether it is in range, is the tree u of k records, in range
@@ -47,7 +47,7 @@ module _ {x : Tree × Bool} {u : Tree} {k : ℕ} (h : Becomes x u k) (out : List
   pub light : Fitting x out m → weight u < 65536
   light f = omega (arith, f.light, ap (λ (p : Tree × Bool). weight p.0) h.is)
 
-  pub written : (out' : List ℕ) (e : ℕ) → e ≡ m + k → out' ≡ put out (m * 16) (encode_by note u) → WrittenIs x out out' m (To e)
+  pub written : (out' : List ℕ) (e : ℕ) → e ≡ m + k → out' ≡ put out (m * 16) (encode_by note u) → WrittenIs x out out' m (Ok e)
   written out' e a b = (
     ap (λ (p : Tree × Bool). p.1) h.is,
     omega (arith, a, as_long),

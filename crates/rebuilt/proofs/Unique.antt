@@ -9,16 +9,16 @@ use Rattle.paper.specs.Tree.{Tree}
 use Rattle.paper.specs.Once.{OnceLeft}
 use Rattle.part.specs.Like.{join}
 use Rattle.rebuilt.specs.Written.{WrittenIs}
-use Rattle.rebuilt.specs.declared.Written.{Written}
-use Rattle.rebuilt.specs.declared.Written.TheVariants.{To, Over}
+use Rattle.std.specs.Prelude.{Result, Ok, Err}
+use Rattle.number.specs.declared.OutOfRange.{OutOfRange}
 use Rattle.rebuilt.proofs.write_part.Reads as reads
 use Rattle.rebuilt.proofs.write_part.Kinds as kinds
 
-written_once : (y : Tree × Bool) (o x x' : List ℕ) (m : ℕ) (r r' : Written) → WrittenIs y o x m r → WrittenIs y o x' m r' → (r ≡ r') × (x ≡ x')
-written_once y o x x' m (To e) (To e') h h' = (ap To (h.1 ∙ sym h'.1), h.2 ∙ sym h'.2)
-written_once y o x x' m (To e) Over h h' = let a = h.0 in let b = h'.0 in absurd (let z : ◌≡◌ {A = ℕ} 0 1 = cc in omega arith)
-written_once y o x x' m Over (To e) h h' = let a = h.0 in let b = h'.0 in absurd (let z : ◌≡◌ {A = ℕ} 0 1 = cc in omega arith)
-written_once y o x x' m Over Over h h' = (refl, h.1 ∙ sym h'.1)
+written_once : (y : Tree × Bool) (o x x' : List ℕ) (m : ℕ) (r r' : Result ℕ OutOfRange) → WrittenIs y o x m r → WrittenIs y o x' m r' → (r ≡ r') × (x ≡ x')
+written_once y o x x' m (Ok e) (Ok e') h h' = (ap Ok (h.1 ∙ sym h'.1), h.2 ∙ sym h'.2)
+written_once y o x x' m (Ok e) (Err u) h h' = let a = h.0 in let b = h'.0 in absurd (let z : ◌≡◌ {A = ℕ} 0 1 = cc in omega arith)
+written_once y o x x' m (Err u) (Ok e) h h' = let a = h.0 in let b = h'.0 in absurd (let z : ◌≡◌ {A = ℕ} 0 1 = cc in omega arith)
+written_once y o x x' m (Err u) (Err u') h h' = (refl, h.1 ∙ sym h'.1)
 
 pub write_part_once : OnceLeft 2 kinds.ps kinds.r reads.Pre reads.Post (List ℕ) (λ κs x. x.0.now)
 write_part_once κs a v v' x x' q p p' =

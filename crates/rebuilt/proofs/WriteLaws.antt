@@ -4,6 +4,7 @@
 use Prim.Native.Nat.{ℕ, ◌+◌, ◌*◌, ◌^◌, ◌<◌, ◌≤◌}
 use mathlib.Core.Path.{◌≡◌, refl, sym, ap, ◌∙◌, subst}
 use mathlib.Core.Bool.{Bool, true, false}
+use Rattle.std.specs.Prelude.{Ok}
 use mathlib.Core.List.{List, ◌++◌}
 use mathlib.Core.Option.{none}
 use native.Mathlib.Omega.{arith}
@@ -30,7 +31,6 @@ use Rattle.part.proofs.PartLaws.{joins_bad}
 use Rattle.part.specs.declared.Part.{Part}
 use Rattle.part.specs.declared.Part.TheVariants as part
 use Rattle.rebuilt.specs.Written.{WrittenIs, Fitting, Light, paired, lengthened}
-use Rattle.rebuilt.specs.declared.Written.TheVariants.{To}
 use Rattle.rebuilt.proofs.Becomes.{room, light, written, Shown, base_becomes, power_becomes, power_wf}
 use Rattle.rebuilt.proofs.Encoded.{pair_unclosed, longer_unclosed, power_unclosed, three_puts}
 
@@ -118,7 +118,7 @@ module _ {c : Factor} {e k μ : ℕ} (h : Shown c e k μ) (out : List ℕ) (m : 
   pub base_room : e ≡ 1 → Fitting (from_factor c) out m → (m + k) * 16 ≤ length out
   base_room o = room (base_becomes h o) out m
 
-  pub base_answer : e ≡ 1 → (d : List ℕ) → d ≡ put out (m * 16) (encode_by note (marked μ c.base)) → WrittenIs (from_factor c) out d m (To (m + k))
+  pub base_answer : e ≡ 1 → (d : List ℕ) → d ≡ put out (m * 16) (encode_by note (marked μ c.base)) → WrittenIs (from_factor c) out d m (Ok (m + k))
   base_answer o d = written (base_becomes h o) out m d (m + k) refl
 
   pub power_room : (e ≡ 1 → ⊥) → Fitting (from_factor c) out m → (m + (k + 2)) * 16 ≤ length out
@@ -136,7 +136,7 @@ module _ {c : Factor} {e k μ : ℕ} (h : Shown c e k μ) (out : List ℕ) (m : 
       power_written out d₁ d₂ d₃ m e μ c.base a (power_wf h).2 (omega arith) (omega arith) p q w
 
   pub power_answer : (e ≡ 1 → ⊥) → (d : List ℕ) (b : ℕ) → b ≡ m + (k + 2) → d ≡ put out (m * 16) (encode_by note (power μ c.base μ e))
-      → WrittenIs (from_factor c) out d m (To b)
+      → WrittenIs (from_factor c) out d m (Ok b)
   power_answer o d b y p = written (power_becomes h o) out m d b y p
 
 -- an integer base, with its own mark, and with the factor's

@@ -1,5 +1,5 @@
 -- What is written when the turn of a current part is done: the member that it becomes, and whether that is in range.
-use Rattle.std.specs.Prelude.{ℕ, ◌+◌, ◌*◌, ◌≤◌, ◌<◌, ◌≡◌, Bool, true, false, List, [], ◌∷◌, ◌++◌, length, pos}
+use Rattle.std.specs.Prelude.{ℕ, ◌+◌, ◌*◌, ◌≤◌, ◌<◌, ◌≡◌, Bool, true, false, List, [], ◌∷◌, ◌++◌, length, pos, Result, Ok, Err}
 use Rattle.paper.specs.Bytes.{signed}
 use Rattle.paper.specs.Tree.{Tree, Forest, integer, product, to_list, of_list, records, weight}
 use Rattle.paper.specs.WellFormed.{WF}
@@ -8,14 +8,13 @@ use Rattle.paper.specs.Rules.{term, times_unless}
 use Rattle.note.specs.Note.{note}
 use Rattle.note.specs.Noted.{encode_by}
 use Rattle.stretch.specs.Put.{put}
-use Rattle.rebuilt.specs.declared.Written.{Written}
-use Rattle.rebuilt.specs.declared.Written.TheVariants.{To, Over}
+use Rattle.number.specs.declared.OutOfRange.{OutOfRange}
 
--- `To e`, the member is in range and its records stand from record m up to record e, nothing else is changed; `Over`, it is not in
+-- `Ok e`, the member is in range and its records stand from record m up to record e, nothing else is changed; `Err`, it is not in
 -- range, and nothing is
-abbrev pub WrittenIs : Tree × Bool → (out out' : List ℕ) (m : ℕ) → Written → Type 0
-WrittenIs x out out' m (To e) = (x.1 ≡ true) × (e ≡ m + records x.0) × (out' ≡ put out (m * 16) (encode_by note x.0))
-WrittenIs x out out' m Over = (x.1 ≡ false) × (out' ≡ out)
+abbrev pub WrittenIs : Tree × Bool → (out out' : List ℕ) (m : ℕ) → Result ℕ OutOfRange → Type 0
+WrittenIs x out out' m (Ok e) = (x.1 ≡ true) × (e ≡ m + records x.0) × (out' ≡ put out (m * 16) (encode_by note x.0))
+WrittenIs x out out' m (Err _) = (x.1 ≡ false) × (out' ≡ out)
 
 -- there is room for the member, and its note can be made
 pub record Fitting (x : Tree × Bool) (out : List ℕ) (m : ℕ) : Type 0 where

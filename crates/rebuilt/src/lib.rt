@@ -2,7 +2,7 @@
 // writes a node's record closes it.
 #![tactic(auto)]
 
-ghost use Rattle.std.specs.Prelude.{◌≡◌, Bool, ℕ, ◌+◌, ◌*◌, ◌≤◌, ◌<◌, length};
+ghost use Rattle.std.specs.Prelude.{◌≡◌, Bool, ℕ, ◌+◌, ◌*◌, ◌≤◌, ◌<◌, length, Ok};
 ghost use Rattle.std.proofs.Math.Option.{none};
 ghost use Rattle.paper.specs.Tree.{Tree, Forest, product, marked, to_list, of_list, recordses};
 ghost use Rattle.paper.specs.Rules.{as_integer, others_of, Term, Factor, from_term, from_factor};
@@ -15,7 +15,9 @@ ghost use Rattle.part.specs.Like.{Like, join};
 ghost use Rattle.part.specs.Part.{Sized, Shows, ShowsTerm, ShowsPower, ShowsNumber};
 ghost use Rattle.rebuilt.specs.Written.{WrittenIs, Fitting, Light, paired, lengthened, timed};
 
-use part::AROUND;
+use number::OutOfRange;
+use part::{AROUND, Part};
+use record::kinds::Kind;
 
 // The members of a product of an integer and another tree.
 pub const PAIR: usize = 2;
@@ -25,13 +27,6 @@ pub const SECOND: usize = 2;
 
 // The records of a power of an integer.
 const NUMBER: usize = 3;
-
-// Where the member that was written ends; or that it is out of range.
-#[derive(Clone, Copy)]
-pub enum Written {
-    To(usize),
-    Over,
-}
 
 // Copies the tree of k records at record i.
 fn copy_tree(out: &mut [u8], m: usize, s: &[u8], i: usize, k: usize)
@@ -84,22 +79,26 @@ fn write_longer(out: &mut [u8], m: usize, n: u64, mark: usize, s: &[u8], i: usiz
 
 // The coefficient n times the tree at record i, which is no integer: a product gets the coefficient appended last, any other tree stands
 // after it; 1 times the tree is the tree. What is written has the mark at its root, and so has the coefficient.
-fn write_times(out: &mut [u8], m: usize, n: u64, mark: usize, s: &[u8], i: usize) -> Written
+fn write_times(out: &mut [u8], m: usize, n: u64, mark: usize, s: &[u8], i: usize) -> usize
     requires mark_bound { mark < 65536 }
     requires told { (t : Tree) × Told note s.now i t × Fitting (timed mark n t) out.old m × (as_integer t ≡ none) }
-    ensures { (t : Tree) → Told note s.now i t → WrittenIs (timed mark n t) out.old out.new m result }
+    ensures { (t : Tree) → Told note s.now i t → WrittenIs (timed mark n t) out.old out.new m (Ok result) }
 {
     let k = split::skip_tree(s, i) - i;
     if n == 1 {
         copy_marked(out, m, s, i, k, mark);
-        return Written::To(m + k);
+        return m + k;
     }
-    if record::kind(s, i) == record::PRODUCT {
-        write_longer(out, m, n, mark, s, i, k);
-        return Written::To(m + k + 1);
+    match Kind::at(s, i) {
+        Kind::Product => {
+            write_longer(out, m, n, mark, s, i, k);
+            m + k + 1
+        }
+        _ => {
+            write_pair(out, m, n, mark, s, i, k);
+            m + k + SECOND
+        }
     }
-    write_pair(out, m, n, mark, s, i, k);
-    Written::To(m + k + SECOND)
 }
 
 // The members of the product at record i that are no integers, one after the other; answers the record after them.
@@ -112,15 +111,13 @@ fn copy_others(out: &mut [u8], m: usize, s: &[u8], i: usize) -> usize
 {
     let mut to = m;
     let mut at = i + 1;
-    let mut left = record::count(s, i);
-    while 0 < left {
+    for _ in 0..record::count(s, i) {
         let e = split::skip_tree(s, at);
         if record::INTEGER < record::kind(s, at) {
             copy_tree(out, to, s, at, e - at);
             to += e - at;
         }
         at = e;
-        left -= 1;
     }
     to
 }
@@ -135,35 +132,35 @@ fn write_without(
     s: &[u8],
     i: usize,
     many: usize,
-) -> Written
+) -> usize
     requires mark_bound { mark < 65536 }
     requires lessened { (t : Tree) × Lessened note s.now i many t × Fitting (timed mark n t) out.old m }
-    ensures { (t : Tree) → Lessened note s.now i many t → WrittenIs (timed mark n t) out.old out.new m result }
+    ensures { (t : Tree) → Lessened note s.now i many t → WrittenIs (timed mark n t) out.old out.new m (Ok result) }
 {
     if n == 1 {
         record::write_record(out, m, record::PRODUCT, many, mark, 0);
         let end = copy_others(out, m + 1, s, i);
         note::close(out, m);
-        return Written::To(end);
+        return end;
     }
     record::write_record(out, m, record::PRODUCT, many + 1, mark, 0);
     let e = copy_others(out, m + 1, s, i);
     record::write_record(out, e, record::INTEGER, 0, mark, n);
     note::close(out, m);
-    Written::To(e + 1)
+    e + 1
 }
 
 // The coefficient n times the rest of the member at record i, whose mark it takes.
-fn write_term(out: &mut [u8], m: usize, n: u64, s: &[u8], i: usize) -> Written
+fn write_term(out: &mut [u8], m: usize, n: u64, s: &[u8], i: usize) -> usize
     requires { (c : Term) × ShowsTerm s.now n i c × Fitting (from_term c) out.old m }
-    ensures { (c : Term) → ShowsTerm s.now n i c → WrittenIs (from_term c) out.old out.new m result }
+    ensures { (c : Term) → ShowsTerm s.now n i c → WrittenIs (from_term c) out.old out.new m (Ok result) }
 {
     let mark = record::mark(s, i);
     let rest = split::rest_of(s, i);
     match rest {
         split::Rest::One => {
             record::write_record(out, m, record::INTEGER, 0, mark, n);
-            Written::To(m + 1)
+            m + 1
         }
         split::Rest::At(j) => write_times(out, m, n, mark, s, j),
         split::Rest::Others(j, many) => write_without(out, m, n, mark, s, j, many),
@@ -172,66 +169,58 @@ fn write_term(out: &mut [u8], m: usize, n: u64, s: &[u8], i: usize) -> Written
 
 // The base of k records at record i with the exponent e, unless that is 1. What is written has the mark at its root, and so has the
 // exponent.
-fn write_power(
-    out: &mut [u8],
-    m: usize,
-    e: u64,
-    s: &[u8],
-    i: usize,
-    k: usize,
-    mark: usize,
-) -> Written
+fn write_power(out: &mut [u8], m: usize, e: u64, s: &[u8], i: usize, k: usize, mark: usize) -> usize
     requires { (c : Factor) × ShowsPower s.now e i k mark c × Fitting (from_factor c) out.old m }
-    ensures { (c : Factor) → ShowsPower s.now e i k mark c → WrittenIs (from_factor c) out.old out.new m result }
+    ensures { (c : Factor) → ShowsPower s.now e i k mark c → WrittenIs (from_factor c) out.old out.new m (Ok result) }
 {
     if e == 1 {
         copy_marked(out, m, s, i, k, mark);
-        return Written::To(m + k);
+        return m + k;
     }
     record::write_record(out, m, record::POWER, 0, mark, 0);
     copy_tree(out, m + 1, s, i, k);
     record::write_record(out, m + 1 + k, record::INTEGER, 0, mark, e);
     note::close(out, m);
-    Written::To(m + AROUND + k)
+    m + AROUND + k
 }
 
 // The integer base v, its mark being b, with the exponent e, unless that is 1. What is written has the mark at its root, and so has the
 // exponent.
-fn write_number(out: &mut [u8], m: usize, e: u64, v: u64, b: usize, mark: usize) -> Written
+fn write_number(out: &mut [u8], m: usize, e: u64, v: u64, b: usize, mark: usize) -> usize
     requires { (c : Factor) × ShowsNumber e v b mark c × Fitting (from_factor c) out.old m }
-    ensures { (c : Factor) → ShowsNumber e v b mark c → WrittenIs (from_factor c) out.old out.new m result }
+    ensures { (c : Factor) → ShowsNumber e v b mark c → WrittenIs (from_factor c) out.old out.new m (Ok result) }
 {
     if e == 1 {
         record::write_record(out, m, record::INTEGER, 0, mark, v);
-        return Written::To(m + 1);
+        return m + 1;
     }
     record::write_record(out, m, record::POWER, 0, mark, 0);
     record::write_record(out, m + 1, record::INTEGER, 0, b, v);
     record::write_record(out, m + SECOND, record::INTEGER, 0, mark, e);
     note::close(out, m);
-    Written::To(m + NUMBER)
+    m + NUMBER
 }
 
-// The member that a part becomes.
-pub fn write_part(out: &mut [u8], m: usize, s: &[u8], c: part::Part) -> Written
+// The member that a part becomes: the record after it.
+pub fn write_part(out: &mut [u8], m: usize, s: &[u8], c: Part) -> Result<usize, OutOfRange>
     requires { (b : Bool) × (x : Like b) × Shows b s.now c x × Fitting (join b x) out.old m }
     ensures { (b : Bool) (x : Like b) → Shows b s.now c x
         → WrittenIs (join b x) out.old out.new m result }
 {
     match c {
-        part::Part::Term(n, i) => write_term(out, m, n, s, i),
-        part::Part::Wide(_) => Written::Over,
-        part::Part::Power {
-            exponent: e,
-            base: i,
-            size: k,
-            mark: mark,
-        } => write_power(out, m, e, s, i, k, mark),
-        part::Part::Number {
-            exponent: e,
-            base: v,
-            base_mark: b,
-            mark: mark,
-        } => write_number(out, m, e, v, b, mark),
+        Part::Term(n, i) => Ok(write_term(out, m, n, s, i)),
+        Part::Wide(_) => Err(OutOfRange),
+        Part::Power {
+            exponent,
+            base,
+            size,
+            mark,
+        } => { Ok(write_power(out, m, exponent, s, base, size, mark)) }
+        Part::Number {
+            exponent,
+            base,
+            base_mark,
+            mark,
+        } => { Ok(write_number(out, m, exponent, base, base_mark, mark)) }
     }
 }

@@ -1,5 +1,6 @@
 pub mod FlawLaws
 pub mod KindLaws
+pub mod FoundLaws
 pub mod StrayLaws
 pub mod TidyLaws
 pub mod Halves

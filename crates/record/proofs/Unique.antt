@@ -5,14 +5,20 @@ use Prim.Native.Nat.{ℕ}
 use mathlib.Core.Path.{◌≡◌, refl, sym, ap, ◌∙◌}
 use mathlib.Core.List.{List}
 use lib.ListN.{get_or}
+use Rattle.std.specs.Prelude.{Option, Some, None}
 use Rattle.paper.specs.Record as paper
 use Rattle.paper.specs.Once.{Once, OnceLeft}
 use Rattle.record.specs.Flaw.{flaw_of, both_numbers}
 use Rattle.record.specs.declared.Flaw.{Flaw}
 use Rattle.record.specs.declared.FlawNumbers.{FlawNumbers}
-use Rattle.record.specs.declared.Flaw.TheVariants.{Sound, Kind, Byte, Count}
+use Rattle.record.specs.declared.Flaw.TheVariants.{Kind, Byte, Count}
 use Rattle.record.proofs.kind.Reads as kind
 use Rattle.record.proofs.kind.Kinds as kind-kinds
+use Rattle.record.proofs.kinds.Kind.at.Reads as kind-at
+use Rattle.record.proofs.kinds.Kind.at.Kinds as kind-at-kinds
+use Rattle.record.proofs.kinds.Kind.number.Reads as number
+use Rattle.record.proofs.kinds.Kind.number.Kinds as number-kinds
+use Rattle.record.proofs.KindLaws.{kind_by_number}
 use Rattle.record.proofs.count.Reads as count
 use Rattle.record.proofs.count.Kinds as count-kinds
 use Rattle.record.proofs.mark.Reads as mark
@@ -27,8 +33,6 @@ use Rattle.record.proofs.is_positive.Reads as is_positive
 use Rattle.record.proofs.is_positive.Kinds as is-positive-kinds
 use Rattle.record.proofs.judge_record.Reads as judge-record
 use Rattle.record.proofs.judge_record.Kinds as judge-record-kinds
-use Rattle.record.proofs.is_sound.Reads as is-sound
-use Rattle.record.proofs.is_sound.Kinds as is-sound-kinds
 use Rattle.record.proofs.flaw_numbers.Reads as flaw-numbers
 use Rattle.record.proofs.flaw_numbers.Kinds as flaw-numbers-kinds
 use Rattle.record.proofs.write_record.Reads as write-record
@@ -40,6 +44,12 @@ use Rattle.record.proofs.set_mark.Kinds as set-mark-kinds
 
 pub kind_once : Once 1 kind-kinds.ps kind-kinds.r kind.Pre kind.Post
 kind_once κs a v v' x x' q p p' = p ∙ sym p'
+
+pub kind_at_once : Once 1 kind-at-kinds.ps kind-at-kinds.r kind-at.Pre kind-at.Post
+kind_at_once κs a v v' x x' q p p' = kind_by_number v v' (p.0 ∙ sym p'.0)
+
+pub number_once : Once 0 number-kinds.ps number-kinds.r number.Pre number.Post
+number_once κs a v v' x x' q p p' = p ∙ sym p'
 
 pub count_once : Once 1 count-kinds.ps count-kinds.r count.Pre count.Post
 count_once κs a v v' x x' q p p' = p.0 ∙ sym p'.0
@@ -59,9 +69,6 @@ arity_once κs a v v' x x' q p p' = p.0 ∙ sym p'.0
 pub is_positive_once : Once 1 is-positive-kinds.ps is-positive-kinds.r is_positive.Pre is_positive.Post
 is_positive_once κs a v v' x x' q p p' = p ∙ sym p'
 
-pub is_sound_once : Once 1 is-sound-kinds.ps is-sound-kinds.r is-sound.Pre is-sound.Post
-is_sound_once κs a v v' x x' q p p' = p ∙ sym p'
-
 -- the two numbers tell the answer that has them
 numbers_once : (v v' : FlawNumbers) → both_numbers v ≡ both_numbers v' → v ≡ v'
 numbers_once v v' e = ap (λ (l : List ℕ). record { what = get_or l 0 0; byte = get_or l 1 0 }) e
@@ -70,18 +77,18 @@ pub flaw_numbers_once : Once 0 flaw-numbers-kinds.ps flaw-numbers-kinds.r flaw-n
 flaw_numbers_once κs a v v' x x' q p p' = numbers_once v v' (p ∙ sym p')
 
 -- the code's answer that has this value
-pub code_of : paper.Flaw → Flaw
-code_of paper.sound = Sound
-code_of paper.bad_kind = Kind
-code_of (paper.bad_byte j) = Byte j
-code_of paper.bad_count = Count
+pub code_of : paper.Flaw → Option Flaw
+code_of paper.sound = None
+code_of paper.bad_kind = Some Kind
+code_of (paper.bad_byte j) = Some (Byte j)
+code_of paper.bad_count = Some Count
 
-pub code_of_lem : (f : Flaw) → code_of (flaw_of f) ≡ f
+pub code_of_lem : (f : Option Flaw) → code_of (flaw_of f) ≡ f
 unfolding code_of
-code_of_lem Sound = refl
-code_of_lem Kind = refl
-code_of_lem (Byte j) = refl
-code_of_lem Count = refl
+code_of_lem None = refl
+code_of_lem (Some Kind) = refl
+code_of_lem (Some (Byte j)) = refl
+code_of_lem (Some Count) = refl
 
 pub flaw_of_lem : (f : paper.Flaw) → flaw_of (code_of f) ≡ f
 unfolding code_of
@@ -91,7 +98,7 @@ flaw_of_lem (paper.bad_byte j) = refl
 flaw_of_lem paper.bad_count = refl
 
 -- the paper's value tells the code's answer
-pub flaw_once : (f g : Flaw) → flaw_of f ≡ flaw_of g → f ≡ g
+pub flaw_once : (f g : Option Flaw) → flaw_of f ≡ flaw_of g → f ≡ g
 flaw_once f g e = sym (code_of_lem f) ∙ ap code_of e ∙ code_of_lem g
 
 pub judge_record_once : Once 1 judge-record-kinds.ps judge-record-kinds.r judge-record.Pre judge-record.Post

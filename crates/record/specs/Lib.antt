@@ -1,2 +1,3 @@
 pub mod Flaw
+pub mod Kinds
 pub mod Tidy

@@ -1,16 +1,20 @@
 // One record of a table: its fields, its number of members, and what is wrong with it.
 #![tactic(auto)]
 
-ghost use Rattle.std.specs.Prelude.{◌≡◌, not, ◌+◌, ◌*◌, ◌<◌, ◌≤◌, length};
-ghost use Rattle.paper.specs.Record.{kind, count_in, mark_in, bits, symbol_in, stray, flaw, arity, is_flawed, flaw_numbers};
+ghost use Rattle.std.specs.Prelude.{◌≡◌, ◌+◌, ◌*◌, ◌<◌, ◌≤◌, length};
+ghost use Rattle.paper.specs.Record.{kind, count_in, mark_in, bits, symbol_in, is_node, stray, flaw, arity, flaw_numbers};
 ghost use Rattle.paper.specs.Verdict.{is_positive};
 ghost use Rattle.paper.specs.Bytes.{bytes};
 ghost use Rattle.paper.specs.Table.{record_of};
 ghost use Rattle.stretch.specs.Put.{part, put};
-ghost use Rattle.record.specs.Flaw.{flaw_of, both_numbers, byte_flaw, count_flaw, first_of};
+ghost use Rattle.record.specs.Flaw.{flaw_of, both_numbers, byte_flaw, count_flaw, found_below};
 ghost use Rattle.record.specs.Tidy.{front, is_tidy};
 
-// The kinds of records.
+pub mod kinds;
+
+use kinds::Kind;
+
+// The numbers of the kinds of records.
 pub const INTEGER: u8 = 0;
 
 pub const SYMBOL: u8 = 1;
@@ -61,10 +65,9 @@ const MAY: [[u8; 16]; 5] = [
     [1, 0, 0, 0, 1, 1, 0, 0, 0, 0, 0, 0, 0, 0, 0, 0],
 ];
 
-// What is wrong with a record: nothing, its kind, the lowest byte that must be zero and is not, or its count.
-#[derive(Clone, Copy)]
+// What is wrong with a record: its kind, the lowest byte that must be zero and is not, or its count.
+#[derive(Clone, Copy, PartialEq, Eq)]
 pub enum Flaw {
-    Sound,
     Kind,
     Byte(usize),
     Count,
@@ -87,6 +90,7 @@ pub struct FlawNumbers {
 }
 
 // The kind of record i.
+#[tactic(auto, unfolding(paper::specs::Record::kind))]
 pub fn kind(s: &[u8], i: usize) -> u8
     requires { i * 16 + 16 ≤ length s.now }
     ensures { result ≡ kind s.now i }
@@ -95,6 +99,7 @@ pub fn kind(s: &[u8], i: usize) -> u8
 }
 
 // The number of members that record i gives, for a sum or a product.
+#[tactic(auto, unfolding(paper::specs::Record::count_in))]
 pub fn count(s: &[u8], i: usize) -> usize
     requires { i * 16 + 16 ≤ length s.now }
     ensures { (result ≡ count_in s.now i) × (result < 65536) }
@@ -103,6 +108,7 @@ pub fn count(s: &[u8], i: usize) -> usize
 }
 
 // The mark of record i: the line of the sheet that it came from, 0 for none.
+#[tactic(auto, unfolding(paper::specs::Record::mark_in))]
 pub fn mark(s: &[u8], i: usize) -> usize
     requires { i * 16 + 16 ≤ length s.now }
     ensures { (result ≡ mark_in s.now i) × (result < 65536) }
@@ -111,6 +117,7 @@ pub fn mark(s: &[u8], i: usize) -> usize
 }
 
 // The 64 bits of record i, for an integer.
+#[tactic(auto, unfolding(paper::specs::Record::bits))]
 pub fn bits(s: &[u8], i: usize) -> u64
     requires { i * 16 + 16 ≤ length s.now }
     ensures { result ≡ bits s.now i }
@@ -119,6 +126,7 @@ pub fn bits(s: &[u8], i: usize) -> u64
 }
 
 // The symbol of record i.
+#[tactic(auto, unfolding(paper::specs::Record::symbol_in))]
 pub fn symbol(s: &[u8], i: usize) -> u8
     requires { i * 16 + 16 ≤ length s.now }
     ensures { result ≡ symbol_in s.now i }
@@ -127,171 +135,112 @@ pub fn symbol(s: &[u8], i: usize) -> u8
 }
 
 // The number of members of record i, whatever its kind.
+#[tactic(auto, unfolding(paper::specs::Record::arity))]
 pub fn arity(s: &[u8], i: usize) -> usize
     requires { i * 16 + 16 ≤ length s.now }
     ensures { (result ≡ arity s.now i) × (result < 65536) }
 {
-    let k = kind(s, i);
-    if k < SUM {
-        return 0;
+    match kind(s, i) {
+        INTEGER | SYMBOL => 0,
+        POWER => PARTS,
+        _ => count(s, i),
     }
-    if k == POWER {
-        return PARTS;
-    }
-    count(s, i)
 }
 
 // Record i is an integer of at least 1.
+#[tactic(auto, unfolding(paper::specs::Verdict::is_positive))]
 pub fn is_positive(s: &[u8], i: usize) -> bool
     requires { i * 16 + 16 ≤ length s.now }
     ensures { result ≡ is_positive s.now i }
 {
-    if INTEGER < kind(s, i) {
-        return false;
-    }
     let v = bits(s, i);
-    if v < 1 {
-        return false;
-    }
-    v < NEGATIVE
+    kind(s, i) == INTEGER && 0 < v && v < NEGATIVE
+}
+
+// A record of kind k has a count: it is a sum or a product.
+#[tactic(auto, unfolding(paper::specs::Record::is_node))]
+fn is_node(k: u8) -> bool
+    ensures { result ≡ is_node k }
+{
+    k == SUM || k == PRODUCT
 }
 
 // The number in bytes 0-7 of record i, of kind k, if those of them are zero that must be.
+#[tactic(auto, unfolding(crate::specs::Tidy::front))]
 fn front(s: &[u8], i: usize, k: u8) -> u64
     requires { (i * 16 + 16 ≤ length s.now) × (k < 5) }
     ensures { result ≡ front s.now i k }
 {
-    let m = mark(s, i) as u64 * MARKS;
-    if k < SUM {
-        return k as u64 + m;
-    }
-    if k == POWER {
-        return k as u64 + m;
-    }
-    k as u64 + count(s, i) as u64 * COUNTS + m
+    let members = if is_node(k) { count(s, i) } else { 0 };
+    k as u64 + members as u64 * COUNTS + mark(s, i) as u64 * MARKS
 }
 
 // Record i, of kind k, is seen by its two halves to have no byte that must be zero and is not.
+#[tactic(auto, unfolding(crate::specs::Tidy::is_tidy))]
 fn is_tidy(s: &[u8], i: usize, k: u8) -> bool
     requires { (i * 16 + 16 ≤ length s.now) × (k < 5) }
     ensures { result ≡ is_tidy s.now i k }
 {
-    if number::read8(s, i * SIZE) != front(s, i, k) {
-        return false;
-    }
-    if k < SYMBOL {
-        return true;
-    }
-    if k < SUM {
-        return bits(s, i) < SYMBOLS;
-    }
-    bits(s, i) < 1
+    let room = if k == SYMBOL { SYMBOLS } else { 1 };
+    number::read8(s, i * SIZE) == front(s, i, k) && (k == INTEGER || bits(s, i) < room)
 }
 
-// The lowest byte of record i, of kind k, that is other than zero and must be zero; 16 where there is none.
-fn stray(s: &[u8], i: usize, k: u8) -> usize
+// The lowest byte of record i, of kind k, that is other than zero and must be zero.
+fn stray(s: &[u8], i: usize, k: u8) -> Option<usize>
     requires { (i * 16 + 16 ≤ length s.now) × (k < 5) }
-    ensures { result ≡ stray s.now i k 0 16 }
+    ensures { result ≡ found_below 16 (stray s.now i k 0 16) }
 {
     if is_tidy(s, i, k) {
-        return SIZE;
+        return None;
     }
-    let mut j = 0;
-    while j < SIZE {
-        if s[i * SIZE + j] != 0 {
-            if MAY[k as usize][j] == 0 {
-                return j;
-            }
+    for j in 0..SIZE {
+        if s[i * SIZE + j] != 0 && MAY[k as usize][j] == 0 {
+            return Some(j);
         }
-        j += 1;
     }
-    j
+    None
 }
 
 // What is wrong with the bytes of record i, of kind k.
-fn judge_bytes(s: &[u8], i: usize, k: u8) -> Flaw
+#[tactic(auto, unfolding(crate::specs::Flaw::byte_flaw))]
+fn judge_bytes(s: &[u8], i: usize, k: u8) -> Option<Flaw>
     requires { (i * 16 + 16 ≤ length s.now) × (k < 5) }
     ensures { flaw_of result ≡ byte_flaw s.now i k }
 {
-    let j = stray(s, i, k);
-    if j < SIZE {
-        return Flaw::Byte(j);
-    }
-    Flaw::Sound
+    stray(s, i, k).map(Flaw::Byte)
 }
 
 // What is wrong with the count of record i, of kind k.
-fn judge_count(s: &[u8], i: usize, k: u8) -> Flaw
+#[tactic(auto, unfolding(crate::specs::Flaw::count_flaw))]
+fn judge_count(s: &[u8], i: usize, k: u8) -> Option<Flaw>
     requires { (i * 16 + 16 ≤ length s.now) × (k < 5) }
     ensures { flaw_of result ≡ count_flaw s.now i k }
 {
-    if k < SUM {
-        return Flaw::Sound;
+    if is_node(k) && count(s, i) < LEAST {
+        return Some(Flaw::Count);
     }
-    if k == POWER {
-        return Flaw::Sound;
-    }
-    if count(s, i) < LEAST {
-        return Flaw::Count;
-    }
-    Flaw::Sound
+    None
 }
 
-// Something is wrong with the record.
-fn is_flawed(f: Flaw) -> bool
-    ensures { result ≡ is_flawed (flaw_of f) }
-{
-    match f {
-        Flaw::Sound => false,
-        Flaw::Kind => true,
-        Flaw::Byte(_) => true,
-        Flaw::Count => true,
-    }
-}
-
-// The first of two judgements that finds something wrong; else nothing is.
-fn first_of(f: Flaw, g: Flaw) -> Flaw
-    ensures { flaw_of result ≡ first_of (flaw_of f) (flaw_of g) }
-{
-    if is_flawed(f) {
-        return f;
-    }
-    g
-}
-
-// What is wrong with record i: its kind, a byte, or its count, in this order.
-pub fn judge_record(s: &[u8], i: usize) -> Flaw
+// What is wrong with record i, if anything is: its kind, a byte, or its count, in this order.
+#[tactic(auto, unfolding(paper::specs::Record::flaw))]
+pub fn judge_record(s: &[u8], i: usize) -> Option<Flaw>
     requires { i * 16 + 16 ≤ length s.now }
     ensures { flaw_of result ≡ flaw s.now i }
 {
-    let k = kind(s, i);
-    if POWER < k {
-        return Flaw::Kind;
+    let byte = kind(s, i);
+    match Kind::try_from(byte) {
+        Ok(_) => judge_bytes(s, i, byte).or(judge_count(s, i, byte)),
+        Err(f) => Some(f),
     }
-    let bytes = judge_bytes(s, i, k);
-    let members = judge_count(s, i, k);
-    first_of(bytes, members)
 }
 
-// Nothing is wrong with record i.
-pub fn is_sound(s: &[u8], i: usize) -> bool
-    requires { i * 16 + 16 ≤ length s.now }
-    ensures { result ≡ not (is_flawed (flaw s.now i)) }
+// The two bytes of a count or a mark.
+#[tactic(auto, unfolding(paper::specs::Bytes::bytes))]
+fn bytes2(v: usize) -> [u8; MARK_BYTES]
+    ensures { result ≡ bytes 2 v }
 {
-    let k = kind(s, i);
-    if POWER < k {
-        return false;
-    }
-    if stray(s, i, k) < SIZE {
-        return false;
-    }
-    if k < SUM {
-        return true;
-    }
-    if k == POWER {
-        return true;
-    }
-    1 < count(s, i)
+    [(v % BYTE) as u8, (v / BYTE % BYTE) as u8]
 }
 
 // Record i anew: its kind, its number of members, its mark, and the number in its bytes 8-15; all other bytes of d stay.
@@ -299,13 +248,12 @@ pub fn write_record(d: &mut [u8], i: usize, kind: u8, count: usize, mark: usize,
     requires { i * 16 + 16 ≤ length d.old }
     ensures { d.new ≡ put d.old (i * 16) (record_of kind count mark bits) }
 {
-    let lo = (count % BYTE) as u8;
-    let hi = (count / BYTE % BYTE) as u8;
-    let mark_lo = (mark % BYTE) as u8;
-    let mark_hi = (mark / BYTE % BYTE) as u8;
+    let [count_lo, count_hi] = bytes2(count);
+    let [mark_lo, mark_hi] = bytes2(mark);
     let b = number::bytes8(bits);
     let r = [
-        kind, 0, lo, hi, mark_lo, mark_hi, 0, 0, b[0], b[1], b[2], b[3], b[4], b[5], b[6], b[7],
+        kind, 0, count_lo, count_hi, mark_lo, mark_hi, 0, 0, b[0], b[1], b[2], b[3], b[4], b[5],
+        b[6], b[7],
     ];
     stretch::copy_bytes(d, i * SIZE, &r, 0, SIZE);
 }
@@ -326,30 +274,19 @@ pub fn set_mark(d: &mut [u8], i: usize, mark: usize)
     requires { i * 16 + 16 ≤ length d.old }
     ensures { d.new ≡ put d.old (i * 16 + 4) (bytes 2 mark) }
 {
-    let b = [(mark % BYTE) as u8, (mark / BYTE % BYTE) as u8];
-    stretch::copy_bytes(d, i * SIZE + MARK_AT, &b, 0, MARK_BYTES);
+    stretch::copy_bytes(d, i * SIZE + MARK_AT, &bytes2(mark), 0, MARK_BYTES);
 }
 
 // What is wrong with the record, as numbers.
-pub fn flaw_numbers(f: Flaw) -> FlawNumbers
+#[tactic(auto, unfolding(paper::specs::Record::flaw_numbers))]
+pub fn flaw_numbers(f: Option<Flaw>) -> FlawNumbers
     ensures { both_numbers result ≡ flaw_numbers (flaw_of f) }
 {
-    match f {
-        Flaw::Sound => FlawNumbers {
-            what: NOTHING,
-            byte: 0,
-        },
-        Flaw::Kind => FlawNumbers {
-            what: BAD_KIND,
-            byte: 0,
-        },
-        Flaw::Byte(j) => FlawNumbers {
-            what: BAD_BYTE,
-            byte: j as u64,
-        },
-        Flaw::Count => FlawNumbers {
-            what: BAD_COUNT,
-            byte: 0,
-        },
-    }
+    let (what, byte) = match f {
+        None => (NOTHING, 0),
+        Some(Flaw::Kind) => (BAD_KIND, 0),
+        Some(Flaw::Byte(j)) => (BAD_BYTE, j as u64),
+        Some(Flaw::Count) => (BAD_COUNT, 0),
+    };
+    FlawNumbers { what, byte }
 }

@@ -145,25 +145,25 @@ module _ {ds : List Definition} {definitions which from s area₀ : List ℕ} {n
     -- a defined symbol's gives the opened records of its definition
     pub record Deeper (k : ℕ) : Type 0 where
       pub below : 0 < deep
-      pub up : get_or from (k - 1) 0 ≤ get_or from k 0
-      pub within : get_or from k 0 ≤ length definitions
-      pub few : k ≤ 16
+      pub up : get_or from k 0 ≤ get_or from (k + 1) 0
+      pub within : get_or from (k + 1) 0 ≤ length definitions
+      pub few : k < 16
       pub tree : Tree
       pub to : Tree
-      pub openable : Openable ds definitions which from (take (get_or from k 0 - get_or from (k - 1) 0) (drop (get_or from (k - 1) 0) definitions))
+      pub openable : Openable ds definitions which from (take (get_or from (k + 1) 0 - get_or from k 0) (drop (get_or from k 0) definitions))
           area n (deep - 1) at tree to
       pub gives : given (records_for ds (again_within ds deep)) s i ≡ some (encode to)
 
-    module _ (l : i < records_in s) (k : ℕ) (p : 0 < k) (is : place which s i ≡ k) where
+    module _ (l : i < records_in s) (k : ℕ) (is : place which s i ≡ k + 1) where
       symbol's : kind s i ≡ 1
       unfolding place
       symbol's = go (eqb (kind s i) 1) refl is
         where
-          go : (b : Bool) → eqb (kind s i) 1 ≡ b → cond b (get_or which (symbol_in s i) 0) 0 ≡ k → kind s i ≡ 1
+          go : (b : Bool) → eqb (kind s i) 1 ≡ b → cond b (get_or which (symbol_in s i) 0) 0 ≡ k + 1 → kind s i ≡ 1
           go true e q = eqb-true (kind s i) 1 e
           go false e q = absurd (omega arith)
 
-      k_is : get_or which (symbol_in s i) 0 ≡ k
+      k_is : get_or which (symbol_in s i) 0 ≡ k + 1
       unfolding place
       k_is = (rw (eq-eqb (kind s i) 1 symbol's) at is)
 
@@ -172,12 +172,12 @@ module _ {ds : List Definition} {definitions which from s area₀ : List ℕ} {n
       unfolding given records_for
       given_is = rw (eq-eqb (kind s i) 1 symbol's)
 
-      piece : {xs : List ℕ} → piece_at definitions from (k - 1) ≡ xs → take (get_or from k 0 - get_or from (k - 1) 0)
-          (drop (get_or from (k - 1) 0) definitions) ≡ xs
+      piece : {xs : List ℕ} → piece_at definitions from (k + 1 - 1) ≡ xs → take (get_or from (k + 1) 0 - get_or from k 0)
+          (drop (get_or from k 0) definitions) ≡ xs
       unfolding piece_at
-      piece e = let kk : k - 1 + 1 ≡ k = omega arith in rw kk at e
+      piece e = let kk : k + 1 - 1 ≡ k = omega arith in rw kk at e
 
-      found : (x : Option Tree) → defined ds (symbol_in s i) ≡ x → Found definitions from n k x → Deeper k
+      found : (x : Option Tree) → defined ds (symbol_in s i) ≡ x → Found definitions from n (k + 1) x → Deeper k
       unfolding again_within instead make
       found none e h = absurd (omega arith)
       found (some u) e h = at_depth deep refl
@@ -197,12 +197,11 @@ module _ {ds : List Definition} {definitions which from s area₀ : List ℕ} {n
               let a = same_long in
               let le = encode_length w in
               let fw = h.few in
-              let y' = o.index.lies (k - 1) (omega arith) in
-              let kk : k - 1 + 1 ≡ k = omega arith in
+              let y' = o.index.lies k (omega arith) in
               record {
                 below = omega arith;
-                up = rw kk at y'.up;
-                within = rw kk at y'.within;
+                up = y'.up;
+                within = y'.within;
                 few = let x = o.few in omega arith;
                 tree = u;
                 to = w;

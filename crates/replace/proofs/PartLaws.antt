@@ -5,11 +5,17 @@ use mathlib.Core.Bool.{Bool, true, false, cond, ◌||◌, not}
 use mathlib.Core.List.{List}
 use native.Mathlib.Nat.{zero-add, add-zero, suc-add}
 use native.Mathlib.Omega.{arith}
-use lib.ListN.{length, get_or, take, drop, set, replicate}
-use lib.Seq.{get_or-set_same, get_or-set_other}
+use lib.ListN.{length, get_or, take, drop, set, replicate, drop_of_length-le}
+use Rattle.std.specs.List.{list_any}
+use Rattle.std.specs.Prelude.{Result, Ok, Err}
+use Rattle.std.specs.Result.{is_err}
+use Rattle.table.specs.declared.refusals.Refusal.{Refusal}
+use Rattle.table.specs.Refusals.{stands_for}
+use Rattle.table.proofs.RefusalLaws.{not_accepted}
+use lib.Seq.{drop-cons, get_or-set_same, get_or-set_other}
 use lib.Dec.{eqb, ltb}
 use borrow.Author.Tests.{eqb-true, eqb-false, eq-eqb, ne_eqb, lt-ltb}
-use Rattle.paper.specs.Verdict.{Verdict, is_accepted, verdict}
+use Rattle.paper.specs.Verdict.{is_accepted, verdict}
 use Rattle.paper.proofs.SkipLaws.{left}
 use Rattle.paper.proofs.Tests.{true_not_false, or_left, or_right}
 use Rattle.paper_shared.specs.Answers.{length_at, lengths_from, beginning, table_at, misses, any_refused, is_among, twice}
@@ -103,21 +109,31 @@ module _ (lim : ℕ) (lengths definitions : List ℕ) (n i : ℕ) where
   any_done h = rw (none_left n i h) refl
 
   -- the checker's answer on the bytes of definition i
-  module _ (a v : ℕ) (f : Verdict) (begins : a ≡ beginning lengths i) (long : v ≡ length_at lengths i)
-      (told : f ≡ verdict lim (take (a + v - a) (drop a definitions))) where
-    table_told : f ≡ verdict lim (table_at lengths definitions i)
+  module _ (a v : ℕ) (f : Result (Unit {0}) Refusal) (begins : a ≡ beginning lengths i) (long : v ≡ length_at lengths i)
+      (told : stands_for f ≡ verdict lim (take (a + v - a) (drop a definitions))) where
+    table_told : stands_for f ≡ verdict lim (table_at lengths definitions i)
     unfolding table_at
     table_told = let e : a + v - a ≡ v = omega arith in told ∙ rw (e, begins, long)
 
-    pub is_refused : 0 < f.number
+    pub is_refused : is_err f ≡ true
         → (not (is_accepted (verdict lim (table_at lengths definitions i))) || any_refused lim lengths definitions (i + 1) (n - (i + 1))) ≡ true
-    unfolding is_accepted
-    is_refused l = rw (← table_told, ne_eqb f.number 0 (λ e. absurd (omega (arith, l, e))))
+    is_refused e = rw (← table_told) (go f e)
+      where
+        go : (f : Result (Unit {0}) Refusal) → is_err f ≡ true
+            → (not (is_accepted (stands_for f)) || any_refused lim lengths definitions (i + 1) (n - (i + 1))) ≡ true
+        go (Ok x) e = cc
+        go (Err r) e = rw (not_accepted r)
 
-    pub is_fine : f.number ≤ 0 → (not (is_accepted (verdict lim (table_at lengths definitions i))) || any_refused lim lengths definitions (i + 1) (n - (i + 1)))
-        ≡ any_refused lim lengths definitions (i + 1) (n - (i + 1))
+    pub is_fine : is_err f ≡ false → (not (is_accepted (verdict lim (table_at lengths definitions i)))
+        || any_refused lim lengths definitions (i + 1) (n - (i + 1))) ≡ any_refused lim lengths definitions (i + 1) (n - (i + 1))
     unfolding is_accepted
-    is_fine l = rw (← table_told, eq-eqb f.number 0 (omega arith))
+    is_fine e = rw (← table_told) (go f e)
+      where
+        go : (f : Result (Unit {0}) Refusal) → is_err f ≡ false
+            → (not (is_accepted (stands_for f)) || any_refused lim lengths definitions (i + 1) (n - (i + 1)))
+            ≡ any_refused lim lengths definitions (i + 1) (n - (i + 1))
+        go (Ok x) e = refl
+        go (Err r) e = cc
 
 -- ---- 16
 module _ (symbols : List ℕ) (n i : ℕ) where
@@ -144,6 +160,15 @@ module _ (symbols : List ℕ) (n i : ℕ) where
   pub place_done : (x : ℕ) → n ≤ i → place_from symbols x i (n - i) ≡ 0
   unfolding place_from
   place_done x h = rw (none_left n i h) refl
+
+-- x is among the symbols from i on
+pub among_left : (x : ℕ) (symbols : List ℕ) (i n : ℕ) → i + n ≡ length symbols → list_any (λ (y : ℕ). eqb y x) (drop i symbols) ≡ is_among x symbols i n
+unfolding is_among
+among_left x symbols i zero e = rw (drop_of_length-le symbols {i = i} (omega arith)) refl
+among_left x symbols i (suc n) e =
+    let s : suc i ≡ i + 1 = omega arith in
+    let later = ap (λ (k : ℕ). list_any (λ (y : ℕ). eqb y x) (drop k symbols)) s ∙ among_left x symbols (i + 1) n (omega arith) in
+    rw (drop-cons symbols i 0 (omega arith)) (ap (λ (b : Bool). eqb (get_or symbols i 0) x || b) later)
 
 -- ---- arrays
 pub zeros : (n x : ℕ) → get_or {A = ℕ} (replicate n 0) x 0 ≡ 0

@@ -10,6 +10,8 @@ use native.Mathlib.Omega.{arith}
 use borrow.Author.Tests.{ne_eqb, lt-ltb, le-ltb}
 use lib.ListN.{length, get_or, drop, length-drop}
 use lib.Seq.{length-take-le}
+use Rattle.std.specs.Prelude.{Some, None, Ok, Err}
+use Rattle.std.specs.Prelude as code
 use lib.Dec.{eqb}
 use Rattle.paper.specs.Limits.{is_limit}
 use Rattle.paper.specs.Bytes.{Bytes}
@@ -22,14 +24,15 @@ use Rattle.paper_shared.specs.Shared.{defined, make, open_within, opened}
 use Rattle.paper_shared.specs.Answers.{Handed, max_definitions, length_at, beginning, table_at, misses, any_refused, twice, crowded}
 use Rattle.paper_shared.specs.Answers.{tree_in, definitions_from, definitions_of, opened_of, Opening, turned_away, opens, opening_of, judged_site, opening}
 use Rattle.paper_shared.proofs.Tables.{Sound, Whole, whole, table_fine, table_whole, opened_is_wf}
-use Rattle.record.specs.Flaw.{flaw_of}
+use Rattle.table.specs.declared.refusals.Refusal.{Refusal}
+use Rattle.table.specs.Refusals.{verdict_of}
 use Rattle.replace.specs.Place.{place_from}
 use Rattle.replace.specs.Weighed.{told, capped, weighs, most_bytes}
 use Rattle.replace.specs.Index.{piece_at, Lies, Found, FoundAt, Index, Knows}
 use Rattle.replace.specs.Planned.{Ready, Planned}
 use Rattle.replace.specs.declared.Plan.{Plan}
 use Rattle.replace.proofs.PartLaws.{fit, begins_next, begins_up}
-use Rattle.replace.proofs.WeighLaws.{weight_positive, weighs_opened}
+use Rattle.replace.proofs.WeighLaws.{weighs_opened}
 
 module _ (lim : ℕ) (h : Handed) (k : Sound lim h) where
   -- where definition i lies
@@ -123,9 +126,8 @@ module _ (lim : ℕ) (h : Handed) (k : Sound lim h) where
 
 -- ---- the tests, one after the other
 module _ (lim : ℕ) (h : Handed) where
-  pub refuses : (v : Verdict) → opening lim h ≡ turned_away v → 0 < v.number → (r : Plan) → r.number ≡ v.number → r.place ≡ v.place
-      → flaw_of r.flaw ≡ v.flaw → Planned lim h (opening lim h) r
-  refuses v e p r a b c = subst (λ (o : Opening). Planned lim h o r) (sym e) (record { number = a; place = b; flaw = c; positive = p })
+  pub refuses : (r : Refusal) → opening lim h ≡ turned_away (verdict_of r) → Planned lim h (opening lim h) (Err r)
+  refuses r e = subst (λ (o : Opening). Planned lim h o (Err r)) (sym e) refl
 
   pub open_19 : is_limit lim ≡ false → opening lim h ≡ turned_away (refused 19 0)
   unfolding opening
@@ -166,15 +168,15 @@ pub record Weighs (lim : ℕ) (o : Option Tree) (w : ℕ) : Type 0 where
   pub is : o ≡ some tree
   pub weight_is : w ≡ min (weight tree) (lim + 1)
 
-pub weighs_something : (lim : ℕ) (o : Option Tree) (w : ℕ) → w ≡ told (capped lim (make weight o)) → 0 < w → Weighs lim o w
+pub weighs_something : (lim : ℕ) (o : Option Tree) (w : ℕ) → Some w ≡ told (capped lim (make weight o)) → Weighs lim o w
 unfolding told capped make
-weighs_something lim none w e l = absurd (omega arith)
-weighs_something lim (some v) w e l = record { tree = v; is = refl; weight_is = e }
+weighs_something lim none w e = cc
+weighs_something lim (some v) w e = record { tree = v; is = refl; weight_is = cc }
 
-pub weighs_nothing : (lim : ℕ) (o : Option Tree) (w : ℕ) → w ≡ told (capped lim (make weight o)) → w ≡ 0 → o ≡ none
+pub weighs_nothing : (lim : ℕ) (o : Option Tree) → None ≡ told (capped lim (make weight o)) → o ≡ none
 unfolding told capped make
-weighs_nothing lim none w e z = refl
-weighs_nothing lim (some v) w e z = absurd (let p = weight_positive v in omega arith)
+weighs_nothing lim none e = refl
+weighs_nothing lim (some v) e = cc
 
 -- everything that was found out before the weight is known
 pub record Prepared (lim : ℕ) (h : Handed) (which from : List ℕ) : Type 0 where
@@ -196,56 +198,55 @@ module _ {lim : ℕ} {h : Handed} {which from : List ℕ} (p : Prepared lim h wh
   is_opening : opening lim h ≡ opening_of lim (opened_of h)
   is_opening = open_tree lim h p.sound.known p.sound.met p.fine p.sound.fine p.few p.once
 
-  module _ (weights : List ℕ) (knows : Knows lim (definitions_of h) which weights (length h.symbols))
-      (w : ℕ) (is : w ≡ weighs lim which weights h.table) where
-    weight_told : w ≡ told (capped lim (make weight (opened_of h)))
+  module _ (weights : List (code.Option ℕ)) (knows : Knows lim (definitions_of h) which weights (length h.symbols)) where
+    weight_told : weighs lim which weights h.table ≡ told (capped lim (make weight (opened_of h)))
     weight_told =
-        is ∙ ap (weighs lim which weights) formula.written
+        ap (weighs lim which weights) formula.written
         ∙ weighs_opened lim (definitions_of h) h.definitions which from weights (length h.symbols)
         (length h.symbols) index_of knows (tree_in h.table) formula.wf
         ∙ ap (λ (o : Option Tree). told (capped lim (make weight o))) (sym (opened_deep lim h p.sound))
 
-    pub open_17 : w < 1 → opening lim h ≡ turned_away (refused 17 0)
+    pub open_17 : None ≡ weighs lim which weights h.table → opening lim h ≡ turned_away (refused 17 0)
     unfolding opening_of
-    open_17 l = is_opening ∙ rw (weighs_nothing lim (opened_of h) w weight_told (omega arith))
+    open_17 e = is_opening ∙ rw (weighs_nothing lim (opened_of h) (e ∙ weight_told))
 
-    pub open_18 : lim < w → opening lim h ≡ turned_away (refused 18 0)
-    unfolding opening_of
-    open_18 l =
-        let k = weighs_something lim (opened_of h) w weight_told (omega arith) in
-        let e = k.weight_is in
-        is_opening ∙ rw (k.is, lt-ltb lim (weight k.tree) (omega arith))
+    module _ (w : ℕ) (is : Some w ≡ weighs lim which weights h.table) where
+      weighed : Weighs lim (opened_of h) w
+      weighed = weighs_something lim (opened_of h) w (is ∙ weight_told)
 
-    light_enough : (v : Tree) → weight v ≤ lim → opening_of lim (some v) ≡ opens v
-    unfolding opening_of
-    light_enough v l = rw (le-ltb lim (weight v) l)
+      pub open_18 : lim < w → opening lim h ≡ turned_away (refused 18 0)
+      unfolding opening_of
+      open_18 l = is_opening ∙ rw (weighed.is, lt-ltb lim (weight weighed.tree) (let e = weighed.weight_is in omega arith))
 
-    is_fine : is_accepted (verdict lim h.table) ≡ true
-    unfolding is_accepted
-    is_fine = rw p.fine
+      light_enough : (v : Tree) → weight v ≤ lim → opening_of lim (some v) ≡ opens v
+      unfolding opening_of
+      light_enough v l = rw (le-ltb lim (weight v) l)
 
-    plan : (r : Plan) → r.number ≡ 0 → r.weight ≡ w → r.which ≡ which → r.from ≡ from
-        → (v : Tree) → opened_of h ≡ some v → w ≡ weight v → weight v ≤ lim → Ready lim h v r
-    plan r n e x y v i q l = record {
-      number = n;
-      weighs = e ∙ q;
-      light = l;
-      wf = opened_is_wf lim h p.sound p.bytes is_fine v i;
-      openable = λ area room. record {
-        index = rw (← x, ← y) at index_of;
-        few = p.few;
-        wf = formula.wf;
-        written = formula.written;
-        opens = sym (opened_deep lim h p.sound) ∙ i;
-        room = let z = records_weight v in omega (arith, z, room);
-      };
-    }
+      is_fine : is_accepted (verdict lim h.table) ≡ true
+      unfolding is_accepted
+      is_fine = rw p.fine
 
-    pub ready : 1 ≤ w → w ≤ lim → (r : Plan) → r.number ≡ 0 → r.weight ≡ w → r.which ≡ which → r.from ≡ from → Planned lim h (opening lim h) r
-    ready a b r n e x y =
-        let k = weighs_something lim (opened_of h) w weight_told a in
-        let m = k.weight_is in
-        let q : w ≡ weight k.tree = omega arith in
-        let l : weight k.tree ≤ lim = omega arith in
-        subst (λ (o : Opening). Planned lim h o r) (sym (is_opening ∙ ap (opening_of lim) k.is ∙ light_enough k.tree l))
-        (plan r n e x y k.tree k.is q l)
+      plan : (r : Plan) → r.weight ≡ w → r.which ≡ which → r.from ≡ from
+          → (v : Tree) → opened_of h ≡ some v → w ≡ weight v → weight v ≤ lim → Ready lim h v r
+      plan r e x y v i q l = record {
+        weighs = e ∙ q;
+        light = l;
+        wf = opened_is_wf lim h p.sound p.bytes is_fine v i;
+        openable = λ area room. record {
+          index = rw (← x, ← y) at index_of;
+          few = p.few;
+          wf = formula.wf;
+          written = formula.written;
+          opens = sym (opened_deep lim h p.sound) ∙ i;
+          room = let z = records_weight v in omega (arith, z, room);
+        };
+      }
+
+      pub ready : w ≤ lim → (r : Plan) → r.weight ≡ w → r.which ≡ which → r.from ≡ from → Planned lim h (opening lim h) (Ok r)
+      ready b r e x y =
+          let k = weighed in
+          let m = k.weight_is in
+          let q : w ≡ weight k.tree = omega arith in
+          let l : weight k.tree ≤ lim = omega arith in
+          subst (λ (o : Opening). Planned lim h o (Ok r)) (sym (is_opening ∙ ap (opening_of lim) k.is ∙ light_enough k.tree l))
+          (plan r e x y k.tree k.is q l)

@@ -7,9 +7,11 @@ use mathlib.Core.List.{List}
 use mathlib.Core.Option.{Option, none, some}
 use native.Mathlib.Nat.{zero-add, add-zero, sub-zero}
 use native.Mathlib.Omega.{arith}
-use lib.ListN.{length, get_or, set, drop, length-take}
+use lib.ListN.{length, get_or, set, replicate}
+use Rattle.std.specs.Prelude.{Some, None, IfSome}
+use Rattle.std.specs.Prelude as code
 use lib.Seq.{get_or-set_same, get_or-set_other}
-use lib.Dec.{eqb, lit<}
+use lib.Dec.{eqb}
 use borrow.Author.Tests.{eq-eqb, ne_eqb}
 use Rattle.paper.specs.Bytes.{Bytes}
 use Rattle.paper.specs.Tree.{Tree, weight}
@@ -17,13 +19,13 @@ use Rattle.paper.specs.WellFormed.{WF}
 use Rattle.paper.specs.Record.{kind, symbol_in}
 use Rattle.paper.specs.Verdict.{records_in}
 use Rattle.paper.specs.Table.{encode}
-use Rattle.paper.proofs.EncodeLaws.{encode_bytes, records_pos, records_weight}
+use Rattle.paper.proofs.EncodeLaws.{encode_bytes}
 use Rattle.paper.proofs.RecordLaws.{symbol_lt}
 use Rattle.paper_shared.specs.Shared.{Definition, defined, make, open_within, again_within}
 use Rattle.paper_shared.specs.Records.{joined, over_records, instead, weight_at, weigh_from, weight_for}
 use Rattle.paper_shared.proofs.FlatLaws.{opened_weight}
-use Rattle.replace.specs.Weighed.{known, told, capped, count_of, counts, count_at, weighs, most_counted, most_bytes}
-use Rattle.replace.specs.Index.{piece_at, Lies, Found, FoundAt, Index, Knows}
+use Rattle.replace.specs.Weighed.{known, told, capped, count_of, counts, count_at, weighs, most_counted, AllCounted}
+use Rattle.replace.specs.Index.{piece_at, Found, FoundAt, Index, Knows}
 use Rattle.replace.proofs.PartLaws.{either_way}
 
 pub capped_adds : (lim : ℕ) (o p : Option ℕ) → capped lim (joined ◌+◌ o p) ≡ capped lim (joined ◌+◌ (capped lim o) (capped lim p))
@@ -64,41 +66,37 @@ module _ (lim : ℕ) (f g : ℕ → ℕ → Option ℕ) (e : (x own : ℕ) → x
       ∙ rw (here_alike i, weigh_alike n (i + 1)) (sym (capped_adds lim (here g s i) (weigh_from g s (i + 1) n)))
       ∙ sym (ap (capped lim) (weigh_suc g s i n))
 
--- a weight of a tree, as a number, loses nothing
-pub weight_positive : (t : Tree) → 0 < weight t
-weight_positive t = let a = records_pos t in let b = records_weight t in omega arith
+known_told : (o : Option ℕ) → known (told o) ≡ o
+unfolding known told
+known_told none = refl
+known_told (some w) = refl
 
-known_told : (lim : ℕ) (o : Option Tree) → capped lim (known (told (capped lim (make weight o)))) ≡ capped lim (make weight o)
-unfolding known told capped make
-known_told lim none = refl
-known_told lim (some v) = go (weight v) (weight_positive v)
-  where
-    pos : (k : ℕ) → 0 < k → capped lim (known k) ≡ some (min k (lim + 1))
-    pos zero l = absurd (omega arith)
-    pos (suc k) l = refl
-
-    go : (w : ℕ) → 0 < w → capped lim (known (min w (lim + 1))) ≡ some (min w (lim + 1))
-    go w l = pos (min w (lim + 1)) (omega arith) ∙ ap some (omega arith)
+capped_twice : (lim : ℕ) (o : Option ℕ) → capped lim (capped lim o) ≡ capped lim o
+unfolding capped make
+capped_twice lim none = refl
+capped_twice lim (some w) = ap some (omega arith)
 
 -- what a symbol counts is the capped weight of what replaces it
-module _ (lim : ℕ) (ds : List Definition) (definitions which from weights : List ℕ) (n r : ℕ)
+module _ (lim : ℕ) (ds : List Definition) (definitions which from : List ℕ) (weights : List (code.Option ℕ)) (n r : ℕ)
     (index : Index ds definitions which from n) (knows : Knows lim ds which weights r) where
   counts_known : (x own : ℕ) → x < 256 → capped lim (counts which weights x own) ≡ capped lim (weight_for ds (again_within ds r) x own)
   unfolding counts count_of weight_for instead
   counts_known x own l = go (defined ds x) refl (index.finds x l) (knows x)
     where
-      found : (c k : ℕ) → 0 < c → get_or weights (c - 1) 0 ≡ k → count_of weights own c ≡ known k
+      found : (c : ℕ) (k : code.Option ℕ) → 0 < c → get_or weights (c - 1) None ≡ k → count_of weights own c ≡ known k
       found zero k p e = absurd (omega arith)
-      found (suc c) k p e = let q : suc c - 1 ≡ c = omega arith in ap known (sym (ap (λ (m : ℕ). get_or weights m 0) q) ∙ e)
+      found (suc c) k p e = let q : suc c - 1 ≡ c = omega arith in ap known (sym (ap (λ (m : ℕ). get_or weights m None) q) ∙ e)
 
       none_found : (c : ℕ) → c ≡ 0 → count_of weights own c ≡ some own
       none_found c e = rw e
 
       go : (o : Option Tree) → defined ds x ≡ o → Found definitions from n (get_or which x 0) o
-          → ((u : Tree) → x < 256 → defined ds x ≡ some u → get_or weights (get_or which x 0 - 1) 0 ≡ told (capped lim (make weight (again_within ds r u))))
+          → ((u : Tree) → x < 256 → defined ds x ≡ some u → get_or weights (get_or which x 0 - 1) None ≡ told (capped lim (make weight (again_within ds r u))))
           → capped lim (count_of weights own (get_or which x 0)) ≡ capped lim (instead own (λ u. make weight (again_within ds r u)) o)
       go none e f k = ap (capped lim) (none_found (get_or which x 0) f)
-      go (some u) e f k = ap (capped lim) (found (get_or which x 0) _ f.positive (k u l e)) ∙ known_told lim (again_within ds r u)
+      go (some u) e f k =
+          ap (capped lim) (found (get_or which x 0) _ f.positive (k u l e) ∙ known_told (capped lim (make weight (again_within ds r u))))
+          ∙ capped_twice lim (make weight (again_within ds r u))
 
   -- a table counts what its tree weighs, opened r deep
   pub weighs_opened : (t : Tree) → WF t → weighs lim which weights (encode t) ≡ told (capped lim (make weight (open_within ds r t)))
@@ -109,7 +107,8 @@ module _ (lim : ℕ) (ds : List Definition) (definitions which from weights : Li
       ∙ ap (capped lim) (opened_weight ds r t w))
 
   -- one round
-  knows_more : (next : List ℕ) → ((j : ℕ) → j < n → get_or next j 0 ≡ weighs lim which weights (piece_at definitions from j)) → Knows lim ds which next (suc r)
+  knows_more : (next : List (code.Option ℕ)) → ((j : ℕ) → j < n → get_or next j None ≡ weighs lim which weights (piece_at definitions from j))
+      → Knows lim ds which next (suc r)
   unfolding again_within
   knows_more next e x u l d =
       let f = told_found x u d (index.finds x l) in
@@ -121,12 +120,13 @@ module _ (lim : ℕ) (ds : List Definition) (definitions which from weights : Li
           → FoundAt definitions from n (get_or which x 0) u
       told_found x u d f = subst (λ (o : Option Tree). Found definitions from n (get_or which x 0) o) d f
 
-  pub knows_next : (next : List ℕ) → ((j : ℕ) → j < n → get_or next j 0 ≡ weighs lim which weights (piece_at definitions from j)) → Knows lim ds which
-      next (r + 1)
+  pub knows_next : (next : List (code.Option ℕ)) → ((j : ℕ) → j < n → get_or next j None ≡ weighs lim which weights (piece_at definitions from j))
+      → Knows lim ds which next (r + 1)
   knows_next next e = let q : suc r ≡ r + 1 = omega arith in subst (λ (m : ℕ). Knows lim ds which next m) q (knows_more next e)
 
 -- before the first round nothing is known
-pub knows_none : (lim : ℕ) (ds : List Definition) (which weights : List ℕ) → ((j : ℕ) → get_or weights j 0 ≡ 0) → Knows lim ds which weights 0
+pub knows_none : (lim : ℕ) (ds : List Definition) (which : List ℕ) (weights : List (code.Option ℕ)) → ((j : ℕ) → get_or weights j None ≡ None)
+    → Knows lim ds which weights 0
 unfolding told capped make again_within
 knows_none lim ds which weights h x u l d = h (get_or which x 0 - 1)
 
@@ -145,41 +145,18 @@ unfolding joined
 joined_joined w k none = refl
 joined_joined w k (some a) = ap some (omega arith)
 
-count_some : (o : Option ℕ) (k : ℕ) → k ≡ told o → 0 < k → o ≡ some k
+there : (o : Option ℕ) (k : ℕ) → Some k ≡ told o → o ≡ some k
 unfolding told
-count_some none k e p = absurd (omega arith)
-count_some (some a) k e p = ap some (sym e)
+there none k e = cc
+there (some a) k e = cc
 
--- a count of 0 stands for none
-known_none : (k : ℕ) → told (known k) ≡ 0 → known k ≡ none
-unfolding known told
-known_none zero e = refl
-known_none (suc k) e = absurd (omega arith)
-
-counts_none : (weights : List ℕ) (own c : ℕ) → 0 < own → told (count_of weights own c) ≡ 0 → count_of weights own c ≡ none
-unfolding count_of told
-counts_none weights own zero p e = absurd (omega arith)
-counts_none weights own (suc j) p e = known_none (get_or weights j 0) e
-
-pub own_positive : (s : List ℕ) (i : ℕ) → 0 < weight_at s i
-unfolding weight_at
-own_positive s i = go (eqb (kind s i) 1)
-  where
-    go : (b : Bool) → 0 < cond b 3 1
-    go true = lit< tt
-    go false = lit< tt
-
-count_none : (which weights s : List ℕ) (i : ℕ) → told (count_at which weights s i) ≡ 0 → count_at which weights s i ≡ none
-unfolding count_at counts told
-count_none which weights s i e = go (eqb (kind s i) 1) e
-  where
-    go : (b : Bool) → told (cond b (count_of weights (weight_at s i) (get_or which (symbol_in s i) 0)) (some (weight_at s i))) ≡ 0
-        → cond b (count_of weights (weight_at s i) (get_or which (symbol_in s i) 0)) (some (weight_at s i)) ≡ none
-    go true e = counts_none weights (weight_at s i) (get_or which (symbol_in s i) 0) (own_positive s i) e
-    go false e = absurd (let p = own_positive s i in omega arith)
+not_there : (o : Option ℕ) → None ≡ told o → o ≡ none
+unfolding told
+not_there none e = refl
+not_there (some a) e = cc
 
 -- ---- one table's loop: what is added so far, and the records left
-module _ (which weights s : List ℕ) (n : ℕ) where
+module _ (which : List ℕ) (weights : List (code.Option ℕ)) (s : List ℕ) (n : ℕ) where
   -- the records from i on, on top of w
   unfoldable pub on_top : ℕ → ℕ → Option ℕ
   on_top w i = joined ◌+◌ (some w) (weigh_from (counts which weights) s i (n - i))
@@ -195,74 +172,74 @@ module _ (which weights s : List ℕ) (n : ℕ) where
       let q : n - i ≡ suc (n - (i + 1)) = omega arith in
       rw q (ap (λ (o : Option ℕ). joined ◌+◌ (some w) o) (weigh_suc (counts which weights) s i (n - (i + 1))))
 
-  pub on_top_stops : (w i : ℕ) → i < n → told (count_at which weights s i) ≡ 0 → on_top w i ≡ none
-  on_top_stops w i l e = next w i l ∙ rw (count_none which weights s i e) (none_joined w (weigh_from (counts which weights) s (i + 1) (n - (i + 1))))
+  pub on_top_stops : (w i : ℕ) → i < n → None ≡ told (count_at which weights s i) → on_top w i ≡ none
+  on_top_stops w i l e = next w i l ∙ rw (not_there (count_at which weights s i) e) (none_joined w (weigh_from (counts which weights) s (i + 1) (n - (i + 1))))
 
-  pub on_top_turn : (w i k : ℕ) → i < n → k ≡ told (count_at which weights s i) → 0 < k → on_top (w + k) (i + 1) ≡ on_top w i
+  pub on_top_turn : (w i k : ℕ) → i < n → Some k ≡ told (count_at which weights s i) → on_top (w + k) (i + 1) ≡ on_top w i
   unfolding on_top
-  on_top_turn w i k l e p =
+  on_top_turn w i k l e =
       joined_joined w k (weigh_from (counts which weights) s (i + 1) (n - (i + 1)))
-      ∙ sym (next w i l ∙ rw (count_some (count_at which weights s i) k e p))
+      ∙ sym (next w i l ∙ rw (there (count_at which weights s i) k e))
 
   pub on_top_ends : (w i : ℕ) → n ≤ i → on_top w i ≡ some w
   unfolding on_top joined
   on_top_ends w i l = let q : n - i ≡ 0 = omega arith in rw (q, weigh_none (counts which weights) s i) (ap some (add-zero w))
 
 -- so the table counts the sum, capped, and nothing where a record counts nothing
-pub weighs_none : (lim : ℕ) (which weights s : List ℕ) (w i n : ℕ) → n ≡ records_in s → on_top which weights s n w i ≡ weigh_from (counts which weights) s 0 n
-    → on_top which weights s n w i ≡ none → 0 ≡ weighs lim which weights s
-unfolding weighs capped told make
-weighs_none lim which weights s w i n r e h = rw (← r) (rw (sym e ∙ h))
+module _ (lim : ℕ) (which : List ℕ) (weights : List (code.Option ℕ)) (s : List ℕ) (w i n : ℕ) (r : n ≡ records_in s)
+    (e : on_top which weights s n w i ≡ weigh_from (counts which weights) s 0 n) where
+  pub weighs_none : on_top which weights s n w i ≡ none → None ≡ weighs lim which weights s
+  unfolding weighs capped told make
+  weighs_none h = rw (← r) (rw (sym e ∙ h))
 
-pub weighs_sum : (lim : ℕ) (which weights s : List ℕ) (w i n k : ℕ) → n ≡ records_in s → on_top which weights s n w i ≡ weigh_from (counts which weights) s 0 n
-    → on_top which weights s n w i ≡ some w → k ≡ min w (lim + 1) → k ≡ weighs lim which weights s
-unfolding weighs capped told make
-weighs_sum lim which weights s w i n k r e h m = rw (← r) (rw (sym e ∙ h) m)
+  pub weighs_sum : on_top which weights s n w i ≡ some w → Some (min w (lim + 1)) ≡ weighs lim which weights s
+  unfolding weighs capped told make
+  weighs_sum h = rw (← r) (rw (sym e ∙ h) refl)
 
 -- ---- what one record counts
-told_known : (k : ℕ) → k ≡ told (known k)
+told_known : (k : code.Option ℕ) → k ≡ told (known k)
 unfolding told known
-told_known zero = refl
-told_known (suc k) = refl
+told_known None = refl
+told_known (Some k) = refl
 
-module _ (which weights s : List ℕ) (i : ℕ) where
-  pub count_other : ¬ (kind s i ≡ 1) → 1 ≡ told (count_at which weights s i)
+module _ (which : List ℕ) (weights : List (code.Option ℕ)) (s : List ℕ) (i : ℕ) where
+  pub count_other : ¬ (kind s i ≡ 1) → Some 1 ≡ told (count_at which weights s i)
   unfolding count_at told weight_at
   count_other n = rw (ne_eqb (kind s i) 1 n)
 
-  pub count_plain : kind s i ≡ 1 → (c : ℕ) → c ≡ get_or which (symbol_in s i) 0 → c ≡ 0 → 3 ≡ told (count_at which weights s i)
+  pub count_plain : kind s i ≡ 1 → get_or which (symbol_in s i) 0 ≡ 0 → Some 3 ≡ told (count_at which weights s i)
   unfolding count_at counts count_of told weight_at
-  count_plain e c q z = rw (eq-eqb (kind s i) 1 e, ← q, z)
+  count_plain e z = rw (eq-eqb (kind s i) 1 e, z)
 
-  pub count_defined : kind s i ≡ 1 → (c : ℕ) → c ≡ get_or which (symbol_in s i) 0 → 0 < c → get_or weights (c - 1) 0 ≡ told (count_at which weights s i)
+  pub count_defined : kind s i ≡ 1 → (k : ℕ) → get_or which (symbol_in s i) 0 ≡ k + 1 → get_or weights k None ≡ told (count_at which weights s i)
   unfolding count_at counts count_of weight_at
-  count_defined e c q p = rw (eq-eqb (kind s i) 1 e, ← q) (of_place c p)
-    where
-      of_place : (c : ℕ) → 0 < c → get_or weights (c - 1) 0 ≡ told (count_of weights 3 c)
-      of_place zero p = absurd (omega arith)
-      of_place (suc c) p = let m : suc c - 1 ≡ c = omega arith in ap (λ (x : ℕ). get_or weights x 0) m ∙ told_known (get_or weights c 0)
+  count_defined e k q =
+      let m : k + 1 ≡ suc k = omega arith in
+      rw (eq-eqb (kind s i) 1 e, q ∙ m) (told_known (get_or weights k None))
 
 -- ---- rounds
-pub piece_short : (definitions from : List ℕ) (j : ℕ) → Lies definitions from j → length (piece_at definitions from j) ≤ most_bytes
-unfolding piece_at
-piece_short definitions from j y =
-    let e = length-take (get_or from (j + 1) 0 - get_or from j 0) (drop (get_or from j 0) definitions) in
-    let s = y.short in
-    omega arith
+pub nones : (n j : ℕ) → get_or {A = code.Option ℕ} (replicate n None) j None ≡ None
+nones zero j = refl
+nones (suc n) zero = refl
+nones (suc n) (suc j) = nones n j
 
-pub next_turn : (next : List ℕ) (P : ℕ → ℕ) (j r : ℕ) → length next ≡ 16 → j < 16 → r ≡ P j → ((k : ℕ) → k < j → get_or next k 0 ≡ P k)
-    → (k : ℕ) → k < j + 1 → get_or (set next j r) k 0 ≡ P k
+pub next_turn : (next : List (code.Option ℕ)) (P : ℕ → code.Option ℕ) (j : ℕ) (r : code.Option ℕ) → length next ≡ 16 → j < 16 → r ≡ P j
+    → ((k : ℕ) → k < j → get_or next k None ≡ P k) → (k : ℕ) → k < j + 1 → get_or (set next j r) k None ≡ P k
 next_turn next P j r l m e h k u =
     either_way k j
-    (λ q. rw q (get_or-set_same next j r 0 (omega arith) ∙ e))
-    (λ q. get_or-set_other next j k r 0 q ∙ h k (omega (arith, q)))
+    (λ q. rw q (get_or-set_same next j r None (omega arith) ∙ e))
+    (λ q. get_or-set_other next j k r None q ∙ h k (omega (arith, q)))
 
-pub next_bound : (next : List ℕ) (j r : ℕ) → length next ≡ 16 → j < 16 → r ≤ most_counted → ((k : ℕ) → k < 16 → get_or next k 0 ≤ most_counted)
-    → (k : ℕ) → k < 16 → get_or (set next j r) k 0 ≤ most_counted
-next_bound next j r l m e h k u =
+pub next_counted : (next : List (code.Option ℕ)) (j : ℕ) (r : code.Option ℕ) → length next ≡ 16 → j < 16 → IfSome r (λ w. w ≤ most_counted)
+    → AllCounted next → AllCounted (set next j r)
+next_counted next j r l m e h k u =
+    let Counted : code.Option ℕ → Type 0 = λ o. IfSome o (λ w. w ≤ most_counted) in
     either_way k j
-    (λ q. rw q (let s = get_or-set_same next j r 0 (omega arith) in omega (arith, s)))
-    (λ q. let s = get_or-set_other next j k r 0 q in let b = h k u in omega (arith, s, b))
+    (λ q. subst Counted (sym (ap (λ i. get_or (set next j r) i None) q ∙ get_or-set_same next j r None (omega arith))) e)
+    (λ q. subst Counted (sym (get_or-set_other next j k r None q)) (h k u))
+
+pub none_counted : (n : ℕ) → AllCounted (replicate n None)
+none_counted n j l = subst (λ (o : code.Option ℕ). IfSome o (λ w. w ≤ most_counted)) (sym (nones n j)) tt
 
 pub which_few : (ds : List Definition) (definitions which from : List ℕ) (n : ℕ) → Index ds definitions which from n → n ≤ 16
     → (x : ℕ) → x < 256 → get_or which x 0 ≤ 16

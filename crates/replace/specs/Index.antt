@@ -1,6 +1,7 @@
 -- Where the definition of each symbol is found: `which` has 1 + its number for a symbol, 0 for one that is not defined, and `from` where each
 -- of the n definitions begins, and where the last one ends.
 use Rattle.std.specs.Prelude.{ℕ, ◌+◌, ◌-◌, ◌*◌, ◌≤◌, ◌<◌, ◌≡◌, List, length, get_or, take, drop}
+use Rattle.std.specs.Prelude as code
 use Rattle.std.proofs.Math.Option.{Option, none, some}
 use Rattle.paper.specs.Tree.{Tree, weight, records}
 use Rattle.paper.specs.WellFormed.{WF}
@@ -35,10 +36,10 @@ pub record Index (ds : List Definition) (definitions which from : List ℕ) (n :
   pub finds : (x : ℕ) → x < 256 → Found definitions from n (get_or which x 0) (defined ds x)
 
 -- the capped weight of each definition found, opened r deep (not at all where r is 0)
-abbrev pub Knows : ℕ → List Definition → List ℕ → List ℕ → ℕ → Type 0
+abbrev pub Knows : ℕ → List Definition → List ℕ → List (code.Option ℕ) → ℕ → Type 0
 Knows lim ds which weights r =
     (x : ℕ) (u : Tree) → x < 256 → defined ds x ≡ some u
-    → get_or weights (get_or which x 0 - 1) 0 ≡ told (capped lim (make weight (again_within ds r u)))
+    → get_or weights (get_or which x 0 - 1) code.None ≡ told (capped lim (make weight (again_within ds r u)))
 
 -- the table s holds the tree t, which is opened `deep` deep to v, and v has room from record d of the area on
 pub record Openable (ds : List Definition) (definitions which from s area : List ℕ) (n deep d : ℕ) (t v : Tree) : Type 0 where

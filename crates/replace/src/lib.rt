@@ -2,18 +2,17 @@
 // opened table is the formula's records in order, each record of a defined symbol replaced by the opened records of its definition.
 #![tactic(auto)]
 
-ghost use Rattle.std.specs.Prelude.{◌≡◌, List, cond, ℕ, ◌+◌, ◌-◌, ◌*◌, ◌<◌, ◌≤◌, length, get_or, eqb};
+ghost use Rattle.std.specs.Prelude.{◌≡◌, List, cond, ℕ, ◌+◌, ◌-◌, ◌*◌, ◌<◌, ◌≤◌, length, get_or, eqb, IfSome, MatchOption};
 ghost use Rattle.paper.specs.Tree.{Tree};
 ghost use Rattle.paper.specs.Record.{kind, symbol_in};
 ghost use Rattle.paper_shared.specs.Shared.{Definition};
 ghost use Rattle.paper_shared.specs.Answers.{length_at, beginning, table_at, misses, any_refused, is_among, twice, opening};
-ghost use Rattle.replace.specs.Weighed.{told, count_at, weighs, most_counted, most_bytes};
+ghost use Rattle.replace.specs.Weighed.{told, count_at, weighs, most_counted, most_bytes, AllCounted};
 ghost use Rattle.replace.specs.Index.{piece_at, Lies, Index, Knows, Openable, Holding};
 ghost use Rattle.replace.specs.Place.{place_from};
 ghost use Rattle.replace.specs.Planned.{handed, Planned};
 
-use record::Flaw;
-use table::SYMBOL_WEIGHS;
+use table::{Refusal, SYMBOL_WEIGHS};
 
 // The most definitions, and the most places where one begins or the last one ends.
 const DEFINITIONS: usize = 16;
@@ -26,56 +25,28 @@ const SYMBOLS: usize = 256;
 // The bytes of the length of a definition.
 const LENGTH: usize = 8;
 
-// The numbers of the refusals: the lengths miss the bytes, a definition is refused, over sixteen or a symbol twice, no end to replacing, and an
-// opened tree that is too heavy.
-const LENGTHS: u32 = 8;
-
-const DEFINITION: u32 = 15;
-
-const DEFINED: u32 = 16;
-
-const ENDLESS: u32 = 17;
-
-const TOO_HEAVY: u32 = 18;
-
-// A refusal's number and place, and after 2 what is wrong with the record; or 0 and 0 and the weight of the opened tree, the definition of
-// each symbol + 1, and where each begins.
+// The weight of the opened tree, the definition of each symbol + 1, and where each begins.
 #[derive(Clone, Copy)]
 pub struct Plan {
-    pub number: u32,
-    pub place: usize,
-    pub flaw: Flaw,
     pub weight: usize,
     pub which: [u8; SYMBOLS],
     pub from: [usize; PLACES],
-}
-
-// A byte as a number.
-fn wide(x: u8) -> usize
-    ensures { (result ≡ x) × (result < 256) }
-{
-    x as usize
 }
 
 // 8: the lists differ in length, or the lengths miss the bytes. Each length is taken off what is left, since their sum can wrap round.
 fn misses(symbols: &[u8], lengths: &[u8], definitions: &[u8]) -> bool
     ensures { result ≡ misses symbols.now lengths.now definitions.now }
 {
-    if 0 < lengths.len() % LENGTH {
+    if 0 < lengths.len() % LENGTH || lengths.len() / LENGTH != symbols.len() {
         return true;
     }
-    if lengths.len() / LENGTH != symbols.len() {
-        return true;
-    }
-    let mut left = definitions.len();
-    let mut i = 0;
-    while i < symbols.len() {
+    let mut left = definitions.len() as u64;
+    for i in 0..symbols.len() {
         let n = number::read8(lengths, i * LENGTH);
-        if (left as u64) < n {
+        if left < n {
             return true;
         }
-        left -= n as usize;
-        i += 1;
+        left -= n;
     }
     0 < left
 }
@@ -85,16 +56,13 @@ fn any_refused(limit: usize, n: usize, lengths: &[u8], definitions: &[u8]) -> bo
     requires { (n * 8 ≤ length lengths.now) × (beginning lengths.now n ≤ length definitions.now) }
     ensures { result ≡ any_refused limit lengths.now definitions.now 0 n }
 {
-    let mut a: usize = 0;
-    let mut i = 0;
-    while i < n {
+    let mut a = 0;
+    for i in 0..n {
         let e = a + number::read8(lengths, i * LENGTH) as usize;
-        let f = table::fault_of(table::check(limit, &definitions[a..e]));
-        if 0 < f.number {
+        if table::check(limit, &definitions[a..e]).is_err() {
             return true;
         }
         a = e;
-        i += 1;
     }
     false
 }
@@ -104,26 +72,17 @@ fn is_among(x: u8, symbols: &[u8], i: usize) -> bool
     requires { i ≤ length symbols.now }
     ensures { result ≡ is_among x symbols.now i (length symbols.now - i) }
 {
-    let mut j = i;
-    while j < symbols.len() {
-        if symbols[j] == x {
-            return true;
-        }
-        j += 1;
-    }
-    false
+    symbols[i..].contains(&x)
 }
 
 // 16: a symbol is defined twice.
 fn twice(symbols: &[u8]) -> bool
     ensures { result ≡ twice symbols.now 0 (length symbols.now) }
 {
-    let mut i = 0;
-    while i < symbols.len() {
-        if is_among(symbols[i], symbols, i + 1) {
+    for (i, x) in symbols.iter().enumerate() {
+        if is_among(*x, symbols, i + 1) {
             return true;
         }
-        i += 1;
     }
     false
 }
@@ -134,10 +93,8 @@ fn which_of(symbols: &[u8]) -> [u8; SYMBOLS]
     ensures { (x : ℕ) → x < 256 → get_or result x 0 ≡ place_from symbols.now x 0 (length symbols.now) }
 {
     let mut which = [0u8; SYMBOLS];
-    let mut i = symbols.len();
-    while 0 < i {
-        i -= 1;
-        which[wide(symbols[i])] = (i + 1) as u8;
+    for i in (0..symbols.len()).rev() {
+        which[usize::from(symbols[i])] = (i + 1) as u8;
     }
     which
 }
@@ -148,64 +105,72 @@ fn from_of(n: usize, lengths: &[u8]) -> [usize; PLACES]
     ensures { (j : ℕ) → j ≤ n → get_or result j 0 ≡ beginning lengths.now j }
 {
     let mut from = [0usize; PLACES];
-    let mut a: usize = 0;
-    let mut i = 0;
-    while i < n {
+    let mut a = 0;
+    for i in 0..n {
         a += number::read8(lengths, i * LENGTH) as usize;
-        i += 1;
-        from[i] = a;
+        from[i + 1] = a;
     }
     from
 }
 
-// 1 + the definition of the symbol of record i; 0 where that is none, or the record no symbol's.
-fn found(s: &[u8], i: usize, which: &[u8; SYMBOLS]) -> usize
+// The definition of a symbol; none where it has none.
+fn definition_of(which: &[u8; SYMBOLS], symbol: u8) -> Option<usize>
+    ensures { MatchOption result (get_or which.now symbol 0 ≡ 0)
+        (λ k. get_or which.now symbol 0 ≡ k + 1) }
+{
+    usize::from(which[usize::from(symbol)]).checked_sub(1)
+}
+
+// The definition of the symbol of record i; none where that has none, or the record is no symbol's.
+fn found(s: &[u8], i: usize, which: &[u8; SYMBOLS]) -> Option<usize>
     requires { i * 16 + 16 ≤ length s.now }
-    ensures { result ≡ cond (eqb (kind s.now i) 1) (get_or which.now (symbol_in s.now i) 0) 0 }
+    ensures { let place = cond (eqb (kind s.now i) 1) (get_or which.now (symbol_in s.now i) 0) 0 in
+        MatchOption result (place ≡ 0) (λ k. place ≡ k + 1) }
 {
     if record::kind(s, i) != record::SYMBOL {
-        return 0;
+        return None;
     }
-    wide(which[wide(record::symbol(s, i))])
+    definition_of(which, record::symbol(s, i))
 }
 
-// What record i counts: 1, a symbol 3, a defined symbol what is known of its definition, 0 where that is nothing.
-fn counted(s: &[u8], i: usize, which: &[u8; SYMBOLS], weights: &[usize; DEFINITIONS]) -> usize
+// What record i counts: 1, a symbol 3, a defined symbol what is known of its definition; nothing where that is nothing.
+fn counted(
+    s: &[u8],
+    i: usize,
+    which: &[u8; SYMBOLS],
+    weights: &[Option<usize>; DEFINITIONS],
+) -> Option<usize>
     requires { (i * 16 + 16 ≤ length s.now) × ((x : ℕ) → x < 256 → get_or which.now x 0 ≤ 16)
-        × ((j : ℕ) → j < 16 → get_or weights.now j 0 ≤ most_counted) }
-    ensures { (result ≡ told (count_at which.now weights.now s.now i)) × (result ≤ most_counted) }
+        × AllCounted weights.now }
+    ensures counts { result ≡ told (count_at which.now weights.now s.now i) }
+    ensures few { IfSome result (λ w. w ≤ most_counted) }
 {
     if record::kind(s, i) != record::SYMBOL {
-        return 1;
+        return Some(1);
     }
-    let c = wide(which[wide(record::symbol(s, i))]);
-    if c < 1 {
-        return SYMBOL_WEIGHS;
+    match definition_of(which, record::symbol(s, i)) {
+        Some(k) => weights[k],
+        None => Some(SYMBOL_WEIGHS),
     }
-    weights[c - 1]
 }
 
-// The weight of a table, opened, from the weights of the definitions; one over the limit where it is too heavy, 0 where it cannot be opened.
-fn weigh(limit: usize, s: &[u8], which: &[u8; SYMBOLS], weights: &[usize; DEFINITIONS]) -> usize
+// The weight of a table, opened, from the weights of the definitions; one over the limit where it is too heavy, none where it cannot be opened.
+fn weigh(
+    limit: usize,
+    s: &[u8],
+    which: &[u8; SYMBOLS],
+    weights: &[Option<usize>; DEFINITIONS],
+) -> Option<usize>
     requires { (limit ≤ 16384) × (length s.now ≤ most_bytes) × ((x : ℕ) → x < 256 → get_or which.now x 0 ≤ 16)
-        × ((j : ℕ) → j < 16 → get_or weights.now j 0 ≤ most_counted) }
-    ensures { (result ≡ weighs limit which.now weights.now s.now) × (result ≤ most_counted) }
+        × AllCounted weights.now }
+    ensures weighs { result ≡ weighs limit which.now weights.now s.now }
+    ensures few { IfSome result (λ w. w ≤ most_counted) }
 {
-    let n = s.len() / record::SIZE;
     let mut w = 0;
-    let mut i = 0;
-    while i < n {
-        let more = counted(s, i, which, weights);
-        if more < 1 {
-            return 0;
-        }
-        w += more;
-        i += 1;
+    for i in 0..s.len() / record::SIZE {
+        w += counted(s, i, which, weights)?;
     }
-    if limit < w {
-        return limit + 1;
-    }
-    w
+    Some(w.min(limit + 1))
 }
 
 // The weights of the n definitions, opened one deeper than those that are known.
@@ -215,21 +180,17 @@ fn round(
     which: &[u8; SYMBOLS],
     from: &[usize; PLACES],
     n: usize,
-    weights: &[usize; DEFINITIONS],
-) -> [usize; DEFINITIONS]
+    weights: &[Option<usize>; DEFINITIONS],
+) -> [Option<usize>; DEFINITIONS]
     requires { (limit ≤ 16384) × (n ≤ 16) × ((j : ℕ) → j < n → Lies definitions.now from.now j)
-        × ((x : ℕ) → x < 256 → get_or which.now x 0 ≤ 16) × ((j : ℕ) → j < 16 → get_or weights.now j 0 ≤ most_counted) }
-    ensures { ((j : ℕ) → j < n
-        → get_or result j 0 ≡ weighs limit which.now weights.now (piece_at definitions.now from.now j))
-        × ((j : ℕ) → j < 16 → get_or result j 0 ≤ most_counted) }
+        × ((x : ℕ) → x < 256 → get_or which.now x 0 ≤ 16) × AllCounted weights.now }
+    ensures weighs { (j : ℕ) → j < n
+        → get_or result j None ≡ weighs limit which.now weights.now (piece_at definitions.now from.now j) }
+    ensures few { AllCounted result }
 {
-    let mut next = [0usize; DEFINITIONS];
-    let mut j = 0;
-    while j < n {
-        let a = from[j];
-        let e = from[j + 1];
-        next[j] = weigh(limit, &definitions[a..e], which, weights);
-        j += 1;
+    let mut next = [None; DEFINITIONS];
+    for j in 0..n {
+        next[j] = weigh(limit, &definitions[from[j]..from[j + 1]], which, weights);
     }
     next
 }
@@ -241,18 +202,15 @@ fn rounds(
     which: &[u8; SYMBOLS],
     from: &[usize; PLACES],
     n: usize,
-) -> [usize; DEFINITIONS]
+) -> [Option<usize>; DEFINITIONS]
     requires { (limit ≤ 16384) × (n ≤ 16) × ((ds : List Definition) × Index ds definitions.now which.now from.now n) }
-    ensures { ((ds : List Definition) → Index ds definitions.now which.now from.now n
-        → Knows limit ds which.now result n)
-        × ((j : ℕ) → j < 16 → get_or result j 0 ≤ most_counted) }
+    ensures knows { (ds : List Definition) → Index ds definitions.now which.now from.now n
+        → Knows limit ds which.now result n }
+    ensures few { AllCounted result }
 {
-    let mut weights = [0usize; DEFINITIONS];
-    let mut r = 0;
-    while r < n {
-        let next = round(limit, definitions, which, from, n, &weights);
-        weights = next;
-        r += 1;
+    let mut weights = [None; DEFINITIONS];
+    for _ in 0..n {
+        weights = round(limit, definitions, which, from, n, &weights);
     }
     weights
 }
@@ -274,44 +232,27 @@ pub fn open_records(
         → Openable ds definitions.now which.now from.now s.now area.old n deep d t v
         → Holding v d result area.old area.new }
 {
-    let n = s.len() / record::SIZE;
     let mut at = d;
-    let mut i = 0;
-    while i < n {
-        let c = found(s, i, which);
-        if 0 < c {
-            let a = from[c - 1];
-            let e = from[c];
-            at = open_records(
-                definitions,
-                which,
-                from,
-                &definitions[a..e],
-                deep - 1,
-                area,
-                at,
-            );
-        } else {
-            stretch::copy_bytes(area, at * record::SIZE, s, i * record::SIZE, record::SIZE);
-            at += 1;
+    for i in 0..s.len() / record::SIZE {
+        match found(s, i, which) {
+            Some(k) => {
+                at = open_records(
+                    definitions,
+                    which,
+                    from,
+                    &definitions[from[k]..from[k + 1]],
+                    deep - 1,
+                    area,
+                    at,
+                );
+            }
+            None => {
+                stretch::copy_bytes(area, at * record::SIZE, s, i * record::SIZE, record::SIZE);
+                at += 1;
+            }
         }
-        i += 1;
     }
     at
-}
-
-// A refusal, and no plan.
-fn refusal(number: u32, place: usize, flaw: Flaw) -> Plan
-    ensures { (result.number ≡ number) × (result.place ≡ place) × (result.flaw ≡ flaw) }
-{
-    Plan {
-        number,
-        place,
-        flaw,
-        weight: 0,
-        which: [0u8; SYMBOLS],
-        from: [0usize; PLACES],
-    }
 }
 
 // What becomes of a formula: the first of 19, 8, 1 to 5, 15, 16, 17 and 18 that applies; or the weight of the opened tree, and where each
@@ -322,47 +263,36 @@ pub fn prepare(
     symbols: &[u8],
     lengths: &[u8],
     definitions: &[u8],
-) -> Plan
+) -> Result<Plan, Refusal>
     ensures { Planned limit (handed table.now symbols.now lengths.now definitions.now)
         (opening limit (handed table.now symbols.now lengths.now definitions.now)) result }
 {
     if !table::is_limit(limit) {
-        return refusal(table::LIMIT, 0, Flaw::Sound);
+        return Err(Refusal::Limit);
     }
     if misses(symbols, lengths, definitions) {
-        return refusal(LENGTHS, 0, Flaw::Sound);
+        return Err(Refusal::Lengths);
     }
-    let f = table::fault_of(table::check(limit, table));
-    let flaw = f.flaw;
-    if 0 < f.number {
-        return refusal(f.number, f.place, flaw);
-    }
+    table::check(limit, table)?;
     let n = symbols.len();
     if any_refused(limit, n, lengths, definitions) {
-        return refusal(DEFINITION, 0, Flaw::Sound);
+        return Err(Refusal::Definition);
     }
-    if DEFINITIONS < n {
-        return refusal(DEFINED, 0, Flaw::Sound);
-    }
-    if twice(symbols) {
-        return refusal(DEFINED, 0, Flaw::Sound);
+    if DEFINITIONS < n || twice(symbols) {
+        return Err(Refusal::Defined);
     }
     let which = which_of(symbols);
     let from = from_of(n, lengths);
     let weights = rounds(limit, definitions, &which, &from, n);
-    let weight = weigh(limit, table, &which, &weights);
-    if weight < 1 {
-        return refusal(ENDLESS, 0, Flaw::Sound);
-    }
+    let Some(weight) = weigh(limit, table, &which, &weights) else {
+        return Err(Refusal::Endless);
+    };
     if limit < weight {
-        return refusal(TOO_HEAVY, 0, Flaw::Sound);
+        return Err(Refusal::TooHeavy);
     }
-    Plan {
-        number: 0,
-        place: 0,
-        flaw: Flaw::Sound,
+    Ok(Plan {
         weight,
         which,
         from,
-    }
+    })
 }

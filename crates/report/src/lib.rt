@@ -27,7 +27,7 @@ const WORDS: usize = 128;
 // What stands between the system's words for an error and its number, where std writes it.
 const BEFORE_NUMBER: &str = " (os error ";
 
-// Why a call failed, in the system's words alone.
+// Why a call failed, in the system's words alone. What compares two files says it so too: it stands without the simplifier.
 fn reason(error: io::Error, room: &mut [u8; WORDS]) -> &str {
     let mut rest = &mut room[..];
     let _ = write!(rest, "{error}");
@@ -84,17 +84,22 @@ fn names(out: &mut impl Write, steps: &[u8], n: usize) -> io::Result<()> {
 }
 
 // Writes what is wrong with a record; nothing where nothing is.
-fn say_flaw(out: &mut impl Write, f: Flaw) -> io::Result<()> {
+fn say_flaw(out: &mut impl Write, f: Option<Flaw>) -> io::Result<()> {
     match f {
-        Flaw::Sound => Ok(()),
-        Flaw::Kind => out.write_all(b" kind"),
-        Flaw::Byte(j) => write!(out, " byte {j}"),
-        Flaw::Count => out.write_all(b" count"),
+        None => Ok(()),
+        Some(Flaw::Kind) => out.write_all(b" kind"),
+        Some(Flaw::Byte(j)) => write!(out, " byte {j}"),
+        Some(Flaw::Count) => out.write_all(b" count"),
     }
 }
 
 // Writes a refusal, a line: number, place, and what is wrong with a record.
-pub fn refuse(out: &mut impl Write, number: u32, place: usize, flaw: Flaw) -> io::Result<()> {
+pub fn refuse(
+    out: &mut impl Write,
+    number: u32,
+    place: usize,
+    flaw: Option<Flaw>,
+) -> io::Result<()> {
     write!(out, "refused {number} at {place}")?;
     say_flaw(out, flaw)?;
     out.write_all(b"\n")

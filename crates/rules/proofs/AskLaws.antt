@@ -24,8 +24,7 @@ use Rattle.part.specs.Like.{node_kind}
 use Rattle.rules.specs.Alike.{numbered, rule_of, first_for, end_for, combine_like, step_of, any_earlier}
 use Rattle.rules.specs.Asked.{Ready, AskedIs}
 use Rattle.rules.specs.Tried.{Answers}
-use Rattle.rules.specs.declared.Asked.TheVariants.{Nothing, Step}
-use Rattle.rules.specs.declared.Tried.TheVariants as tried
+use Rattle.std.specs.Prelude.{Some, None, Ok}
 use Rattle.rules.proofs.RuleLaws.{ready_seen, ready_again, IsNode, drops, zeroes, looks_elsewhere, combine_other, finds_none}
 
 -- the i-th step of the paper's order, and its rule; how many rules an edition has
@@ -141,7 +140,7 @@ begins {ed} {t} h e =
     record { same = (only_its_own ed (ready_seen h)).0 ∙ ap (λ n. ask (drop n (rules_of ed)) t) (sym e); ready = h; done = refl }
 
 pub ends : {ed : ℕ} {t : Tree} {rest o w : List ℕ} {d p i : ℕ} {o₁ w₁ : List ℕ} → Ready o w d p t rest → i ≡ end_for (kind w p) ed
-    → Going ed t rest o d p i o₁ w₁ → AskedIs (rules_of ed) t rest o o₁ w₁ d p Nothing
+    → Going ed t rest o d p i o₁ w₁ → AskedIs (rules_of ed) t rest o o₁ w₁ d p (Ok None)
 ends {ed} {t} h e g = (g.same ∙ ap (λ n. ask (drop n (rules_of ed)) t) e ∙ (only_its_own ed (ready_seen h)).1, g.ready.stands, g.done)
 
 -- what is asked when the first rule, of the step k, gave the outcome x and the rules rs are left
@@ -161,7 +160,7 @@ module _ {ed : ℕ} {t : Tree} {rest o : List ℕ} {d p i : ℕ} {o₁ w₁ : Li
   leaves e = answered paper.range_exceeded e
 
   module _ (o₂ w₂ : List ℕ) where
-    pub goes_on : length o₂ ≡ length o₁ → length w₂ ≡ length w₁ → Answers (rule_of (step_at i) t) rest o₁ o₂ w₁ w₂ d p tried.Idle
+    pub goes_on : length o₂ ≡ length o₁ → length w₂ ≡ length w₁ → Answers (rule_of (step_at i) t) rest o₁ o₂ w₁ w₂ d p (Ok None)
         → Going ed t rest o d p (i + 1) o₂ w₂
     goes_on a b x =
         record {
@@ -170,7 +169,8 @@ module _ {ed : ℕ} {t : Tree} {rest o : List ℕ} {d p i : ℕ} {o₁ w₁ : Li
           done = x.2 ∙ g.done;
         }
 
-    pub steps : (q : ℕ) → Answers (rule_of (step_at i) t) rest o₁ o₂ w₁ w₂ d p (tried.Applied q) → AskedIs (rules_of ed) t rest o o₂ w₂ d p (Step (step_at i) q)
+    pub steps : (q : ℕ) → Answers (rule_of (step_at i) t) rest o₁ o₂ w₁ w₂ d p (Ok (Some q))
+        → AskedIs (rules_of ed) t rest o o₂ w₂ d p (Ok (Some (record { step = step_at i; at = q })))
     steps q x = (x.0, answered (paper.applies x.0) x.1, x.2, x.3 ∙ g.done)
 
 -- ---- step 2 at a sum, step 6 at a product, where no rule before it applies

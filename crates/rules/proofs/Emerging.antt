@@ -25,7 +25,8 @@ use Rattle.note.proofs.ToldLaws.{note_tells, told_noted, first_tree, other_trees
 use Rattle.split.specs.Standing.{Told, ToldTrees}
 use Rattle.stretch.specs.Put.{put, part}
 use Rattle.part.specs.Like.{node_of}
-use Rattle.walk.specs.Walked.{OneNew}
+use Rattle.std.specs.Prelude.{Option, Some}
+use Rattle.walk.specs.Walked.{OneNew, NewAt}
 use Rattle.rules.specs.Alike.{step_of, inside_of}
 use Rattle.rules.specs.Quiet.{calm, quiet, Looked, Emerged, EmergedIs}
 use Rattle.rules.specs.Tried.{Collapsed}
@@ -123,8 +124,8 @@ past_scratch {w} {w'} {n} c end l =
     ∙ ap (λ i. drop i w) (sym fits)
 
 -- ---- the node that is made of the members m
-module _ {b : Bool} {μ : ℕ} {l m : List Tree} {rest o w : List ℕ} {d e f end n : ℕ} (h : Emerged b μ l m rest o w d e f end n) {o' : List ℕ} {r : ℕ}
-    (c : Collapsed b μ m o o' d e r) where
+module _ {b : Bool} {μ : ℕ} {l m : List Tree} {rest o w : List ℕ} {d e : ℕ} {f : Option ℕ} {end n : ℕ}
+    (h : Emerged b μ l m rest o w d e f end n) {o' : List ℕ} {r : ℕ} (c : Collapsed b μ m o o' d e r) where
   abbrev made : Tree
   made = node_of b μ m
 
@@ -157,11 +158,11 @@ module _ {b : Bool} {μ : ℕ} {l m : List Tree} {rest o w : List ℕ} {d e f en
           stands = subst (λ i. Stands o' i (encode_by note made)) at_front_lem c.stands;
         }
 
-    module _ (z : 0 < f) where
-      abbrev new : OneNew l m d f
-      new = h.named z
+    module _ (g : ℕ) (named : f ≡ Some g) where
+      abbrev new : OneNew l m d g
+      new = subst (NewAt l m d) named h.named
 
-      new_there : Told note o' f new.new
+      new_there : Told note o' g new.new
       new_there =
           let all = node_trees μ (of_list m) b (subst (Told note o' d) is there) in
           let same = subst (λ (k : List Tree). ToldTrees note o' (d + 1) (count_in o' d) (of_list k)) new.are all in
@@ -172,7 +173,7 @@ module _ {b : Bool} {μ : ℕ} {l m : List Tree} {rest o w : List ℕ} {d e f en
           omega
           (arith, weight_among new.before new.new new.after, ap (λ k. weights (of_list k)) new.are, ap weight is, node_weights μ (of_list m) b)
 
-      pub looked : Looked o' w d f end made new.new
+      pub looked : Looked o' w d g end made new.new
       looked =
           record {
             node = told_noted there h.light.1;

@@ -1,12 +1,11 @@
 -- A gathered node whose like members are combined. What came out of the walk stands in `out`, and the node of it is lighter than the one it is in
 -- place of, so that there is scratch before what is pending; and what is said of the node that is made of it is what is said of the step, which
 -- is the first that applies where no rule before it does; and where the walk removes nothing, no rule applies.
-use Prim.Native.Nat.{ℕ, zero, suc, ◌+◌, ◌*◌, ◌<◌, ◌≤◌}
-use mathlib.Core.Path.{◌≡◌, refl, sym, ap, ◌∙◌, subst}
+use Prim.Native.Nat.{ℕ, ◌+◌, ◌*◌}
+use mathlib.Core.Path.{◌≡◌, sym, ap, ◌∙◌, subst}
 use mathlib.Core.Bool.{Bool, false}
 use mathlib.Core.List.{List, ◌++◌}
 use native.Mathlib.Omega.{arith}
-use lib.Dec.{ltb}
 use lib.ListN.{length, take, drop}
 use Rattle.paper.specs.Tree.{Tree, to_list, records, recordses}
 use Rattle.paper.specs.Record.{kind, mark_in}
@@ -17,7 +16,8 @@ use Rattle.paper.specs.Admits.{openings_at, AllAdmitNone}
 use Rattle.note.specs.Note.{note}
 use Rattle.note.specs.Noted.{encode_by}
 use Rattle.part.specs.Like.{node_kind, node_of}
-use Rattle.walk.specs.Walked.{combined, came_out, CameOut, OneNew}
+use Rattle.std.specs.Prelude.{Option}
+use Rattle.walk.specs.Walked.{combined, came_out, CameOut, NewAt}
 use Rattle.rules.specs.Alike.{combine_like, step_of, any_earlier, inside_of}
 use Rattle.rules.specs.Asked.{Ready, CombinedIs}
 use Rattle.rules.specs.Quiet.{Emerged, EmergedIs}
@@ -27,17 +27,6 @@ use Rattle.rules.proofs.RuleLaws.{ready_length, combine_light, combine_lighter, 
 use Rattle.rules.proofs.CombineLaws.{after_walk, came_built, end_within}
 use Rattle.rules.proofs.AskLaws.{combine_asked, combine_none}
 use Rattle.rules.proofs.Emerging.{node_records, node_members, node_openings}
-
--- a sum's kind, or a product's, by one flag
-pub kind_by_flag : (k : ℕ) → 2 ≤ k → k ≤ 3 → k ≡ node_kind (ltb k 3)
-kind_by_flag k l m = go k l m
-  where
-    go : (k : ℕ) → 2 ≤ k → k ≤ 3 → k ≡ node_kind (ltb k 3)
-    go zero l m = absurd (omega arith)
-    go (suc zero) l m = absurd (omega arith)
-    go (suc (suc zero)) l m = refl
-    go (suc (suc (suc zero))) l m = refl
-    go (suc (suc (suc (suc k)))) l m = absurd (omega arith)
 
 module _ {o w : List ℕ} {d p : ℕ} {t : Tree} {rest : List ℕ} (h : Ready o w d p t rest) {b : Bool} (s : IsNode b o w d p t rest) where
   pub own_members : members t ≡ to_list s.members
@@ -70,8 +59,8 @@ module _ {o w : List ℕ} {d p : ℕ} {t : Tree} {rest : List ℕ} (h : Ready o 
     applies = combine_at s ∙ c.applies (mark_in w p) ∙ ap (λ ν. paper.applies (node_of b ν came)) (sym marked)
 
     -- what came out is ready to be made a node of
-    pub emerges : (w₂ : List ℕ) (f : ℕ) → length o₁ ≡ length o → length w₂ ≡ length w → drop (p * 16) w₂ ≡ drop (p * 16) w
-        → (0 < f → OneNew (to_list s.members) came d f) → Emerged b μ (to_list s.members) came rest o₁ w₂ d e f end n
+    pub emerges : (w₂ : List ℕ) (f : Option ℕ) → length o₁ ≡ length o → length w₂ ≡ length w → drop (p * 16) w₂ ≡ drop (p * 16) w
+        → NewAt (to_list s.members) came d f → Emerged b μ (to_list s.members) came rest o₁ w₂ d e f end n
     emerges w₂ f lo lw same named =
         let u = node_of b μ came in
         let long = ready_length h in

@@ -4,6 +4,7 @@ pub mod Dropping
 pub mod RuleLaws
 pub mod CombineLaws
 pub mod Counting
+pub mod Finding
 pub mod Around
 pub mod Finished
 pub mod Emerging

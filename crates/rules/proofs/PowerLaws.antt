@@ -28,8 +28,8 @@ use Rattle.note.specs.Noted.{encode_by}
 use Rattle.split.specs.Standing.{Told}
 use Rattle.stretch.specs.Put.{put, part}
 use Rattle.stretch.proofs.Laws.{drop_put_at, length_put}
-use Rattle.number.specs.Num.{num_of}
-use Rattle.number.specs.declared.Num.TheVariants.{Is, Out}
+use Rattle.number.specs.Num.{num_of, out_of_range}
+use Rattle.std.proofs.Common.{Ok}
 use Rattle.number.proofs.NumLaws.{num_of_is, num_of_is_out}
 use Rattle.rebuilt.proofs.Encoded.{marked_records, power_unclosed, stands_part, two_puts}
 use Rattle.rules.specs.Asked.{Ready}
@@ -199,7 +199,7 @@ module _ {w : List ℕ} {p : ℕ} {t : Tree} {rest : List ℕ} (s : IsTower w p 
   multiplied = rw (to_z_pos w64 {n = s.inner} s.inner_most, to_z_pos w64 {n = s.outer} s.outer_most) refl
 
   -- the product of the exponents, in range and out of it
-  pub tower_applies : (n : ℕ) → num_of (signed s.inner *ℤ signed s.outer) ≡ Is n
+  pub tower_applies : (n : ℕ) → num_of (signed s.inner *ℤ signed s.outer) ≡ Ok n
       → power_power t ≡ paper.applies (power (mark_in w p) s.base (mark_in w (p + 3 + records s.base)) n)
   unfolding raised_if fits word
   tower_applies n e =
@@ -209,7 +209,7 @@ module _ {w : List ℕ} {p : ℕ} {t : Tree} {rest : List ℕ} (s : IsTower w p 
       s.is ∙ ap (λ c. raised_if c (mark_in w p) s.base (mark_in w (p + 3 + records s.base)) product) q.0
       ∙ ap (λ n. paper.applies (power (mark_in w p) s.base (mark_in w (p + 3 + records s.base)) n)) same
 
-  pub tower_over : num_of (signed s.inner *ℤ signed s.outer) ≡ Out → power_power t ≡ paper.range_exceeded
+  pub tower_over : num_of (signed s.inner *ℤ signed s.outer) ≡ out_of_range → power_power t ≡ paper.range_exceeded
   unfolding raised_if fits
   tower_over e =
       s.is

@@ -21,9 +21,9 @@ use Rattle.paper.specs.Good.{Good, GoodAnswer}
 use Rattle.paper.proofs.LikeTermsGood.{like_terms_good}
 use Rattle.paper.proofs.LikeFactorsGood.{like_factors_good}
 use Rattle.paper.proofs.EncodeLaws.{records_pos, records_weight, record_length}
-use Rattle.note.proofs.NotedLaws.{encode_by_length}
+use Rattle.note.proofs.NotedLaws.{encode_by_length, kind_lt}
 use Rattle.note.proofs.ToldLaws.{Seen, an_integer, a_symbol, a_sum, a_product, a_power, seen, seen_sum, seen_product}
-use Rattle.note.proofs.ToldLaws.{note_tells, mark_number}
+use Rattle.note.proofs.ToldLaws.{note_tells, mark_number, kind_number_lem}
 use Rattle.note.specs.Note.{note}
 use Rattle.note.specs.Noted.{encode_by, encodes_by}
 use Rattle.note.specs.Told.{ToldMembers}
@@ -83,6 +83,10 @@ module _ {o w : List ℕ} {d p : ℕ} {t : Tree} {rest : List ℕ} (h : Ready o 
 
   pub ready_seen : Seen note w p t
   ready_seen = seen ready_tree
+
+  -- the kind that is read is the number of the record's first byte
+  pub kind_told : {k : ℕ} → (kind w p < 5 → k ≡ kind w p) → k ≡ kind w p
+  kind_told named = named (omega (arith, kind_number_lem ready_tree, kind_lt t))
 
   -- the records of the tree, and of what follows, are all that is left of the table
   pub ready_length : length w ≡ (p + records t) * 16 + length rest

@@ -18,16 +18,17 @@ use Rattle.note.proofs.NotedLaws.{encode_by_length}
 use Rattle.note.specs.Note.{note}
 use Rattle.note.specs.Noted.{encode_by}
 use Rattle.rules.specs.Asked.{Ready, AskedIs}
-use Rattle.rules.specs.declared.Asked.{Asked}
-use Rattle.rules.specs.declared.Asked.TheVariants.{Nothing, Step, Over}
+use Rattle.std.specs.Prelude.{Option, Some, None, Result, Ok, Err}
+use Rattle.number.specs.declared.OutOfRange.{OutOfRange}
+use Rattle.rules.specs.declared.Applied.{Applied}
 use Rattle.rules.proofs.ask.Reads as reads
 use Rattle.rules.proofs.ask.Kinds as kinds
 
 -- what is left pending and done after an answer
-abbrev Left : (d p : ℕ) (o o' w w' : List ℕ) → Asked → Type 0
-Left d p o o' w w' Nothing = (drop (p * 16) w ≡ drop (p * 16) w') × (take (d * 16) o ≡ take (d * 16) o')
-Left d p o o' w w' (Step k q) = (drop (q * 16) w ≡ drop (q * 16) w') × (take (d * 16) o ≡ take (d * 16) o')
-Left d p o o' w w' Over = Unit {0}
+abbrev Left : (d p : ℕ) (o o' w w' : List ℕ) → Result (Option Applied) OutOfRange → Type 0
+Left d p o o' w w' (Ok None) = (drop (p * 16) w ≡ drop (p * 16) w') × (take (d * 16) o ≡ take (d * 16) o')
+Left d p o o' w w' (Ok (Some a)) = (drop (a.at * 16) w ≡ drop (a.at * 16) w') × (take (d * 16) o ≡ take (d * 16) o')
+Left d p o o' w w' (Err e) = Unit {0}
 
 -- the record that a tree stands at, what follows it being known, is known
 place : (w : List ℕ) (q : ℕ) (u : Tree) (rest : List ℕ) → drop (q * 16) w ≡ encode_by note u ++ rest → length w ≡ (q + records u) * 16 + length rest
@@ -37,32 +38,35 @@ place w q u rest e =
     omega (arith, encode_by_length note u, records_pos u)
 
 module _ (rs : List Rule) (t : Tree) (rest s o o' w w' : List ℕ) (d p : ℕ) (long : length w ≡ length w') where
-  stepped : (k k' q q' : ℕ) → AskedIs rs t rest s o w d p (Step k q) → AskedIs rs t rest s o' w' d p (Step k' q')
-      → (Step k q ≡ Step k' q') × Left d p o o' w w' (Step k q)
-  stepped k k' q q' h h' =
-      let e : step k h.0 ≡ step k' h'.0 = sym h.1 ∙ h'.1 in
-      let number : k ≡ k' = cc in
+  stepped : (a a' : Applied) → AskedIs rs t rest s o w d p (Ok (Some a)) → AskedIs rs t rest s o' w' d p (Ok (Some a'))
+      → (◌≡◌ {A = Result (Option Applied) OutOfRange} (Ok (Some a)) (Ok (Some a'))) × Left d p o o' w w' (Ok (Some a))
+  stepped a a' h h' =
+      let e : step a.step h.0 ≡ step a'.step h'.0 = sym h.1 ∙ h'.1 in
+      let number : a.step ≡ a'.step = cc in
       let tree : h.0 ≡ h'.0 = cc in
-      let a = place w q h.0 rest h.2 in
-      let b = place w' q' h'.0 rest h'.2 in
+      let here = place w a.at h.0 rest h.2 in
+      let there = place w' a'.at h'.0 rest h'.2 in
       let size = ap records tree in
-      let same : q ≡ q' = omega arith in (
-        cc,
+      let same : a.at ≡ a'.at = omega arith in
+      let both : a ≡ a' = ap (λ k. record { step = k; at = a.at }) number ∙ ap (λ q. record { step = a'.step; at = q }) same in (
+        ap (λ x. Ok (Some x)) both,
         (h.2 ∙ ap (λ u. encode_by note u ++ rest) tree ∙ sym h'.2 ∙ ap (λ n. drop (n * 16) w') (sym same), h.3 ∙ sym h'.3),
       )
 
-  answered_once : (r r' : Asked) → AskedIs rs t rest s o w d p r → AskedIs rs t rest s o' w' d p r' → (r ≡ r') × Left d p o o' w w' r
-  answered_once Nothing Nothing h h' = (refl, (h.1 ∙ sym h'.1, h.2 ∙ sym h'.2))
-  answered_once Nothing (Step k q) h h' = let a = h.0 in let b = h'.1 in absurd (let z : ◌≡◌ {A = ℕ} 0 1 = cc in omega arith)
-  answered_once Nothing Over h h' = let a = h.0 in absurd (let z : ◌≡◌ {A = ℕ} 0 1 = cc in omega arith)
-  answered_once (Step k q) Nothing h h' = let a = h.1 in let b = h'.0 in absurd (let z : ◌≡◌ {A = ℕ} 0 1 = cc in omega arith)
-  answered_once (Step k q) (Step k' q') h h' = stepped k k' q q' h h'
-  answered_once (Step k q) Over h h' = let a = h.1 in absurd (let z : ◌≡◌ {A = ℕ} 0 1 = cc in omega arith)
-  answered_once Over Nothing h h' = let b = h'.0 in absurd (let z : ◌≡◌ {A = ℕ} 0 1 = cc in omega arith)
-  answered_once Over (Step k q) h h' = let b = h'.1 in absurd (let z : ◌≡◌ {A = ℕ} 0 1 = cc in omega arith)
-  answered_once Over Over h h' = (refl, tt)
+  answered_once : (r r' : Result (Option Applied) OutOfRange) → AskedIs rs t rest s o w d p r → AskedIs rs t rest s o' w' d p r'
+      → (r ≡ r') × Left d p o o' w w' r
+  answered_once (Ok None) (Ok None) h h' = (refl, (h.1 ∙ sym h'.1, h.2 ∙ sym h'.2))
+  answered_once (Ok None) (Ok (Some x)) h h' = let a = h.0 in let b = h'.1 in absurd (let z : ◌≡◌ {A = ℕ} 0 1 = cc in omega arith)
+  answered_once (Ok None) (Err e) h h' = let a = h.0 in absurd (let z : ◌≡◌ {A = ℕ} 0 1 = cc in omega arith)
+  answered_once (Ok (Some x)) (Ok None) h h' = let a = h.1 in let b = h'.0 in absurd (let z : ◌≡◌ {A = ℕ} 0 1 = cc in omega arith)
+  answered_once (Ok (Some x)) (Ok (Some x')) h h' = stepped x x' h h'
+  answered_once (Ok (Some x)) (Err e) h h' = let a = h.1 in absurd (let z : ◌≡◌ {A = ℕ} 0 1 = cc in omega arith)
+  answered_once (Err e) (Ok None) h h' = let b = h'.0 in absurd (let z : ◌≡◌ {A = ℕ} 0 1 = cc in omega arith)
+  answered_once (Err e) (Ok (Some x)) h h' = let b = h'.1 in absurd (let z : ◌≡◌ {A = ℕ} 0 1 = cc in omega arith)
+  answered_once (Err e) (Err e') h h' = (refl, tt)
 
-pub ask_once : (κs : Lfts 2) (a : Dens κs kinds.ps) (t : Tree) (rest : List ℕ) (r r' : Asked) (x x' : AtExit (ended_of 2 kinds.ps kinds.r) κs)
+pub ask_once : (κs : Lfts 2) (a : Dens κs kinds.ps) (t : Tree) (rest : List ℕ)
+    (r r' : Result (Option Applied) OutOfRange) (x x' : AtExit (ended_of 2 kinds.ps kinds.r) κs)
     → let d = a.1.1.0 in
     let p = a.1.1.1.0 in
     let work = x.1.0.now in

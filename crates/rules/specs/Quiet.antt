@@ -1,6 +1,6 @@
 -- A gathered node, when its like members were combined: whether what came out is finished, as far as a look tells. A look is one-sided: where it
 -- says no, nothing is said.
-use Rattle.std.specs.Prelude.{ℕ, ◌+◌, ◌*◌, ◌≤◌, ◌<◌, ◌≡◌, Bool, ◌&&◌, not, List, ◌++◌, eqb, leb, length, take, drop}
+use Rattle.std.specs.Prelude.{ℕ, ◌+◌, ◌*◌, ◌≤◌, ◌≡◌, Bool, ◌&&◌, not, List, ◌++◌, eqb, leb, length, take, drop, Option}
 use Rattle.paper.specs.Tree.{Tree, records, weight}
 use Rattle.paper.specs.Standing.{kind_number}
 use Rattle.paper.specs.Rules.{rules_of}
@@ -11,7 +11,7 @@ use Rattle.note.specs.Noted.{encode_by, TreeBy}
 use Rattle.still.specs.Still.{still_by}
 use Rattle.part.specs.Like.{node_of}
 use Rattle.rebuilt.specs.Written.{Light}
-use Rattle.walk.specs.Walked.{OneNew}
+use Rattle.walk.specs.Walked.{NewAt}
 use Rattle.rules.specs.Alike.{step_of, inside_of}
 use Rattle.rules.specs.Tried.{Built, PutBack}
 use Rattle.rules.specs.declared.Combined.{Combined}
@@ -34,12 +34,12 @@ pub record Looked (out work : List ℕ) (d f end : ℕ) (u x : Tree) : Type 0 wh
   pub within : end * 16 ≤ length work
 
 -- of the members l of a node with the mark μ, which ended at record `end` of `work`, `rest` after it, the n members m came out: they stand in `out`
--- behind record d, up to record e; where f is a record, the one there alone was no member before
-pub record Emerged (b : Bool) (μ : ℕ) (l m : List Tree) (rest out work : List ℕ) (d e f end n : ℕ) : Type 0 where
+-- behind record d, up to record e; where f names a record, the one there alone was no member before
+pub record Emerged (b : Bool) (μ : ℕ) (l m : List Tree) (rest out work : List ℕ) (d e : ℕ) (f : Option ℕ) (end n : ℕ) : Type 0 where
   pub built : Built out d e m
   pub many : length m ≡ n
   pub light : Light (node_of b μ m)
-  pub named : 0 < f → OneNew l m d f
+  pub named : NewAt l m d f
   pub pending : drop (end * 16) work ≡ rest
   pub low : weight (node_of b μ m) ≤ end
   pub within : end * 16 ≤ length work

@@ -1,5 +1,5 @@
 -- What a rule answers at a node of the pending records, by the paper's definition of that rule.
-use Rattle.std.specs.Prelude.{ℕ, ◌+◌, ◌*◌, ◌≤◌, ◌<◌, ◌≡◌, Bool, cond, List, ◌++◌, pos, length, take, drop}
+use Rattle.std.specs.Prelude.{ℕ, ◌+◌, ◌*◌, ◌≤◌, ◌<◌, ◌≡◌, Bool, cond, List, ◌++◌, pos, length, take, drop, Option, Some, None, Result, Ok, Err}
 use Rattle.paper.specs.Tree.{Tree, Forest, nil, cons, weights, count, records, recordses, of_list}
 use Rattle.paper.specs.WellFormed.{WFs, WFl}
 use Rattle.paper.specs.Record.{count_in}
@@ -8,18 +8,17 @@ use Rattle.paper.specs.Rules as paper
 use Rattle.note.specs.Note.{note}
 use Rattle.note.specs.Noted.{encode_by, encodes_by}
 use Rattle.note.specs.Told.{ToldMembers}
+use Rattle.number.specs.declared.OutOfRange.{OutOfRange}
 use Rattle.part.specs.Like.{node_of}
-use Rattle.rules.specs.declared.Tried.{Tried}
-use Rattle.rules.specs.declared.Tried.TheVariants.{Idle, Applied, Over}
 
--- what each answer says of a rule's outcome x: `Idle`, it does not apply, and what is pending from record p on is as it was; `Applied q`,
--- it applies, and its result is pending from record q on, `rest` after it; `Over`, it leaves the range. What is done stays.
-abbrev pub Answers : paper.Tried → (rest out out' work work' : List ℕ) (d p : ℕ) → Tried → Type 0
-Answers x rest out out' work work' d p Idle =
+-- what each answer says of a rule's outcome x: `Ok None`, it does not apply, and what is pending from record p on is as it was; `Ok (Some q)`,
+-- it applies, and its result is pending from record q on, `rest` after it; `Err`, it leaves the range. What is done stays.
+abbrev pub Answers : paper.Tried → (rest out out' work work' : List ℕ) (d p : ℕ) → Result (Option ℕ) OutOfRange → Type 0
+Answers x rest out out' work work' d p (Ok None) =
     (x ≡ paper.does_not_apply) × (drop (p * 16) work' ≡ drop (p * 16) work) × (take (d * 16) out' ≡ take (d * 16) out)
-Answers x rest out out' work work' d p (Applied q) =
+Answers x rest out out' work work' d p (Ok (Some q)) =
     (u : Tree) × (x ≡ paper.applies u) × (drop (q * 16) work' ≡ encode_by note u ++ rest) × (take (d * 16) out' ≡ take (d * 16) out)
-Answers x rest out out' work work' d p Over = x ≡ paper.range_exceeded
+Answers x rest out out' work work' d p (Err e) = x ≡ paper.range_exceeded
 
 -- the members f of a sum or a product stand behind its record p of `work`, `rest` after them, and there is room
 pub record Held (out work : List ℕ) (d p : ℕ) (f : Forest) (rest : List ℕ) : Type 0 where

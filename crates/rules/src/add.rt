@@ -5,10 +5,16 @@ ghost use Rattle.paper.specs.Rules.{add_zero, combine_like_terms};
 ghost use Rattle.rules.specs.Asked.{Ready};
 ghost use Rattle.rules.specs.Tried.{Answers};
 
-use crate::{Tried, combine, members};
+use crate::{combine, members};
+use number::OutOfRange;
 
 // Step 1: 0 + a = a.
-pub fn add_zero(out: &mut [u8], work: &mut [u8], d: usize, p: usize) -> Tried
+pub fn add_zero(
+    out: &mut [u8],
+    work: &mut [u8],
+    d: usize,
+    p: usize,
+) -> Result<Option<usize>, OutOfRange>
     requires { (t : Tree) × (rest : List ℕ) × Ready out.old work.old d p t rest }
     ensures { (t : Tree) (rest : List ℕ) → Ready out.old work.old d p t rest
         → Answers (add_zero t) rest out.old out.new work.old work.new d p result }
@@ -17,7 +23,12 @@ pub fn add_zero(out: &mut [u8], work: &mut [u8], d: usize, p: usize) -> Tried
 }
 
 // Step 2: a + a = 2 * a.
-pub fn combine_like_terms(out: &mut [u8], work: &mut [u8], d: usize, p: usize) -> Tried
+pub fn combine_like_terms(
+    out: &mut [u8],
+    work: &mut [u8],
+    d: usize,
+    p: usize,
+) -> Result<Option<usize>, OutOfRange>
     requires { (t : Tree) × (rest : List ℕ) × Ready out.old work.old d p t rest }
     ensures { (t : Tree) (rest : List ℕ) → Ready out.old work.old d p t rest
         → Answers (combine_like_terms t) rest out.old out.new work.old work.new d p result }

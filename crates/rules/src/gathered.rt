@@ -16,14 +16,6 @@ ghost use Rattle.rules.specs.Tried.{MembersIn};
 
 use crate::{Combined, members};
 
-// The members that came out of a walk: how many they are, the record after them, and that of the only new one, or 0.
-#[derive(Clone, Copy)]
-struct Came {
-    count: usize,
-    end: usize,
-    new: usize,
-}
-
 // The step that combines the terms of a sum, or the factors of a product.
 fn step_of(terms: bool) -> u8
     ensures { result ≡ step_of terms }
@@ -40,13 +32,7 @@ pub fn any_earlier(s: &[u8], p: usize, terms: bool) -> bool
     requires { (f : Forest) × MembersIn s.now p f }
     ensures { (f : Forest) → MembersIn s.now p f → result ≡ any_earlier terms (to_list f) }
 {
-    if members::any_member(s, p, 0) {
-        return true;
-    }
-    if terms {
-        return false;
-    }
-    members::any_member(s, p, 1)
+    members::any_member(s, p, 0) || (!terms && members::any_member(s, p, 1))
 }
 
 // The tree at record i of out is calm: it has no members but leaves, and its notes tell that no rule applies to it. Scratch is work from byte
@@ -57,10 +43,7 @@ fn is_calm(out: &[u8], i: usize, work: &mut [u8], edition: usize) -> bool
     ensures around { (t : Tree) → TreeBy note out.now i t → Scratched work.old work.new 0 (16 * weight t) }
 {
     let next = split::skip_tree(out, i);
-    if i + record::arity(out, i) + 1 < next {
-        return false;
-    }
-    still::still(out, i, work, 0, edition)
+    next <= i + record::arity(out, i) + 1 && still::still(out, i, work, 0, edition)
 }
 
 // The node at record d of out, whose members are finished but for the one at record f, is finished as far as a look tells: that one is calm
@@ -74,10 +57,7 @@ fn is_quiet(out: &[u8], work: &mut [u8], d: usize, f: usize, edition: usize) -> 
     if record::kind(out, f) == record::kind(out, d) {
         return false;
     }
-    if is_calm(out, f, work, edition) {
-        return still::still(out, d, work, 0, edition);
-    }
-    false
+    is_calm(out, f, work, edition) && still::still(out, d, work, 0, edition)
 }
 
 // Makes the node of the members that came out behind record d of out, and leaves it there where it is quiet; else it is pending, and ends
@@ -86,7 +66,7 @@ fn make_node(
     out: &mut [u8],
     work: &mut [u8],
     d: usize,
-    came: Came,
+    came: walk::Done,
     end: usize,
     terms: bool,
     mark: usize,
@@ -98,21 +78,18 @@ fn make_node(
         → Emerged terms mark l m rest out.old work.old d came.end came.new end came.count
         → EmergedIs terms mark edition l m rest out.old out.new work.new d end result }
 {
-    let count = came.count;
-    let e = came.end;
-    let f = came.new;
-    let from = members::collapse(out, d, count, terms, mark);
+    let from = members::collapse(out, d, came.count, terms, mark);
     let step = step_of(terms);
-    if count < members::SEVERAL {
-        return Combined::Pending(step, members::copy_back(out, work, from, e, end));
+    if came.count < members::SEVERAL {
+        return Combined::Pending(step, members::copy_back(out, work, from, came.end, end));
     }
-    if f < 1 {
-        return Combined::Pending(step, members::copy_back(out, work, from, e, end));
+    let Some(new) = came.new else {
+        return Combined::Pending(step, members::copy_back(out, work, from, came.end, end));
+    };
+    if is_quiet(out, work, d, new, edition) {
+        return Combined::Quiet(step, came.end);
     }
-    if is_quiet(out, work, d, f, edition) {
-        return Combined::Quiet(step, e);
-    }
-    Combined::Pending(step, members::copy_back(out, work, from, e, end))
+    Combined::Pending(step, members::copy_back(out, work, from, came.end, end))
 }
 
 // Combines the like members of the gathered sum, or product, at record p of work, where no rule before that step applies.
@@ -129,22 +106,12 @@ pub fn combine_members(
         → CombinedIs (rules_of edition) t rest out.old out.new work.new d p result }
 {
     let mark = record::mark(work, p);
-    let walked = walk::walk_members(out, work, d, p, terms);
-    match walked {
-        walk::Walked::Idle => Combined::Nothing,
-        walk::Walked::Over => Combined::No,
-        walk::Walked::Done {
-            count: count,
-            end: e,
-            new: f,
-        } => {
-            let came = Came {
-                count: count,
-                end: e,
-                new: f,
-            };
-            let end = split::skip_tree(work, p);
-            make_node(out, work, d, came, end, terms, mark, edition)
-        }
-    }
+    let Ok(walked) = walk::walk_members(out, work, d, p, terms) else {
+        return Combined::No;
+    };
+    let Some(came) = walked else {
+        return Combined::Nothing;
+    };
+    let end = split::skip_tree(work, p);
+    make_node(out, work, d, came, end, terms, mark, edition)
 }

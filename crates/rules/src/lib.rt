@@ -2,9 +2,12 @@
 // that writes a node's record closes it.
 #![tactic(auto)]
 
-ghost use Rattle.std.specs.Prelude.{◌≡◌, List, ℕ};
+ghost use Rattle.std.specs.Prelude.{◌≡◌, false, List, ℕ, MatchOption};
 ghost use Rattle.paper.specs.Tree.{Tree};
+ghost use Rattle.paper.specs.Record.{is_node};
 ghost use Rattle.paper.specs.Rules.{rules_of};
+ghost use Rattle.record.specs.Kinds.{number_of};
+ghost use Rattle.part.specs.Like.{node_kind};
 ghost use Rattle.rules.specs.Alike.{rule_of, first_for, end_for};
 ghost use Rattle.rules.specs.Asked.{Ready, AskedIs, CombinedIs};
 ghost use Rattle.rules.specs.Tried.{Answers};
@@ -16,20 +19,14 @@ mod members;
 mod multiply;
 mod power;
 
-// What the rules answer: none applies; the step that does, and the record that its result is pending from; the range is exceeded.
-#[derive(Clone, Copy)]
-pub enum Asked {
-    Nothing,
-    Step(u8, usize),
-    Over,
-}
+use number::OutOfRange;
+use record::kinds::Kind;
 
-// What one rule answers: it does not apply; it does, and the record that its result is pending from; the range is exceeded.
+// A step that applied: its number in the paper, and the record that its result is pending from.
 #[derive(Clone, Copy)]
-pub enum Tried {
-    Idle,
-    Applied(usize),
-    Over,
+pub struct Applied {
+    pub step: u8,
+    pub at: usize,
 }
 
 // What became of a gathered node: nothing, and the rules are to be asked; nothing, for none of them applies; the step that applies, and the
@@ -81,8 +78,15 @@ const STEPS: [u8; ALL] = [
     POWER_POWER,
 ];
 
-// Tries the rule of one step on the node at record p of work. A number that no rule has never applies.
-fn try_step(out: &mut [u8], work: &mut [u8], d: usize, p: usize, step: u8) -> Tried
+// Tries the rule of one step on the node at record p of work. Answers the record that its result is pending from, or none where it does not apply; an
+// error where the range is exceeded. A number that no rule has never applies.
+fn try_step(
+    out: &mut [u8],
+    work: &mut [u8],
+    d: usize,
+    p: usize,
+    step: u8,
+) -> Result<Option<usize>, OutOfRange>
     requires { (t : Tree) × (rest : List ℕ) × Ready out.old work.old d p t rest }
     ensures { (t : Tree) (rest : List ℕ) → Ready out.old work.old d p t rest
         → Answers (rule_of step t) rest out.old out.new work.old work.new d p result }
@@ -96,63 +100,67 @@ fn try_step(out: &mut [u8], work: &mut [u8], d: usize, p: usize, step: u8) -> Tr
         POWER_ONE => power::power_one(out, work, d, p),
         POWER_CONSTANT => power::power_constant(out, work, d, p),
         POWER_POWER => power::power_power(out, work, d, p),
-        _ => Tried::Idle,
+        _ => Ok(None),
     }
 }
 
 // Where in STEPS those for a tree of this kind begin.
-fn first_for(kind: u8) -> usize
-    ensures { result ≡ first_for kind }
+fn first_for(kind: Kind) -> usize
+    ensures { result ≡ first_for (number_of kind) }
 {
-    if kind == record::PRODUCT {
-        return FOR_PRODUCT;
+    match kind {
+        Kind::Product => FOR_PRODUCT,
+        Kind::Power => FOR_POWER,
+        _ => 0,
     }
-    if kind == record::POWER {
-        return FOR_POWER;
-    }
-    0
 }
 
 // Where in STEPS they end, in this edition. For a leaf there are none, and for a power there are some in edition two alone.
-fn end_for(kind: u8, edition: usize) -> usize
-    ensures { result ≡ end_for kind edition }
+fn end_for(kind: Kind, edition: usize) -> usize
+    ensures { result ≡ end_for (number_of kind) edition }
 {
-    if kind == record::SUM {
-        return FOR_PRODUCT;
+    match kind {
+        Kind::Sum => FOR_PRODUCT,
+        Kind::Product => FOR_POWER,
+        Kind::Power if edition == WITH_POWERS => ALL,
+        Kind::Power => FOR_POWER,
+        _ => 0,
     }
-    if kind == record::PRODUCT {
-        return FOR_POWER;
-    }
-    if kind == record::POWER {
-        if edition == WITH_POWERS {
-            return ALL;
-        }
-        return FOR_POWER;
-    }
-    0
 }
 
 // Tries the rules of the edition, in the paper's order, on the node at record p of work; those for another kind of node are passed over,
-// for none of them applies. A rule builds its result in out, from record d on.
-pub fn ask(out: &mut [u8], work: &mut [u8], d: usize, p: usize, edition: usize) -> Asked
+// for none of them applies. A rule builds its result in out, from record d on. Answers the step that applied, or none; an error where a rule exceeds
+// the range.
+pub fn ask(
+    out: &mut [u8],
+    work: &mut [u8],
+    d: usize,
+    p: usize,
+    edition: usize,
+) -> Result<Option<Applied>, OutOfRange>
     requires { (t : Tree) × (rest : List ℕ) × Ready out.old work.old d p t rest }
     ensures { (t : Tree) (rest : List ℕ) → Ready out.old work.old d p t rest
         → AskedIs (rules_of edition) t rest out.old out.new work.new d p result }
 {
-    let kind = record::kind(work, p);
-    let mut i = first_for(kind);
-    let end = end_for(kind, edition);
-    while i < end {
+    let kind = Kind::at(work, p);
+    for i in first_for(kind)..end_for(kind, edition) {
         let step = STEPS[i];
-        let tried = try_step(out, work, d, p, step);
-        match tried {
-            Tried::Idle => {}
-            Tried::Applied(q) => return Asked::Step(step, q),
-            Tried::Over => return Asked::Over,
+        if let Some(at) = try_step(out, work, d, p, step)? {
+            return Ok(Some(Applied { step, at }));
         }
-        i += 1;
     }
-    Asked::Nothing
+    Ok(None)
+}
+
+// Whether a node of this kind is a sum; none for a kind that is no sum and no product.
+fn is_sum(kind: Kind) -> Option<bool>
+    ensures { MatchOption result (is_node (number_of kind) ≡ false) (λ b. number_of kind ≡ node_kind b) }
+{
+    match kind {
+        Kind::Sum => Some(true),
+        Kind::Product => Some(false),
+        _ => None,
+    }
 }
 
 // Combines the like members of the gathered node at record p of work, whose members are finished: step 2 or 6, where no rule before it
@@ -169,14 +177,9 @@ pub fn combine_gathered(
     ensures { (t : Tree) (rest : List ℕ) → Ready out.old work.old d p t rest
         → CombinedIs (rules_of edition) t rest out.old out.new work.new d p result }
 {
-    let k = record::kind(work, p);
-    if k < record::SUM {
+    let Some(terms) = is_sum(Kind::at(work, p)) else {
         return Combined::No;
-    }
-    if record::PRODUCT < k {
-        return Combined::No;
-    }
-    let terms = k < record::PRODUCT;
+    };
     if gathered::any_earlier(work, p, terms) {
         return Combined::No;
     }

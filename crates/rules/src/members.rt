@@ -13,7 +13,7 @@ ghost use Rattle.rules.specs.Alike.{drop_neutral};
 ghost use Rattle.rules.specs.Asked.{Ready};
 ghost use Rattle.rules.specs.Tried.{Answers, Held, MembersIn, last_kept, last_dropped, Around, Built, Collapsed, PutBack};
 
-use crate::Tried;
+use number::OutOfRange;
 
 // So many members at least has a node.
 pub const SEVERAL: usize = 2;
@@ -50,10 +50,7 @@ fn is_the(s: &[u8], i: usize, z: u64) -> bool
     requires { SomeTold s.now i × (z < 2) }
     ensures { (t : Tree) → Told note s.now i t → result ≡ is_the (pos z) t }
 {
-    if record::INTEGER < record::kind(s, i) {
-        return false;
-    }
-    record::bits(s, i) == z
+    record::kind(s, i) == record::INTEGER && record::bits(s, i) == z
 }
 
 // A member of the node at record p is the integer z, 0 or 1.
@@ -62,13 +59,11 @@ pub fn any_member(s: &[u8], p: usize, z: u64) -> bool
     ensures { (f : Forest) → MembersIn s.now p f → result ≡ any_of (is_the (pos z)) (to_list f) }
 {
     let mut at = p + 1;
-    let mut left = record::count(s, p);
-    while 0 < left {
+    for _ in 0..record::count(s, p) {
         if is_the(s, at, z) {
             return true;
         }
         at = split::skip_tree(s, at);
-        left -= 1;
     }
     false
 }
@@ -139,27 +134,23 @@ fn count_kept(s: &[u8], p: usize, z: u64) -> Kept
         → (result.many ≡ length (drop_all (is_the (pos z)) (to_list f))) × (result.last ≡ last_kept z (p + 1) p f)
         × (result.dropped ≡ last_dropped z (p + 1) p f) × (result.end ≡ p + 1 + recordses f) }
 {
-    let mut many = 0;
-    let mut last = p;
-    let mut dropped = p;
-    let mut at = p + 1;
-    let mut left = record::count(s, p);
-    while 0 < left {
+    let mut kept = Kept {
+        many: 0,
+        last: p,
+        dropped: p,
+        end: p + 1,
+    };
+    for _ in 0..record::count(s, p) {
+        let at = kept.end;
         if is_the(s, at, z) {
-            dropped = at;
+            kept.dropped = at;
         } else {
-            many += 1;
-            last = at;
+            kept.many += 1;
+            kept.last = at;
         }
-        at = split::skip_tree(s, at);
-        left -= 1;
+        kept.end = split::skip_tree(s, at);
     }
-    Kept {
-        many: many,
-        last: last,
-        dropped: dropped,
-        end: at,
-    }
+    kept
 }
 
 // Moves the tree at record i to the right, so that it ends at record `end`, or leaves it where it ends there.
@@ -190,10 +181,9 @@ fn copy_kept(out: &mut [u8], work: &mut [u8], d: usize, p: usize, sum: bool, z: 
 {
     let mark = record::mark(work, p);
     let mut at = p + 1;
-    let mut left = record::count(work, p);
     let mut e = d + 1;
     let mut kept = 0;
-    while 0 < left {
+    for _ in 0..record::count(work, p) {
         let next = split::skip_tree(work, at);
         if !is_the(work, at, z) {
             stretch::copy_bytes(
@@ -207,7 +197,6 @@ fn copy_kept(out: &mut [u8], work: &mut [u8], d: usize, p: usize, sum: bool, z: 
             kept += 1;
         }
         at = next;
-        left -= 1;
     }
     put_back(out, work, d, e, at, kept, sum, mark)
 }
@@ -250,17 +239,23 @@ fn drop_members(out: &mut [u8], work: &mut [u8], d: usize, p: usize, sum: bool, 
 }
 
 // Steps 1 and 4 alike: where a member of the sum, or of the product, at record p is the integer it can do without, drops all such.
-pub fn drop_neutral(out: &mut [u8], work: &mut [u8], d: usize, p: usize, sum: bool) -> Tried
+pub fn drop_neutral(
+    out: &mut [u8],
+    work: &mut [u8],
+    d: usize,
+    p: usize,
+    sum: bool,
+) -> Result<Option<usize>, OutOfRange>
     requires { (t : Tree) × (rest : List ℕ) × Ready out.old work.old d p t rest }
     ensures { (t : Tree) (rest : List ℕ) → Ready out.old work.old d p t rest
         → Answers (drop_neutral sum t) rest out.old out.new work.old work.new d p result }
 {
     if record::kind(work, p) != node_kind(sum) {
-        return Tried::Idle;
+        return Ok(None);
     }
     let z = neutral(sum);
     if any_member(work, p, z) {
-        return Tried::Applied(drop_members(out, work, d, p, sum, z));
+        return Ok(Some(drop_members(out, work, d, p, sum, z)));
     }
-    Tried::Idle
+    Ok(None)
 }

@@ -6,8 +6,7 @@ ghost use Rattle.note.specs.Note.{note};
 ghost use Rattle.rules.specs.Asked.{Ready};
 ghost use Rattle.rules.specs.Tried.{Answers};
 
-use crate::Tried;
-use number::Num;
+use number::OutOfRange;
 
 // Where, counted from a power's record, the result begins; where the base of a power that is its base stands; and where this is moved to.
 const RESULT: usize = 2;
@@ -17,17 +16,22 @@ const INNER: usize = 2;
 const MOVED: usize = 3;
 
 // Step 7: a^1 = a. The base moves one record to the right.
-pub fn power_one(out: &mut [u8], work: &mut [u8], d: usize, p: usize) -> Tried
+pub fn power_one(
+    out: &mut [u8],
+    work: &mut [u8],
+    d: usize,
+    p: usize,
+) -> Result<Option<usize>, OutOfRange>
     requires { (t : Tree) × (rest : List ℕ) × Ready out.old work.old d p t rest }
     ensures { (t : Tree) (rest : List ℕ) → Ready out.old work.old d p t rest
         → Answers (power_one t) rest out.old out.new work.old work.new d p result }
 {
     if record::kind(work, p) != record::POWER {
-        return Tried::Idle;
+        return Ok(None);
     }
     let x = split::skip_tree(work, p + 1);
     if record::bits(work, x) != 1 {
-        return Tried::Idle;
+        return Ok(None);
     }
     stretch::shift_right(
         work,
@@ -35,47 +39,57 @@ pub fn power_one(out: &mut [u8], work: &mut [u8], d: usize, p: usize) -> Tried
         (p + 1) * record::SIZE,
         (x - (p + 1)) * record::SIZE,
     );
-    Tried::Applied(p + RESULT)
+    Ok(Some(p + RESULT))
 }
 
 // Step 8: 0^n = 0 and 1^n = 1, with the power's mark.
-pub fn power_constant(out: &mut [u8], work: &mut [u8], d: usize, p: usize) -> Tried
+pub fn power_constant(
+    out: &mut [u8],
+    work: &mut [u8],
+    d: usize,
+    p: usize,
+) -> Result<Option<usize>, OutOfRange>
     requires { (t : Tree) × (rest : List ℕ) × Ready out.old work.old d p t rest }
     ensures { (t : Tree) (rest : List ℕ) → Ready out.old work.old d p t rest
         → Answers (power_constant t) rest out.old out.new work.old work.new d p result }
 {
     if record::kind(work, p) != record::POWER {
-        return Tried::Idle;
+        return Ok(None);
     }
     if record::INTEGER < record::kind(work, p + 1) {
-        return Tried::Idle;
+        return Ok(None);
     }
     let v = record::bits(work, p + 1);
     if 1 < v {
-        return Tried::Idle;
+        return Ok(None);
     }
     let mark = record::mark(work, p);
     record::write_record(work, p + RESULT, record::INTEGER, 0, mark, v);
-    Tried::Applied(p + RESULT)
+    Ok(Some(p + RESULT))
 }
 
 // Step 9: (a^m)^n = a^(m*n). The base moves one record to the right, between the power's record and the product of the exponents,
 // which have the outer power's mark and its exponent's.
-pub fn power_power(out: &mut [u8], work: &mut [u8], d: usize, p: usize) -> Tried
+pub fn power_power(
+    out: &mut [u8],
+    work: &mut [u8],
+    d: usize,
+    p: usize,
+) -> Result<Option<usize>, OutOfRange>
     requires { (t : Tree) × (rest : List ℕ) × Ready out.old work.old d p t rest }
     ensures { (t : Tree) (rest : List ℕ) → Ready out.old work.old d p t rest
         → Answers (power_power t) rest out.old out.new work.old work.new d p result }
 {
     if record::kind(work, p) != record::POWER {
-        return Tried::Idle;
+        return Ok(None);
     }
     if record::kind(work, p + 1) != record::POWER {
-        return Tried::Idle;
+        return Ok(None);
     }
     let y = split::skip_tree(work, p + INNER);
     let product = number::mul(record::bits(work, y), record::bits(work, y + 1));
     match product {
-        Num::Is(n) => {
+        Ok(n) => {
             let mark = record::mark(work, p);
             let exponent_mark = record::mark(work, y + 1);
             stretch::shift_right(
@@ -87,8 +101,8 @@ pub fn power_power(out: &mut [u8], work: &mut [u8], d: usize, p: usize) -> Tried
             record::write_record(work, y + 1, record::INTEGER, 0, exponent_mark, n);
             record::write_record(work, p + RESULT, record::POWER, 0, mark, 0);
             note::close(work, p + RESULT);
-            Tried::Applied(p + RESULT)
+            Ok(Some(p + RESULT))
         }
-        Num::Out => Tried::Over,
+        Err(OutOfRange) => Err(OutOfRange),
     }
 }

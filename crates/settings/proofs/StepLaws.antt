@@ -1,21 +1,23 @@
 -- One turn of each loop over a slot's bytes and over an area's slots: what is left to look at is the byte, or the slot, at hand and what
 -- is left after it; so a search ends there or goes on.
 use Prim.Native.Nat.{ℕ, zero, suc, ◌+◌, ◌-◌, ◌*◌, ◌/◌, ◌<◌, ◌≤◌}
-use mathlib.Core.Path.{◌≡◌, refl, sym, ap, ap₂, ◌∙◌}
-use mathlib.Core.Bool.{Bool, true, false, ◌&&◌, ◌||◌, not}
+use mathlib.Core.Path.{◌≡◌, refl, sym, ap, ap₂, ◌∙◌, subst}
+use mathlib.Core.Bool.{Bool, true, false, ◌||◌, not}
 use mathlib.Core.List.{List, [], ◌∷◌}
 use native.Mathlib.Nat.{add_assoc, add-zero, sub-zero}
 use native.Mathlib.Omega.{arith}
-use borrow.Author.Tests.{eq-eqb, ne_eqb, lt-ltb, le-ltb}
+use borrow.Author.Tests.{eqb-true, eq-eqb, ne_eqb, lt-ltb, le-ltb}
 use lib.Dec.{eqb}
-use lib.ListN.{length, get_or, take, drop, get_or-eq_default}
-use lib.Seq.{drop-cons, drop-drop}
+use Rattle.std.specs.Prelude.{◌↔◌, Option, Some, None, IsTrue, EachIndex}
+use lib.ListN.{length, get_or, get_or-eq_default}
+use lib.Seq.{drop-drop}
 use Rattle.paper.specs.Bytes.{le, le2, le8}
 use Rattle.paper_settings.specs.Settings.{version, key_in, unit_in, setting_in, may_table, may_be, strays, is_malformed, is_free, slots, slots_of}
 use Rattle.paper_settings.specs.Settings.{any_newer, all_free}
+use Rattle.paper.proofs.Tests.{true_not_false, and_left, and_right}
 use Rattle.paper_settings.proofs.SlotLaws.{sound_version}
 use Rattle.paper_settings.proofs.SettingsUpgrade.{byte_there, key_there}
-use Rattle.settings.specs.Slots.{slot_at, rest, first_in}
+use Rattle.settings.specs.Slots.{slot_at, rest, first_in, FirstSlot}
 
 -- ---- the bytes of slot i
 pub byte_at : (a : List ℕ) (i j : ℕ) → j < 32 → get_or (slot_at a i) j 0 ≡ get_or a (32 * i + j) 0
@@ -51,31 +53,25 @@ setting_at a i =
     )
     (simp add_assoc)
 
--- ---- free: byte by byte
-module _ (a : List ℕ) (i : ℕ) where
-  unfoldable pub free_from : ℕ → Bool
-  free_from j = is_free (take (32 - j) (drop (32 * i + j) a))
+-- ---- free: each byte is zero
+free_each : (x : List ℕ) → EachIndex x (λ k. get_or x k 0 ≡ 0) → is_free x ≡ true
+unfolding is_free
+free_each [] h = refl
+free_each (b ∷ x) h = rw (eq-eqb b 0 (h 0 (omega arith))) (free_each x (λ k l. h (suc k) (omega arith)))
 
-  pub free_start : is_free (slot_at a i) ≡ free_from 0
-  unfolding slot_at free_from
-  free_start = rw (add-zero (32 * i))
+each_free : (x : List ℕ) → is_free x ≡ true → EachIndex x (λ k. get_or x k 0 ≡ 0)
+unfolding is_free
+each_free [] h k l = absurd (omega arith)
+each_free (b ∷ x) h zero l = eqb-true b 0 (and_left (eqb b 0) (is_free x) h)
+each_free (b ∷ x) h (suc k) l = each_free x (and_right (eqb b 0) (is_free x) h) k (omega arith)
 
-  free_turn : (j : ℕ) → j < 32 → 32 * i + 32 ≤ length a → free_from j ≡ (eqb (get_or a (32 * i + j) 0) 0 && free_from (j + 1))
-  unfolding free_from is_free
-  free_turn j h l =
-      let e : 32 - j ≡ suc (32 - (j + 1)) = omega arith in
-      let f : suc (32 * i + j) ≡ 32 * i + (j + 1) = omega arith in
-      rw (e, drop-cons a (32 * i + j) 0 (omega arith), f)
-
-  pub free_zero : (j : ℕ) → j < 32 → 32 * i + 32 ≤ length a → get_or a (32 * i + j) 0 ≡ 0 → free_from j ≡ free_from (j + 1)
-  free_zero j h l z = free_turn j h l ∙ rw (eq-eqb (get_or a (32 * i + j) 0) 0 z)
-
-  pub free_other : (j : ℕ) → j < 32 → 32 * i + 32 ≤ length a → (get_or a (32 * i + j) 0 ≡ 0 → ⊥) → free_from j ≡ false
-  free_other j h l z = free_turn j h l ∙ rw (ne_eqb (get_or a (32 * i + j) 0) 0 z)
-
-  pub free_done : (j : ℕ) → 32 ≤ j → free_from j ≡ true
-  unfolding free_from is_free
-  free_done j h = let e : 32 - j ≡ 0 = omega arith in rw e
+pub free_told : (x : List ℕ) (b : Bool) → IsTrue b ↔ EachIndex x (λ k. get_or x k 0 ≡ 0) → b ≡ is_free x
+free_told x true told = sym (free_each x (told.0 refl))
+free_told x false told = go (is_free x) refl
+  where
+    go : (c : Bool) → is_free x ≡ c → false ≡ is_free x
+    go true e = absurd (true_not_false (told.1 (each_free x e)) refl)
+    go false e = sym e
 
 -- ---- malformed: byte by byte, by the version v
 row_most : (v : ℕ) → length (get_or may_table v []) ≤ 16
@@ -172,7 +168,7 @@ module _ (a : List ℕ) (i : ℕ) where
   frees_done h = rw (rest_done a i h)
 
   -- the first slot that passes
-  pub first_here : (p : List ℕ → Bool) → i < length a / 32 → p (slot_at a i) ≡ true → first_in p i (rest a i) ≡ i
+  pub first_here : (p : List ℕ → Bool) → i < length a / 32 → p (slot_at a i) ≡ true → first_in p i (rest a i) ≡ Some i
   unfolding first_in
   first_here p h e = rw (rest_step a i h, e)
 
@@ -181,6 +177,24 @@ module _ (a : List ℕ) (i : ℕ) where
   unfolding first_in
   first_later p h e = rw (rest_step a i h, e)
 
-  pub first_done : (p : List ℕ → Bool) → length a / 32 ≤ i → first_in p i (rest a i) ≡ i
+  pub first_done : (p : List ℕ → Bool) → length a / 32 ≤ i → first_in p i (rest a i) ≡ None
   unfolding first_in
   first_done p h = rw (rest_done a i h)
+
+-- a search that is told slot by slot: those before the one found do not pass, or none does
+module _ (a : List ℕ) (p : List ℕ → Bool) where
+  first_at : (j m i : ℕ) → j - i ≡ m → i ≤ j → j < length a / 32 → ((k : ℕ) → k < j → p (slot_at a k) ≡ false) → p (slot_at a j) ≡ true
+      → first_in p i (rest a i) ≡ Some j
+  first_at j zero i e l n before here =
+      let q : i ≡ j = omega arith in
+      subst (λ x. first_in p x (rest a x) ≡ Some j) (sym q) (first_here a j p n here)
+  first_at j (suc m) i e l n before here =
+      first_later a i p (omega arith) (before i (omega arith)) ∙ first_at j m (i + 1) (omega arith) (omega arith) n before here
+
+  first_none : (m i : ℕ) → length a / 32 - i ≡ m → ((k : ℕ) → k < length a / 32 → p (slot_at a k) ≡ false) → first_in p i (rest a i) ≡ None
+  first_none zero i e all = first_done a i p (omega arith)
+  first_none (suc m) i e all = first_later a i p (omega arith) (all i (omega arith)) ∙ first_none m (i + 1) (omega arith) all
+
+  pub first_told : (o : Option ℕ) → FirstSlot p a o → o ≡ first_in p 0 (rest a 0)
+  first_told None all = sym (first_none (length a / 32) 0 (sub-zero (length a / 32)) all)
+  first_told (Some j) told = sym (first_at j j 0 (sub-zero j) (omega arith) told.0 told.2 told.1)

@@ -1,5 +1,6 @@
 -- The slots of an area as the code goes over them: slot i, those from i on, and the first of them that passes a test.
-use Rattle.std.specs.Prelude.{ℕ, ◌+◌, ◌-◌, ◌*◌, ◌/◌, Bool, true, cond, ◌&&◌, ◌||◌, not, List, [], ◌∷◌, ◌++◌, eqb, length, take, drop}
+use Rattle.std.specs.Prelude.{ℕ, ◌+◌, ◌-◌, ◌*◌, ◌/◌, Bool, cond, ◌&&◌, ◌||◌, not, List, [], ◌∷◌, ◌++◌, eqb, length, take, drop}
+use Rattle.std.specs.Prelude.{Option, Some, None, MatchOption, ◌<◌, ◌≡◌, true, false}
 use Rattle.paper_settings.specs.Settings.{slots, is_free, is_malformed, all_free, key_in, free_slot}
 
 unfoldable pub slot_at : List ℕ → ℕ → List ℕ
@@ -8,10 +9,19 @@ slot_at a i = take 32 (drop (32 * i) a)
 unfoldable pub rest : List ℕ → ℕ → List (List ℕ)
 rest a i = slots (length a / 32 - i) (drop (32 * i) a)
 
--- the number of the first slot that passes, the first of them having number i; the number after the last where none does
-unfoldable pub first_in : (List ℕ → Bool) → ℕ → List (List ℕ) → ℕ
-first_in p i [] = i
-first_in p i (x ∷ xs) = cond (p x) i (first_in p (i + 1) xs)
+-- the number of the first slot that passes, the first of them having number i
+unfoldable pub first_in : (List ℕ → Bool) → ℕ → List (List ℕ) → Option ℕ
+first_in p i [] = None
+first_in p i (x ∷ xs) = cond (p x) (Some i) (first_in p (i + 1) xs)
+
+-- a test that goes by a slot's number answers of each slot of the area as p does
+abbrev pub TestsAs : (List ℕ → Bool) → List ℕ → (ℕ → Bool → Type 0) → Type 0
+TestsAs p a Answers = (k : ℕ) (b : Bool) → k < length a / 32 → Answers k b → p (slot_at a k) ≡ b
+
+-- o is the first slot of the area that passes, and none where none does
+abbrev pub FirstSlot : (List ℕ → Bool) → List ℕ → Option ℕ → Type 0
+FirstSlot p a o = MatchOption o ((k : ℕ) → k < length a / 32 → p (slot_at a k) ≡ false)
+    (λ j. (j < length a / 32) × (p (slot_at a j) ≡ true) × ((k : ℕ) → k < j → p (slot_at a k) ≡ false))
 
 -- the slot is free, or has a record of key k: a record of k can be stored there
 unfoldable pub takes : ℕ → List ℕ → Bool

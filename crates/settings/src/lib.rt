@@ -2,16 +2,15 @@
 // and the reader of the old one.
 #![tactic(auto)]
 
-ghost use Rattle.std.specs.Prelude.{◌≡◌, ◌+◌, ◌*◌, ◌/◌, ◌<◌, ◌≤◌, eqb, length};
+ghost use Rattle.std.specs.Prelude.{◌≡◌, ◌+◌, ◌*◌, ◌/◌, ◌<◌, ◌≤◌, eqb, length, IsTrue, ℕ, Bool, List, ◌↔◌, EachIndex, slice_index};
 ghost use Rattle.paper_settings.specs.Settings.{version, key_in, is_malformed, is_free, holds, slots_of, slot_of, any_newer, all_free, in_order, area_verdict};
 ghost use Rattle.paper_settings.specs.Settings.{to_store, to_remove, called, fetched, fetched_old};
 ghost use Rattle.stretch.specs.Put.{put};
-ghost use Rattle.table.specs.Due.{due_at, turned};
-ghost use Rattle.settings.specs.Slots.{slot_at, rest, first_in, takes, closed_up, in_place, keys_in};
+ghost use Rattle.settings.specs.Slots.{slot_at, rest, FirstSlot, TestsAs, takes, closed_up, in_place, keys_in};
 ghost use Rattle.settings.specs.Keys.{twice, in_part, part_from, parts_of};
-ghost use Rattle.settings.specs.Shown.{says, says_1, stores};
+ghost use Rattle.settings.specs.Shown.{number_in, says, says_1, stores};
 
-use table::WORD;
+use table::Refusal;
 
 // The newest version that the new release knows, and the one that it writes; and the newest that the old release knows.
 const NEW: u8 = 2;
@@ -21,24 +20,18 @@ const OLD: u8 = 1;
 // The bytes of a slot.
 const SLOT: usize = 32;
 
-// Where in a slot its key, the unit and the setting stand.
+// Where in a slot its version, the key, the unit and the setting stand, and the places after the unit and the setting.
+const VERSION_AT: usize = 0;
+
 const KEY_AT: usize = 2;
 
 const UNIT_AT: usize = 4;
 
+const UNIT_END: usize = 6;
+
 const SETTING_AT: usize = 8;
 
-// How many values a byte has.
-const BYTE: u16 = 0x100;
-
-// The numbers of refusals, by what is wrong: a newer version, the order of the area, a key that is absent, an area that is full.
-const NEWER: u32 = 10;
-
-const DISORDER: u32 = 11;
-
-const ABSENT: u32 = 12;
-
-const FULL: u32 = 13;
+const SETTING_END: usize = 16;
 
 // Which bytes of a record may be other than zero (1), by version and byte.
 const MAY: [[u8; 16]; 3] = [
@@ -57,19 +50,18 @@ const PART: usize = 8192;
 
 const WORDS: usize = 128;
 
-// What a fetch answers: 0 or a refusal's number, the 64 bits of the setting, and its unit; zeros after a refusal.
-#[derive(Clone, Copy)]
+// What a fetch shows of a key: the 64 bits of the setting, and its unit.
+#[derive(Clone, Copy, PartialEq, Eq)]
 pub struct Shown {
-    pub number: u32,
     pub setting: u64,
     pub unit: u16,
 }
 
-// What the old release's fetch answers: it knows no unit.
-#[derive(Clone, Copy)]
-pub struct Shown1 {
-    pub number: u32,
-    pub setting: u64,
+// All bytes are zero.
+fn all_zero(bytes: &[u8]) -> bool
+    ensures { IsTrue result ↔ EachIndex bytes.now (λ k. slice_index bytes.now k ≡ 0) }
+{
+    bytes.iter().all(|b| *b == 0)
 }
 
 // Slot i is free.
@@ -77,14 +69,7 @@ fn is_free(area: &[u8], i: usize) -> bool
     requires { 32 * i + 32 ≤ length area.now }
     ensures { result ≡ is_free (slot_at area.now i) }
 {
-    let mut j = 0;
-    while j < SLOT {
-        if area[SLOT * i + j] != 0 {
-            return false;
-        }
-        j += 1;
-    }
-    true
+    all_zero(&area[SLOT * i..SLOT * i + SLOT])
 }
 
 // The version of slot i.
@@ -105,17 +90,10 @@ fn is_malformed(area: &[u8], i: usize) -> bool
         return true;
     }
     let may = MAY[v];
-    let mut byte = 0;
-    while byte < SLOT {
-        if area[SLOT * i + byte] != 0 {
-            if LAST < byte {
-                return true;
-            }
-            if may[byte] == 0 {
-                return true;
-            }
+    for byte in 0..SLOT {
+        if area[SLOT * i + byte] != 0 && (LAST < byte || may[byte] == 0) {
+            return true;
         }
-        byte += 1;
     }
     false
 }
@@ -133,10 +111,7 @@ fn holds(area: &[u8], i: usize, key: usize) -> bool
     requires { 32 * i + 32 ≤ length area.now }
     ensures { result ≡ holds key (slot_at area.now i) }
 {
-    if is_free(area, i) {
-        return false;
-    }
-    key == key_of(area, i)
+    !is_free(area, i) && key == key_of(area, i)
 }
 
 // Slot i can take a record of this key: it is free, or has one.
@@ -144,23 +119,17 @@ fn takes(area: &[u8], i: usize, key: usize) -> bool
     requires { 32 * i + 32 ≤ length area.now }
     ensures { result ≡ takes key (slot_at area.now i) }
 {
-    if is_free(area, i) {
-        return true;
-    }
-    key == key_of(area, i)
+    is_free(area, i) || key == key_of(area, i)
 }
 
 // Some whole slot has a version over the newest that the release knows.
 fn any_newer(area: &[u8], newest: u8) -> bool
     ensures { result ≡ any_newer newest (slots_of area.now) }
 {
-    let n = area.len() / SLOT;
-    let mut i = 0;
-    while i < n {
+    for i in 0..area.len() / SLOT {
         if newest < version_of(area, i) {
             return true;
         }
-        i += 1;
     }
     false
 }
@@ -169,62 +138,52 @@ fn any_newer(area: &[u8], newest: u8) -> bool
 fn all_free(area: &[u8], from: usize) -> bool
     ensures { result ≡ all_free (rest area.now from) }
 {
-    let n = area.len() / SLOT;
-    let mut i = from;
-    while i < n {
-        if is_free(area, i) {
-            i += 1;
-        } else {
+    for i in from..area.len() / SLOT {
+        if !is_free(area, i) {
             return false;
         }
     }
     true
 }
 
-// The first slot that has a record of the key; the number of slots where none has.
-fn find(area: &[u8], key: usize) -> usize
-    ensures { (result ≡ first_in (holds key) 0 (rest area.now 0)) × (result ≤ length area.now / 32) }
+// The first slot, by its number, that passes a test; none where none does.
+fn first_slot<F: Fn(usize) -> bool>(area: &[u8], passes: F) -> Option<usize>
+    requires { (i : ℕ) → i < length area.now / 32 → F.pre passes i }
+    ensures { (p : List ℕ → Bool) → TestsAs p area.now (F.post passes) → FirstSlot p area.now result }
 {
-    let n = area.len() / SLOT;
-    let mut i = 0;
-    while i < n {
-        if holds(area, i, key) {
-            return i;
+    for i in 0..area.len() / SLOT {
+        if passes(i) {
+            return Some(i);
         }
-        i += 1;
     }
-    i
+    None
 }
 
-// The first slot that can take a record of the key; the number of slots where none can.
-fn room_for(area: &[u8], key: usize) -> usize
-    ensures { (result ≡ first_in (takes key) 0 (rest area.now 0)) × (result ≤ length area.now / 32) }
+// The first slot that has a record of the key.
+fn find(area: &[u8], key: usize) -> Option<usize>
+    ensures { FirstSlot (holds key) area.now result }
 {
-    let n = area.len() / SLOT;
-    let mut i = 0;
-    while i < n {
-        if takes(area, i, key) {
-            return i;
-        }
-        i += 1;
-    }
-    i
+    first_slot(area, |i| holds(area, i, key))
+}
+
+// The first slot that can take a record of the key.
+fn room_for(area: &[u8], key: usize) -> Option<usize>
+    ensures { FirstSlot (takes key) area.now result }
+{
+    first_slot(area, |i| takes(area, i, key))
 }
 
 // No record is malformed, and free slots come last.
 fn in_place(area: &[u8]) -> bool
     ensures { result ≡ in_place (slots_of area.now) }
 {
-    let n = area.len() / SLOT;
-    let mut i = 0;
-    while i < n {
+    for i in 0..area.len() / SLOT {
         if is_free(area, i) {
             return all_free(area, i + 1);
         }
         if is_malformed(area, i) {
             return false;
         }
-        i += 1;
     }
     true
 }
@@ -233,10 +192,8 @@ fn in_place(area: &[u8]) -> bool
 fn parts(area: &[u8]) -> usize
     ensures { result ≡ parts_of 0 (keys_in (slots_of area.now)) }
 {
-    let n = area.len() / SLOT;
     let mut most = 0;
-    let mut i = 0;
-    while i < n {
+    for i in 0..area.len() / SLOT {
         if is_free(area, i) {
             return most;
         }
@@ -244,46 +201,26 @@ fn parts(area: &[u8]) -> usize
         if most <= part {
             most = part + 1;
         }
-        i += 1;
     }
     most
-}
-
-// Key k of the part at hand was seen: its bit is 1. The bits are told as those of crate `table`, 64 to a word.
-fn is_seen(seen: &[u64; WORDS], k: usize) -> bool
-    requires { k < 8192 }
-    ensures { result ≡ eqb (due_at seen.now k) 1 }
-{
-    (seen[k / WORD] >> (k % WORD)) % 2 == 1
-}
-
-// Turns the bit of key k of the part at hand: 0 to 1.
-fn see(seen: &mut [u64; WORDS], k: usize)
-    requires { k < 8192 }
-    ensures { seen.new ≡ turned seen.old k }
-{
-    seen[k / WORD] = seen[k / WORD] ^ (1u64 << (k % WORD));
 }
 
 // Of the records before the first free slot two have one key, and it is of this part: one pass, with a bit for each key of the part.
 fn twice_in(area: &[u8], part: usize) -> bool
     ensures { result ≡ twice (in_part part) (keys_in (slots_of area.now)) }
 {
-    let n = area.len() / SLOT;
     let mut seen = [0u64; WORDS];
-    let mut i = 0;
-    while i < n {
+    for i in 0..area.len() / SLOT {
         if is_free(area, i) {
             return false;
         }
         let key = key_of(area, i);
         if key / PART == part {
-            if is_seen(&seen, key % PART) {
+            if table::is_due(&seen, key % PART) {
                 return true;
             }
-            see(&mut seen, key % PART);
+            table::turn(&mut seen, key % PART);
         }
-        i += 1;
     }
     false
 }
@@ -292,13 +229,10 @@ fn twice_in(area: &[u8], part: usize) -> bool
 fn any_twice(area: &[u8]) -> bool
     ensures { result ≡ twice (part_from 0) (keys_in (slots_of area.now)) }
 {
-    let n = parts(area);
-    let mut part = 0;
-    while part < n {
+    for part in 0..parts(area) {
         if twice_in(area, part) {
             return true;
         }
-        part += 1;
     }
     false
 }
@@ -307,80 +241,48 @@ fn any_twice(area: &[u8]) -> bool
 fn in_order(area: &[u8]) -> bool
     ensures { result ≡ in_order (slots_of area.now) }
 {
-    if in_place(area) {
-        return !any_twice(area);
-    }
-    false
+    in_place(area) && !any_twice(area)
 }
 
-// What a release that knows the versions up to `newest` says of the area: 0, 10 or 11.
-fn judge(area: &[u8], newest: u8) -> u32
-    ensures { result ≡ area_verdict newest area.now }
+// What a release that knows the versions up to `newest` says of the area.
+fn judge(area: &[u8], newest: u8) -> Result<(), Refusal>
+    ensures { number_in result ≡ area_verdict newest area.now }
 {
     if any_newer(area, newest) {
-        return NEWER;
+        return Err(Refusal::Newer);
     }
-    if 0 < area.len() % SLOT {
-        return DISORDER;
+    if area.len() % SLOT != 0 || !in_order(area) {
+        return Err(Refusal::Disorder);
     }
-    if in_order(area) {
-        return 0;
+    Ok(())
+}
+
+// Shows the setting of a key, as a release does that knows the versions up to `newest`; the area is only read.
+fn show(area: &[u8], key: u16, newest: u8) -> Result<Shown, Refusal>
+    ensures { says result ≡ fetched newest key area.now }
+{
+    judge(area, newest)?;
+    match find(area, key as usize) {
+        Some(i) => Ok(Shown {
+            setting: number::read8(area, SLOT * i + SETTING_AT),
+            unit: number::read2(area, SLOT * i + UNIT_AT) as u16,
+        }),
+        None => Err(Refusal::Absent),
     }
-    DISORDER
 }
 
 // Shows the setting of a key; the area is only read.
-pub fn fetch(area: &[u8], key: u16) -> Shown
+pub fn fetch(area: &[u8], key: u16) -> Result<Shown, Refusal>
     ensures { says result ≡ fetched 2 key area.now }
 {
-    let number = judge(area, NEW);
-    if 0 < number {
-        return Shown {
-            number: number,
-            setting: 0,
-            unit: 0,
-        };
-    }
-    let i = find(area, key as usize);
-    if i < area.len() / SLOT {
-        let unit = number::read2(area, SLOT * i + UNIT_AT);
-        let setting = number::read8(area, SLOT * i + SETTING_AT);
-        return Shown {
-            number: 0,
-            setting: setting,
-            unit: unit as u16,
-        };
-    }
-    Shown {
-        number: ABSENT,
-        setting: 0,
-        unit: 0,
-    }
+    show(area, key, NEW)
 }
 
-// The reader of the old release, which refuses a record of version 2 and shows nothing of it.
-pub fn fetch_1(area: &[u8], key: u16) -> Shown1
+// The reader of the old release, which refuses a record of version 2 and shows nothing of it. It knows no unit.
+pub fn fetch_1(area: &[u8], key: u16) -> Result<u64, Refusal>
     ensures { says_1 result ≡ fetched_old key area.now }
 {
-    let number = judge(area, OLD);
-    if 0 < number {
-        return Shown1 {
-            number: number,
-            setting: 0,
-        };
-    }
-    let i = find(area, key as usize);
-    if i < area.len() / SLOT {
-        let setting = number::read8(area, SLOT * i + SETTING_AT);
-        return Shown1 {
-            number: 0,
-            setting: setting,
-        };
-    }
-    Shown1 {
-        number: ABSENT,
-        setting: 0,
-    }
+    Ok(show(area, key, OLD)?.setting)
 }
 
 // Writes a record of version 2 into slot i; all other bytes of the area stay.
@@ -388,16 +290,12 @@ fn write_slot(area: &mut [u8], i: usize, key: u16, setting: u64, unit: u16)
     requires { 32 * i + 32 ≤ length area.old }
     ensures { area.new ≡ put area.old (32 * i) (slot_of key setting unit) }
 {
-    let k0 = (key % BYTE) as u8;
-    let k1 = (key / BYTE % BYTE) as u8;
-    let u0 = (unit % BYTE) as u8;
-    let u1 = (unit / BYTE % BYTE) as u8;
-    let b = number::bytes8(setting);
-    let r = [
-        NEW, 0, k0, k1, u0, u1, 0, 0, b[0], b[1], b[2], b[3], b[4], b[5], b[6], b[7], 0, 0, 0, 0,
-        0, 0, 0, 0, 0, 0, 0, 0, 0, 0, 0, 0,
-    ];
-    stretch::copy_bytes(area, SLOT * i, &r, 0, SLOT);
+    let mut slot = [0u8; SLOT];
+    slot[VERSION_AT] = NEW;
+    slot[KEY_AT..UNIT_AT].copy_from_slice(&key.to_le_bytes());
+    slot[UNIT_AT..UNIT_END].copy_from_slice(&unit.to_le_bytes());
+    slot[SETTING_AT..SETTING_END].copy_from_slice(&setting.to_le_bytes());
+    stretch::copy_bytes(area, SLOT * i, &slot, 0, SLOT);
 }
 
 // Moves the slots after slot i up by one, and frees the last.
@@ -406,39 +304,35 @@ fn close_up(area: &mut [u8], i: usize)
     ensures { area.new ≡ closed_up area.old i }
 {
     let n = area.len();
-    stretch::shift_left(area, SLOT * i, SLOT * i + SLOT, n - (SLOT * i + SLOT));
+    stretch::shift(area, SLOT * i, SLOT * i + SLOT, n - (SLOT * i + SLOT));
     stretch::clear(area, n - SLOT, SLOT);
 }
 
 // Stores a setting with its unit: a known key's record is replaced, a new one goes into the first free slot. After a refusal the area is as it
 // was.
-pub fn store(area: &mut [u8], key: u16, setting: u64, unit: u16) -> u32
+pub fn store(area: &mut [u8], key: u16, setting: u64, unit: u16) -> Result<(), Refusal>
     ensures { stores result area.new ≡ called (to_store key setting unit) area.old }
 {
-    let number = judge(area, NEW);
-    if 0 < number {
-        return number;
+    judge(area, NEW)?;
+    match room_for(area, key as usize) {
+        Some(i) => {
+            write_slot(area, i, key, setting, unit);
+            Ok(())
+        }
+        None => Err(Refusal::Full),
     }
-    let i = room_for(area, key as usize);
-    if i < area.len() / SLOT {
-        write_slot(area, i, key, setting, unit);
-        return 0;
-    }
-    FULL
 }
 
 // Removes a key's record: the later ones move up, byte for byte. After a refusal the area is as it was.
-pub fn remove(area: &mut [u8], key: u16) -> u32
+pub fn remove(area: &mut [u8], key: u16) -> Result<(), Refusal>
     ensures { stores result area.new ≡ called (to_remove key) area.old }
 {
-    let number = judge(area, NEW);
-    if 0 < number {
-        return number;
+    judge(area, NEW)?;
+    match find(area, key as usize) {
+        Some(i) => {
+            close_up(area, i);
+            Ok(())
+        }
+        None => Err(Refusal::Absent),
     }
-    let i = find(area, key as usize);
-    if i < area.len() / SLOT {
-        close_up(area, i);
-        return 0;
-    }
-    ABSENT
 }

@@ -12,23 +12,25 @@ use lib.Seq.{take_at}
 use lib.Dec.{ltb}
 use Rattle.paper.specs.Tree.{Tree, weight, records}
 use Rattle.paper.specs.Table.{encode}
-use Rattle.paper.specs.Verdict.{Verdict, told, refused}
+use Rattle.paper.specs.Verdict.{Verdict, refused}
 use Rattle.paper.specs.Limits.{is_limit}
 use Rattle.paper.specs.Rules.{is_edition}
 use Rattle.paper.specs.Record.{sound}
 use Rattle.paper.specs.Answers.{Answer, cramped, refused_by, refusal, simplified}
 use Rattle.paper.proofs.EncodeLaws.{encode_length}
+use Rattle.paper.proofs.LimitLaws.{limit_small}
 use Rattle.paper.proofs.Tests.{or_neither}
 use Rattle.stretch.specs.Put.{put}
-use Rattle.paper_shared.specs.Answers.{Handed, Opening, turned_away, opens, judged_site, opening, opening_by, no_room, holding}
-use Rattle.paper_shared.specs.Answers.{OpenAnswer, unopened, open_of, open_given, unshared, shared_of, shared_given}
-use Rattle.record.specs.Flaw.{flaw_of}
+use Rattle.paper_shared.specs.Answers.{Handed, tree_in, definitions_of, Opening, turned_away, opens, judged_site, opening, opening_by, no_room, holding}
+use Rattle.paper_shared.specs.Answers.{unopened, open_of, open_given, unshared, shared_of, shared_given}
+use Rattle.std.specs.Prelude.{Ok, Err}
+use Rattle.table.specs.declared.refusals.Refusal.{Refusal}
+use Rattle.table.specs.declared.refusals.Refusal.TheVariants.{Room}
+use Rattle.table.specs.Refusals.{verdict_of}
 use Rattle.simplify.specs.Answer.{says, lent, call_number, short}
 use Rattle.simplify.specs.declared.Answer as simplifier
-use Rattle.shared.specs.Answer as ours
-use Rattle.shared.specs.Answer.{gives_opened, gives_shared, turned_away_answer, tight}
-use Rattle.shared.specs.declared.Opened.{Opened}
-use Rattle.replace.specs.Index.{Holding}
+use Rattle.shared.specs.Answer.{gives_opened, gives_shared, tight}
+use Rattle.replace.specs.Index.{Openable, Holding}
 use Rattle.replace.specs.Planned.{Ready, Planned}
 use Rattle.replace.specs.declared.Plan.{Plan}
 
@@ -44,30 +46,45 @@ module _ (lim : ℕ) (h : Handed) (known : is_limit lim ≡ true) where
   unfolding opening
   as_judged = rw known
 
-  pub opens_as : (p : Plan) → Planned lim h (opening lim h) p → p.number ≤ 0 → Opens lim h p
-  opens_as p k l = go (judged_site lim h) refl (subst (λ (o : Opening). Planned lim h o p) as_judged k)
+  pub opens_as : (p : Plan) → Planned lim h (opening lim h) (Ok p) → Opens lim h p
+  opens_as p k = go (judged_site lim h) refl (subst (λ (o : Opening). Planned lim h o (Ok p)) as_judged k)
     where
-      go : (o : Opening) → judged_site lim h ≡ o → Planned lim h o p → Opens lim h p
-      go (turned_away v) e r = absurd (let a = r.number in let b = r.positive in omega arith)
+      go : (o : Opening) → judged_site lim h ≡ o → Planned lim h o (Ok p) → Opens lim h p
+      go (turned_away v) e r = absurd r
       go (opens v) e r = record { tree = v; is = e; ready = r }
 
 -- and one with a refusal is turned away with it
-pub turned_as : (lim : ℕ) (h : Handed) (p : Plan) → Planned lim h (opening lim h) p → 0 < p.number
-    → opening lim h ≡ turned_away (told p.number p.place (flaw_of p.flaw))
-turned_as lim h p k l = go (opening lim h) k
+pub turned_as : (lim : ℕ) (h : Handed) (r : Refusal) → Planned lim h (opening lim h) (Err r) → opening lim h ≡ turned_away (verdict_of r)
+turned_as lim h r k = go (opening lim h) k
   where
-    go : (o : Opening) → Planned lim h o p → o ≡ turned_away (told p.number p.place (flaw_of p.flaw))
-    go (turned_away v) r = ap turned_away (rw (r.number, r.place, r.flaw))
-    go (opens v) r = absurd (let a = r.number in omega arith)
+    go : (o : Opening) → Planned lim h o (Err r) → o ≡ turned_away (verdict_of r)
+    go (turned_away v) e = ap turned_away (sym e)
+    go (opens v) e = absurd e
 
--- a plan without a refusal was made under a limit that there is
-pub limit_known : (lim : ℕ) (h : Handed) (p : Plan) → Planned lim h (opening lim h) p → p.number ≤ 0 → is_limit lim ≡ true
+-- a plan was made under a limit that there is
+pub limit_known : (lim : ℕ) (h : Handed) (p : Plan) → Planned lim h (opening lim h) (Ok p) → is_limit lim ≡ true
 unfolding opening
-limit_known lim h p k l = go (is_limit lim) refl k
+limit_known lim h p k = go (is_limit lim) refl k
   where
-    go : (b : Bool) → is_limit lim ≡ b → Planned lim h (cond b (judged_site lim h) (turned_away (refused 19 0))) p → is_limit lim ≡ true
+    go : (b : Bool) → is_limit lim ≡ b → Planned lim h (cond b (judged_site lim h) (turned_away (refused 19 0))) (Ok p) → is_limit lim ≡ true
     go true e k = e
-    go false e k = absurd (let a = k.number in omega arith)
+    go false e k = absurd k
+
+-- what a plan gives: a limit that there is, a tree, its weight and the room that it takes
+module _ (lim : ℕ) (h : Handed) (p : Plan) (k : Planned lim h (opening lim h) (Ok p)) where
+  pub opens_to : Opens lim h p
+  opens_to = opens_as lim h (limit_known lim h p k) p k
+
+  pub small : p.weight ≤ 16384
+  small =
+      let e = opens_to.ready.weighs in
+      let l = opens_to.ready.light in
+      let m = limit_small lim (limit_known lim h p k) in
+      omega arith
+
+  pub openable : (area : List ℕ) → 16 * p.weight ≤ length area
+      → Openable (definitions_of h) h.definitions p.which p.from h.table area (length h.symbols) (length h.symbols) 0 (tree_in h.table) opens_to.tree
+  openable area l = let e = opens_to.ready.weighs in opens_to.ready.openable area (omega arith)
 
 -- ---- the opened table in its area
 pub held : (v : Tree) (e : ℕ) (area area' : List ℕ) → Holding v 0 e area area' → area' ≡ holding v area
@@ -83,18 +100,17 @@ table_of v e area area' w =
     ap (take (16 * e - 0)) (held v e area area' w) ∙ take_at (encode v) (drop (length (encode v)) area) (16 * e - 0) (omega arith)
 
 -- ---- the call that opens
-pub open_refused : (lim : ℕ) (h : Handed) (area : List ℕ) (v : Verdict) (r : Opened) → ours.says r ≡ turned_away_answer v → opening lim h ≡ turned_away v
-    → gives_opened r area ≡ open_given lim h area
+pub open_refused : (lim : ℕ) (h : Handed) (area : List ℕ) (r : Refusal) → opening lim h ≡ turned_away (verdict_of r)
+    → gives_opened (Err r) area ≡ open_given lim h area
 unfolding open_given open_of unopened
-open_refused lim h area v r e q = rw q (ap (λ (x : OpenAnswer). record { answer = x; area = area }) e)
+open_refused lim h area r q = rw q refl
 
 module _ (lim : ℕ) (h : Handed) (known : is_limit lim ≡ true) {p : Plan} (o : Opens lim h p) (area : List ℕ) where
-  pub open_tight : (r : Opened) → ours.says r ≡ turned_away_answer (refused 6 0) → length area < 16 * p.weight → gives_opened r area ≡ open_given lim h area
+  pub open_tight : length area < 16 * p.weight → gives_opened (Err Room) area ≡ open_given lim h area
   unfolding open_given open_of no_room unopened
-  open_tight r e l =
+  open_tight l =
       let q = o.ready.weighs in
-      rw (as_judged lim h known, o.is, lt-ltb (length area) (16 * weight o.tree) (omega arith))
-      (ap (λ (x : OpenAnswer). record { answer = x; area = area }) e)
+      rw (as_judged lim h known, o.is, lt-ltb (length area) (16 * weight o.tree) (omega arith)) refl
 
   pub open_done : (area' : List ℕ) (e : ℕ) → 16 * p.weight ≤ length area → Holding o.tree 0 e area area'
       → record { answer = record { number = 0; place = 0; flaw = sound; records_written = e; opened_weight = p.weight }; area = area' } ≡ open_given lim h area

@@ -1,15 +1,16 @@
 -- Two answers that meet the contract of `open`, or of `simplify`, as the check reads it from the source, are the same, and so are the areas
--- afterwards: each contract is an equation with a function of what is handed in.
+-- afterwards: each contract is an equation with a function of what is handed in. Of `open` they are the same in the request's terms, where the two
+-- refusals of lists have one number.
 use Prim.Native.Nat.{ℕ}
 use mathlib.Core.Path.{◌≡◌, sym, ap, ◌∙◌}
 use mathlib.Core.List.{List}
-use borrow.Fn.Kinds.{ended_of}
+use borrow.Fn.Kinds.{Dens, ended_of}
 use contract.Lifetimes.{Lfts}
 use denote.Triple.Clauses.{AtExit}
 use Rattle.paper.specs.Answers as base
 use Rattle.paper.specs.Once.{OnceLeft}
-use Rattle.record.specs.declared.Flaw.{Flaw}
-use Rattle.record.proofs.Unique.{code_of, code_of_lem}
+use Rattle.std.specs.Prelude.{Result}
+use Rattle.table.specs.declared.refusals.Refusal.{Refusal}
 use Rattle.simplify.specs.Answer.{lent}
 use Rattle.simplify.proofs.Unique.{says_once}
 use Rattle.paper_shared.specs.Answers as paper
@@ -20,27 +21,15 @@ use Rattle.shared.proofs.open.Kinds as open-kinds
 use Rattle.shared.proofs.simplify.Reads as simplify-reads
 use Rattle.shared.proofs.simplify.Kinds as simplify-kinds
 
--- the answer of the call that opens, as the code's
-opened_of : paper.OpenAnswer → Opened
-opened_of a =
-    record { number = a.number; place = a.place; flaw = code_of a.flaw; records = a.records_written; weight = a.opened_weight }
-
-opened_of_lem : (r : Opened) → opened_of (says r) ≡ r
-unfolding opened_of
-opened_of_lem r =
-    ap (λ (f : Flaw). record { number = r.number; place = r.place; flaw = f; records = r.records; weight = r.weight }) (code_of_lem r.flaw)
-
-opened_once : (r r' : Opened) → says r ≡ says r' → r ≡ r'
-opened_once r r' e = sym (opened_of_lem r) ∙ ap opened_of e ∙ opened_of_lem r'
-
 -- the area at exit
 abbrev pub area_left : (κs : Lfts 5) → AtExit (ended_of 5 open-kinds.ps open-kinds.r) κs → List ℕ
 area_left κs x = x.1.1.1.1.1.0.now
 
-pub open_once : OnceLeft 5 open-kinds.ps open-kinds.r open-reads.Pre open-reads.Post (List ℕ) area_left
-open_once κs a v v' x x' q p p' =
+pub open_once : (κs : Lfts 5) (a : Dens κs open-kinds.ps) (v v' : Result Opened Refusal) (x x' : AtExit (ended_of 5 open-kinds.ps open-kinds.r) κs)
+    → open-reads.Post κs a v x → open-reads.Post κs a v' x' → (says v ≡ says v') × (area_left κs x ≡ area_left κs x')
+open_once κs a v v' x x' p p' =
     let e = p ∙ sym p' in
-    (opened_once v v' (ap (λ (g : paper.OpenGiven). g.answer) e), ap (λ (g : paper.OpenGiven). g.area) e)
+    (ap (λ (g : paper.OpenGiven). g.answer) e, ap (λ (g : paper.OpenGiven). g.area) e)
 
 -- the four areas at exit
 abbrev pub areas_left : (κs : Lfts 8) → AtExit (ended_of 8 simplify-kinds.ps simplify-kinds.r) κs → List ℕ × base.Lent

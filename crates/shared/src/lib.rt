@@ -3,37 +3,19 @@
 #![tactic(auto)]
 
 ghost use Rattle.std.specs.Prelude.{◌≡◌, ◌≤◌};
-ghost use Rattle.paper.specs.Verdict.{told};
-ghost use Rattle.record.specs.Flaw.{flaw_of};
 ghost use Rattle.paper_shared.specs.Answers.{open_given, shared_given};
 ghost use Rattle.replace.specs.Planned.{handed};
 ghost use Rattle.simplify.specs.Answer.{lent};
-ghost use Rattle.shared.specs.Answer.{says, gives_opened, gives_shared, turned_away_answer, tight};
+ghost use Rattle.shared.specs.Answer.{gives_opened, gives_shared, tight};
 
-use record::Flaw;
 use simplify::Answer;
+use table::Refusal;
 
-// A refusal's number and place, or 0 and 0; after 2 what is wrong with the record; the records of the opened table, and its weight.
+// The records of the opened table, and its weight.
 #[derive(Clone, Copy)]
 pub struct Opened {
-    pub number: u32,
-    pub place: usize,
-    pub flaw: Flaw,
     pub records: usize,
     pub weight: usize,
-}
-
-// A refusal of the call that opens: its number and place, what is wrong with the record, and zeros.
-fn turned_away(number: u32, place: usize, flaw: Flaw) -> Opened
-    ensures { says result ≡ turned_away_answer (told number place (flaw_of flaw)) }
-{
-    Opened {
-        number,
-        place,
-        flaw,
-        records: 0,
-        weight: 0,
-    }
 }
 
 // Opens a formula: the opened table stands at the beginning of the area, whose other bytes stay. All refusals leave the area as it was.
@@ -44,29 +26,25 @@ pub fn open(
     lengths: &[u8],
     definitions: &[u8],
     opened: &mut [u8],
-) -> Opened
+) -> Result<Opened, Refusal>
     ensures { gives_opened result opened.new
         ≡ open_given limit (handed table.now symbols.now lengths.now definitions.now) opened.old }
 {
-    let p = replace::prepare(limit, table, symbols, lengths, definitions);
-    let flaw = p.flaw;
-    if 0 < p.number {
-        return turned_away(p.number, p.place, flaw);
-    }
+    let p = replace::prepare(limit, table, symbols, lengths, definitions)?;
     let w = p.weight;
     if opened.len() < record::SIZE * w {
-        return turned_away(table::ROOM, 0, Flaw::Sound);
+        return Err(Refusal::Room);
     }
-    let which = p.which;
-    let from = p.from;
-    let e = replace::open_records(definitions, &which, &from, table, symbols.len(), opened, 0);
-    Opened {
-        number: 0,
-        place: 0,
-        flaw: Flaw::Sound,
-        records: e,
-        weight: w,
-    }
+    let records = replace::open_records(
+        definitions,
+        &p.which,
+        &p.from,
+        table,
+        symbols.len(),
+        opened,
+        0,
+    );
+    Ok(Opened { records, weight: w })
 }
 
 // 6: one of the four areas, of these lengths, is too short for a run on an opened table of weight w.
@@ -100,13 +78,12 @@ pub fn simplify(
 {
     let number = simplify::judge_call(limit, edition);
     if 0 < number {
-        return simplify::refusal(number, 0, Flaw::Sound);
+        return simplify::refusal(number, 0, None);
     }
-    let p = replace::prepare(limit, table, symbols, lengths, definitions);
-    let flaw = p.flaw;
-    if 0 < p.number {
-        return simplify::refusal(p.number, p.place, flaw);
-    }
+    let p = match replace::prepare(limit, table, symbols, lengths, definitions) {
+        Ok(p) => p,
+        Err(r) => return simplify::refusal(r.number(), r.place(), r.flaw()),
+    };
     if is_tight(
         limit,
         p.weight,
@@ -115,11 +92,17 @@ pub fn simplify(
         steps.len(),
         work.len(),
     ) {
-        return simplify::refusal(table::ROOM, 0, Flaw::Sound);
+        return simplify::refusal(table::ROOM, 0, None);
     }
-    let which = p.which;
-    let from = p.from;
-    let e = replace::open_records(definitions, &which, &from, table, symbols.len(), opened, 0);
+    let e = replace::open_records(
+        definitions,
+        &p.which,
+        &p.from,
+        table,
+        symbols.len(),
+        opened,
+        0,
+    );
     let end = record::SIZE * e;
     simplify::simplify(limit, edition, &opened[0..end], out, steps, work)
 }

@@ -8,12 +8,12 @@ ghost use Rattle.std.specs.Prelude.{◌≤◌, length, IfOk, IfSome};
 
 use differ::PAIR;
 use number::TOP;
-use record::{BAD_BYTE, BAD_COUNT, BAD_KIND};
+use record::Flaw;
 use std::env::{Env, FillError};
 use std::fs::Files;
 use std::io::{Read, Write};
 use std::{fs, io, str};
-use table::{EXPONENT, FIRST, HEAVY, LENGTH, RECORD, SHAPE};
+use table::{Refusal, Refused, Which};
 
 // The limit that the small programs keep, and the bytes of the largest table and of the shortest area over it, by it.
 const LIMIT: usize = 3072;
@@ -128,12 +128,12 @@ fn say_pairs(
 }
 
 // Writes what is wrong with a record, as the listing does; nothing where nothing is.
-fn say_flaw(out: &mut impl Write, what: u64, byte: u64) -> io::Result<()> {
-    match what {
-        BAD_KIND => out.write_all(b" kind"),
-        BAD_BYTE => write!(out, " byte {byte}"),
-        BAD_COUNT => out.write_all(b" count"),
-        _ => Ok(()),
+fn say_flaw(out: &mut impl Write, flaw: Option<Flaw>) -> io::Result<()> {
+    match flaw {
+        Some(Flaw::Kind) => out.write_all(b" kind"),
+        Some(Flaw::Byte(byte)) => write!(out, " byte {byte}"),
+        Some(Flaw::Count) => out.write_all(b" count"),
+        None => Ok(()),
     }
 }
 
@@ -143,71 +143,71 @@ fn tell(err: &mut impl Write, word: &[u8]) {
 }
 
 // Tells what is wrong with a record, in words.
-fn explain_record(err: &mut impl Write, what: u64) {
-    match what {
-        BAD_KIND => tell(err, b"its kind is none of the five"),
-        BAD_BYTE => tell(err, b"a byte of it that must be zero is not"),
-        BAD_COUNT => tell(err, b"it is a sum or a product of fewer than two members"),
-        _ => (),
+fn explain_record(err: &mut impl Write, flaw: Flaw) {
+    match flaw {
+        Flaw::Kind => tell(err, b"its kind is none of the five"),
+        Flaw::Byte(_) => tell(err, b"a byte of it that must be zero is not"),
+        Flaw::Count => tell(err, b"it is a sum or a product of fewer than two members"),
     }
 }
 
 // Tells what is wrong with a table, in words.
-fn explain(err: &mut impl Write, number: u32, what: u64) {
-    match number {
-        LENGTH => tell(
+fn explain(err: &mut impl Write, refusal: Refusal) {
+    match refusal {
+        Refusal::Length => tell(
             err,
             b"its length is zero, no multiple of 16, or over 49,152 bytes",
         ),
-        RECORD => explain_record(err, what),
-        HEAVY => tell(err, b"it weighs over 3,072"),
-        SHAPE => tell(
+        Refusal::Record { flaw, .. } => explain_record(err, flaw),
+        Refusal::Heavy => tell(err, b"it weighs over 3,072"),
+        Refusal::Shape { .. } => tell(
             err,
             b"its records end before the tree, or the tree ends here before the records",
         ),
-        EXPONENT => tell(err, b"it is an exponent, and no integer of at least 1"),
+        Refusal::Exponent { .. } => tell(err, b"it is an exponent, and no integer of at least 1"),
         _ => (),
     }
 }
 
 // Tells on standard error what is wrong with a table, and with which record of it: 1 and 3 are of the whole.
-fn explain_refusal(err: &mut impl Write, which: u8, number: u32, place: usize, what: u64) {
-    if which == FIRST {
-        tell(err, b"differs: first table");
-    } else {
-        tell(err, b"differs: second table");
+fn explain_refusal(err: &mut impl Write, refused: Refused) {
+    let refusal = refused.refusal;
+    match refused.which {
+        Which::First => tell(err, b"differs: first table"),
+        _ => tell(err, b"differs: second table"),
     }
-    if number != LENGTH && number != HEAVY {
+    if !matches!(refusal, Refusal::Length | Refusal::Heavy) {
+        let place = refusal.place();
         let _ = write!(err, ", record {place}");
     }
     tell(err, b": ");
-    explain(err, number, what);
+    explain(err, refusal);
     tell(err, b"\n");
 }
 
 // Writes which table is refused. The list being as long as any table, one of the two is.
-fn say_which(out: &mut impl Write, which: u8) -> io::Result<()> {
-    if which == FIRST {
-        return out.write_all(b"first");
+fn say_which(out: &mut impl Write, which: Which) -> io::Result<()> {
+    match which {
+        Which::First => out.write_all(b"first"),
+        _ => out.write_all(b"second"),
     }
-    out.write_all(b"second")
 }
 
 // Writes which table is refused, the refusal's number and place, and what is wrong with the record; then, on standard error, the same in words.
-fn say_refusal(out: &mut impl Write, err: &mut impl Write, d: differ::Differed) -> io::Result<()> {
-    let (number, place, which) = (d.number, d.place, d.which);
-    let wrong = record::flaw_numbers(d.flaw);
-    say_which(out, which)?;
+fn say_refusal(out: &mut impl Write, err: &mut impl Write, refused: Refused) -> io::Result<()> {
+    let refusal = refused.refusal;
+    let (number, place) = (refusal.number(), refusal.place());
+    say_which(out, refused.which)?;
     write!(out, ": refused {number} at {place}")?;
-    say_flaw(out, wrong.what, wrong.byte)?;
+    say_flaw(out, refusal.flaw())?;
     out.write_all(b"\n")?;
-    explain_refusal(err, which, number, place, wrong.what);
+    explain_refusal(err, refused);
     Ok(())
 }
 
 // Writes whether the trees are equal, the order of members not counting.
 fn say_equal(out: &mut impl Write, a: &[u8], b: &[u8]) -> io::Result<()> {
-    if equal::equal(LIMIT, a, b).yes {
+    if matches!(equal::equal(LIMIT, a, b), Ok(true)) {
         return out.write_all(b"trees equal\n");
     }
     out.write_all(b"trees not equal\n")
@@ -222,11 +222,10 @@ fn compare(
     with_equal: bool,
 ) -> io::Result<()> {
     let mut list = [0u8; TABLE];
-    let d = differ::differ(LIMIT, a, b, &mut list);
-    if 0 < d.number {
-        return say_refusal(out, err, d);
-    }
-    let pairs = d.pairs;
+    let pairs = match differ::differ(LIMIT, a, b, &mut list) {
+        Ok(pairs) => pairs,
+        Err(refused) => return say_refusal(out, err, refused),
+    };
     write!(out, "differences {pairs}\n")?;
     say_pairs(out, a, b, &list, pairs)?;
     if with_equal {
@@ -235,7 +234,7 @@ fn compare(
     Ok(())
 }
 
-// Why a call failed, in the system's words alone.
+// Why a call failed, in the system's words alone. The listing says it so too: what compares two files stands without the simplifier.
 fn reason(error: io::Error, room: &mut [u8; WORDS]) -> &str {
     let mut rest = &mut room[..];
     let _ = write!(rest, "{error}");

@@ -14,7 +14,7 @@ use Rattle.paper_differ.specs.Calls.{differed_numbers, differ_returns, differ_an
 use Rattle.paper_text.specs.Slices.{LeavesIn}
 
 -- six numbers, whatever they say
-differed_count : (d : Differed) → length (differed_numbers d) ≡ 6
+pub differed_count : (d : Differed) → length (differed_numbers d) ≡ 6
 unfolding differed_numbers verdict_numbers
 differed_count d = omega (arith, verdict_count (told d.number d.place d.flaw))
 

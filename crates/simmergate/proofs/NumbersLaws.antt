@@ -15,6 +15,12 @@ pub tells : {A : Type 0} {x y : A} → x ≡ y → (number : A → ℕ) (numbers
 tells {A = A} e number numbers rest w q =
     (ap number e ∙ sym q.0, w ∙ ap (λ (a : A). eights (numbers a) ++ rest) e ∙ sym q.1)
 
+-- so many numbers, handed over as a list
+pub numbers_told : (numbers slice : List ℕ) {many : ℕ} {ns after : List ℕ} → ns ≡ numbers → length numbers ≡ many
+    → after ≡ eights ns ++ drop (8 * length ns) slice → after ≡ eights numbers ++ drop (8 * many) slice
+numbers_told numbers slice e n w =
+    w ∙ ap (λ (l : List ℕ). eights l ++ drop (8 * length l) slice) e ∙ ap (λ (k : ℕ). eights numbers ++ drop (8 * k) slice) n
+
 -- the simplifier's ten numbers, handed over as a list
 pub ten_told : (a : Answer) (slice : List ℕ) {ns after : List ℕ} → ns ≡ answer_numbers a → after ≡ eights ns ++ drop (8 * length ns) slice
     → after ≡ eights (answer_numbers a) ++ drop 80 slice

@@ -19,7 +19,7 @@ use Rattle.paper_text.specs.Answers.{read_text_returns, read_text_answers, read_
 use Rattle.simplify.specs.Answer.{lent}
 use Rattle.batch.specs.Turn.{called}
 use Rattle.replace.specs.Planned.{handed}
-use Rattle.settings.specs.Shown.{stores}
+use Rattle.settings.specs.Shown.{stores_number}
 
 -- ---- a slice that a call is lent to read, and the bytes that it holds; one that it is lent to write to, and the bytes that it holds as the call
 -- begins and as it returns
@@ -110,10 +110,10 @@ pub record FinishCall (limit : ℕ) (state : Area) (area : Slice) (answer : Area
 
 -- ---- settings: of a store and a remove the return and the area are those of the definitions' call
 abbrev pub StoreCall : (area : Area) (key setting unit : ℕ) (r : ℕ) → Type 0
-StoreCall area key setting unit r = stores r (after area) ≡ settings.called (to_store key setting unit) (before area)
+StoreCall area key setting unit r = stores_number r (after area) ≡ settings.called (to_store key setting unit) (before area)
 
 abbrev pub RemoveCall : (area : Area) (key : ℕ) (r : ℕ) → Type 0
-RemoveCall area key r = stores r (after area) ≡ settings.called (to_remove key) (before area)
+RemoveCall area key r = stores_number r (after area) ≡ settings.called (to_remove key) (before area)
 
 pub record FetchCall (area : Slice) (key : ℕ) (answer : Area) (r : ℕ) : Type 0 where
   pub returns : r ≡ fetch_returns key (held area) (before answer)

@@ -7,8 +7,9 @@ ghost use Rattle.paper_receiver.specs.Calls.{receiver_in, receiver_numbers};
 ghost use Rattle.receiver.specs.Receiving.{says};
 ghost use Rattle.simmergate.specs.Calls.{ReceiveCall, FinishCall};
 
-use crate::write_numbers;
+use crate::{answer_judged, write_numbers};
 use receiver::Receiver;
+use table::Refusal;
 
 // The bytes of the link task's record.
 const RECORD_BYTES: usize = 16;
@@ -23,10 +24,7 @@ fn read_receiver(state: &[u8]) -> Receiver
 {
     let count = number::read8(state, 0) as usize;
     let past = number::read8(state, PAST_AT) as usize;
-    Receiver {
-        count: count,
-        past: past,
-    }
+    Receiver { count, past }
 }
 
 // Writes the record to its bytes; those past them stay.
@@ -43,13 +41,14 @@ pub fn simmergate_receive(limit: usize, state: &mut [u8], area: &mut [u8], piece
     ensures { ReceiveCall limit state area piece result }
 {
     if state.len() < RECORD_BYTES {
-        return table::ROOM;
+        return Refusal::Room.number();
     }
-    let r = read_receiver(state);
-    let t = receiver::after_piece(limit, r, area, piece);
-    let after = t.state;
-    write_receiver(state, after);
-    t.number
+    let t = receiver::after_piece(limit, read_receiver(state), area, piece);
+    write_receiver(state, t.state);
+    match t.taken {
+        Ok(()) => 0,
+        Err(refusal) => refusal.number(),
+    }
 }
 
 // Finishes a table. The answer: number, place, what is wrong with the record, which byte.
@@ -62,19 +61,12 @@ pub fn simmergate_receive_finish(
     ensures { FinishCall limit state area answer result }
 {
     if state.len() < RECORD_BYTES {
-        return table::ROOM;
+        return Refusal::Room.number();
     }
     if answer.len() < crate::CHECK_BYTES {
-        return table::ROOM;
+        return Refusal::Room.number();
     }
-    let r = read_receiver(state);
-    let f = receiver::at_finish(limit, r, area);
-    let after = f.state;
-    let end = f.end;
-    write_receiver(state, after);
-    let flaw = end.flaw;
-    let wrong = record::flaw_numbers(flaw);
-    let numbers = [end.number as u64, end.place as u64, wrong.what, wrong.byte];
-    write_numbers(answer, &numbers);
-    end.number
+    let f = receiver::at_finish(limit, read_receiver(state), area);
+    write_receiver(state, f.state);
+    answer_judged(answer, f.judged)
 }

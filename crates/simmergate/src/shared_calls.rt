@@ -1,11 +1,43 @@
 // The entry points for C on formulas that share sub-formulas. Each writes the numbers of its answer to a lent slice, and the opened table to
 // the front of an area.
+ghost use Rattle.std.specs.Prelude.{◌≡◌};
+ghost use Rattle.paper_shared.specs.Calls.{open_numbers};
+ghost use Rattle.shared.specs.Answer.{says};
 ghost use Rattle.simmergate.specs.Calls.{OpenCall, SharedCall};
 
 use crate::write_numbers;
+use shared::Opened;
+use table::Refusal;
 
 // The bytes of the answer of an opening, six numbers.
 const OPEN_BYTES: usize = 48;
+
+const OPEN_NUMBERS: usize = 6;
+
+// The refusal number of an opening, 0 where there is none.
+fn open_number(opened: Result<Opened, Refusal>) -> u32
+    ensures { result ≡ (says opened).number }
+{
+    match opened {
+        Ok(_) => 0,
+        Err(refusal) => refusal.number(),
+    }
+}
+
+// The numbers of its answer.
+fn numbers_of(opened: Result<Opened, Refusal>) -> [u64; OPEN_NUMBERS]
+    ensures { result ≡ open_numbers (says opened) }
+{
+    match opened {
+        Ok(o) => [0, 0, o.records as u64, o.weight as u64, 0, 0],
+        Err(refusal) => {
+            let wrong = record::flaw_numbers(refusal.flaw());
+            let number = refusal.number();
+            let place = refusal.place();
+            [number as u64, place as u64, 0, 0, wrong.what, wrong.byte]
+        }
+    }
+}
 
 // Opens a formula. The answer: number, place, records and weight of the opened table, what is wrong with the record, which byte.
 pub fn simmergate_open(
@@ -23,18 +55,9 @@ pub fn simmergate_open(
         return table::ROOM;
     }
     let o = shared::open(limit, table, symbols, lengths, definitions, opened);
-    let flaw = o.flaw;
-    let wrong = record::flaw_numbers(flaw);
-    let numbers = [
-        o.number as u64,
-        o.place as u64,
-        o.records as u64,
-        o.weight as u64,
-        wrong.what,
-        wrong.byte,
-    ];
-    write_numbers(answer, &numbers);
-    o.number
+    let number = open_number(o);
+    write_numbers(answer, &numbers_of(o));
+    number
 }
 
 // Opens a formula and simplifies the opened table, by the rules of an edition. The answer is as `simmergate_simplify`'s on the opened table.

@@ -1,7 +1,8 @@
 // The entry points for C on formulas as text.
 ghost use Rattle.simmergate.specs.Calls.{ReadTextCall, WriteTextCall};
 
-use crate::write_numbers;
+use crate::{answer_measured, write_numbers};
+use table::Refusal;
 
 // The bytes of the reader's answer, three numbers.
 const READ_BYTES: usize = 24;
@@ -11,12 +12,19 @@ pub fn simmergate_read_text(limit: usize, text: &[u8], table: &mut [u8], answer:
     ensures { ReadTextCall limit text table answer result }
 {
     if answer.len() < READ_BYTES {
-        return table::ROOM;
+        return Refusal::Room.number();
     }
-    let r = text::read(limit, text, table);
-    let numbers = [r.number as u64, r.place as u64, r.records as u64];
-    write_numbers(answer, &numbers);
-    r.number
+    match text::read(limit, text, table) {
+        Ok(records) => {
+            write_numbers(answer, &[0, 0, records as u64]);
+            0
+        }
+        Err(refusal) => {
+            let number = refusal.number();
+            write_numbers(answer, &[number as u64, refusal.place() as u64, 0]);
+            number
+        }
+    }
 }
 
 // Writes the text of a table. The answer: number, place, bytes written, what is wrong with the record, which byte.
@@ -24,18 +32,8 @@ pub fn simmergate_write_text(limit: usize, table: &[u8], text: &mut [u8], answer
     ensures { WriteTextCall limit table text answer result }
 {
     if answer.len() < crate::MEASURE_BYTES {
-        return table::ROOM;
+        return Refusal::Room.number();
     }
-    let w = text::write(limit, table, text);
-    let flaw = w.flaw;
-    let wrong = record::flaw_numbers(flaw);
-    let numbers = [
-        w.number as u64,
-        w.place as u64,
-        w.result,
-        wrong.what,
-        wrong.byte,
-    ];
-    write_numbers(answer, &numbers);
-    w.number
+    let written = text::write(limit, table, text);
+    answer_measured(answer, written)
 }

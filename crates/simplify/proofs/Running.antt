@@ -2,7 +2,7 @@
 -- the result, and clearing leaves the result, the steps, and zeros after them; after a refusal, zeros alone.
 use Prim.Native.Nat.{ℕ, ◌+◌, ◌-◌, ◌*◌, ◌/◌, ◌%◌, ◌<◌, ◌≤◌}
 use mathlib.Core.Path.{◌≡◌, refl, sym, ap, ◌∙◌, subst}
-use mathlib.Core.List.{List, [], ◌∷◌, ◌++◌, append-nil}
+use mathlib.Core.List.{List, [], ◌++◌, append-nil}
 use mathlib.Core.Option.{Option, some}
 use native.Mathlib.Omega.{arith}
 use lib.ListN.{length, take, drop, replicate, length-replicate, drop_of_length-le, take-append-drop}
@@ -18,11 +18,11 @@ use Rattle.note.specs.Note.{note}
 use Rattle.note.specs.Noted.{encode_by, Whole}
 use Rattle.note.proofs.KeyLaws.{note_weight}
 use Rattle.note.proofs.NotedLaws.{plain_encode, encode_by_length}
-use Rattle.record.specs.declared.Flaw.TheVariants.{Sound}
+use Rattle.std.specs.Prelude.{None}
 use Rattle.simplify.specs.declared.Answer.{Answer}
 use Rattle.simplify.specs.Answer.{says, filled, Lending, Leaves}
 use Rattle.driver.specs.Driven.{Set, Drove}
-use Rattle.driver.specs.Paused.{stand_of, call, Called}
+use Rattle.driver.specs.Paused.{first_stand, call, Called}
 use Rattle.driver.proofs.Counting.{cost_small}
 use Rattle.driver.proofs.Places.{put_there}
 use Rattle.driver.proofs.Runs.{drives, drives_kept, run_lighter}
@@ -44,7 +44,7 @@ clear_all d = let z : length d - 0 ≡ length d = omega arith in ap (λ i. put d
 
 -- the driver is called with no record done, no step noted, and no opening and no try so far
 pub called_on : (ed : ℕ) {out work steps : List ℕ} {p : ℕ} {t : Tree} {rest : List ℕ} → Set out work steps 0 p 0 t rest
-    → Called (call out work steps (stand_of (ed ∷ p ∷ 0 ∷ 0 ∷ 0 ∷ 0 ∷ 0 ∷ 0 ∷ 0 ∷ 0 ∷ [])) t rest)
+    → Called (call out work steps (first_stand ed p) t rest)
 called_on ed {t = t} h = record { set = h; few = omega (arith, h.ready.light); few_tries = omega (arith, cost_small (weight t) h.ready.light) }
 
 -- two trees of one table are one
@@ -168,7 +168,7 @@ module _ {table out steps work : List ℕ} {w : ℕ} {t : Tree} (h : Lending tab
           → out'' ≡ put out₁ (e * 16) (replicate (length out₁ - e * 16) 0) → steps'' ≡ put steps' n (replicate (length steps' - n) 0)
           → x ≡ note a.to / 65536 % 65536 → o' ≡ 0 + o → τ' ≡ 0 + τ
           → Leaves (drives ed t) w
-          (record { number = 0; place = 0; flaw = Sound; records = e; steps = n; openings = o'; weight_in = w; weight_out = x; tries = τ' })
+          (record { number = 0; place = 0; flaw = None; records = e; steps = n; openings = o'; weight_in = w; weight_out = x; tries = τ' })
           out out'' steps steps''
       unfolding paper.ran_answer paper.written paper.noted
       left_done out'' steps'' x o' τ' co cz cx eo et =

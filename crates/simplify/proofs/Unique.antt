@@ -11,6 +11,7 @@ use denote.Triple.Clauses.{AtExit}
 use Rattle.paper.specs.Record as paper-record
 use Rattle.paper.specs.Answers as paper
 use Rattle.paper.specs.Once.{Once, OnceLeft}
+use Rattle.std.specs.Prelude.{Option}
 use Rattle.record.specs.declared.Flaw.{Flaw}
 use Rattle.record.proofs.Unique.{code_of, code_of_lem, flaw_of_lem}
 use Rattle.simplify.specs.declared.Answer.{Answer}
@@ -50,7 +51,7 @@ answer_of a =
 answer_of_lem : (r : Answer) → answer_of (says r) ≡ r
 answer_of_lem r =
     ap
-    (λ (f : Flaw). record {
+    (λ (f : Option Flaw). record {
       number = r.number;
       place = r.place;
       flaw = f;

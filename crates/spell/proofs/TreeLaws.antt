@@ -1,8 +1,9 @@
 -- The text of a standing tree, kind by kind, from its first record and from what its members put.
 use Prim.Native.Nat.{ℕ, ◌+◌, ◌-◌, ◌*◌, ◌^◌, ◌≤◌, ◌<◌}
-use mathlib.Core.Path.{◌≡◌, refl, ap, ◌∙◌, subst}
+use mathlib.Core.Path.{◌≡◌, refl, sym, ap, ◌∙◌, subst}
 use mathlib.Core.Bool.{true, false}
 use mathlib.Core.List.{List, [], ◌∷◌, ◌++◌}
+use native.Mathlib.Decide.{ℕ_discrete}
 use native.Mathlib.Omega.{arith}
 use lib.ListN.{length}
 use Rattle.paper.specs.Bytes.{signed}
@@ -12,11 +13,15 @@ use Rattle.paper.specs.Verdict.{records_in}
 use Rattle.paper_text.specs.Text.{opens, closes, times, plus, power_sign, ess, digits, signed_digits}
 use Rattle.paper_text.specs.Text.{Place, in_sum, in_product, as_base, needs, enclosed, text, joined}
 use Rattle.paper.specs.Standing.{TreeIn, TreesIn, SomeTree, SomeTrees}
+use Rattle.record.specs.Kinds.{number_of}
+use Rattle.record.specs.declared.kinds.Kind.{Kind}
+use Rattle.record.specs.declared.kinds.Kind.TheVariants.{Integer}
+use Rattle.record.proofs.KindLaws.{kind_by_number}
 use Rattle.paper.proofs.EncodeLaws.{signed_word}
 use Rattle.paper.proofs.Seen.{seen_kind, seen_integer, seen_symbol, seen_sum, seen_product, seen_power}
 use Rattle.paper.proofs.StandingLaws.{tree_within, record_within, seen, sum_trees, product_trees, power_tree}
 use Rattle.decimal.specs.Digits.{NumberSpelt}
-use Rattle.spell.specs.declared.Spelt.{Spelt}
+use Rattle.spell.specs.Spelt.{Spelt}
 use Rattle.spell.specs.Spelt.{Put, TextPut, least_rank, Roomy}
 use Rattle.spell.proofs.PutLaws.{then_put, digits_put}
 use Rattle.spell.proofs.LongLaws.{room_after}
@@ -26,8 +31,17 @@ module _ {s : List ℕ} {i : ℕ} where
   pub inside : SomeTree s i → i * 16 + 16 ≤ length s
   inside h = record_within h.there
 
-  pub last_kind : SomeTree s i → 4 ≤ kind s i → kind s i ≡ 4
-  last_kind h l = let k = seen_kind (seen h.there) in omega (arith, k, l)
+  -- the kind that the code reads is the record's
+  pub kind_as : {n : ℕ} → SomeTree s i → (kind s i < 5 → n ≡ kind s i) → kind s i ≡ n
+  kind_as h e = let k = seen_kind (seen h.there) in sym (e (omega (arith, k)))
+
+  -- a leaf that is no integer is a symbol
+  pub symbol_as : (k : Kind) → SomeTree s i → (kind s i < 5 → number_of k ≡ kind s i) → kind s i < 2 → (k ≡ Integer → ⊥) → kind s i ≡ 1
+  symbol_as k h e l other = by (ℕ_discrete (kind s i) 0)
+    where
+      by : Dec (kind s i ≡ 0) → kind s i ≡ 1
+      by (yes z) = absurd (other (kind_by_number k Integer (e (omega arith) ∙ z)))
+      by (no z) = omega arith
 
   -- behind a record there is room for one character more
   pub behind : {at : ℕ} → SomeTree s i → Roomy s i (at - 1) → Roomy s (i + 1) at

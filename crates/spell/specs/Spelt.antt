@@ -1,14 +1,19 @@
 -- Text put to an area: where it ends, always, and the area, where it fits.
-use Rattle.std.specs.Prelude.{ℕ, ◌+◌, ◌-◌, ◌*◌, ◌^◌, ◌≤◌, ◌<◌, ◌≡◌, List, length, get_or}
+use Rattle.std.specs.Prelude.{ℕ, ◌+◌, ◌-◌, ◌*◌, ◌^◌, ◌≤◌, ◌≡◌, List, length}
 use Rattle.paper.specs.Verdict.{records_in}
 use Rattle.paper_text.specs.Text.{Place, in_sum, in_product, as_base}
 use Rattle.stretch.specs.Put.{put}
-use Rattle.spell.specs.declared.Spelt.{Spelt}
+use Rattle.spell.specs.declared.Writer.{Writer}
 
 -- the characters p stand from `at` on, where they lie in the area; e is the place after them
 pub record Put (p o : List ℕ) (at : ℕ) (o' : List ℕ) (e : ℕ) : Type 0 where
   pub end : e ≡ at + length p
   pub put_there : at + length p ≤ length o → o' ≡ put o at p
+
+-- the record after what is spelt, and the place after its text
+pub record Spelt : Type 0 where
+  pub next : ℕ
+  pub end : ℕ
 
 -- the same of the text p of what takes n records from record i on
 pub record TextPut (i n : ℕ) (p o : List ℕ) (at : ℕ) (o' : List ℕ) (r : Spelt) : Type 0 where
@@ -25,19 +30,6 @@ least_rank as_base = 1
 pub record Roomy (s : List ℕ) (i at : ℕ) : Type 0 where
   pub fits : at + 65 * (records_in s - i) ≤ 2 ^ 62
 
--- ---- the cells that all levels of the writer share: the record that is next, and the place in the area
-abbrev pub next_in : List ℕ → ℕ
-next_in st = get_or st 0 0
-
-abbrev pub end_in : List ℕ → ℕ
-end_in st = get_or st 1 0
-
-abbrev pub spelt : List ℕ → Spelt
-spelt st = record { next = next_in st; end = end_in st }
-
--- the text p of what takes n records is put from these cells on, and they are left past it
-abbrev pub Passed : List ℕ → ℕ → List ℕ → List ℕ → List ℕ → List ℕ → Type 0
-Passed st n p o o' st' = TextPut (next_in st) n p o (end_in st) o' (spelt st')
-
-abbrev pub Cells : List ℕ → List ℕ → Type 0
-Cells s st = (length st ≡ 2) × (length s < 2 ^ 63)
+-- where a writer stands
+abbrev pub place_of : Writer → Spelt
+place_of w = record { next = w.next; end = w.end }

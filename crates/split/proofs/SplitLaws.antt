@@ -19,15 +19,26 @@ use Rattle.paper.proofs.EncodeLaws.{signed_word, word_signed}
 use Rattle.note.proofs.ToldLaws.{Seen, SeenPower, seen_integer, seen_power, seen_product, an_integer, a_symbol, a_sum, a_product, a_power}
 use Rattle.paper.proofs.LikeTermsWF.{term_of_wf}
 use Rattle.paper.proofs.WFLaws.{of_to_list, count_list}
-use Rattle.number.specs.declared.Num.{Num}
-use Rattle.number.specs.declared.Num.TheVariants.{Is, Out}
-use Rattle.number.specs.Num.{num_of}
+use Rattle.std.proofs.Common.{Result, Ok}
+use Rattle.number.specs.declared.OutOfRange.{OutOfRange}
+use Rattle.number.specs.Num.{num_of, out_of_range}
 use Rattle.number.proofs.NumLaws.{num_of_is, num_of_is_out}
 use Rattle.split.specs.Standing.{Told, ToldTrees, SomeTold, SomeProduct}
 use Rattle.split.specs.Place.{base_at, later_other, last_other, product_rest, rest_at}
 use Rattle.split.specs.Rest.{coefficient_of, Lessened}
 use Rattle.split.specs.declared.Rest.TheVariants.{One, At, Others}
 use Rattle.note.proofs.ToldLaws.{seen, tree_within, power_tree, product_trees, FirstOf, first_tree, other_trees, first_of, none_of}
+
+-- ---- a tree's record has one of the five kinds
+pub kind_five : {how : Tree → ℕ} {s : List ℕ} {i : ℕ} (t : Tree) → Told how s i t → kind s i < 5
+kind_five {how = how} {s = s} {i = i} t h = by t (seen h)
+  where
+    by : (t : Tree) → Seen how s i t → kind s i < 5
+    by (integer μ z) (an_integer e b w) = omega arith
+    by (symbol μ v) (a_symbol e b w) = omega arith
+    by (sum μ f) (a_sum e n c w m) = omega arith
+    by (product μ f) (a_product e n c w m) = omega arith
+    by (power μ b ξ x) (a_power e w m p q o y z) = omega arith
 
 -- ---- base and exponent
 module _ {how : Tree → ℕ} {s : List ℕ} {i : ℕ} where
@@ -202,12 +213,12 @@ unfolding unit
 multiplying_start {f = f} h = record { rest = f; stand = product_trees h; bits_fit = omega arith; same = refl }
 
 module _ {how : Tree → ℕ} {s : List ℕ} {n at left : ℕ} {f : Forest} (h : Multiplying how s n at left f) where
-  pub multiplied_all : (μ : ℕ) → left ≡ 0 → Is n ≡ coefficient_of (product_term μ (to_list f))
+  pub multiplied_all : (μ : ℕ) → left ≡ 0 → Ok n ≡ coefficient_of (product_term μ (to_list f))
   unfolding coefficient_of product_term times_each integers_of to_list
   multiplied_all μ e =
       let q : multiplied (signed n) true ≡ times_each unit (integers_of (to_list f)) =
       ap (λ r. times_each (multiplied (signed n) true) (integers_of (to_list r))) (sym (none_of h.rest h.stand e)) ∙ h.same in
-      ap Is (sym (word_signed n h.bits_fit)) ∙ ap (λ (c : Multiplied). cond c.in_range (Is (word c.number)) Out) q
+      ap Ok (sym (word_signed n h.bits_fit)) ∙ ap (λ (c : Multiplied). cond c.in_range (Ok (word c.number)) out_of_range) q
 
   module _ (l : 0 < left) where
     next : FirstOf how s at left h.rest
@@ -227,7 +238,7 @@ module _ {how : Tree → ℕ} {s : List ℕ} {n at left : ℕ} {f : Forest} (h :
             ap (λ r. integers_of (to_list r)) next.whole ∙ ap (λ t. with_integer (as_integer t) (integers_of (to_list next.others))) q.2,
           )
 
-      pub multiplied_in : {v : ℕ} → num_of (signed n *ℤ signed (bits s at)) ≡ Is v → (j : ℕ) → ((t : Tree) → Told how s at t → j ≡ at + records t)
+      pub multiplied_in : {v : ℕ} → num_of (signed n *ℤ signed (bits s at)) ≡ Ok v → (j : ℕ) → ((t : Tree) → Told how s at t → j ≡ at + records t)
           → Multiplying how s v j (left - 1) f
       unfolding times_each times_one
       multiplied_in {v} r j ends =
@@ -247,7 +258,7 @@ module _ {how : Tree → ℕ} {s : List ℕ} {n at left : ℕ} {f : Forest} (h :
                 ∙ ap (times_each (multiplied (signed n) true)) (sym z.2) ∙ h.same;
           })
 
-      pub multiplied_out : (μ : ℕ) → num_of (signed n *ℤ signed (bits s at)) ≡ Out → Out ≡ coefficient_of (product_term μ (to_list f))
+      pub multiplied_out : (μ : ℕ) → num_of (signed n *ℤ signed (bits s at)) ≡ out_of_range → out_of_range ≡ coefficient_of (product_term μ (to_list f))
       unfolding coefficient_of product_term times_each times_one
       multiplied_out μ r =
           let z = integer_next in
@@ -255,7 +266,7 @@ module _ {how : Tree → ℕ} {s : List ℕ} {n at left : ℕ} {f : Forest} (h :
           let q : (times_each unit (integers_of (to_list f))).in_range ≡ false =
           ap (λ (c : Multiplied). c.in_range) (sym h.same ∙ ap (times_each (multiplied (signed n) true)) z.2)
           ∙ each_out (times_one (multiplied (signed n) true) z.0) (integers_of (to_list next.others)) out in
-          ap (λ (b : Bool). cond b (Is (word (times_each unit (integers_of (to_list f))).number)) Out) (sym q)
+          ap (λ (b : Bool). cond b (Ok (word (times_each unit (integers_of (to_list f))).number)) out_of_range) (sym q)
 
     -- any other member
     pub multiplied_by : 1 ≤ kind s at → (j : ℕ) → ((t : Tree) → Told how s at t → j ≡ at + records t) → Multiplying how s n j (left - 1) f
@@ -340,13 +351,13 @@ module _ {how : Tree → ℕ} {s : List ℕ} {i at left many last : ℕ} {f : Fo
 
 -- ---- coefficient and rest, by the kind of the record
 module _ {how : Tree → ℕ} {s : List ℕ} {i : ℕ} where
-  pub term_integer : (t : Tree) → Told how s i t → kind s i < 1 → (Is (bits s i) ≡ coefficient_of (term_of t)) ×
+  pub term_integer : (t : Tree) → Told how s i t → kind s i < 1 → (Ok (bits s i) ≡ coefficient_of (term_of t)) ×
       ((μ : ℕ) × ((term_of t).rest ≡ integer μ (pos 1)))
   unfolding coefficient_of term_of term
   term_integer t h k = by t (seen h)
     where
-      by : (t : Tree) → Seen how s i t → (Is (bits s i) ≡ coefficient_of (term_of t)) × ((μ : ℕ) × ((term_of t).rest ≡ integer μ (pos 1)))
-      by (integer μ z) (an_integer e b w) = (ap Is b, (0, refl))
+      by : (t : Tree) → Seen how s i t → (Ok (bits s i) ≡ coefficient_of (term_of t)) × ((μ : ℕ) × ((term_of t).rest ≡ integer μ (pos 1)))
+      by (integer μ z) (an_integer e b w) = (ap Ok b, (0, refl))
       by (symbol μ v) (a_symbol e b w) = absurd (omega arith)
       by (sum μ f) (a_sum e n c w m) = absurd (omega arith)
       by (product μ f) (a_product e n c w m) = absurd (omega arith)
@@ -399,7 +410,7 @@ some_product {s} {i} h k =
 
 -- the coefficient of a product, by its members
 module _ {how : Tree → ℕ} {s : List ℕ} {i : ℕ} where
-  pub term_product : (t : Tree) → Told how s i t → kind s i ≡ 3 → {r : Num}
+  pub term_product : (t : Tree) → Told how s i t → kind s i ≡ 3 → {r : Result ℕ OutOfRange}
       → ((μ : ℕ) (f : Forest) → Told how s i (product μ f) → r ≡ coefficient_of (product_term μ (to_list f))) → r ≡ coefficient_of (term_of t)
   unfolding term_of
   term_product t h k told =

@@ -1,19 +1,19 @@
 -- What the splits of a member tell: its coefficient, and which tree a rest stands for.
-use Rattle.std.specs.Prelude.{ℕ, ◌≤◌, ◌≡◌, cond, List, length, pos}
+use Rattle.number.specs.declared.OutOfRange.{OutOfRange}
+use Rattle.number.specs.Num.{out_of_range}
+use Rattle.std.specs.Prelude.{ℕ, Result, Ok, ◌≤◌, ◌≡◌, cond, List, length, pos}
 use Rattle.std.proofs.Math.Option.{none}
 use Rattle.paper.specs.Bytes.{word}
 use Rattle.paper.specs.Tree.{Tree, Forest, integer, product, to_list, of_list}
 use Rattle.paper.specs.WellFormed.{WF}
 use Rattle.paper.specs.Rules.{as_integer, others_of, Term}
-use Rattle.number.specs.declared.Num.{Num}
-use Rattle.number.specs.declared.Num.TheVariants.{Is, Out}
 use Rattle.split.specs.Standing.{Told}
 use Rattle.split.specs.declared.Rest.{Rest}
 use Rattle.split.specs.declared.Rest.TheVariants.{One, At, Others}
 
--- the coefficient of a term: `Is n`, every partial product was in range, and n is its 64 bits; `Out`, one was not
-unfoldable pub coefficient_of : Term → Num
-coefficient_of x = cond x.in_range (Is (word x.coefficient)) Out
+-- the coefficient of a term: `Ok n`, every partial product was in range, and n is its 64 bits; `Err`, one was not
+unfoldable pub coefficient_of : Term → Result ℕ OutOfRange
+coefficient_of x = cond x.in_range (Ok (word x.coefficient)) out_of_range
 
 -- the product at record i of the table s without its integers is the product t with its mark, of n members, two or more
 pub record Lessened (how : Tree → ℕ) (s : List ℕ) (i n : ℕ) (t : Tree) : Type 0 where

@@ -2,13 +2,15 @@
 #![tactic(auto)]
 
 ghost use Rattle.std.specs.Prelude.{◌≡◌, ℕ, ◌+◌, ◌^◌, ◌<◌, length};
+ghost use Rattle.paper.specs.Record.{kind};
 ghost use Rattle.paper.specs.Tree.{Tree, Forest, product, records, to_list};
 ghost use Rattle.paper.specs.Rules.{others_of, product_term, term_of, factor_of};
 ghost use Rattle.split.specs.Standing.{Told, SomeTold, SomeProduct};
 ghost use Rattle.split.specs.Place.{base_at, last_other, rest_at};
 ghost use Rattle.split.specs.Rest.{coefficient_of, StandsFor};
 
-use number::Num;
+use number::OutOfRange;
+use record::kinds::Kind;
 
 // From so many members on a rest is a product.
 const PAIR: usize = 2;
@@ -35,7 +37,7 @@ pub fn skip_tree(s: &[u8], i: usize) -> usize
     requires { SomeTold s.now i }
     ensures { (how : Tree → ℕ) (t : Tree) → Told how s.now i t → result ≡ i + records t }
 {
-    if record::kind(s, i) < record::SUM {
+    if matches!(Kind::at(s, i), Kind::Integer | Kind::Symbol) {
         return i + 1;
     }
     let told = note::records_of(record::bits(s, i));
@@ -51,41 +53,32 @@ pub fn skip_tree(s: &[u8], i: usize) -> usize
     at
 }
 
-// The product of the integers among the members of the product at record i, in order; `Out` as soon as a partial product leaves the range.
-fn product_coefficient(s: &[u8], i: usize) -> Num
+// The product of the integers among the members of the product at record i, in order; out of range as soon as a partial product is.
+fn product_coefficient(s: &[u8], i: usize) -> Result<u64, OutOfRange>
     requires { SomeProduct s.now i }
     ensures { (how : Tree → ℕ) (μ : ℕ) (f : Forest) → Told how s.now i (product μ f) → result ≡ coefficient_of (product_term μ (to_list f)) }
 {
     let mut n = 1;
     let mut at = i + 1;
-    let mut left = record::count(s, i);
-    while 0 < left {
-        if record::kind(s, at) < record::SYMBOL {
-            let product = number::mul(n, record::bits(s, at));
-            match product {
-                Num::Is(v) => n = v,
-                Num::Out => return Num::Out,
-            }
+    for _ in 0..record::count(s, i) {
+        if Kind::at(s, at) == Kind::Integer {
+            n = number::mul(n, record::bits(s, at))?;
         }
         at = skip_tree(s, at);
-        left -= 1;
     }
-    Num::Is(n)
+    Ok(n)
 }
 
 // The coefficient of the tree at record i: an integer itself, the product of the integers of a product, or 1.
-pub fn coefficient(s: &[u8], i: usize) -> Num
+pub fn coefficient(s: &[u8], i: usize) -> Result<u64, OutOfRange>
     requires { SomeTold s.now i }
     ensures { (how : Tree → ℕ) (t : Tree) → Told how s.now i t → result ≡ coefficient_of (term_of t) }
 {
-    let k = record::kind(s, i);
-    if k < record::SYMBOL {
-        return Num::Is(record::bits(s, i));
+    match Kind::at(s, i) {
+        Kind::Integer => Ok(record::bits(s, i)),
+        Kind::Product => product_coefficient(s, i),
+        _ => Ok(1),
     }
-    if k != record::PRODUCT {
-        return Num::Is(1);
-    }
-    product_coefficient(s, i)
 }
 
 // Counts the members of the product at record i that are no integers.
@@ -97,34 +90,22 @@ fn count_others(s: &[u8], i: usize) -> Counted
     let mut many = 0;
     let mut last = i;
     let mut at = i + 1;
-    let mut left = record::count(s, i);
-    while 0 < left {
-        if record::INTEGER < record::kind(s, at) {
+    for _ in 0..record::count(s, i) {
+        if Kind::at(s, at) != Kind::Integer {
             many += 1;
             last = at;
         }
         at = skip_tree(s, at);
-        left -= 1;
     }
-    Counted {
-        many: many,
-        last: last,
-    }
+    Counted { many, last }
 }
 
-// The rest of the tree at record i: what its coefficient leaves, a single other member standing for itself.
-pub fn rest_of(s: &[u8], i: usize) -> Rest
-    requires { SomeTold s.now i }
-    ensures by_index { (how : Tree → ℕ) (t : Tree) → Told how s.now i t → StandsFor how s.now i result (term_of t).rest }
-    ensures place { (how : Tree → ℕ) (t : Tree) → Told how s.now i t → result ≡ rest_at i t }
+// The rest of the product at record i: itself where it has no integer, 1 where it has nothing else, its single other member, or its others.
+fn rest_of_product(s: &[u8], i: usize) -> Rest
+    requires { SomeProduct s.now i }
+    ensures by_index { (how : Tree → ℕ) (t : Tree) → Told how s.now i t → kind s.now i ≡ 3 → StandsFor how s.now i result (term_of t).rest }
+    ensures place { (how : Tree → ℕ) (t : Tree) → Told how s.now i t → kind s.now i ≡ 3 → result ≡ rest_at i t }
 {
-    let k = record::kind(s, i);
-    if k < record::SYMBOL {
-        return Rest::One;
-    }
-    if k != record::PRODUCT {
-        return Rest::At(i);
-    }
     let others = count_others(s, i);
     if others.many == record::count(s, i) {
         return Rest::At(i);
@@ -138,16 +119,30 @@ pub fn rest_of(s: &[u8], i: usize) -> Rest
     Rest::Others(i, others.many)
 }
 
+// The rest of the tree at record i: what its coefficient leaves, a single other member standing for itself.
+pub fn rest_of(s: &[u8], i: usize) -> Rest
+    requires { SomeTold s.now i }
+    ensures by_index { (how : Tree → ℕ) (t : Tree) → Told how s.now i t → StandsFor how s.now i result (term_of t).rest }
+    ensures place { (how : Tree → ℕ) (t : Tree) → Told how s.now i t → result ≡ rest_at i t }
+{
+    match Kind::at(s, i) {
+        Kind::Integer => Rest::One,
+        Kind::Product => rest_of_product(s, i),
+        _ => Rest::At(i),
+    }
+}
+
 // The record of the base of the tree at record i: a power's own, else the tree itself.
 pub fn base(s: &[u8], i: usize) -> usize
     requires { SomeTold s.now i }
     ensures by_index { (how : Tree → ℕ) (t : Tree) → Told how s.now i t → Told how s.now result (factor_of t).base }
     ensures place { (how : Tree → ℕ) (t : Tree) → Told how s.now i t → result ≡ base_at i t }
 {
-    if record::kind(s, i) == record::POWER {
-        return i + 1;
+    if Kind::at(s, i) == Kind::Power {
+        i + 1
+    } else {
+        i
     }
-    i
 }
 
 // The exponent of the tree at record i: a power's own, else 1.
@@ -155,8 +150,9 @@ pub fn exponent(s: &[u8], i: usize) -> u64
     requires { SomeTold s.now i }
     ensures { (how : Tree → ℕ) (t : Tree) → Told how s.now i t → (result ≡ (factor_of t).exponent) × (result < 2 ^ 63) }
 {
-    if record::kind(s, i) == record::POWER {
-        return record::bits(s, skip_tree(s, i + 1));
+    if Kind::at(s, i) == Kind::Power {
+        record::bits(s, skip_tree(s, i + 1))
+    } else {
+        1
     }
-    1
 }

@@ -1,8 +1,9 @@
 -- The test of members one after the other, as the code makes it: what is left of it is the whole test, with the keys of the members passed
 -- kept in scratch. Each store lies in the scratch, so the bytes around it stay.
-use Prim.Native.Nat.{ℕ, ◌+◌, ◌-◌, ◌*◌, ◌%◌, ◌≤◌, ◌<◌}
+use Prim.Native.Nat.{ℕ, ◌+◌, ◌-◌, ◌*◌, ◌≤◌, ◌<◌}
 use mathlib.Core.Path.{◌≡◌, refl, sym, ap, ◌∙◌, subst}
-use mathlib.Core.Bool.{Bool, true, false, not}
+use mathlib.Core.Bool.{Bool, true, false, cond, not}
+use Rattle.std.proofs.Common.{None, Some, Option}
 use mathlib.Core.List.{List, [], ◌∷◌, ◌++◌}
 use native.Mathlib.Omega.{arith}
 use lib.ListN.{length, get_or, drop, set, length-append, length-set}
@@ -20,8 +21,9 @@ use Rattle.note.specs.Note.{keys, note}
 use Rattle.note.specs.Part.{part_key}
 use Rattle.note.specs.Noted.{TreeBy, TreesBy, Known}
 use Rattle.still.specs.Still.{among, sought, apart}
+use Rattle.still.specs.Met.{meeting, met_of}
+use Rattle.still.specs.declared.Met.{Met}
 use Rattle.still.specs.Keys.{turned, first_flag, second_flag, Kept, KeysIn, KeptIn, keeping, Scratched}
-use Rattle.note.proofs.KeyLaws.{note_records}
 use Rattle.note.proofs.ToldLaws.{note_tells, noted_told, kind_number_lem, none_of}
 use Rattle.note.proofs.LightLaws.{told_all, FirstBy, first_by}
 use Rattle.still.proofs.KeysLaws.{flag_lt, keeping_kept}
@@ -77,6 +79,34 @@ module _ {d : List ℕ} {o n x m : ℕ} {ks : List ℕ} (h : KeptIn d o n x m ks
 
   pub keeping_scratched : (e : List ℕ) → e ≡ keeping d o n x m k → Scratched d e o (n * 40)
   keeping_scratched e q = rw q key_scratched
+
+-- ---- what is kept of a member: it is known by its record's kind and its note
+pub member_known : {s : List ℕ} {i : ℕ} {t : Tree} → TreeBy note s i t → (k v : ℕ) → k ≡ kind s i → ((w : Tree) → TreeBy note s i w → v ≡ note w)
+    → Known s i k v t
+member_known {t = t} h k v e n = record { there = h; kind_known = e ∙ kind_number_lem (noted_told h); note_known = n t h }
+
+pub met_sought : (terms : Bool) (t : Tree) → sought terms t ≡ true → None ≡ met_of terms t
+met_sought terms t e = rw e
+
+pub met_passed : (terms : Bool) (t : Tree) (k z : ℕ) → sought terms t ≡ false → k ≡ part_key terms t → z ≡ records t
+    → ◌≡◌ {A = Option Met} (Some record { key = k; size = z }) (met_of terms t)
+met_passed terms t k z e p q = rw (e, p, q)
+
+pub none_met : (terms : Bool) (t : Tree) → None ≡ met_of terms t → sought terms t ≡ true
+none_met terms t = by (sought terms t) refl
+  where
+    by : (b : Bool) → sought terms t ≡ b → None ≡ cond b None (Some (meeting terms t)) → sought terms t ≡ true
+    by true e q = e
+    by false e q = cc
+
+pub one_met : (terms : Bool) (t : Tree) (v : Met) → Some v ≡ met_of terms t
+    → (sought terms t ≡ false) × (v.key ≡ part_key terms t) × (v.size ≡ records t)
+one_met terms t v = by (sought terms t) refl
+  where
+    by : (b : Bool) → sought terms t ≡ b → Some v ≡ cond b None (Some (meeting terms t))
+        → (sought terms t ≡ false) × (v.key ≡ part_key terms t) × (v.size ≡ records t)
+    by true e q = cc
+    by false e q = let w : v ≡ meeting terms t = cc in (e, ap (λ (x : Met). x.key) w, ap (λ (x : Met). x.size) w)
 
 -- ---- the test, member by member: the keys `before` are kept, as K says, and the members of `rest` are to come
 pub record Testing (s : List ℕ) (f : Forest) (terms : Bool) (K : List ℕ → Type 0) (n at m : ℕ) : Type 0 where
@@ -139,11 +169,6 @@ module _ {s : List ℕ} {f : Forest} {terms : Bool} {K : List ℕ → Type 0} {n
     unfolding to_list
     first_left = ap (λ g. apart terms a.before (to_list g)) (sym testing_first.whole) ∙ a.left
 
-    -- it is known by its record's kind and its note
-    pub testing_known : (k v : ℕ) → k ≡ kind s at → ((w : Tree) → TreeBy note s at w → v ≡ note w) → Known s at k v u
-    testing_known k v e h =
-        let there = testing_first.there in record { there = there; kind_known = e ∙ kind_number_lem (noted_told there); note_known = h u there }
-
     pub testing_sought : sought terms u ≡ true → false ≡ apart terms [] (to_list f)
     testing_sought e = sym (member_sought terms a.before u (to_list testing_first.others) e) ∙ first_left
 
@@ -151,13 +176,12 @@ module _ {s : List ℕ} {f : Forest} {terms : Bool} {K : List ℕ → Type 0} {n
     testing_seen e k = sym (member_seen terms a.before u (to_list testing_first.others) e k) ∙ first_left
 
     -- the member is passed, its key kept
-    pub testing_step : sought terms u ≡ false → not (among (part_key terms u) a.before) ≡ true → (k v : ℕ) → k ≡ part_key terms u → v ≡ note u
-        → {K' : List ℕ → Type 0} → K' (a.before ++ (k ∷ [])) → Testing s f terms K' n (at + v % 65536) (m + 1)
-    testing_step e q k v x y w =
-        let size : v % 65536 ≡ records u = ap (λ r. r % 65536) y ∙ note_records u testing_first.there.light in
+    pub testing_step : sought terms u ≡ false → not (among (part_key terms u) a.before) ≡ true → (k z : ℕ) → k ≡ part_key terms u → z ≡ records u
+        → {K' : List ℕ → Type 0} → K' (a.before ++ (k ∷ [])) → Testing s f terms K' n (at + z) (m + 1)
+    testing_step e q k z x size w =
         let less : n - m - 1 ≡ n - (m + 1) = omega arith in
-        let after : TreesBy note s (at + v % 65536) (n - (m + 1)) testing_first.others =
-        subst (λ r. TreesBy note s (at + v % 65536) r testing_first.others) less
+        let after : TreesBy note s (at + z) (n - (m + 1)) testing_first.others =
+        subst (λ r. TreesBy note s (at + z) r testing_first.others) less
         (subst (λ r. TreesBy note s (at + r) (n - m - 1) testing_first.others) (sym size) testing_first.after) in
         record {
           before = a.before ++ (k ∷ []);

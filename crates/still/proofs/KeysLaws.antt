@@ -7,14 +7,15 @@ use mathlib.Core.List.{List, [], ◌∷◌, ◌++◌}
 use mathlib.Core.Logic.{◌⊎◌, inl, inr}
 use native.Mathlib.Nat.{eq-or-lt_of_le, mul-lt-mul_of_pos_right, mod-lt}
 use native.Mathlib.Omega.{arith}
-use borrow.Author.Tests.{eqb-true, eqb-false, eq-eqb, ne_eqb}
+use borrow.Author.Tests.{eqb-true, eqb-false}
 use lib.Dec.{eqb, lit<}
+use Rattle.std.specs.List.{list_any, range_with_len}
 use lib.ListN.{length, get_or, set, drop, length-append, length-set, get_or-append}
 use lib.Seq.{drop-cons, get_or-set_same, get_or-set_other}
 use Rattle.paper.specs.Limits.{modulus}
 use Rattle.paper.specs.Bytes.{le8, bytes}
 use Rattle.paper.proofs.BytesLaws.{le_bytes, le8_drop, length_bytes}
-use Rattle.paper.proofs.Tests.{not_so, never}
+use Rattle.paper.proofs.Tests.{never}
 use Rattle.stretch.specs.Put.{put}
 use Rattle.stretch.proofs.Laws.{drop_put_at, get_d_put_before, get_d_put_after}
 use Rattle.note.specs.Note.{keys}
@@ -27,15 +28,7 @@ module _ (ks : List ℕ) (k j : ℕ) (l : j < length ks) where
   unfolding among
   unfold_look = ap (among k) (drop-cons ks j 0 l)
 
-  pub look_found : get_or ks j 0 ≡ k → among k (drop j ks) ≡ true
-  look_found e = unfold_look ∙ rw (eq-eqb k (get_or ks j 0) (sym e))
-
-  pub look_on : (get_or ks j 0 ≡ k → ⊥) → among k (drop (j + 1) ks) ≡ among k (drop j ks)
-  look_on n =
-      let s : j + 1 ≡ suc j = omega arith in
-      ap (λ i. among k (drop i ks)) s ∙ sym (unfold_look ∙ rw (ne_eqb k (get_or ks j 0) (λ e. n (sym e))))
-
-pub look_end : (ks : List ℕ) (k j : ℕ) → length ks ≤ j → among k (drop j ks) ≡ false
+look_end : (ks : List ℕ) (k j : ℕ) → length ks ≤ j → among k (drop j ks) ≡ false
 unfolding among
 look_end [] k zero l = refl
 look_end [] k (suc j) l = refl
@@ -51,14 +44,6 @@ flag_lt n x k p =
     let c : 0 < 32 * n = omega arith in
     let b : h * (32 * n) < keys * (32 * n) = mul-lt-mul_of_pos_right a c in
     omega (arith, b)
-
--- a flag that is zero
-module _ {d : List ℕ} {o n x : ℕ} {ks : List ℕ} (h : Kept d o n x ks) (k : ℕ) where
-  pub flag_new : get_or d (first_flag o n x k) 0 < 1 → among k ks ≡ false
-  flag_new z = not_so (among k ks) (λ e. absurd (omega (arith, (h.flagged k e).0)))
-
-  pub second_new : get_or d (second_flag o n x k) 0 < 1 → among k ks ≡ false
-  second_new z = not_so (among k ks) (λ e. absurd (omega (arith, (h.flagged k e).1)))
 
 -- ---- one key more
 -- the eight bytes at a place, where each of them is as it was
@@ -197,3 +182,12 @@ module _ {d : List ℕ} {o n x m : ℕ} {ks : List ℕ} (h : KeptIn d o n x m ks
         ap (λ y. get_or e (first_flag o n x y) 0) z ∙ set_stays once g f second_within (get_or-set_same d f 1 0 first_within),
         ap (λ y. get_or e (second_flag o n x y) 0) z ∙ get_or-set_same once g 1 0 second_within,
       )
+
+-- ---- a look through the n keys from the j-th on
+module _ (d : List ℕ) (o key : ℕ) (ks : List ℕ) (h : (j : ℕ) → j < length ks → le8 d (o + j * 8) ≡ get_or ks j 0) where
+  pub looked : (n j : ℕ) → j + n ≡ length ks → list_any (λ i. eqb key (le8 d (o + i * 8))) (range_with_len j n) ≡ among key (drop j ks)
+  looked zero j e = sym (look_end ks key j (omega arith))
+  looked (suc n) j e =
+      let l : j < length ks = omega arith in
+      let s : j + 1 ≡ suc j = omega arith in
+      rw (h j l, looked n (j + 1) (omega arith), s) (sym (unfold_look ks key j l))

@@ -1,21 +1,24 @@
 -- The algebra of `part` and `put`. A put is a front, `take a d ++ s`, before what is left of the list; from that, what stands before
--- a put, in it and past it is read off, and two puts side by side are one. A store is a put of one byte, so a turn of a loop that
--- copies is a put of one byte more.
-use Prim.Native.Nat.{ℕ, suc, ◌+◌, ◌-◌, ◌≤◌, ◌<◌}
+-- a put, in it and past it is read off, and two puts side by side are one. What the library's methods leave is a put too.
+use Prim.Native.Nat.{ℕ, ◌+◌, ◌-◌, ◌≤◌, ◌<◌}
 use mathlib.Core.Path.{◌≡◌, refl, sym, ap, ◌∙◌}
-use mathlib.Core.List.{List, [], ◌∷◌, ◌++◌, append_assoc}
+use mathlib.Core.List.{List, [], ◌++◌, append_assoc}
 use native.Mathlib.Nat.{add-zero}
-use native.Mathlib.Numerals.{add-one}
 use native.Mathlib.Omega.{arith}
-use lib.ListN.{length, take, drop, get_or, set, replicate, length-append, length-drop, length-replicate, take-append-drop, replicate-append-replicate}
-use lib.Seq.{length-take-le, get_or-take, get_or-drop, take-suc, drop-cons, set_split, take-take, take-append-le, take_at, take_all}
-use lib.Seq.{drop-drop, drop_at}
+use lib.ListN.{length, take, drop, get_or, length-append, length-drop, take-append-drop}
+use lib.Seq.{length-take-le, get_or-take, get_or-drop, take-take, take-append-le, take_at, take_all}
+use lib.Seq.{drop-drop, drop_at, paste}
+use borrow.Rule.Slice.PartMut.{put_mid}
 use Rattle.stretch.specs.Put.{part, put}
 
 -- ---- how long a part and a put are
 pub length_part : (d : List ℕ) (a n : ℕ) → a + n ≤ length d → length (part d a n) ≡ n
 unfolding part
 length_part d a n h = length-take-le n (drop a d) (rw length-drop (omega arith))
+
+part_is : (d : List ℕ) (a n : ℕ) → part d a n ≡ take n (drop a d)
+unfolding part
+part_is d a n = refl
 
 put_is : (d : List ℕ) (a : ℕ) (s : List ℕ) → put d a s ≡ take a d ++ (s ++ drop (a + length s) d)
 unfolding put
@@ -66,7 +69,7 @@ get_d_put_after d a s i l h =
     let first : (x : List ℕ) → get_or (drop i x) 0 0 ≡ get_or x i 0 = λ x. rw add-zero at (get_or-drop i x 0 0) in
     sym (first (put d a s)) ∙ ap (λ (x : List ℕ). get_or x 0 0) (drop_put d a s i h l) ∙ first d
 
--- ---- puts side by side: the right one after the left one, and before it
+-- ---- puts side by side
 pub put_put : (d : List ℕ) (a : ℕ) (s : List ℕ) (b : ℕ) (t : List ℕ) → b ≡ a + length s → b + length t ≤ length d
     → put (put d a s) b t ≡ put d a (s ++ t)
 put_put d a s b t e h =
@@ -75,81 +78,22 @@ put_put d a s b t e h =
     ∙ rw (take_put_end d a s b e (omega arith), drop_put d a s (b + length t) (omega arith) (omega arith), put_is d a (s ++ t), k)
     (simp append_assoc)
 
-put_put_left : (d : List ℕ) (a : ℕ) (s : List ℕ) (b : ℕ) (t : List ℕ) → b ≡ a + length s → b + length t ≤ length d
-    → put (put d b t) a s ≡ put d a (s ++ t)
-put_put_left d a s b t e h =
-    let k : a + length (s ++ t) ≡ b + length t = rw length-append (omega arith) in
-    put_is (put d b t) a s
-    ∙ rw (take_put d b t a (omega arith) (omega arith), sym e, drop_put_at d b t (omega arith), put_is d a (s ++ t), k)
-    (simp append_assoc)
-
--- ---- a store is a put of one byte
-put_one : (d : List ℕ) (a v : ℕ) → a < length d → set d a v ≡ put d a (v ∷ [])
-put_one d a v h = set_split d a v h ∙ rw (put_is, add-one)
-
-put_more : (d : List ℕ) (a : ℕ) (s : List ℕ) (n v : ℕ) → length s ≡ n → a + n < length d
-    → set (put d a s) (a + n) v ≡ put d a (s ++ (v ∷ []))
-put_more d a s n v e h =
-    put_one (put d a s) (a + n) v (omega (arith, length_put d a s (omega arith)))
-    ∙ put_put d a s (a + n) (v ∷ []) (omega arith) (omega arith)
-
-put_front : (d : List ℕ) (a : ℕ) (s : List ℕ) (v : ℕ) → a + suc (length s) ≤ length d → set (put d (suc a) s) a v ≡ put d a (v ∷ s)
-put_front d a s v h =
-    put_one (put d (suc a) s) a v (omega (arith, length_put d (suc a) s (omega arith)))
-    ∙ put_put_left d a (v ∷ []) (suc a) s (sym (add-one a)) (omega arith)
-
--- ---- a part of no byte, of all, and of one byte more: at its end, and at its front
-pub part_none : (d : List ℕ) (a : ℕ) → part d a 0 ≡ []
-unfolding part
-part_none d a = refl
-
+-- ---- a part of all, and a put of nothing
 pub part_whole : (s : List ℕ) (n : ℕ) → length s ≡ n → part s 0 n ≡ s
 unfolding part
 part_whole s n e = take_all n s (omega arith)
 
-part_more : (d : List ℕ) (a n : ℕ) → a + n < length d → part d a (n + 1) ≡ part d a n ++ (get_or d (a + n) 0 ∷ [])
-unfolding part
-part_more d a n h =
-    let g : n < length (drop a d) = rw length-drop (omega arith) in
-    rw (add-one, take-suc (drop a d) n 0 g, get_or-drop)
-
-part_front : (d : List ℕ) (a n : ℕ) → a < length d → part d a (suc n) ≡ get_or d a 0 ∷ part d (suc a) n
-unfolding part
-part_front d a n h = rw (drop-cons d a 0 h)
-
--- ---- the loops' turns
 pub put_none : (d : List ℕ) (a : ℕ) → put d a [] ≡ d
 put_none d a = rw (put_is, add-zero) (take-append-drop a d)
 
-pub copy_turn : (d : List ℕ) (a : ℕ) (s : List ℕ) (f j : ℕ) → a + j < length d → f + j < length s
-    → set (put d a (part s f j)) (a + j) (get_or s (f + j) 0) ≡ put d a (part s f (j + 1))
-copy_turn d a s f j hd hs = put_more d a (part s f j) j _ (length_part s f j (omega arith)) hd ∙ ap (put d a) (sym (part_more s f j hs))
+-- ---- what the library's methods leave is a put
+pub pasted : (d : List ℕ) (a f n k : ℕ) → k ≡ n → f + n ≤ length d → paste d a (drop f d) k ≡ put d a (part d f n)
+pasted d a f n k e h =
+    let l : length (part d f n) ≡ n = length_part d f n h in
+    rw (put_is, l, e, part_is) (append_assoc (take a d) (take n (drop f d)) (drop (a + n) d))
 
-pub clear_turn : (d : List ℕ) (a j : ℕ) → a + j < length d → set (put d a (replicate j 0)) (a + j) 0 ≡ put d a (replicate (j + 1) 0)
-clear_turn d a j h = put_more d a (replicate j 0) j 0 (length-replicate j 0) h ∙ ap (put d a) (replicate-append-replicate j 1 0)
+pub part_to : (d : List ℕ) (a n k : ℕ) → k ≡ n → take k (drop a d) ≡ part d a n
+part_to d a n k e = rw (e, part_is) refl
 
--- to the left, what is read lies past all that was written
-pub left_turn : (d : List ℕ) (a f j : ℕ) → a ≤ f → f + j < length d
-    → set (put d a (part d f j)) (a + j) (get_or (put d a (part d f j)) (f + j) 0) ≡ put d a (part d f (j + 1))
-left_turn d a f j le h =
-    let n : length (part d f j) ≡ j = length_part d f j (omega arith) in
-    ap (set (put d a (part d f j)) (a + j)) (get_d_put_after d a (part d f j) (f + j) (omega arith) (omega arith))
-    ∙ copy_turn d a d f j (omega arith) h
-
--- to the right, what is read lies before it
-pub right_turn : (d : List ℕ) (a f n j : ℕ) → f ≤ a → 0 < j → j ≤ n → a + n ≤ length d
-    → set (put d (a + j) (part d (f + j) (n - j))) (a + (j - 1)) (get_or (put d (a + j) (part d (f + j) (n - j))) (f + (j - 1)) 0)
-    ≡ put d (a + (j - 1)) (part d (f + (j - 1)) (n - (j - 1)))
-right_turn d a f n j le p q h =
-    let ea : a + j ≡ suc (a + (j - 1)) = omega arith in
-    let ef : f + j ≡ suc (f + (j - 1)) = omega arith in
-    let en : n - (j - 1) ≡ suc (n - j) = omega arith in
-    let l : length (part d (suc (f + (j - 1))) (n - j)) ≡ n - j = length_part d (suc (f + (j - 1))) (n - j) (omega arith) in
-    rw (
-      get_d_put_before d (a + j) (part d (f + j) (n - j)) (f + (j - 1)) (omega arith) (omega arith),
-      ea,
-      ef,
-      en,
-      part_front d (f + (j - 1)) (n - j) (omega arith),
-    )
-    (put_front d (a + (j - 1)) (part d (suc (f + (j - 1))) (n - j)) (get_or d (f + (j - 1)) 0) (omega arith))
+pub placed : (d : List ℕ) (a n k : ℕ) (s t : List ℕ) → s ≡ t → k ≡ n → length t ≡ n → put_mid a k d s ≡ put d a t
+placed d a n k s t e q l = rw (put_is, e, q, l) (ap (λ (x : List ℕ). take a d ++ (t ++ x)) (drop-drop n a d))

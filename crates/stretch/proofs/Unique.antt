@@ -6,6 +6,8 @@ use contract.Lifetimes.{Lfts}
 use denote.Triple.Clauses.{AtExit}
 use Rattle.stretch.proofs.copy_bytes.Reads as copy-bytes
 use Rattle.stretch.proofs.copy_bytes.Kinds as copy-bytes-kinds
+use Rattle.stretch.proofs.shift.Reads as shift
+use Rattle.stretch.proofs.shift.Kinds as shift-kinds
 use Rattle.stretch.proofs.shift_left.Reads as shift-left
 use Rattle.stretch.proofs.shift_left.Kinds as shift-left-kinds
 use Rattle.stretch.proofs.shift_right.Reads as shift-right
@@ -17,6 +19,11 @@ pub copy_bytes_once : (κs : Lfts 2) (a : Dens κs copy-bytes-kinds.ps) (r r' : 
     (x x' : AtExit (ended_of 2 copy-bytes-kinds.ps copy-bytes-kinds.r) κs)
     → copy-bytes.Post κs a r x → copy-bytes.Post κs a r' x' → x.0.now ≡ x'.0.now
 copy_bytes_once κs a r r' x x' p q = p ∙ sym q
+
+pub shift_once : (κs : Lfts 1) (a : Dens κs shift-kinds.ps) (r r' : Unit {0})
+    (x x' : AtExit (ended_of 1 shift-kinds.ps shift-kinds.r) κs)
+    → shift.Post κs a r x → shift.Post κs a r' x' → x.0.now ≡ x'.0.now
+shift_once κs a r r' x x' p q = p ∙ sym q
 
 pub shift_left_once : (κs : Lfts 1) (a : Dens κs shift-left-kinds.ps) (r r' : Unit {0})
     (x x' : AtExit (ended_of 1 shift-left-kinds.ps shift-left-kinds.r) κs)

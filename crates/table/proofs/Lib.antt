@@ -1,3 +1,4 @@
+pub mod RefusalLaws
 pub mod StepLaws
 pub mod BadLaws
 pub mod DueLaws

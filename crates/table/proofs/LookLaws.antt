@@ -12,8 +12,8 @@ use Rattle.paper.proofs.Tests.{or_right}
 use Rattle.paper.proofs.SkipLaws.{skip_none, skip_out, skip_one, skip_step}
 use Rattle.table.specs.Due.{has_power}
 use Rattle.table.specs.Look.{Sees, Looks}
-use Rattle.table.specs.declared.Seen.TheVariants.{Flawed, Integer, Symbol, Members, Power}
-use Rattle.table.specs.declared.Looked.TheVariants.{Odd, Whole}
+use Rattle.std.specs.Prelude.{Some, None}
+use Rattle.table.specs.declared.Seen.TheVariants.{Integer, Symbol, Members, Power}
 use Rattle.table.proofs.StepLaws.{flawed_here, flawed_later, flawed_done, weight_symbol, weight_other, weight_done, power_here, power_later, power_done}
 use Rattle.table.proofs.OwedLaws.{arity_leaf, arity_node, arity_power}
 
@@ -45,13 +45,13 @@ or_none false b e = e
 module _ (s : List ℕ) (n i owed w : ℕ) (power : Bool) (at : Looking s n i owed w power) where
   module _ (more : i < n) where
     -- the trees end before the records
-    pub ended_early : owed < 1 → Looks s n Odd
+    pub ended_early : owed < 1 → Looks s n None
     ended_early none =
         let z : owed ≡ 0 = omega (arith, none) in
         let e : tree_end s n 0 ≡ i = at.ends ∙ rw z (skip_none s n (n - i) i) in
         λ first end. omega (arith, e, end, more)
 
-    pub found_flawed : Sees s i Flawed → Looks s n Odd
+    pub found_flawed : Sees s i None → Looks s n None
     found_flawed f =
         let e : first_flawed s 0 n ≡ i = at.flawless ∙ flawed_here s n i more false (sym (ap not f)) refl in
         λ first end. omega (arith, e, first, more)
@@ -78,28 +78,28 @@ module _ (s : List ℕ) (n i owed w : ℕ) (power : Bool) (at : Looking s n i ow
     no_power : (kind s i ≡ 4 → ⊥) → (power || has_power s (i + 1) (n - (i + 1))) ≡ (power || has_power s i (n - i))
     no_power k = ap (λ (b : Bool). power || b) (sym (power_later s n i more k))
 
-    pub passed_integer : 0 < owed → Sees s i Integer → Looking s n (i + 1) (owed - 1) w power
+    pub passed_integer : 0 < owed → Sees s i (Some Integer) → Looking s n (i + 1) (owed - 1) w power
     passed_integer some (f, k) =
         let a = arity_leaf s i (omega (arith, k)) in
         let weight = weight_other s n i more (λ e. omega (arith, e, k)) in
         passed some f (owed - 1) w power (omega (arith, some, a)) (omega (arith, a)) (omega arith) (omega (arith, weight))
         (no_power (λ e. omega (arith, e, k)))
 
-    pub passed_symbol : 0 < owed → Sees s i Symbol → Looking s n (i + 1) (owed - 1) (w + 2) power
+    pub passed_symbol : 0 < owed → Sees s i (Some Symbol) → Looking s n (i + 1) (owed - 1) (w + 2) power
     passed_symbol some (f, k) =
         let a = arity_leaf s i (omega (arith, k)) in
         let weight = weight_symbol s n i more k in
         passed some f (owed - 1) (w + 2) power (omega (arith, some, a)) (omega (arith, a)) (omega arith) (omega (arith, weight))
         (no_power (λ e. omega (arith, e, k)))
 
-    pub passed_members : 0 < owed → (c : ℕ) → Sees s i (Members c) → Looking s n (i + 1) (owed - 1 + c) w power
+    pub passed_members : 0 < owed → (c : ℕ) → Sees s i (Some (Members c)) → Looking s n (i + 1) (owed - 1 + c) w power
     passed_members some c (f, two, three, e, small) =
         let a = arity_node s i two three in
         let weight = weight_other s n i more (λ k. omega (arith, k, two)) in
         passed some f (owed - 1 + c) w power (omega (arith, some, a, e)) (omega (arith, a, e, small)) (omega arith) (omega (arith, weight))
         (no_power (λ k. omega (arith, k, three)))
 
-    pub passed_power : 0 < owed → Sees s i Power → Looking s n (i + 1) (owed + 1) w true
+    pub passed_power : 0 < owed → Sees s i (Some Power) → Looking s n (i + 1) (owed + 1) w true
     passed_power some (f, k) =
         let a = arity_power s i k in
         let weight = weight_other s n i more (λ e. omega (arith, e, k)) in
@@ -108,12 +108,12 @@ module _ (s : List ℕ) (n i owed w : ℕ) (power : Bool) (at : Looking s n i ow
 
   module _ (all : n ≤ i) where
     -- the records end before the trees
-    pub ended_late : 0 < owed → Looks s n Odd
+    pub ended_late : 0 < owed → Looks s n None
     ended_late some =
         let e : tree_end s n 0 ≡ n + 1 = at.ends ∙ skip_out s n owed i some all in
         λ first end. omega (arith, e, end)
 
-    pub looked : owed ≤ 0 → Looks s n (Whole w power)
+    pub looked : owed ≤ 0 → Looks s n (Some (record { weight = w; power = power }))
     looked none =
         let z : owed ≡ 0 = omega (arith, none) in
         let within = at.within in

@@ -38,6 +38,16 @@ Formless h v =
     × ((k c m : ℕ) → 2 ≤ k → k ≤ 3 → 2 ≤ c → c < 65536 → m < 65536 → h ≡ k + c * 65536 + m * 4294967296 → v ≡ 0 → ⊥)
     × ((m : ℕ) → m < 65536 → h ≡ 4 + m * 4294967296 → v ≡ 0 → ⊥)
 
+-- so where each test of a glance fails
+pub untold : (h v : ℕ) → h < 281474976710656 → (h % 4294967296 ≡ 0 → ⊥) → (h % 4294967296 ≡ 1 → v ≤ 255 → ⊥) → (h % 4294967296 ≡ 4 → v ≡ 0 → ⊥)
+    → (v ≡ 0 → 2 ≤ h % 4294967296 / 65536 → 2 ≤ h % 4294967296 % 65536 → h % 4294967296 % 65536 ≤ 3 → ⊥) → Formless h v
+untold h v low a b c d = (
+  λ m l e. a (omega arith),
+  λ m l e z. b (omega arith) (omega arith),
+  λ k n m two three many few l e z. d z (omega arith) (omega arith) (omega arith),
+  λ m l e z. c (omega arith) z,
+)
+
 module _ (s : List ℕ) (i : ℕ) where
   -- the n bytes from byte j on
   unfoldable window : ℕ → ℕ → List ℕ

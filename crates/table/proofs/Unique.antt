@@ -1,22 +1,40 @@
--- Two answers that meet the contract of `check`, of `weight`, of `refusal`, of `fault_of`, of `with_result`, of `weight_of` or of `is_limit`, as
--- the check reads it from the source, are the same: the paper's numbers tell every answer of the code from every other, the weight is one number,
--- and yes or no is one.
-use Prim.Native.Nat.{ℕ, zero, suc}
-use mathlib.Core.Path.{◌≡◌, refl, sym, ap, ◌∙◌}
+-- Two answers that meet the contract of `check`, `weigh`, `weight`, `refusal`, `fault_of`, `with_result`, `weight_of`, `is_limit`, `is_due`, `turn`
+-- or of a refusal's number, place or flaw, as the check reads it from the source, are the same. The paper's number, place and flaw tell a refusal
+-- from every other, but for the two that have number 8; the weight is one number, and yes or no is one.
+use Prim.Native.Nat.{ℕ}
+use mathlib.Core.Path.{◌≡◌, refl, sym, ap, ap₂, ◌∙◌}
+use mathlib.Core.Bool.{Bool, true, false, cond}
+use mathlib.Core.List.{List}
+use native.Mathlib.Omega.{arith}
+use lib.Dec.{eqb}
+use Rattle.std.specs.Prelude.{Option, Some, Result, Ok, Err}
+use Rattle.paper.specs.Limits.{is_limit}
 use Rattle.paper.specs.Record as paper-record
-use Rattle.paper.specs.Verdict.{Verdict}
+use Rattle.paper.specs.Verdict.{Verdict, verdict, judged_table, judge_records}
 use Rattle.paper.specs.Answers as paper
-use Rattle.paper.specs.Once.{Once}
+use Rattle.paper.specs.Answers.{measured, weighed}
+use Rattle.paper.specs.Once.{Once, OnceLeft}
 use Rattle.record.specs.declared.Flaw.{Flaw}
+use Rattle.record.specs.declared.Flaw.TheVariants.{Kind, Byte, Count}
+use Rattle.record.specs.Flaw.{flaw_of}
 use Rattle.record.proofs.Unique.{code_of, code_of_lem}
-use Rattle.table.specs.Judged.{stands_for, verdict_of}
+use Rattle.table.specs.Refusals.{number_of, stands_for, which_of}
+use Rattle.table.specs.Refusals as refusals
+use Rattle.table.specs.Judged.{verdict_of}
 use Rattle.table.specs.Measured.{says}
-use Rattle.table.specs.declared.Judged.{Judged}
-use Rattle.table.specs.declared.Judged.TheVariants.{Fine, Length, Record, Heavy, Shape, Exponent, Limit}
+use Rattle.table.specs.declared.refusals.Refusal.{Refusal}
+use Rattle.table.specs.declared.refusals.Refusal.TheVariants.{Length, Record, Heavy, Shape, Exponent, Room, Range, Lists, Edition, Newer, Disorder}
+use Rattle.table.specs.declared.refusals.Refusal.TheVariants.{Absent, Full, NoText, Lengths, Definition, Defined, Endless, TooHeavy, Limit}
+use Rattle.table.specs.declared.refusals.Refused.{Refused}
+use Rattle.table.specs.declared.refusals.Which.{Which}
+use Rattle.table.specs.declared.refusals.Which.TheVariants.{Neither, First, Second}
 use Rattle.table.specs.declared.Fault.{Fault}
 use Rattle.table.specs.declared.Measured.{Measured}
+use Rattle.table.proofs.RefusalLaws.{some_number}
 use Rattle.table.proofs.check.Reads as check-reads
 use Rattle.table.proofs.check.Kinds as check-kinds
+use Rattle.table.proofs.weigh.Reads as weigh-reads
+use Rattle.table.proofs.weigh.Kinds as weigh-kinds
 use Rattle.table.proofs.weight.Reads as weight-reads
 use Rattle.table.proofs.weight.Kinds as weight-kinds
 use Rattle.table.proofs.refusal.Reads as refusal-reads
@@ -29,29 +47,128 @@ use Rattle.table.proofs.is_limit.Reads as is-limit-reads
 use Rattle.table.proofs.is_limit.Kinds as is-limit-kinds
 use Rattle.table.proofs.weight_of.Reads as weight-of-reads
 use Rattle.table.proofs.weight_of.Kinds as weight-of-kinds
+use Rattle.table.proofs.is_due.Reads as is-due-reads
+use Rattle.table.proofs.is_due.Kinds as is-due-kinds
+use Rattle.table.proofs.turn.Reads as turn-reads
+use Rattle.table.proofs.turn.Kinds as turn-kinds
+use Rattle.table.proofs.refusals.Refusal.number.Reads as number-reads
+use Rattle.table.proofs.refusals.Refusal.number.Kinds as number-kinds
+use Rattle.table.proofs.refusals.Refusal.place.Reads as place-reads
+use Rattle.table.proofs.refusals.Refusal.place.Kinds as place-kinds
+use Rattle.table.proofs.refusals.Refusal.flaw.Reads as flaw-reads
+use Rattle.table.proofs.refusals.Refusal.flaw.Kinds as flaw-kinds
+use Rattle.table.proofs.refusals.Which.number.Reads as which-reads
+use Rattle.table.proofs.refusals.Which.number.Kinds as which-kinds
 
--- the answer that has this number, at this place, with this flaw
-answer : ℕ → ℕ → paper-record.Flaw → Judged
-answer zero p f = Fine
-answer (suc zero) p f = Length
-answer (suc (suc zero)) p f = Record p (code_of f)
-answer (suc (suc (suc zero))) p f = Heavy
-answer (suc (suc (suc (suc zero)))) p f = Shape p
-answer (suc (suc (suc (suc (suc zero))))) p f = Exponent p
-answer (suc (suc (suc (suc (suc (suc k)))))) p f = Limit
+-- the refusal that has this number, at this place, with this flaw
+flaw_named : paper-record.Flaw → Flaw
+flaw_named paper-record.sound = Kind
+flaw_named paper-record.bad_kind = Kind
+flaw_named (paper-record.bad_byte j) = Byte j
+flaw_named paper-record.bad_count = Count
 
-answer_stands : (r : Judged) → answer (stands_for r).number (stands_for r).place (stands_for r).flaw ≡ r
-unfolding answer
-answer_stands Fine = refl
-answer_stands Length = refl
-answer_stands (Record p f) = ap (Record p) (code_of_lem f)
-answer_stands Heavy = refl
-answer_stands (Shape p) = refl
-answer_stands (Exponent p) = refl
-answer_stands Limit = refl
+flaw_named_lem : (f : Flaw) → flaw_named (flaw_of (Some f)) ≡ f
+unfolding flaw_named
+flaw_named_lem Kind = refl
+flaw_named_lem (Byte j) = refl
+flaw_named_lem Count = refl
 
-stands_once : (r r' : Judged) → stands_for r ≡ stands_for r' → r ≡ r'
-stands_once r r' e = sym (answer_stands r) ∙ ap (λ (v : Verdict). answer v.number v.place v.flaw) e ∙ answer_stands r'
+abbrev decode : Verdict → Refusal
+decode v =
+    cond (eqb v.number 1) Length
+    (cond (eqb v.number 2) (Record v.place (flaw_named v.flaw))
+    (cond (eqb v.number 3) Heavy
+    (cond (eqb v.number 4) (Shape v.place)
+    (cond (eqb v.number 5) (Exponent v.place)
+    (cond (eqb v.number 6) Room
+    (cond (eqb v.number 7) (Range v.place)
+    (cond (eqb v.number 8) Lists
+    (cond (eqb v.number 9) Edition
+    (cond (eqb v.number 10) Newer
+    (cond (eqb v.number 11) Disorder
+    (cond (eqb v.number 12) Absent
+    (cond (eqb v.number 13) Full
+    (cond (eqb v.number 14) NoText
+    (cond (eqb v.number 15) Definition
+    (cond (eqb v.number 16) Defined
+    (cond (eqb v.number 17) Endless
+    (cond (eqb v.number 18) TooHeavy
+    Limit)))))))))))))))))
+
+decode_lem : (r : Refusal) → (number_of r ≡ 8 → ⊥) → decode (refusals.verdict_of r) ≡ r
+decode_lem Length h = refl
+decode_lem (Record p f) h = ap (Record p) (flaw_named_lem f)
+decode_lem Heavy h = refl
+decode_lem (Shape p) h = refl
+decode_lem (Exponent p) h = refl
+decode_lem Room h = refl
+decode_lem (Range p) h = refl
+decode_lem Lists h = absurd (h refl)
+decode_lem Edition h = refl
+decode_lem Newer h = refl
+decode_lem Disorder h = refl
+decode_lem Absent h = refl
+decode_lem Full h = refl
+decode_lem NoText h = refl
+decode_lem Lengths h = absurd (h refl)
+decode_lem Definition h = refl
+decode_lem Defined h = refl
+decode_lem Endless h = refl
+decode_lem TooHeavy h = refl
+decode_lem Limit h = refl
+
+-- a refusal but for the two of number 8 is told by the paper's number, place and flaw; so is an answer, beside nothing and beside a number
+pub refusal_told : (r r' : Refusal) → (number_of r ≡ 8 → ⊥) → refusals.verdict_of r ≡ refusals.verdict_of r' → r ≡ r'
+refusal_told r r' h e =
+    let n : number_of r' ≡ number_of r = sym (ap (λ (v : Verdict). v.number) e) in
+    sym (decode_lem r h) ∙ ap decode e ∙ decode_lem r' (λ q. h (sym n ∙ q))
+
+pub stands_once : (r r' : Result (Unit {0}) Refusal) (v : Verdict) → (v.number ≡ 8 → ⊥) → stands_for r ≡ v → stands_for r' ≡ v → r ≡ r'
+stands_once (Ok x) (Ok y) v h e q = refl
+stands_once (Ok x) (Err r) v h e q = absurd (omega (arith, some_number r, ap (λ (x : Verdict). x.number) (e ∙ sym q)))
+stands_once (Err r) (Ok x) v h e q = absurd (omega (arith, some_number r, ap (λ (x : Verdict). x.number) (e ∙ sym q)))
+stands_once (Err r) (Err r') v h e q =
+    ap Err (refusal_told r r' (λ n. h (ap (λ (x : Verdict). x.number) (sym e) ∙ n)) (e ∙ sym q))
+
+pub number_once : (r r' : Result ℕ Refusal) (m : paper.Measured) → (m.number ≡ 8 → ⊥) → refusals.says r ≡ m → refusals.says r' ≡ m → r ≡ r'
+number_once (Ok x) (Ok y) m h e q = ap (λ (m : paper.Measured). Ok m.result) (e ∙ sym q)
+number_once (Ok x) (Err r) m h e q = absurd (omega (arith, some_number r, ap (λ (x : paper.Measured). x.number) (e ∙ sym q)))
+number_once (Err r) (Ok x) m h e q = absurd (omega (arith, some_number r, ap (λ (x : paper.Measured). x.number) (e ∙ sym q)))
+number_once (Err r) (Err r') m h e q =
+    ap Err (refusal_told r r' (λ n. h (ap (λ (x : paper.Measured). x.number) (sym e) ∙ n))
+    (ap (λ (m : paper.Measured). record { number = m.number; place = m.place; flaw = m.flaw }) (e ∙ sym q)))
+
+-- which of two tables it is of is told by its number
+which_named : ℕ → Which
+which_named k = cond (eqb k 0) Neither (cond (eqb k 1) First Second)
+
+which_named_lem : (w : Which) → which_named (which_of w) ≡ w
+unfolding which_named
+which_named_lem Neither = refl
+which_named_lem First = refl
+which_named_lem Second = refl
+
+pub refused_told : (r r' : Refused) → (number_of r.refusal ≡ 8 → ⊥) → refusals.verdict_of r.refusal ≡ refusals.verdict_of r'.refusal
+    → which_of r.which ≡ which_of r'.which → r ≡ r'
+refused_told r r' h e q =
+    ap₂ (λ (x : Refusal) (w : Which). record { refusal = x; which = w }) (refusal_told r.refusal r'.refusal h e)
+    (sym (which_named_lem r.which) ∙ ap which_named q ∙ which_named_lem r'.which)
+
+-- no verdict on a table has number 8
+pub cond_other : (b : Bool) (v w : Verdict) → (v.number ≡ 8 → ⊥) → (w.number ≡ 8 → ⊥) → (cond b v w).number ≡ 8 → ⊥
+cond_other true v w h k = h
+cond_other false v w h k = k
+
+pub verdict_other : (lim : ℕ) (s : List ℕ) → (verdict lim s).number ≡ 8 → ⊥
+unfolding verdict judged_table judge_records
+verdict_other lim s =
+    cond_other (is_limit lim) _ _
+    (cond_other _ _ _ (λ (e : 1 ≡ 8). omega arith)
+    (cond_other _ _ _ (λ (e : 2 ≡ 8). omega arith)
+    (cond_other _ _ _ (λ (e : 3 ≡ 8). omega arith)
+    (cond_other _ _ _ (λ (e : 4 ≡ 8). omega arith)
+    (cond_other _ _ _ (λ (e : 5 ≡ 8). omega arith) (λ (e : 0 ≡ 8). omega arith))))))
+    (λ (e : 19 ≡ 8). omega arith)
 
 -- a fault, and a weight, that have these numbers and this flaw
 fault_of : Verdict → Fault
@@ -59,7 +176,7 @@ fault_of v = record { number = v.number; place = v.place; flaw = code_of v.flaw 
 
 fault_of_lem : (r : Fault) → fault_of (verdict_of r) ≡ r
 unfolding fault_of
-fault_of_lem r = ap (λ (f : Flaw). record { number = r.number; place = r.place; flaw = f }) (code_of_lem r.flaw)
+fault_of_lem r = ap (λ (f : Option Flaw). record { number = r.number; place = r.place; flaw = f }) (code_of_lem r.flaw)
 
 pub fault_once : (r r' : Fault) → verdict_of r ≡ verdict_of r' → r ≡ r'
 fault_once r r' e = sym (fault_of_lem r) ∙ ap fault_of e ∙ fault_of_lem r'
@@ -69,13 +186,35 @@ measured_of m = record { number = m.number; place = m.place; flaw = code_of m.fl
 
 measured_of_lem : (r : Measured) → measured_of (says r) ≡ r
 unfolding measured_of
-measured_of_lem r = ap (λ (f : Flaw). record { number = r.number; place = r.place; flaw = f; result = r.result }) (code_of_lem r.flaw)
+measured_of_lem r = ap (λ (f : Option Flaw). record { number = r.number; place = r.place; flaw = f; result = r.result }) (code_of_lem r.flaw)
 
 pub says_once : (r r' : Measured) → says r ≡ says r' → r ≡ r'
 says_once r r' e = sym (measured_of_lem r) ∙ ap measured_of e ∙ measured_of_lem r'
 
 pub check_once : Once 1 check-kinds.ps check-kinds.r check-reads.Pre check-reads.Post
-check_once κs a v v' x x' q p p' = stands_once v v' (p ∙ sym p')
+check_once κs a v v' x x' q p p' = stands_once v v' _ (verdict_other _ _) p p'
+
+pub weigh_once : Once 1 weigh-kinds.ps weigh-kinds.r weigh-reads.Pre weigh-reads.Post
+unfolding weighed measured
+weigh_once κs a v v' x x' q p p' = number_once v v' _ (verdict_other _ _) p p'
+
+pub number_of_once : Once 0 number-kinds.ps number-kinds.r number-reads.Pre number-reads.Post
+number_of_once κs a v v' x x' q p p' = p ∙ sym p'
+
+pub place_of_once : Once 0 place-kinds.ps place-kinds.r place-reads.Pre place-reads.Post
+place_of_once κs a v v' x x' q p p' = p ∙ sym p'
+
+pub flaw_in_once : Once 0 flaw-kinds.ps flaw-kinds.r flaw-reads.Pre flaw-reads.Post
+flaw_in_once κs a v v' x x' q p p' = p ∙ sym p'
+
+pub which_of_once : Once 0 which-kinds.ps which-kinds.r which-reads.Pre which-reads.Post
+which_of_once κs a v v' x x' q p p' = p ∙ sym p'
+
+pub is_due_once : Once 1 is-due-kinds.ps is-due-kinds.r is-due-reads.Pre is-due-reads.Post
+is_due_once κs a v v' x x' q p p' = p ∙ sym p'
+
+pub turn_once : OnceLeft 1 turn-kinds.ps turn-kinds.r turn-reads.Pre turn-reads.Post (List ℕ) (λ κs x. x.0.now)
+turn_once κs a v v' x x' q p p' = (refl, p ∙ sym p')
 
 pub weight_once : Once 1 weight-kinds.ps weight-kinds.r weight-reads.Pre weight-reads.Post
 weight_once κs a v v' x x' q p p' = says_once v v' (p ∙ sym p')

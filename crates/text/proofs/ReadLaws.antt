@@ -17,8 +17,10 @@ use Rattle.paper.specs.Verdict.{is_accepted}
 use Rattle.paper_text.specs.Answers.{Filled, Taken, taken, area_after, room_for, records_of, count_of, read_judged, read_verdict, read_answer, read_given}
 use Rattle.paper.proofs.EncodeLaws.{encode_length}
 use Rattle.stretch.specs.Put.{put}
-use Rattle.parse.specs.declared.Weighed.{Weighed}
-use Rattle.parse.specs.declared.Weighed.TheVariants.{Not, Heavy, Is}
+use Rattle.std.specs.declared.result.Result.{Result}
+use Rattle.std.specs.declared.result.Result.TheVariants.{Ok, Err}
+use Rattle.parse.specs.declared.Unread.{Unread}
+use Rattle.parse.specs.declared.Unread.TheVariants.{NotWritten, Heavy}
 use Rattle.parse.specs.Parsed.{weighed}
 use Rattle.text.proofs.WriteLaws.{front}
 
@@ -53,17 +55,17 @@ module _ (lim : ℕ) (known : is_limit lim ≡ true) (s area : List ℕ) where
         rw (known, e, le-ltb lim (weight t) l, le-ltb (length area) (length (encode t)) (omega (arith, h, m)), q, w ∙ front area (encode t))
 
 -- ---- what the verdict tells
-unfoldable code : Weighed → ℕ
-code Not = 0
-code Heavy = 1
-code (Is n) = 2 + n
+unfoldable code : Result ℕ Unread → ℕ
+code (Err NotWritten) = 0
+code (Err Heavy) = 1
+code (Ok n) = 2 + n
 
-pub is_none : (limit : ℕ) (o : Option Tree) → Not ≡ weighed limit o → o ≡ none
+pub is_none : (limit : ℕ) (o : Option Tree) → Err NotWritten ≡ weighed limit o → o ≡ none
 unfolding code
 is_none limit none e = refl
 is_none limit (some t) e = absurd (go (ltb limit (weight t)) (ap code e))
   where
-    go : (b : Bool) → 0 ≡ code (cond b Heavy (Is (records t))) → ⊥
+    go : (b : Bool) → 0 ≡ code (cond b (Err Heavy) (Ok (records t))) → ⊥
     go true z = omega (arith, z)
     go false z = omega (arith, z)
 
@@ -72,12 +74,12 @@ pub record Over (limit : ℕ) (o : Option Tree) : Type 0 where
   pub read : o ≡ some tree
   pub over : limit < weight tree
 
-pub is_heavy : (limit : ℕ) (o : Option Tree) → Heavy ≡ weighed limit o → Over limit o
+pub is_heavy : (limit : ℕ) (o : Option Tree) → Err Heavy ≡ weighed limit o → Over limit o
 unfolding code
 is_heavy limit none e = absurd (let z = ap code e in omega (arith, z))
 is_heavy limit (some t) e = go (ltb limit (weight t)) refl (ap code e)
   where
-    go : (b : Bool) → ltb limit (weight t) ≡ b → 1 ≡ code (cond b Heavy (Is (records t))) → Over limit (some t)
+    go : (b : Bool) → ltb limit (weight t) ≡ b → 1 ≡ code (cond b (Err Heavy) (Ok (records t))) → Over limit (some t)
     go true q z = record { tree = t; read = refl; over = ltb-true limit (weight t) q }
     go false q z = absurd (omega (arith, z))
 
@@ -87,11 +89,11 @@ pub record Light (limit n : ℕ) (o : Option Tree) : Type 0 where
   pub light : weight tree ≤ limit
   pub counted : n ≡ records tree
 
-pub is_light : (limit n : ℕ) (o : Option Tree) → Is n ≡ weighed limit o → Light limit n o
+pub is_light : (limit n : ℕ) (o : Option Tree) → Ok n ≡ weighed limit o → Light limit n o
 unfolding code
 is_light limit n none e = absurd (let z = ap code e in omega (arith, z))
 is_light limit n (some t) e = go (ltb limit (weight t)) refl (ap code e)
   where
-    go : (b : Bool) → ltb limit (weight t) ≡ b → 2 + n ≡ code (cond b Heavy (Is (records t))) → Light limit n (some t)
+    go : (b : Bool) → ltb limit (weight t) ≡ b → 2 + n ≡ code (cond b (Err Heavy) (Ok (records t))) → Light limit n (some t)
     go true q z = absurd (omega (arith, z))
     go false q z = record { tree = t; read = refl; light = ltb-false limit (weight t) q; counted = omega (arith, z) }

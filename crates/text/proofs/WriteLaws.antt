@@ -3,11 +3,11 @@ use Prim.Native.Nat.{ℕ, ◌+◌, ◌<◌, ◌≤◌}
 use mathlib.Core.Path.{◌≡◌, ap, ◌∙◌}
 use mathlib.Core.List.{List, ◌++◌}
 use native.Mathlib.Omega.{arith}
-use borrow.Author.Tests.{ne_eqb, lt-ltb, le-ltb}
+use borrow.Author.Tests.{lt-ltb, le-ltb}
 use lib.ListN.{length, drop}
 use Rattle.paper_text.specs.Text.{text}
 use Rattle.paper.specs.Record.{Flaw, sound}
-use Rattle.paper.specs.Verdict.{accepted, told, is_accepted, verdict, records_in}
+use Rattle.paper.specs.Verdict.{accepted, is_accepted, verdict, records_in}
 use Rattle.paper.specs.Answers.{Measured, measured}
 use Rattle.paper_text.specs.Answers.{Filled, area_after, room_for, text_in, write_verdict, write_answer, write_given}
 use Rattle.paper.specs.Standing.{SomeTree}
@@ -16,6 +16,11 @@ use Rattle.paper.proofs.LimitLaws.{limit_small}
 use Rattle.paper.proofs.EncodeLaws.{encode_length, records_weight}
 use Rattle.stretch.specs.Put.{put}
 use Rattle.spell.specs.Spelt.{Roomy}
+use Rattle.std.specs.Prelude.{Err}
+use Rattle.table.specs.declared.refusals.Refusal.{Refusal}
+use Rattle.table.specs.Refusals.{verdict_of}
+use Rattle.table.proofs.RefusalLaws.{not_accepted}
+use Rattle.text.specs.Gives.{gives}
 
 -- what is put at place 0 stands at the front
 pub front : (d p : List ℕ) → put d 0 p ≡ p ++ drop (length p) d
@@ -25,9 +30,9 @@ front d p = let n : 0 + length p ≡ length p = omega arith in ap (λ k. p ++ dr
 abbrev pub wrote : ℕ → ℕ → Flaw → ℕ → List ℕ → Filled Measured
 wrote k p f n area = record { answer = record { number = k; place = p; flaw = f; result = n }; area = area }
 
-pub refused_table : (lim : ℕ) (s area : List ℕ) (k p : ℕ) (f : Flaw) → told k p f ≡ verdict lim s → 0 < k → wrote k p f 0 area ≡ write_given lim s area
-unfolding write_given write_answer write_verdict measured area_after is_accepted
-refused_table lim s area k p f e h = let n = ne_eqb k 0 (λ z. omega (arith, h, z)) in rw (← e, n, n)
+pub refused_table : (lim : ℕ) (s area : List ℕ) (r : Refusal) → verdict_of r ≡ verdict lim s → gives (Err r) area ≡ write_given lim s area
+unfolding write_given write_answer write_verdict measured area_after
+refused_table lim s area r e = rw (← e, not_accepted r, not_accepted r)
 
 module _ (lim : ℕ) (s area : List ℕ) (h : Holds lim s) (e : verdict lim s ≡ accepted) where
   pub no_room_lem : length area < length (text h.tree) → wrote 6 0 sound 0 area ≡ write_given lim s area

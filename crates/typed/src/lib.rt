@@ -3,13 +3,14 @@
 
 ghost use Rattle.std.specs.Prelude.{◌≤◌, length};
 
-use record::Flaw;
 use report::{LIMIT, OVER_TABLE, TABLE, WORK};
 use simplify::{EDITION_ONE, RANGE};
 use std::io;
 use std::io::{Read, Write};
-use table::{EXPONENT, HEAVY, LENGTH, RECORD, SHAPE};
-use text::NO_TEXT;
+use table::{EXPONENT, HEAVY, LENGTH, RECORD, Refusal, SHAPE};
+
+// The refusal of a text that the writer does not write.
+const NO_TEXT: u32 = 14;
 
 // The longest text that a program reads, and one byte more.
 const TEXT: usize = 65536;
@@ -48,20 +49,16 @@ fn explain(err: &mut impl Write, number: u32) {
 }
 
 // Tells of a refusal on standard error: number and place, and why, in words.
-fn turn_away(err: &mut impl Write, number: u32, place: usize) {
+fn turn_away(err: &mut impl Write, refusal: Refusal) {
+    let (number, place) = (refusal.number(), refusal.place());
     let _ = writeln!(err, "refused {number} at {place}");
     explain(err, number);
 }
 
 // Writes a refusal, a line, and why, in words, on standard error.
-fn refuse(
-    out: &mut impl Write,
-    err: &mut impl Write,
-    number: u32,
-    place: usize,
-    flaw: Flaw,
-) -> io::Result<()> {
-    let written = report::refuse(out, number, place, flaw);
+fn refuse(out: &mut impl Write, err: &mut impl Write, refusal: Refusal) -> io::Result<()> {
+    let number = refusal.number();
+    let written = report::refuse(out, number, refusal.place(), refusal.flaw());
     explain(err, number);
     written
 }
@@ -108,13 +105,13 @@ fn bytes_of(records: usize) -> usize
 // Writes the text of a table, and a line feed; or its refusal.
 fn print(out: &mut impl Write, err: &mut impl Write, table: &[u8]) -> io::Result<()> {
     let mut text = [0u8; TEXT];
-    let w = text::write(LIMIT, table, &mut text);
-    if 0 < w.number {
-        return refuse(out, err, w.number, w.place, w.flaw);
+    match text::write(LIMIT, table, &mut text) {
+        Ok(length) => {
+            out.write_all(&text[..at_most(length, TEXT)])?;
+            out.write_all(b"\n")
+        }
+        Err(refusal) => refuse(out, err, refusal),
     }
-    let n = at_most(w.result as usize, TEXT);
-    out.write_all(&text[..n])?;
-    out.write_all(b"\n")
 }
 
 // Simplifies a table; writes the text of what it has become, and its listing.
@@ -151,12 +148,10 @@ fn shorten_text(
     }
     let m = at_most(without_end(&text[..n]), OVER_TEXT);
     let mut table = [0u8; TABLE];
-    let r = text::read(LIMIT, &text[..m], &mut table);
-    if 0 < r.number {
-        return refuse(out, err, r.number, r.place, Flaw::Sound);
+    match text::read(LIMIT, &text[..m], &mut table) {
+        Ok(records) => shorten_table(out, err, &table[..bytes_of(records)]),
+        Err(refusal) => refuse(out, err, refusal),
     }
-    let bytes = bytes_of(r.records);
-    shorten_table(out, err, &table[..bytes])
 }
 
 // Reads a formula and writes the shortened one and its listing.
@@ -176,14 +171,13 @@ pub fn entry(input: &mut impl Read, out: &mut impl Write, err: &mut impl Write) 
     }
     let m = at_most(without_end(&text[..n]), OVER_TEXT);
     let mut table = [0u8; TABLE];
-    let r = text::read(LIMIT, &text[..m], &mut table);
-    if 0 < r.number {
-        turn_away(err, r.number, r.place);
-        return;
-    }
-    let bytes = bytes_of(r.records);
-    if let Err(error) = out.write_all(&table[..bytes]) {
-        report::lost(err, error);
+    match text::read(LIMIT, &text[..m], &mut table) {
+        Ok(records) => {
+            if let Err(error) = out.write_all(&table[..bytes_of(records)]) {
+                report::lost(err, error);
+            }
+        }
+        Err(refusal) => turn_away(err, refusal),
     }
 }
 

@@ -5,11 +5,11 @@ ghost use Rattle.std.specs.Prelude.{◌≡◌, ℕ, ◌+◌, ◌*◌, ◌%◌, �
 ghost use Rattle.paper.specs.Limits.{modulus};
 ghost use Rattle.paper.specs.Tree.{Tree, records, value};
 ghost use Rattle.paper.specs.Answers.{register, valued};
-ghost use Rattle.table.specs.Measured.{says};
+ghost use Rattle.table.specs.Refusals.{says};
 ghost use Rattle.paper.specs.Standing.{TreeIn, SomeTree};
 ghost use Rattle.value.specs.Evaluated.{Evaluated, held, place, parts, neutral, joined};
 
-use table::Measured;
+use table::Refusal;
 
 // How many registers there are, and their bytes.
 const REGISTERS: usize = 256;
@@ -17,15 +17,14 @@ const REGISTERS: usize = 256;
 const REGISTER_BYTES: usize = 2048;
 
 // The registers as numbers, symbol 0 first.
+#[tactic(auto, unfolding(paper::specs::Answers::register))]
 fn fill(registers: &[u8]) -> [u64; 256]
     requires { length registers.now ≡ 2048 }
     ensures { (k : ℕ) → k < 256 → slice_index result k ≡ register registers.now k }
 {
     let mut r = [0u64; 256];
-    let mut i: usize = 0;
-    while i < REGISTERS {
+    for i in 0..REGISTERS {
         r[i] = number::read8(registers, i * number::SIZE);
-        i += 1;
     }
     r
 }
@@ -38,34 +37,36 @@ fn register_of(regs: &[u64; 256], symbol: u8) -> u64
 }
 
 // The number of trees that the value of the node at record i is made from: a power's base, else its members.
+#[tactic(auto, unfolding(crate::specs::Evaluated::parts))]
 fn parts(s: &[u8], i: usize) -> usize
     requires { i * 16 + 16 ≤ length s.now }
     ensures { result ≡ parts s.now i }
 {
     if record::kind(s, i) == record::POWER {
-        return 1;
+        1
+    } else {
+        record::count(s, i)
     }
-    record::count(s, i)
 }
 
 // What the value of a node of kind k begins with: a sum's with 0, another one's with 1.
+#[tactic(auto, unfolding(crate::specs::Evaluated::neutral))]
 fn neutral(k: u8) -> u64
     ensures { result ≡ neutral k }
 {
-    if k < record::PRODUCT {
-        return 0;
-    }
-    1
+    if k < record::PRODUCT { 0 } else { 1 }
 }
 
 // A value and one more of a node of kind k: added in a sum, else multiplied.
+#[tactic(auto, unfolding(crate::specs::Evaluated::joined))]
 fn joined(k: u8, total: u64, v: u64) -> u64
     ensures { result ≡ joined k total v % modulus }
 {
     if k < record::PRODUCT {
-        return std::num::wrapping_add_u64(total, v);
+        total.wrapping_add(v)
+    } else {
+        total.wrapping_mul(v)
     }
-    number::wrapping_mul(total, v)
 }
 
 // The one cell that the levels share: the record at hand.
@@ -87,12 +88,9 @@ fn value_at(s: &&[u8], regs: &[u64; 256], at: &mut [usize; 1]) -> u64
     if k < record::SUM {
         return register_of(regs, record::symbol(*s, i));
     }
-    let mut left = parts(*s, i);
     let mut total = neutral(k);
-    while 0 < left {
-        let v = value_at(s, regs, at);
-        total = joined(k, total, v);
-        left -= 1;
+    for _ in 0..parts(*s, i) {
+        total = joined(k, total, value_at(s, regs, at));
     }
     if k < record::POWER {
         return total;
@@ -102,20 +100,16 @@ fn value_at(s: &&[u8], regs: &[u64; 256], at: &mut [usize; 1]) -> u64
     number::wrapping_pow(total, record::bits(*s, e))
 }
 
-// The value of a table; 0 where the table or the registers are refused.
-pub fn value(limit: usize, s: &[u8], registers: &[u8]) -> Measured
+// The value of a table, unless the table or the registers are refused.
+pub fn value(limit: usize, s: &[u8], registers: &[u8]) -> Result<u64, Refusal>
     ensures { says result ≡ valued limit s.now registers.now }
 {
-    let f = table::fault_of(table::check(limit, s));
-    if 0 < f.number {
-        return table::with_result(f, 0);
-    }
+    table::check(limit, s)?;
     if registers.len() != REGISTER_BYTES {
-        return table::with_result(table::refusal(table::ROOM, 0), 0);
+        return Err(Refusal::Room);
     }
     let regs = fill(registers);
     let mut at = [0usize; 1];
     let t = s;
-    let v = value_at(&t, &regs, &mut at);
-    table::with_result(table::refusal(0, 0), v)
+    Ok(value_at(&t, &regs, &mut at))
 }

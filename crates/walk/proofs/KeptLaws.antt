@@ -1,8 +1,7 @@
 -- A member that comes out as it stands: it was copied where a record is answered, and where none is it was not, and nothing was written; and the turn of
 -- a member that is alone with its key passes all later ones by.
-use Rattle.std.proofs.Common.{◌≡◌, ℕ, ◌+◌, ◌*◌, ◌<◌, ◌≤◌, Bool, true, false, ltb, List, [], ◌∷◌, map, length, refl, arith, ltb-true}
+use Rattle.std.proofs.Common.{◌≡◌, ℕ, ◌+◌, ◌*◌, ◌<◌, ◌≤◌, Bool, true, false, ltb, List, [], ◌∷◌, map, length, None, Some, refl, arith, ltb-true}
 use Rattle.paper.specs.Tree.{Tree, records}
-use Rattle.paper.proofs.EncodeLaws.{records_pos}
 use Rattle.paper.proofs.Tests.{and_both}
 use Rattle.note.specs.Note.{note}
 use Rattle.note.specs.Noted.{encode_by}
@@ -14,14 +13,14 @@ use Rattle.walk.specs.Numbers.{Unlike}
 use Rattle.walk.specs.Walked.{KeptIs}
 use Rattle.walk.proofs.TurnLaws.{Refuses}
 
-pub kept_where : (b : Bool) (t : Tree) (o o' : List ℕ) (e r : ℕ) → KeptIs b t o o' e r → 0 < r
+pub kept_where : (b : Bool) (t : Tree) (o o' : List ℕ) (e r : ℕ) → KeptIs b t o o' e (Some r)
     → (b ≡ true) × (r ≡ e + records t) × (o' ≡ put o (e * 16) (encode_by note t))
-kept_where true t o o' e r h l = (refl, h.0, h.1)
-kept_where false t o o' e r h l = absurd (omega (arith, h.0))
+kept_where true t o o' e r h = (refl, h.0, h.1)
+kept_where false t o o' e r h = absurd h
 
-pub new_where : (b : Bool) (t : Tree) (o o' : List ℕ) (e r : ℕ) → KeptIs b t o o' e r → r ≤ 0 → (b ≡ false) × (o' ≡ o)
-new_where true t o o' e r h l = absurd (omega (arith, h.0, records_pos t))
-new_where false t o o' e r h l = (refl, h.1)
+pub new_where : (b : Bool) (t : Tree) (o o' : List ℕ) (e : ℕ) → KeptIs b t o o' e None → (b ≡ false) × (o' ≡ o)
+new_where true t o o' e h = absurd h
+new_where false t o o' e h = (refl, h)
 
 -- the member at entry i takes up none of the later ones, where those of later entries, from x on, are all unlike it
 pub lone_refuses : (b : Bool) (w : List ℕ) (p i n : ℕ) (t : Tree) (l : List Tree) (x : ℕ) → Entry b w p i t → Entries b w p x l → x + length l ≤ n

@@ -3,7 +3,7 @@
 -- comes there: so of two open entries that share a flag none has its bit, and those that had theirs before are like none. Taking bits
 -- away keeps that.
 use Rattle.std.proofs.Common.{◌≡◌, ℕ, ◌+◌, ◌-◌, ◌*◌, ◌/◌, ◌%◌, ◌<◌, ◌≤◌, Bool, true, false, cond, ltb, ◌⊎◌, List, [], ◌∷◌, length, get_or, take, drop}
-use Rattle.std.proofs.Common.{set, replicate, sym, refl, ap, ◌∙◌, subst, inl, inr, ⊎_elim, mul-le-mul_right, mul-lt-mul_of_pos_right, arith}
+use Rattle.std.proofs.Common.{set, replicate, sym, refl, ap, ◌∙◌, subst, inl, inr, ⊎_elim, mul-lt-mul_of_pos_right, arith}
 use Rattle.std.proofs.Common.{length-set, get_or-set_other, get_or-set_same, drop-set-lt, le-ltb, lt-ltb}
 use mathlib.Core.Option.{Option, none, some}
 use native.Mathlib.Decide.{ℕ_discrete, dec_lt}
@@ -161,10 +161,6 @@ place_lt f n v h =
     let a : x < 4294967296 = omega arith in
     let b : x * n < 4294967296 * n = mul-lt-mul_of_pos_right a h in
     omega (arith, b)
-
--- pairs of entries
-pub pairs_fit : (m n : ℕ) → m < 65536 → n < 65536 → m * n < 18446744073709551616
-pairs_fit m n h l = let q : m * n ≤ 65535 * n = mul-le-mul_right n (omega arith) in omega arith
 
 -- ---- an entry at a flag
 filled_not : (o : List ℕ) (c x k : ℕ) → 1 ≤ x → filled o c x k ≡ o
@@ -365,15 +361,6 @@ module _ (w : List ℕ) (n k v : ℕ) (less : k < n) (room : k * 4 + 4 ≤ lengt
       }
 
 -- ---- a bit that is taken
-pub unmarked_none : (w : List ℕ) (x k : ℕ) → (x < 1) ⊎ (k < x) → Unmarked w w x k
-unmarked_none w x k h =
-    record {
-      only = bits_same w k;
-      later = λ i l. refl;
-      fewer = λ i b. b;
-      hit = λ i l e. absurd (⊎_elim (λ (q : x < 1). omega arith) (λ (q : k < x). omega arith) h);
-    }
-
 module _ (w : List ℕ) (j k : ℕ) (less : j < k) (fits : j * 4 + 4 ≤ length w) where
   abbrev u : ℕ
   u = high_of w j % 128
@@ -441,21 +428,6 @@ numbered_still s h =
     }
 
 -- ---- a visit
--- an entry that has its bit
-pub visited_not : (b : Bool) (o w : List ℕ) (a k n m f : ℕ) (marks : Bool) (t : Tree) → 128 ≤ high_of w k → Visited b o o w w a k n m f marks t
-visited_not b o w a k n m f marks t h =
-    record {
-      long = refl;
-      front = refl;
-      only = bits_same w n;
-      later = λ i l. refl;
-      fewer = λ i l q. q;
-      kept = λ z l. refl;
-      there = λ l. absurd (omega arith);
-      hit = λ l. absurd (omega arith);
-      new = λ l. absurd (omega arith);
-    }
-
 module _ {b : Bool} {o o' w w₁ w₂ : List ℕ} {a k n m f : ℕ} {t : Tree} {x y : ℕ} (less : k < n) (h : Put b o o' a k m f t x y)
     (one : Unmarked w w₁ x k) (two : Unmarked w₁ w₂ y k) where
   later_two : (i : ℕ) → k ≤ i → high_of w₂ i ≡ high_of w i
@@ -660,9 +632,6 @@ passed_told {b} {o} {z} {o'} {w} {w'} {d} {p} {n} {m} {f} {k} {marks} nb most fa
     }
 
 -- ---- what is told, one thing after the other
-pub told_none : (b : Bool) (o w : List ℕ) (d p n : ℕ) → ToldMore b o o w w d p n
-told_none b o w d p n = record { long = refl; front = refl; only = bits_same w n; lonely = λ h. h }
-
 pub told_both : {b : Bool} {o o' o'' w w' w'' : List ℕ} {d p n : ℕ} → ToldMore b o o' w w' d p n → ToldMore b o' o'' w' w'' d p n → ToldMore b o o'' w w'' d p n
 told_both g h =
     record { long = h.long ∙ g.long; front = h.front ∙ g.front; only = bits_both g.only h.only; lonely = λ q. h.lonely (g.lonely q) }

@@ -19,7 +19,8 @@ use Rattle.part.specs.Part.{Shows, From, in_range}
 use Rattle.part.specs.declared.Part.{Part}
 use Rattle.walk.specs.Listed.{short_key, bits_of, Entry, Entries}
 use Rattle.walk.specs.Walked.{Walkable, combined, came_out, CameOut, OneOf, AllOf, OneNew, Says, answer_of, key_of}
-use Rattle.walk.specs.declared.Walked.TheVariants.{Idle, Over, Done}
+use Rattle.std.proofs.Common.{None, Some, Ok, Err}
+use Rattle.walk.specs.declared.Done.{Done}
 use Rattle.paper.proofs.Tests.{true_not_false}
 use Rattle.paper.proofs.WalkFuel.{last_first_length, map_length}
 use Rattle.walk.proofs.TurnLaws.{map_last_first, map-append, resumed, resumed_none, after, turn_begins, turn_refused}
@@ -248,11 +249,14 @@ module _ {b : Bool} {l : List Tree} {o₀ w₀ : List ℕ} {d p count : ℕ} whe
           subst (λ m. OneNew l m d f) (sym these) (subst (λ k. News l (outs b v.done) d k f) one (v.news q))
 
       -- the answer, by its tests
-      says_which : n < count → late ≡ false → (one : Bool) → eqb new 1 ≡ one → Says b l o₀ o d (Done n e (cond one f 0))
-      says_which h q true one = (says_done h q, λ z. says_new q (eqb-true new 1 one))
-      says_which h q false one = (says_done h q, λ z. absurd (omega (arith, z)))
+      abbrev done_at : Bool → Done
+      done_at one = record { count = n; end = e; new = cond one (Some f) None }
 
-      says_judged : n < count → (judged : Bool) → late ≡ judged → Says b l o₀ o d (cond judged Over (Done n e (cond (eqb new 1) f 0)))
+      says_which : n < count → late ≡ false → (one : Bool) → eqb new 1 ≡ one → Says b l o₀ o d (Ok (Some (done_at one)))
+      says_which h q true one = (says_done h q, says_new q (eqb-true new 1 one))
+      says_which h q false one = (says_done h q, tt)
+
+      says_judged : n < count → (judged : Bool) → late ≡ judged → Says b l o₀ o d (cond judged (Err record {}) (Ok (Some (done_at (eqb new 1)))))
       says_judged h true q = says_late h q
       says_judged h false q = says_which h q (eqb new 1) refl
 
@@ -260,7 +264,7 @@ module _ {b : Bool} {l : List Tree} {o₀ w₀ : List ℕ} {d p count : ℕ} whe
       unfolding answer_of
       says_answer = go (leb count n) refl
         where
-          go : (all : Bool) → leb count n ≡ all → Says b l o₀ o d (cond all Idle (cond late Over (Done n e (cond (eqb new 1) f 0))))
+          go : (all : Bool) → leb count n ≡ all → Says b l o₀ o d (cond all (Ok None) (cond late (Err record {}) (Ok (Some (done_at (eqb new 1))))))
           go true h = says_idle (leb-true count n h)
           go false h = says_judged (leb-false count n h) late refl
 

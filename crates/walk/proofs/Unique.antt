@@ -6,45 +6,46 @@ use contract.Lifetimes.{Lfts}
 use denote.Triple.Clauses.{AtExit}
 use Rattle.paper.specs.Tree.{Tree, Forest, to_list}
 use Rattle.walk.specs.Walked.{Standing, Says}
-use Rattle.walk.specs.declared.Walked.{Walked}
-use Rattle.walk.specs.declared.Walked.TheVariants.{Idle, Over, Done}
+use Rattle.std.proofs.Common.{Option, None, Some, Result, Ok, Err}
+use Rattle.number.specs.declared.OutOfRange.{OutOfRange}
+use Rattle.walk.specs.declared.Done.{Done}
 use Rattle.walk.proofs.walk_members.Reads as reads
 use Rattle.walk.proofs.walk_members.Kinds as kinds
 
 -- what is built, where members came out
-abbrev BuiltAlike : (o o' : List ℕ) → Walked → Type 0
-BuiltAlike o o' Idle = Unit {0}
-BuiltAlike o o' Over = Unit {0}
-BuiltAlike o o' (Done n e f) = take (e * 16) o ≡ take (e * 16) o'
+abbrev BuiltAlike : (o o' : List ℕ) → Result (Option Done) OutOfRange → Type 0
+BuiltAlike o o' (Ok None) = Unit {0}
+BuiltAlike o o' (Err _) = Unit {0}
+BuiltAlike o o' (Ok (Some r)) = take (r.end * 16) o ≡ take (r.end * 16) o'
 
 -- two answers, whatever record is named
-abbrev Alike : Walked → Walked → Type 0
-Alike Idle Idle = Unit {0}
-Alike Over Over = Unit {0}
-Alike (Done n e f) (Done n' e' f') = (n ≡ n') × (e ≡ e')
-Alike Idle Over = ⊥
-Alike Idle (Done n e f) = ⊥
-Alike Over Idle = ⊥
-Alike Over (Done n e f) = ⊥
-Alike (Done n e f) Idle = ⊥
-Alike (Done n e f) Over = ⊥
+abbrev Alike : Result (Option Done) OutOfRange → Result (Option Done) OutOfRange → Type 0
+Alike (Ok None) (Ok None) = Unit {0}
+Alike (Err _) (Err _) = Unit {0}
+Alike (Ok (Some r)) (Ok (Some r')) = (r.count ≡ r'.count) × (r.end ≡ r'.end)
+Alike (Ok None) (Err _) = ⊥
+Alike (Ok None) (Ok (Some r)) = ⊥
+Alike (Err _) (Ok None) = ⊥
+Alike (Err _) (Ok (Some r)) = ⊥
+Alike (Ok (Some r)) (Ok None) = ⊥
+Alike (Ok (Some r)) (Err _) = ⊥
 
 module _ (b : Bool) (l : List Tree) (s o o' : List ℕ) (d : ℕ) where
-  says_once : (r r' : Walked) → Says b l s o d r → Says b l s o' d r' → Alike r r' × BuiltAlike o o' r
-  says_once Idle Idle h h' = (tt, tt)
-  says_once Idle Over h h' = let a = h 0 in let c = h' 0 in absurd (let z : ◌≡◌ {A = ℕ} 0 1 = cc in omega arith)
-  says_once Idle (Done n e f) h h' = let a = h'.0.applies 0 in let c = h 0 in absurd (let z : ◌≡◌ {A = ℕ} 0 1 = cc in omega arith)
-  says_once Over Idle h h' = let a = h 0 in let c = h' 0 in absurd (let z : ◌≡◌ {A = ℕ} 0 1 = cc in omega arith)
-  says_once Over Over h h' = (tt, tt)
-  says_once Over (Done n e f) h h' = let a = h'.0.applies 0 in let c = h 0 in absurd (let z : ◌≡◌ {A = ℕ} 0 1 = cc in omega arith)
-  says_once (Done n e f) Idle h h' = let a = h.0.applies 0 in let c = h' 0 in absurd (let z : ◌≡◌ {A = ℕ} 0 1 = cc in omega arith)
-  says_once (Done n e f) Over h h' = let a = h.0.applies 0 in let c = h' 0 in absurd (let z : ◌≡◌ {A = ℕ} 0 1 = cc in omega arith)
-  says_once (Done n e f) (Done n' e' f') h h' =
-      let many : n ≡ n' = sym h.0.many ∙ h'.0.many in
-      let end : e ≡ e' = h.0.end ∙ sym h'.0.end in
+  says_once : (r r' : Result (Option Done) OutOfRange) → Says b l s o d r → Says b l s o' d r' → Alike r r' × BuiltAlike o o' r
+  says_once (Ok None) (Ok None) h h' = (tt, tt)
+  says_once (Ok None) (Err _) h h' = let a = h 0 in let c = h' 0 in absurd (let z : ◌≡◌ {A = ℕ} 0 1 = cc in omega arith)
+  says_once (Ok None) (Ok (Some r)) h h' = let a = h'.0.applies 0 in let c = h 0 in absurd (let z : ◌≡◌ {A = ℕ} 0 1 = cc in omega arith)
+  says_once (Err _) (Ok None) h h' = let a = h 0 in let c = h' 0 in absurd (let z : ◌≡◌ {A = ℕ} 0 1 = cc in omega arith)
+  says_once (Err _) (Err _) h h' = (tt, tt)
+  says_once (Err _) (Ok (Some r)) h h' = let a = h'.0.applies 0 in let c = h 0 in absurd (let z : ◌≡◌ {A = ℕ} 0 1 = cc in omega arith)
+  says_once (Ok (Some r)) (Ok None) h h' = let a = h.0.applies 0 in let c = h' 0 in absurd (let z : ◌≡◌ {A = ℕ} 0 1 = cc in omega arith)
+  says_once (Ok (Some r)) (Err _) h h' = let a = h.0.applies 0 in let c = h' 0 in absurd (let z : ◌≡◌ {A = ℕ} 0 1 = cc in omega arith)
+  says_once (Ok (Some r)) (Ok (Some r')) h h' =
+      let many : r.count ≡ r'.count = sym h.0.many ∙ h'.0.many in
+      let end : r.end ≡ r'.end = h.0.end ∙ sym h'.0.end in
       ((many, end), h.0.built ∙ sym h'.0.built ∙ ap (λ k. take (k * 16) o') (sym end))
 
-pub walk_once : (κs : Lfts 2) (a : Dens κs kinds.ps) (f : Forest) (r r' : Walked) (x x' : AtExit (ended_of 2 kinds.ps kinds.r) κs)
+pub walk_once : (κs : Lfts 2) (a : Dens κs kinds.ps) (f : Forest) (r r' : Result (Option Done) OutOfRange) (x x' : AtExit (ended_of 2 kinds.ps kinds.r) κs)
     → let out = a.0.now in
     let work = a.1.0.now in
     let d = a.1.1.0 in

@@ -1,5 +1,6 @@
 -- What the walk over the members of a node answers: by the paper's rules `combine`, of a sum's members or of a product's.
-use Rattle.std.specs.Prelude.{◌≡◌, ℕ, ◌+◌, ◌*◌, ◌<◌, ◌≤◌, Bool, true, false, cond, ◌&&◌, List, [], ◌∷◌, ◌++◌, map, length, take, drop, ◌==◌, nat_le}
+use Rattle.std.specs.Prelude.{◌≡◌, ℕ, ◌+◌, ◌*◌, ◌<◌, ◌≤◌, Bool, true, false, cond, ◌&&◌, List, [], ◌∷◌, ◌++◌, map, length, take, drop, ◌==◌}
+use Rattle.std.specs.Prelude.{nat_le, Option, None, Some, Result, Ok, Err}
 use Rattle.paper.specs.Tree.{Tree, Forest, of_list, recordses, weights, records}
 use Rattle.paper.specs.Walk.{walk}
 use Rattle.paper.specs.Rules as paper
@@ -11,11 +12,10 @@ use Rattle.part.specs.Like.{Like, node_of, split, merge, join}
 use Rattle.part.specs.Part.{Shows}
 use Rattle.part.specs.declared.Part.{Part}
 use Rattle.rebuilt.specs.Written.{WrittenIs, Fitting}
-use Rattle.rebuilt.specs.declared.Written.TheVariants as written
 use Rattle.walk.specs.Listed.{short_key, Entry, Listed, Listable}
 use Rattle.walk.specs.Stays.{stays}
-use Rattle.walk.specs.declared.Walked.{Walked}
-use Rattle.walk.specs.declared.Walked.TheVariants.{Idle, Over, Done}
+use Rattle.number.specs.declared.OutOfRange.{OutOfRange}
+use Rattle.walk.specs.declared.Done.{Done}
 use Rattle.walk.specs.declared.Finished.{Finished}
 use Rattle.walk.specs.declared.Finished.TheVariants as finished
 
@@ -64,15 +64,20 @@ pub record OneNew (l m : List Tree) (d f : ℕ) : Type 0 where
   pub place : f ≡ d + 1 + recordses (of_list before)
   pub kept : AllOf l before × AllOf l after
 
--- whatever the node's mark is: `Idle`, nothing was removed; `Over`, something was, and the range is left; `Done n e f`, the n members that came out stand up to
--- record e, and where f is a record, the member there is the only one that was none before; where f is 0 nothing is said of that
-abbrev pub Says : Bool → List Tree → (out out' : List ℕ) (d : ℕ) → Walked → Type 0
-Says b l out out' d Idle = (μ : ℕ) → combined b μ l ≡ paper.does_not_apply
-Says b l out out' d Over = (μ : ℕ) → combined b μ l ≡ paper.range_exceeded
-Says b l out out' d (Done n e f) = CameOut b l out out' d n e × (0 < f → OneNew l (came_out b l) d f)
+-- where a record is named, the tree there is the only one of m that is none of l; where none is, nothing is said of that
+abbrev pub NewAt : (l m : List Tree) (d : ℕ) → Option ℕ → Type 0
+NewAt l m d None = Unit {0}
+NewAt l m d (Some f) = OneNew l m d f
+
+-- whatever the node's mark is: `None`, nothing was removed; `Err`, something was, and the range is left; `Some r`, as many members as r says came out, and
+-- stand up to its end, and where it names a record, the member there is the only one that was none before
+abbrev pub Says : Bool → List Tree → (out out' : List ℕ) (d : ℕ) → Result (Option Done) OutOfRange → Type 0
+Says b l out out' d (Ok None) = (μ : ℕ) → combined b μ l ≡ paper.does_not_apply
+Says b l out out' d (Err _) = (μ : ℕ) → combined b μ l ≡ paper.range_exceeded
+Says b l out out' d (Ok (Some r)) = CameOut b l out out' d r.count r.end × NewAt l (came_out b l) d r.new
 
 -- what is pending and what is done stay
-pub record WalkedIs (b : Bool) (l : List Tree) (out out' work work' : List ℕ) (d p : ℕ) (r : Walked) : Type 0 where
+pub record WalkedIs (b : Bool) (l : List Tree) (out out' work work' : List ℕ) (d p : ℕ) (r : Result (Option Done) OutOfRange) : Type 0 where
   pub answers : Says b l out out' d r
   pub pending : drop (p * 16) work' ≡ drop (p * 16) work
   pub done : take (d * 16) out' ≡ take (d * 16) out
@@ -106,9 +111,11 @@ pub record Keepable (b : Bool) (out : List ℕ) (e : ℕ) (w : List ℕ) (p i : 
   pub low : i * 4 + 4 ≤ length w
   pub room : (alone && stays b member) ≡ true → (e + records member) * 16 ≤ length out
 
-abbrev pub KeptIs : Bool → Tree → (out out' : List ℕ) (e r : ℕ) → Type 0
-KeptIs true t out out' e r = (r ≡ e + records t) × (out' ≡ put out (e * 16) (encode_by note t))
-KeptIs false t out out' e r = (r ≡ 0) × (out' ≡ out)
+abbrev pub KeptIs : Bool → Tree → (out out' : List ℕ) (e : ℕ) → Option ℕ → Type 0
+KeptIs true t out out' e (Some r) = (r ≡ e + records t) × (out' ≡ put out (e * 16) (encode_by note t))
+KeptIs true t out out' e None = ⊥
+KeptIs false t out out' e (Some r) = ⊥
+KeptIs false t out out' e None = out' ≡ out
 
 pub record Finishing (b : Bool) (out : List ℕ) (e : ℕ) (w : List ℕ) (p i : ℕ) (c : Part) (alone : Bool) : Type 0 where
   pub current : Like b
@@ -118,13 +125,14 @@ pub record Finishing (b : Bool) (out : List ℕ) (e : ℕ) (w : List ℕ) (p i :
   pub fitting : Fitting (join b current) out e
 
 -- what the part becomes is written at record e: `Kept n`, up to record n, and it is the member t, which took up no other and stays;
--- `New n`, up to record n; `Over`, it is out of range, and nothing is
-abbrev pub FinishedIs : Bool → Tree × Bool → Tree → (out out' : List ℕ) (e : ℕ) → Finished → Type 0
-FinishedIs kept x t out out' e (finished.Kept n) = (kept ≡ true) × (x.0 ≡ t) × WrittenIs x out out' e (written.To n)
-FinishedIs kept x t out out' e (finished.New n) = (kept ≡ false) × WrittenIs x out out' e (written.To n)
-FinishedIs kept x t out out' e finished.Over = (kept ≡ false) × WrittenIs x out out' e written.Over
+-- `New n`, up to record n; `Err`, it is out of range, and nothing is
+abbrev pub FinishedIs : Bool → Tree × Bool → Tree → (out out' : List ℕ) (e : ℕ) → Result Finished OutOfRange → Type 0
+FinishedIs kept x t out out' e (Ok (finished.Kept n)) = (kept ≡ true) × (x.0 ≡ t) × WrittenIs x out out' e (Ok n)
+FinishedIs kept x t out out' e (Ok (finished.New n)) = (kept ≡ false) × WrittenIs x out out' e (Ok n)
+FinishedIs kept x t out out' e (Err u) = (kept ≡ false) × WrittenIs x out out' e (Err u)
 
--- the answer where n of `count` members came out, up to record e: `Idle` where all did; `Over` where one is out of range; else `Done`, with the
+-- the answer where n of `count` members came out, up to record e: none where all did; an error where one is out of range; else how many came out, with the
 -- record f of the new one, where one alone is new
-unfoldable pub answer_of : (count n e : ℕ) → Bool → (new f : ℕ) → Walked
-answer_of count n e late new f = cond (nat_le count n) Idle (cond late Over (Done n e (cond (new == 1) f 0)))
+unfoldable pub answer_of : (count n e : ℕ) → Bool → (new f : ℕ) → Result (Option Done) OutOfRange
+answer_of count n e late new f =
+    cond (nat_le count n) (Ok None) (cond late (Err record {}) (Ok (Some (record { count = n; end = e; new = cond (new == 1) (Some f) None }))))

@@ -5,18 +5,21 @@
 #![tactic(auto)]
 
 ghost use Rattle.std.specs.Prelude.{◌≡◌, ℕ, ◌+◌, ◌*◌, ◌<◌, ◌≤◌, Bool, ◌&&◌, List, length, nat_lt};
+ghost use Rattle.paper.specs.Record.{kind};
 ghost use Rattle.paper.specs.Tree.{Tree, Forest, product, to_list};
 ghost use Rattle.stretch.specs.Put.{part, put};
 ghost use Rattle.split.specs.Standing.{Told, SomeTold, SomeProduct};
 ghost use Rattle.part.specs.Like.{Like, split, join};
 ghost use Rattle.part.specs.Part.{Shows, From, MergedIs, IntoFrom};
 ghost use Rattle.walk.specs.Listed.{short_key, entry_of, Entry, Listed, Listable, ListedIs};
-ghost use Rattle.walk.specs.Lone.{is_lone};
 ghost use Rattle.walk.specs.Numbers.{AfterTelling};
-ghost use Rattle.walk.specs.Stays.{is_coefficient, last_stays, product_stays, stays};
+ghost use Rattle.walk.specs.Stays.{is_coefficient, last_stays, product_stays, factor_stays, stays};
 ghost use Rattle.walk.specs.Walked.{key_of, Meeting, Keepable, KeptIs, Turned, Finishing, FinishedIs, answer_of, Walkable, Standing, WalkedIs};
 
+use number::OutOfRange;
+use part::Part;
 use rebuilt::{PAIR, SECOND};
+use record::kinds::Kind;
 
 mod lone;
 mod numbers;
@@ -42,25 +45,19 @@ const KEY_BYTE: u64 = 256;
 // So many members at least has a product whose coefficient was appended last.
 const LONGER: usize = 3;
 
-// What the walk answers: nothing was removed; the range is left; how many members came out, where they end, and the record of the
-// only one of them that was no member before, or 0.
+// How many members came out of a walk that removed some, where they end, and the record of the only one of them that was no member before.
 #[derive(Clone, Copy)]
-pub enum Walked {
-    Idle,
-    Over,
-    Done {
-        count: usize,
-        end: usize,
-        new: usize,
-    },
+pub struct Done {
+    pub count: usize,
+    pub end: usize,
+    pub new: Option<usize>,
 }
 
-// The turn of a member is done: it stays, up to a record; it is new, up to a record; it is out of range.
+// The turn of a member is done: it stays, up to a record; or it is new, up to a record.
 #[derive(Clone, Copy)]
 enum Finished {
     Kept(usize),
     New(usize),
-    Over,
 }
 
 // Entry k: the member's first record, counted from the node's, and 15 bits of its part's key.
@@ -81,20 +78,17 @@ fn list_members(work: &mut [u8], p: usize, terms: bool)
     requires { (f : Forest) × Listable work.old p f }
     ensures { (f : Forest) → Listable work.old p f → ListedIs terms work.old work.new p f }
 {
-    let n = record::count(work, p);
     let mut at = p + 1;
-    let mut k = 0;
-    while k < n {
+    for k in 0..record::count(work, p) {
         let v = note::note_at(work, at);
         let key = note::part_key(work, at, record::kind(work, at), v, terms);
         write_entry(work, k, at - p, note::key_of(key) % SHORT);
         at += note::records_of(v);
-        k += 1;
     }
 }
 
 // The part of the member of entry i.
-fn current(s: &[u8], p: usize, i: usize, terms: bool) -> part::Part
+fn current(s: &[u8], p: usize, i: usize, terms: bool) -> Part
     requires { (t : Tree) × Entry terms s.now p i t × (i * 4 + 4 ≤ length s.now) }
     ensures shows { (t : Tree) → Entry terms s.now p i t → Shows terms s.now result (split terms t) }
     ensures place { From p result }
@@ -104,14 +98,21 @@ fn current(s: &[u8], p: usize, i: usize, terms: bool) -> part::Part
 }
 
 // The current part, with 15 bits of its key, where it meets the member of entry j.
-fn meet(s: &[u8], c: part::Part, key: usize, p: usize, j: usize, ticks: &mut [u8]) -> part::Merged
+fn meet(
+    s: &[u8],
+    c: Part,
+    key: usize,
+    p: usize,
+    j: usize,
+    ticks: &mut [u8],
+) -> Result<Option<Part>, OutOfRange>
     requires { Meeting s.now c key p j (length ticks.old) }
     ensures merged_is { (b : Bool) (x : Like b) (t : Tree) → Shows b s.now c x → key ≡ short_key (key_of b x)
         → Entry b s.now p j t → MergedIs b s.now x (split b t) result }
     ensures place { From p c → IntoFrom p result }
 {
     if number::read2(s, j * ENTRY + KEY_AT) % KEYS != key {
-        return part::Merged::Apart;
+        return Ok(None);
     }
     let start = p + number::read2(s, j * ENTRY);
     part::merge(s, c, start, ticks)
@@ -134,10 +135,7 @@ fn is_coefficient(s: &[u8], i: usize, mark: usize) -> bool
     if record::INTEGER < record::kind(s, i) {
         return false;
     }
-    if record::bits(s, i) == 1 {
-        return false;
-    }
-    record::mark(s, i) == mark
+    record::bits(s, i) != 1 && record::mark(s, i) == mark
 }
 
 // No member of the product at record i is an integer, but for a coefficient after two others or more.
@@ -148,21 +146,16 @@ fn last_stays(s: &[u8], i: usize) -> bool
 {
     let n = record::count(s, i);
     let mut at = i + 1;
-    let mut left = n;
-    while 1 < left {
+    for _ in 1..n {
         if record::kind(s, at) < record::SYMBOL {
             return false;
         }
         at = split::skip_tree(s, at);
-        left -= 1;
     }
     if record::INTEGER < record::kind(s, at) {
         return true;
     }
-    if n < LONGER {
-        return false;
-    }
-    is_coefficient(s, at, record::mark(s, i))
+    LONGER <= n && is_coefficient(s, at, record::mark(s, i))
 }
 
 // The product at record i is what its coefficient and its rest become: where it begins with an integer, a coefficient and a rest that is
@@ -181,10 +174,16 @@ fn product_stays(s: &[u8], i: usize) -> bool
     if k < record::SYMBOL {
         return false;
     }
-    if k == record::PRODUCT {
-        return false;
-    }
-    is_coefficient(s, i + 1, record::mark(s, i))
+    k != record::PRODUCT && is_coefficient(s, i + 1, record::mark(s, i))
+}
+
+// The power at record i is what its base and its exponent become: that is not 1, and has the mark.
+fn power_stays(s: &[u8], i: usize) -> bool
+    requires { SomeTold s.now i × (kind s.now i ≡ 4) }
+    ensures { (how : Tree → ℕ) (t : Tree) → Told how s.now i t → result ≡ factor_stays t }
+{
+    let e = split::skip_tree(s, i + 1);
+    record::bits(s, e) != 1 && record::mark(s, e) == record::mark(s, i)
 }
 
 // The member at record i, of a sum (terms) or of a product, is what its own part becomes.
@@ -192,21 +191,11 @@ fn stays(s: &[u8], i: usize, terms: bool) -> bool
     requires { SomeTold s.now i }
     ensures { (how : Tree → ℕ) (t : Tree) → Told how s.now i t → result ≡ stays terms t }
 {
-    let k = record::kind(s, i);
-    if terms {
-        if k == record::PRODUCT {
-            return product_stays(s, i);
-        }
-        return true;
+    match Kind::at(s, i) {
+        Kind::Product => !terms || product_stays(s, i),
+        Kind::Power => terms || power_stays(s, i),
+        _ => true,
     }
-    if k != record::POWER {
-        return true;
-    }
-    let e = split::skip_tree(s, i + 1);
-    if record::bits(s, e) == 1 {
-        return false;
-    }
-    record::mark(s, e) == record::mark(s, i)
 }
 
 // The member of entry i comes out as it stands: it took up no other, and stays.
@@ -214,14 +203,10 @@ fn is_kept(s: &[u8], p: usize, i: usize, alone: bool, terms: bool) -> bool
     requires { (t : Tree) × Entry terms s.now p i t × (i * 4 + 4 ≤ length s.now) }
     ensures { (t : Tree) → Entry terms s.now p i t → result ≡ (alone && stays terms t) }
 {
-    if alone {
-        let start = p + number::read2(s, i * ENTRY);
-        return stays(s, start, terms);
-    }
-    false
+    alone && stays(s, p + number::read2(s, i * ENTRY), terms)
 }
 
-// Copies the member of entry i whole where it comes out as it stands; answers the record after it, or 0.
+// Copies the member of entry i whole where it comes out as it stands; answers the record after it.
 fn keep(
     out: &mut [u8],
     e: usize,
@@ -230,7 +215,7 @@ fn keep(
     i: usize,
     alone: bool,
     terms: bool,
-) -> usize
+) -> Option<usize>
     requires { Keepable terms out.old e work.now p i alone }
     ensures { (t : Tree) → Entry terms work.now p i t
         → KeptIs (alone && stays terms t) t out.old out.new e result }
@@ -245,30 +230,9 @@ fn keep(
             start * record::SIZE,
             k * record::SIZE,
         );
-        return e + k;
+        return Some(e + k);
     }
-    0
-}
-
-// The same where the bits are told, and an entry with this high byte of its key is alone with it.
-fn keep_lone(
-    out: &mut [u8],
-    e: usize,
-    work: &[u8],
-    p: usize,
-    i: usize,
-    high: u8,
-    told: bool,
-    terms: bool,
-) -> usize
-    requires { Keepable terms out.old e work.now p i (is_lone high told) }
-    ensures { (t : Tree) → Entry terms work.now p i t
-        → KeptIs (is_lone high told && stays terms t) t out.old out.new e result }
-{
-    if lone::is_lone(high, told) {
-        return keep(out, e, work, p, i, true, terms);
-    }
-    0
+    None
 }
 
 // The turn of the member of entry i is done: where it comes out as it stands it is copied whole, else what its part became is written.
@@ -278,48 +242,45 @@ fn finish(
     work: &[u8],
     p: usize,
     i: usize,
-    c: part::Part,
+    c: Part,
     alone: bool,
     terms: bool,
-) -> Finished
+) -> Result<Finished, OutOfRange>
     requires { Finishing terms out.old e work.now p i c alone }
     ensures { (x : Like terms) (t : Tree) → Turned terms work.now p i c alone x t
         → FinishedIs (alone && stays terms t) (join terms x) t out.old out.new e result }
 {
-    let kept = keep(out, e, work, p, i, alone, terms);
-    if 0 < kept {
-        return Finished::Kept(kept);
+    if let Some(kept) = keep(out, e, work, p, i, alone, terms) {
+        return Ok(Finished::Kept(kept));
     }
-    let w = rebuilt::write_part(out, e, work, c);
-    match w {
-        rebuilt::Written::To(x) => Finished::New(x),
-        rebuilt::Written::Over => Finished::Over,
-    }
+    let end = rebuilt::write_part(out, e, work, c)?;
+    Ok(Finished::New(end))
 }
 
 // The answer where n of `count` members came out, up to record e: `late`, one of them is out of range; `new` of them are new, the last at
 // record f.
-fn answer(count: usize, n: usize, e: usize, late: bool, new: usize, f: usize) -> Walked
+fn answer(
+    count: usize,
+    n: usize,
+    e: usize,
+    late: bool,
+    new: usize,
+    f: usize,
+) -> Result<Option<Done>, OutOfRange>
     ensures { result ≡ answer_of count n e late new f }
 {
     if count <= n {
-        return Walked::Idle;
+        return Ok(None);
     }
     if late {
-        return Walked::Over;
+        return Err(OutOfRange);
     }
-    if new == 1 {
-        return Walked::Done {
-            count: n,
-            end: e,
-            new: f,
-        };
-    }
-    Walked::Done {
+    let only = if new == 1 { Some(f) } else { None };
+    Ok(Some(Done {
         count: n,
         end: e,
-        new: 0,
-    }
+        new: only,
+    }))
 }
 
 // Tells which of the n listed members are like no other, unless they are too few for that to pay: by their keys, and those that keys do not tell apart by
@@ -335,8 +296,16 @@ fn tell_lone(out: &mut [u8], work: &mut [u8], d: usize, p: usize, n: usize, term
     true
 }
 
-// The walk over the `count` members that are listed. A member that is rebuilt out of range counts only if something is removed.
-fn walk(out: &mut [u8], work: &mut [u8], d: usize, p: usize, count: usize, terms: bool) -> Walked
+// The walk over the `count` members that are listed; None, nothing was removed. A member that is rebuilt out of range counts only if
+// something is removed.
+fn walk(
+    out: &mut [u8],
+    work: &mut [u8],
+    d: usize,
+    p: usize,
+    count: usize,
+    terms: bool,
+) -> Result<Option<Done>, OutOfRange>
     requires { (l : List Tree) × Walkable terms out.old work.old d p count l }
     ensures { (l : List Tree) → Walkable terms out.old work.old d p count l
         → WalkedIs terms l out.old out.new work.old work.new d p result }
@@ -351,8 +320,8 @@ fn walk(out: &mut [u8], work: &mut [u8], d: usize, p: usize, count: usize, terms
     let mut f = 0;
     'walk: while i < n {
         let high = work[i * ENTRY + HIGH_AT];
-        let x = keep_lone(out, e, work, p, i, high, told, terms);
-        if 0 < x {
+        let alone = lone::is_lone(high, told);
+        if let Some(x) = keep(out, e, work, p, i, alone, terms) {
             e = x;
             i += 1;
             continue;
@@ -363,40 +332,45 @@ fn walk(out: &mut [u8], work: &mut [u8], d: usize, p: usize, count: usize, terms
         let mut j = i + 1;
         while j < n {
             let a = e * record::SIZE;
-            let met = meet(work, c, key, p, j, &mut out[a..]);
-            match met {
-                part::Merged::Apart => j += 1,
-                part::Merged::Into(x) => {
+            match meet(work, c, key, p, j, &mut out[a..]) {
+                Ok(None) => j += 1,
+                Ok(Some(x)) => {
                     c = x;
                     n -= 1;
                     j = remove(work, j, n);
                 }
-                part::Merged::Over => {
+                Err(OutOfRange) => {
                     over = true;
                     break 'walk;
                 }
             }
         }
-        let w = finish(out, e, work, p, i, c, n == had, terms);
-        match w {
-            Finished::Kept(x) => e = x,
-            Finished::New(x) => {
+        match finish(out, e, work, p, i, c, n == had, terms) {
+            Ok(Finished::Kept(x)) => e = x,
+            Ok(Finished::New(x)) => {
                 new += 1;
                 f = e;
                 e = x;
             }
-            Finished::Over => late = true,
+            Err(OutOfRange) => late = true,
         }
         i += 1;
     }
     if over {
-        return Walked::Over;
+        return Err(OutOfRange);
     }
     answer(count, n, e, late, new, f)
 }
 
-// The walk over the members of the node at record p, a sum (terms) or a product: what comes out stands behind record d of `out`.
-pub fn walk_members(out: &mut [u8], work: &mut [u8], d: usize, p: usize, terms: bool) -> Walked
+// The walk over the members of the node at record p, a sum (terms) or a product: what comes out stands behind record d of `out`; None,
+// nothing was removed.
+pub fn walk_members(
+    out: &mut [u8],
+    work: &mut [u8],
+    d: usize,
+    p: usize,
+    terms: bool,
+) -> Result<Option<Done>, OutOfRange>
     requires { (f : Forest) × Standing out.old work.old d p f }
     ensures { (f : Forest) → Standing out.old work.old d p f
         → WalkedIs terms (to_list f) out.old out.new work.old work.new d p result }

@@ -44,11 +44,9 @@ fn count_flags(out: &mut [u8], work: &[u8], at: usize, n: usize)
     requires { (n < 65536) × (n * 4 ≤ length work.now) × (at + n * 16 ≤ length out.old) }
     ensures { out.new ≡ counted out.old work.now at n n }
 {
-    let mut k = 0;
-    while k < n {
+    for k in 0..n {
         let a = at + flag_of(work, k, n);
         out[a] = more(out[a]);
-        k += 1;
     }
 }
 
@@ -67,12 +65,10 @@ fn mark_lone(work: &mut [u8], out: &[u8], at: usize, n: usize)
     requires { (n < 65536) × (n * 4 ≤ length work.old) × (at + n * 16 ≤ length out.now) }
     ensures { work.new ≡ marked work.old out.now at n n }
 {
-    let mut k = 0;
-    while k < n {
+    for k in 0..n {
         let a = at + flag_of(work, k, n);
         let b = k * ENTRY + HIGH_AT;
         work[b] = lone_byte(work[b], out[a]);
-        k += 1;
     }
 }
 
@@ -95,8 +91,5 @@ pub fn tell_lone(out: &mut [u8], work: &mut [u8], d: usize, n: usize) -> bool
 pub fn is_lone(high: u8, told: bool) -> bool
     ensures { result ≡ is_lone high told }
 {
-    if told {
-        return NO_BIT < high;
-    }
-    false
+    told && NO_BIT < high
 }

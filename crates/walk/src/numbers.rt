@@ -3,7 +3,7 @@
 // entries that have no bit yet are put down at flags, bytes of `out` that are free at that time: an integer base at one for the exponent and at one for
 // itself, any other member at one for its spread. Like ones share a flag. An entry that finds its flags free gets its bit, and loses it to the next one there;
 // those that shared a flag by chance are put down again by another factor.
-ghost use Rattle.std.specs.Prelude.{◌≡◌, ℕ, ◌+◌, ◌*◌, ◌<◌, ◌≤◌, Bool, true, List, length};
+ghost use Rattle.std.specs.Prelude.{◌≡◌, ℕ, ◌+◌, ◌*◌, ◌<◌, ◌≤◌, Bool, true, List, length, nat_lt};
 ghost use Rattle.paper.specs.Limits.{modulus};
 ghost use Rattle.paper.specs.Tree.{Tree};
 ghost use Rattle.split.specs.Standing.{Told, SomeTold};
@@ -61,16 +61,9 @@ struct Round {
     terms: bool,
 }
 
-// The flags of a member.
+// The two flags of a member, or what they held.
 #[derive(Clone, Copy)]
-struct Flags {
-    first: usize,
-    second: usize,
-}
-
-// What its flags held.
-#[derive(Clone, Copy)]
-struct Held {
+struct Pair {
     first: usize,
     second: usize,
 }
@@ -84,32 +77,32 @@ fn place(v: u64, n: usize, f: u64) -> usize
     (x / WORD * n as u64 / WORD) as usize
 }
 
-// The flags of the member at record i, of a sum (terms) or of a product, among 8 m.
-fn flags_of(s: &[u8], i: usize, m: usize, f: u64, terms: bool) -> Flags
-    requires { SomeTold s.now i × (0 < m) × (m < 65536) }
-    ensures { (result.first < m * 8) × (result.second < m * 8) × ((how : Tree → ℕ) (t : Tree) → Told how s.now i t
-        → (result.first ≡ first_flag terms f m t) × (result.second ≡ second_flag terms f m t)) }
+// The flags of the member at record i, among those of the round.
+fn flags_of(s: &[u8], i: usize, round: Round) -> Pair
+    requires { SomeTold s.now i × (0 < round.m) × (round.m < 65536) }
+    ensures { (result.first < round.m * 8) × (result.second < round.m * 8) × ((how : Tree → ℕ) (t : Tree) → Told how s.now i t
+        → (result.first ≡ first_flag round.terms round.f round.m t) × (result.second ≡ second_flag round.terms round.f round.m t)) }
 {
-    if terms {
-        let a = place(spread::rest_spread(s, i), EIGHTH * m, f);
-        return Flags {
-            first: a,
-            second: a,
+    if round.terms {
+        let first = place(spread::rest_spread(s, i), EIGHTH * round.m, round.f);
+        return Pair {
+            first,
+            second: first,
         };
     }
     let b = split::base(s, i);
     if record::kind(s, b) < record::SYMBOL {
-        let x = place(split::exponent(s, i), HALF * m, f);
-        let y = place(record::bits(s, b), HALF * m, f);
-        return Flags {
-            first: x,
-            second: HALF * m + y,
+        let first = place(split::exponent(s, i), HALF * round.m, round.f);
+        let y = place(record::bits(s, b), HALF * round.m, round.f);
+        return Pair {
+            first,
+            second: HALF * round.m + y,
         };
     }
-    let a = place(spread::spread(s, b), EIGHTH * m, f);
-    Flags {
-        first: a,
-        second: a,
+    let first = place(spread::spread(s, b), EIGHTH * round.m, round.f);
+    Pair {
+        first,
+        second: first,
     }
 }
 
@@ -130,40 +123,27 @@ fn unmark(work: &mut [u8], x: usize, k: usize)
     requires { k * 4 ≤ length work.old }
     ensures { Unmarked work.old work.new x k }
 {
-    if x < 1 {
-        return;
+    if 0 < x && x <= k {
+        let b = x * ENTRY - 1;
+        work[b] %= lone::BIT;
     }
-    if k < x {
-        return;
-    }
-    let b = x * ENTRY - 1;
-    work[b] = work[b] % lone::BIT;
 }
 
 // Puts entry k down at its flags, which lie from byte `at` of `out` on; what they held.
-fn put(out: &mut [u8], work: &[u8], at: usize, k: usize, round: Round) -> Held
+fn put(out: &mut [u8], work: &[u8], at: usize, k: usize, round: Round) -> Pair
     requires k_in_bounds { ((t : Tree) × Entry round.terms work.now round.p k t) × (k * 4 + 4 ≤ length work.now) × (k < 65535) }
     requires m_nonzero { (0 < round.m) × (round.m < 65536) × (at + round.m * 16 ≤ length out.old) }
     ensures { (t : Tree) → Entry round.terms work.now round.p k t
         → Put round.terms out.old out.new at k round.m round.f t result.first result.second }
 {
-    let v = flags_of(
-        work,
-        round.p + number::read2(work, k * ENTRY),
-        round.m,
-        round.f,
-        round.terms,
-    );
+    let v = flags_of(work, round.p + number::read2(work, k * ENTRY), round);
     let a = at + v.first * FLAG;
     let b = at + v.second * FLAG;
-    let x = number::read2(out, a);
-    let y = number::read2(out, b);
-    fill(out, a, x, k);
-    fill(out, b, y, k);
-    Held {
-        first: x,
-        second: y,
-    }
+    let first = number::read2(out, a);
+    let second = number::read2(out, b);
+    fill(out, a, first, k);
+    fill(out, b, second, k);
+    Pair { first, second }
 }
 
 // Gives entry k its bit, where bits are given and its flags held none.
@@ -178,24 +158,24 @@ fn mark(work: &mut [u8], k: usize, marks: bool)
 }
 
 // Puts entry k down, if it is open: it gets its bit, if bits are given, where its flags held none, else those that they held lose theirs.
-// 1 where it shares a flag.
-fn visit(out: &mut [u8], work: &mut [u8], at: usize, k: usize, round: Round, marks: bool) -> usize
+// Answers whether it shares a flag.
+fn visit(out: &mut [u8], work: &mut [u8], at: usize, k: usize, round: Round, marks: bool) -> bool
     requires { Numbered round.terms work.old round.p round.n × (k < round.n) × (0 < round.m) × (round.m ≤ round.n)
         × (at + round.n * 16 ≤ length out.old) }
-    ensures { (result < 2) × ((t : Tree) → Entry round.terms work.old round.p k t
-        → Visited round.terms out.old out.new work.old work.new at k round.n round.m round.f marks t) }
+    ensures { (t : Tree) → Entry round.terms work.old round.p k t
+        → Visited round.terms out.old out.new work.old work.new at k round.n round.m round.f marks t }
 {
-    if lone::NO_BIT < work[k * ENTRY + HIGH_AT] {
-        return 0;
+    if !is_open(work[k * ENTRY + HIGH_AT]) {
+        return false;
     }
     let h = put(out, work, at, k, round);
     unmark(work, h.first, k);
     unmark(work, h.second, k);
     if 0 < h.first + h.second {
-        return 1;
+        return true;
     }
     mark(work, k, marks);
-    0
+    false
 }
 
 // How far it is from one entry to the next that is put down: all of n are, or about TRIES of them.
@@ -203,10 +183,7 @@ fn stride(n: usize, all: bool) -> usize
     requires { n < 65536 }
     ensures { (1 ≤ result) × (result < 65537) × (all ≡ true → result ≡ 1) }
 {
-    if all {
-        return 1;
-    }
-    n / TRIES + 1
+    if all { 1 } else { n / TRIES + 1 }
 }
 
 // Puts the entries of a round down, or some of them if no bits are given, at flags behind record d; how many share a flag.
@@ -218,25 +195,18 @@ fn put_down(out: &mut [u8], work: &mut [u8], d: usize, round: Round, marks: bool
 {
     let at = (d + 1) * record::SIZE;
     stretch::clear(out, at, round.m * record::SIZE);
-    let n = round.n;
-    let step = stride(n, marks);
     let mut shared = 0;
-    let mut k = 0;
-    while k < n {
-        shared += visit(out, work, at, k, round, marks);
-        k += step;
+    for k in (0..round.n).step_by(stride(round.n, marks)) {
+        shared += usize::from(visit(out, work, at, k, round, marks));
     }
     shared
 }
 
-// 1 for an entry with this high byte of its key where it is open.
-fn is_open(high: u8) -> usize
-    ensures { result < 2 }
+// An entry with this high byte of its key is open.
+fn is_open(high: u8) -> bool
+    ensures { result ≡ nat_lt high 128 }
 {
-    if high < lone::BIT {
-        return 1;
-    }
-    0
+    high < lone::BIT
 }
 
 // How many of n entries are open.
@@ -244,13 +214,9 @@ fn count_open(work: &[u8], n: usize) -> usize
     requires { (n < 65536) × (n * 4 ≤ length work.now) }
     ensures { result ≤ n }
 {
-    let mut many = 0;
-    let mut k = 0;
-    while k < n {
-        many += is_open(work[k * ENTRY + HIGH_AT]);
-        k += 1;
-    }
-    many
+    (0..n)
+        .filter(|k| is_open(work[*k * ENTRY + HIGH_AT]))
+        .count()
 }
 
 // The same of so many that it is seen at the front: where all there are open all n are taken for it.
@@ -272,10 +238,7 @@ fn pays(m: usize, n: usize) -> bool
     requires { (m < 65536) × (n < 65536) }
     ensures { result ≡ true → 0 < m }
 {
-    if m < FEW {
-        return false;
-    }
-    PAIRS <= m * n
+    FEW <= m && PAIRS <= m * n
 }
 
 // The factor of the first round for the members of the node at record p, which the node's own key names: any number is right.
@@ -291,11 +254,7 @@ fn room(m: usize, n: usize) -> usize
     requires { (m < 65536) × (0 < m) × (m ≤ n) }
     ensures { (result ≤ n) × (0 < result) }
 {
-    let w = m * SPARSE;
-    if n < w {
-        return n;
-    }
-    w
+    n.min(m * SPARSE)
 }
 
 // Tells of more members that they are like no other, where the keys are told: about twice as many are open after a round as share a flag in it.
@@ -308,24 +267,15 @@ pub fn tell_numbers(out: &mut [u8], work: &mut [u8], d: usize, p: usize, n: usiz
         return;
     }
     let mut f = factor(work, p);
-    let tried = Round {
-        p: p,
-        n: n,
-        m: m,
-        f: f,
-        terms: terms,
-    };
+    let tried = Round { p, n, m, f, terms };
     if VAIN <= put_down(out, work, d, tried, false) {
         return;
     }
-    let mut r = 0;
-    while r < ROUNDS {
+    for _ in 0..ROUNDS {
         let round = Round {
-            p: p,
-            n: n,
             m: room(m, n),
-            f: f,
-            terms: terms,
+            f,
+            ..tried
         };
         let shared = put_down(out, work, d, round, true);
         if m < shared * CROWDED {
@@ -336,6 +286,5 @@ pub fn tell_numbers(out: &mut [u8], work: &mut [u8], d: usize, p: usize, n: usiz
         }
         m = shared * AGAIN;
         f = number::wrapping_mul(f, NEXT);
-        r += 1;
     }
 }

@@ -7,6 +7,8 @@ ghost use Rattle.paper.specs.Rules.{term_of, product_term};
 ghost use Rattle.split.specs.Standing.{Told, SomeTold, SomeProduct};
 ghost use Rattle.walk.specs.Spread.{stirred, share_in, spread, rest_spread};
 
+use record::kinds::Kind;
+
 // What a head adds for each unit of its kind, and what is added to a leaf's bits.
 const KIND: u64 = 0x5a_8279_9950_7d31;
 
@@ -32,7 +34,7 @@ fn share(s: &[u8], i: usize) -> u64
 {
     let k = record::kind(s, i);
     if k < record::SUM {
-        return stirred(std::num::wrapping_add_u64(record::bits(s, i), k as u64 * KIND));
+        return stirred(record::bits(s, i).wrapping_add(k as u64 * KIND));
     }
     if k == record::PRODUCT {
         return 0;
@@ -47,10 +49,8 @@ pub fn spread(s: &[u8], i: usize) -> u64
 {
     let end = split::skip_tree(s, i);
     let mut sum: u64 = 0;
-    let mut j = i;
-    while j < end {
-        sum = std::num::wrapping_add_u64(sum, share(s, j));
-        j += 1;
+    for j in i..end {
+        sum = sum.wrapping_add(share(s, j));
     }
     sum
 }
@@ -63,13 +63,11 @@ fn others_spread(s: &[u8], i: usize) -> u64
 {
     let mut sum: u64 = 0;
     let mut at = i + 1;
-    let mut left = record::count(s, i);
-    while 0 < left {
+    for _ in 0..record::count(s, i) {
         if record::INTEGER < record::kind(s, at) {
-            sum = std::num::wrapping_add_u64(sum, spread(s, at));
+            sum = sum.wrapping_add(spread(s, at));
         }
         at = split::skip_tree(s, at);
-        left -= 1;
     }
     sum
 }
@@ -79,12 +77,9 @@ pub fn rest_spread(s: &[u8], i: usize) -> u64
     requires { SomeTold s.now i }
     ensures { (how : Tree → ℕ) (t : Tree) → Told how s.now i t → result ≡ rest_spread (term_of t).rest % modulus }
 {
-    let k = record::kind(s, i);
-    if k < record::SYMBOL {
-        return 0;
+    match Kind::at(s, i) {
+        Kind::Integer => 0,
+        Kind::Product => others_spread(s, i),
+        _ => spread(s, i),
     }
-    if k == record::PRODUCT {
-        return others_spread(s, i);
-    }
-    spread(s, i)
 }

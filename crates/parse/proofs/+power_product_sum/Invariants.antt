@@ -15,8 +15,8 @@ decreases-product l = 3 * (length l.text.now.now - place_in l.st.now) + 1
 abbrev pub decreases-sum : goal.decreases-sum
 decreases-sum l = 3 * (length l.text.now.now - place_in l.st.now) + 2
 
-abbrev pub invariant-product-loop-d : goal.invariant-product-loop-d
-invariant-product-loop-d l = record {
+abbrev pub invariant-product-loop-c : goal.invariant-product-loop-c
+invariant-product-loop-c l = record {
   long : length l.st ≡ 6;
   level : level_in l.st ≡ level_in l.fn.st;
   turn : Turn (products (read_cut (level_in l.fn.st))) l.text.now l.fn.out.now (place_in l.fn.st) (record_in l.fn.st) (weight_in l.fn.st) l.c l.out.now l.st;
@@ -24,11 +24,11 @@ invariant-product-loop-d l = record {
   same : length l.out.now ≡ length l.fn.out.now;
 }
 
-abbrev pub decreases-product-loop-d : goal.decreases-product-loop-d
-decreases-product-loop-d l = length l.text.now - place_in l.st
+abbrev pub decreases-product-loop-c : goal.decreases-product-loop-c
+decreases-product-loop-c l = length l.text.now - place_in l.st
 
-abbrev pub invariant-sum-loop-d : goal.invariant-sum-loop-d
-invariant-sum-loop-d l = record {
+abbrev pub invariant-sum-loop-c : goal.invariant-sum-loop-c
+invariant-sum-loop-c l = record {
   long : length l.st ≡ 6;
   level : level_in l.st ≡ level_in l.fn.st;
   turn : Turn (sums (read_cut (level_in l.fn.st))) l.text.now l.fn.out.now (place_in l.fn.st) (record_in l.fn.st) (weight_in l.fn.st) l.c l.out.now l.st;
@@ -36,5 +36,5 @@ invariant-sum-loop-d l = record {
   same : length l.out.now ≡ length l.fn.out.now;
 }
 
-abbrev pub decreases-sum-loop-d : goal.decreases-sum-loop-d
-decreases-sum-loop-d l = length l.text.now - place_in l.st
+abbrev pub decreases-sum-loop-c : goal.decreases-sum-loop-c
+decreases-sum-loop-c l = length l.text.now - place_in l.st

@@ -5,7 +5,7 @@ use native.Mathlib.Omega.{arith}
 use borrow.Author.Rules.{rules}
 use Rattle.note.proofs.ToldLaws.{record_within}
 use Rattle.note.specs.Note.{note}
-use Rattle.number.specs.declared.Num.TheVariants.{Is}
+use Rattle.std.proofs.Common.{Ok}
 use Rattle.split.proofs.SplitLaws.{term_integer}
 use Rattle.equal.proofs.HeadLaws.{whole_coefficient}
 use Rattle.part.proofs.PartLaws.{term_part, wide_part}
@@ -27,17 +27,17 @@ returns_2 : tie.Need-returns-then-kind-lt-SYMBOL
 returns_2 c =
     let k = c.kind.ensures in
     let is = c.if-kind-lt-SYMBOL.true in
-    (λ t h. term_part _ _ t h (ap Is c.bits.ensures ∙ (term_integer t h (omega arith)).0), λ p h. h)
+    (λ t h. term_part _ _ t h (ap Ok c.bits.ensures ∙ (term_integer t h (omega arith)).0), λ p h. h)
 
-returns_3 : tie.Need-returns-in-Is
+returns_3 : tie.Need-returns-in-Ok
 returns_3 c =
     let read = c.coefficient-n in
-    (λ t h. term_part _ _ t h (sym c.in-Is.is ∙ read.ensures note t h), λ p h. h)
+    (λ t h. term_part _ _ t h (sym c.in-Ok.is ∙ read.ensures note t h), λ p h. h)
 
-returns_4 : tie.Need-returns-in-Out
+returns_4 : tie.Need-returns-in-Err
 returns_4 c =
     let read = c.coefficient-n in
-    (λ t h. wide_part _ _ t h (sym c.in-Out.is ∙ read.ensures note t h), λ p h. h)
+    (λ t h. wide_part _ _ t h (sym c.in-Err.is ∙ read.ensures note t h), λ p h. h)
 
 pub term_of_spec : {M : Type 1} → statement M
 term_of_spec = tie.close (tie.spec

@@ -95,7 +95,7 @@ product c h =
     c.mul-product.ensures ∙ ap (λ a. num_of (signed a *ℤ signed c.bits-2.result)) inner ∙ ap (λ b. num_of (signed s.inner *ℤ signed b)) outer
 
 -- where the power's record was written: for any tree that is pending, the power that the step makes of it, which can be closed
-module _ (c : tie.After-write_record-in-Is) where
+module _ (c : tie.After-write_record-in-Ok) where
   abbrev moving_of : Moving
   moving_of = c.before.before.before.before.before.before.before.before.before
 
@@ -111,7 +111,7 @@ module _ (c : tie.After-write_record-in-Is) where
 
     abbrev made : Tree
     made =
-        power c.mark-mark.result s.base c.mark-exponent_mark.result c.in-Is.n
+        power c.mark-mark.result s.base c.mark-exponent_mark.result c.in-Ok.n
 
     applies : power_power t ≡ paper.applies made
     applies =
@@ -119,21 +119,21 @@ module _ (c : tie.After-write_record-in-Is) where
         let second = c.mark-exponent_mark in
         let g = begun.args in
         let outer : at_of.skip_tree-y.result + 1 ≡ g.p + 3 + records s.base = omega (arith, place at_of h) in
-        tower_applies s _ (sym (product (multiplied_of moving_of) h) ∙ c.in-Is.is)
-        ∙ ap (λ m. paper.applies (power m s.base (mark_in g.work.now (g.p + 3 + records s.base)) c.in-Is.n)) (sym first.ensures.0)
-        ∙ ap (λ m. paper.applies (power first.result s.base m c.in-Is.n))
+        tower_applies s _ (sym (product (multiplied_of moving_of) h) ∙ c.in-Ok.is)
+        ∙ ap (λ m. paper.applies (power m s.base (mark_in g.work.now (g.p + 3 + records s.base)) c.in-Ok.n)) (sym first.ensures.0)
+        ∙ ap (λ m. paper.applies (power first.result s.base m c.in-Ok.n))
         (ap (mark_in g.work.now) (sym outer) ∙ sym second.ensures.0)
 
     light : Light made
     light = rule_light h _ power_power_good made applies
 
     there : let at = (begun.args.p + 2) * 16 in
-        let w = c.write_record-in-Is.new.d in
+        let w = c.write_record-in-Ok.new.d in
         (drop at w ≡ unclosed made ++ rest) × (at ≤ length w)
     there =
-        tower_put s _ _ _ _ _ _ _ (place at_of h) c.shift_right.ensures c.write_record.ensures c.write_record-in-Is.ensures light.0.2
+        tower_put s _ _ _ _ _ _ _ (place at_of h) c.shift_right.ensures c.write_record.ensures c.write_record-in-Ok.ensures light.0.2
 
-    can_close : Unnoted c.write_record-in-Is.new.d (begun.args.p + 2) made
+    can_close : Unnoted c.write_record-in-Ok.new.d (begun.args.p + 2) made
     can_close = closable made light.0 (power_node _ _ _ _) light.1 (record { after = rest; there = there.0 })
 
 kind_requires : tie.Need-kind-requires
@@ -178,7 +178,7 @@ bits_requires_2 c κs =
 mark_requires : tie.Need-mark-mark-requires
 mark_requires c κs = record_within (ready_tree (start_of (tower_of (skipped_of c.before))).requires.2)
 
-add_mark : tie.Need-overflow_add-y-in-Is
+add_mark : tie.Need-overflow_add-y-in-Ok
 add_mark c =
     let at = skipped_of c.before.before in
     let h = (start_of (tower_of at)).requires.2 in
@@ -190,7 +190,7 @@ mark_requires_2 c κs =
     let h = (start_of (tower_of at)).requires.2 in
     omega (arith, place at h, (tower (tower_of at) h).long)
 
-add_shift_right : tie.Need-overflow_add-p-in-Is
+add_shift_right : tie.Need-overflow_add-p-in-Ok
 add_shift_right c =
     let at = skipped_of (multiplied_of c) in
     let h = (start_of (tower_of at)).requires.2 in
@@ -202,19 +202,19 @@ mul_shift_right c =
     let h = (start_of (tower_of at)).requires.2 in
     omega (arith, (tower (tower_of at) h).long)
 
-add_shift_right_2 : tie.Need-overflow_add-p-in-Is-2
+add_shift_right_2 : tie.Need-overflow_add-p-in-Ok-2
 add_shift_right_2 c =
     let at = skipped_of (multiplied_of c) in
     let h = (start_of (tower_of at)).requires.2 in
     omega (arith, (tower (tower_of at) h).long)
 
-mul_shift_right_2 : tie.Need-overflow_mul-p-in-Is
+mul_shift_right_2 : tie.Need-overflow_mul-p-in-Ok
 mul_shift_right_2 c =
     let at = skipped_of (multiplied_of c) in
     let h = (start_of (tower_of at)).requires.2 in
     omega (arith, (tower (tower_of at) h).long)
 
-add_shift_right_3 : tie.Need-overflow_add-p-in-Is-3
+add_shift_right_3 : tie.Need-overflow_add-p-in-Ok-3
 add_shift_right_3 c =
     let at = skipped_of (multiplied_of c) in
     let h = (start_of (tower_of at)).requires.2 in
@@ -238,7 +238,7 @@ shift_right_requires c κs =
     let h = (start_of (tower_of at)).requires.2 in
     (omega arith, omega (arith, place at h, (tower (tower_of at) h).long))
 
-add_write_record : tie.Need-overflow_add-y-in-Is-2
+add_write_record : tie.Need-overflow_add-y-in-Ok-2
 add_write_record c =
     let at = skipped_of (multiplied_of c.before.before.before.before) in
     let h = (start_of (tower_of at)).requires.2 in
@@ -250,19 +250,19 @@ write_record_requires c κs =
     let h = (start_of (tower_of at)).requires.2 in
     omega (arith, place at h, c.shift_right.auto.d, (tower (tower_of at) h).long)
 
-add_write_record_2 : tie.Need-overflow_add-p-in-Is-4
+add_write_record_2 : tie.Need-overflow_add-p-in-Ok-4
 add_write_record_2 c =
     let at = skipped_of (multiplied_of c.before.before.before.before.before.before.before.before) in
     let h = (start_of (tower_of at)).requires.2 in
     omega (arith, (tower (tower_of at) h).long)
 
-write_record_requires_2 : tie.Need-write_record-requires-in-Is
+write_record_requires_2 : tie.Need-write_record-requires-in-Ok
 write_record_requires_2 c κs =
     let at = skipped_of (multiplied_of c.before.before.before.before.before.before.before.before) in
     let h = (start_of (tower_of at)).requires.2 in
     omega (arith, c.write_record.auto.d, c.shift_right.auto.d, (tower (tower_of at) h).long)
 
-add_close : tie.Need-overflow_add-p-in-Is-5
+add_close : tie.Need-overflow_add-p-in-Ok-5
 add_close c =
     let at = at_of c.before.before.before in
     omega (arith, (tower (tower_of at) (start_of (tower_of at)).requires.2).long)
@@ -275,7 +275,7 @@ add_t38 c =
     let at = at_of c.before.before.before.before.before.before in
     omega (arith, (tower (tower_of at) (start_of (tower_of at)).requires.2).long)
 
-returns_3 : tie.Need-returns-in-Is
+returns_3 : tie.Need-returns-in-Ok
 returns_3 c =
     λ t rest h.
     let u = made c.before.before.before.before.before.before h in
@@ -284,9 +284,9 @@ returns_3 c =
     let q = closed_pending u w (power_node _ _ _ _) _ _ rest _ at.1 at.0 (c.close.ensures u (can_close c.before.before.before.before.before.before h)) in
     (u, applies c.before.before.before.before.before.before h, q.0, refl)
 
-returns_4 : tie.Need-returns-in-Out
+returns_4 : tie.Need-returns-in-Err
 returns_4 c =
-    λ t rest h. tower_over (tower (tower_of (skipped_of c.before)) h) (sym (product c.before h) ∙ c.in-Out.is)
+    λ t rest h. tower_over (tower (tower_of (skipped_of c.before)) h) (sym (product c.before h) ∙ c.in-Err.is)
 
 pub power_power_spec : {M : Type 1} → statement M
 power_power_spec =
