@@ -213,9 +213,9 @@ extern "C" {
      simmergate_receive                104          104   whatever the piece
      simmergate_receive_finish       2,216        2,216   whatever the depth
      simmergate_open                 4,760        4,760   whatever the depth
-     simmergate_simplify_shared     76,840      396,328   by either edition
+     simmergate_simplify_shared     76,824      396,312   by either edition
      simmergate_write_text          98,472      524,456
-     simmergate_read_text          123,616      656,096   for any text
+     simmergate_read_text           98,816      524,800   for any text
      simmergate_settings_store       1,224        1,224   whatever the area
      simmergate_settings_fetch       1,208        1,208   whatever the area
      simmergate_settings_fetch_1     1,208        1,208   whatever the area

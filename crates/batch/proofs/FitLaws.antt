@@ -1,6 +1,6 @@
 -- Laws of 8, test by test in the code's order, and of a call that none of the tests turns down.
 use Prim.Native.Nat.{ℕ, ◌*◌, ◌/◌, ◌%◌, ◌≤◌, ◌<◌}
-use mathlib.Core.Path.{◌≡◌, refl}
+use mathlib.Core.Path.{◌≡◌, refl, ap}
 use mathlib.Core.Bool.{Bool, true, false, cond, ◌||◌, not}
 use mathlib.Core.List.{List}
 use native.Mathlib.Omega.{arith}
@@ -10,6 +10,10 @@ use lib.ListN.{length}
 use Rattle.paper.specs.Limits.{is_limit}
 use Rattle.paper.specs.Rules.{is_edition}
 use Rattle.paper.specs.Answers.{Lent}
+use Rattle.paper.specs.Verdict.{Verdict, refused}
+use Rattle.table.specs.declared.refusals.Refusal.{Refusal}
+use Rattle.table.specs.Refusals.{number_of, verdict_of}
+use Rattle.table.proofs.RefusalLaws.{some_number}
 use Rattle.paper.proofs.Tests.{or_neither}
 use Rattle.paper_batch.specs.Batch.{lengths_in, total, unfit, turns_down, site_number, carried_out, site_called}
 use Rattle.simplify.specs.Answer.{call_number}
@@ -46,14 +50,15 @@ module _ (tables lengths answers : List ℕ) where
       (eqb-true _ _ (not-false _ c.0), omega (arith, ltb-false (length answers / 80) n c.1, length_lengths lengths))
 
   -- 19 goes first, then 9, then 8
-  pub called_off : (lim ed k : ℕ) → k ≡ call_number lim ed → 0 < k → k ≡ site_number lim ed tables lengths answers
+  pub called_off : (lim ed : ℕ) (r : Refusal) → verdict_of r ≡ refused (call_number lim ed) 0 → number_of r ≡ site_number lim ed tables lengths answers
   unfolding site_number call_number
-  called_off lim ed k e h = go (is_limit lim) (is_edition ed) e
+  called_off lim ed r e = go (is_limit lim) (is_edition ed) (ap (λ (v : Verdict). v.number) e)
     where
-      go : (a b : Bool) → k ≡ cond a (cond b 0 9) 19 → k ≡ cond a (cond b (cond (turns_down tables lengths answers) 8 0) 9) 19
+      go : (a b : Bool) → number_of r ≡ cond a (cond b 0 9) 19
+          → number_of r ≡ cond a (cond b (cond (turns_down tables lengths answers) 8 0) 9) 19
       go false b f = f
       go true false f = f
-      go true true f = absurd (omega arith)
+      go true true f = absurd (omega (arith, some_number r, f))
 
   pub known : (lim ed : ℕ) (down : Bool) → is_limit lim ≡ true → is_edition ed ≡ true → turns_down tables lengths answers ≡ down
       → cond down 8 0 ≡ site_number lim ed tables lengths answers

@@ -1,13 +1,15 @@
--- Two returns that meet the contract of `batch`, as the check reads it from the source, are the same, and so is every lent byte afterwards:
--- the contract is an equation with a function of what is handed in.
-use mathlib.Core.Path.{sym, ap, ◌∙◌}
+-- Two returns that meet the contract of `batch`, as the check reads it from the source, have the same number, and every lent byte is the same
+-- afterwards: the contract is an equation with a function of what is handed in.
+use mathlib.Core.Path.{◌≡◌, sym, ap, ◌∙◌}
 use mathlib.Core.List.{List}
 use Prim.Native.Nat.{ℕ}
-use borrow.Fn.Kinds.{ended_of}
+use borrow.Fn.Kinds.{Dens, ended_of}
 use contract.Lifetimes.{Lfts}
 use denote.Triple.Clauses.{AtExit}
 use Rattle.paper.specs.Answers.{Lent}
-use Rattle.paper.specs.Once.{OnceLeft}
+use Rattle.std.specs.Prelude.{Result}
+use Rattle.table.specs.declared.refusals.Refusal.{Refusal}
+use Rattle.table.specs.Refusals.{stands_for}
 use Rattle.simplify.specs.Answer.{lent}
 use Rattle.paper_batch.specs.Batch.{SiteCall}
 use Rattle.batch.proofs.batch.Reads as reads
@@ -29,5 +31,6 @@ left κs x =
 abbrev pub left_of : SiteCall → Left
 left_of c = record { areas = c.lent; answers = c.answers }
 
-pub batch_once : OnceLeft 6 kinds.ps kinds.r reads.Pre reads.Post Left left
-batch_once κs a v v' x x' q p p' = let e = p ∙ sym p' in (ap (λ (c : SiteCall). c.number) e, ap left_of e)
+pub batch_once : (κs : Lfts 6) (a : Dens κs kinds.ps) (v v' : Result (Unit {0}) Refusal) (x x' : AtExit (ended_of 6 kinds.ps kinds.r) κs)
+    → reads.Post κs a v x → reads.Post κs a v' x' → ((stands_for v).number ≡ (stands_for v').number) × (left κs x ≡ left κs x')
+batch_once κs a v v' x x' p p' = let e = p ∙ sym p' in (ap (λ (c : SiteCall). c.number) e, ap left_of e)

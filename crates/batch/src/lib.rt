@@ -2,9 +2,12 @@
 #![tactic(auto)]
 
 ghost use Rattle.std.specs.Prelude.{◌≡◌, ◌*◌, ◌/◌, ◌≤◌, length, eqb};
+ghost use Rattle.table.specs.Refusals.{stands_for};
 ghost use Rattle.simplify.specs.Answer.{lent};
 ghost use Rattle.paper_batch.specs.Batch.{lengths_in, total, turns_down, site_number, site_called};
 ghost use Rattle.batch.specs.Turn.{turn, turned, cleared, called, still};
+
+use table::Refusal;
 
 // The most items, the bytes of a length, and those of the place of an answer.
 const ITEMS: usize = 200;
@@ -12,9 +15,6 @@ const ITEMS: usize = 200;
 const LENGTH: usize = 8;
 
 const PLACE: usize = 80;
-
-// The number of the refusal of lists that do not go together.
-const LISTS: u32 = 8;
 
 // The lengths add up to the bytes given. What is left of these is counted down, so that no sum wraps.
 fn adds_up(lengths: &[u8], given: usize) -> bool
@@ -42,18 +42,21 @@ fn turns_down(tables: &[u8], lengths: &[u8], answers: &[u8]) -> bool
     !adds_up(lengths, tables.len()) || answers.len() / PLACE < n
 }
 
-// What the call returns: 19 for a limit that there is not, 9 for such an edition, then 8, or 0.
-fn judge(limit: usize, edition: usize, tables: &[u8], lengths: &[u8], answers: &[u8]) -> u32
-    ensures { result ≡ site_number limit edition tables.now lengths.now answers.now }
+// What the call refuses: 19, a limit that there is not, 9, such an edition, then 8.
+fn judge(
+    limit: usize,
+    edition: usize,
+    tables: &[u8],
+    lengths: &[u8],
+    answers: &[u8],
+) -> Result<(), Refusal>
+    ensures { (stands_for result).number ≡ site_number limit edition tables.now lengths.now answers.now }
 {
-    let number = simplify::judge_call(limit, edition);
-    if 0 < number {
-        return number;
-    }
+    simplify::judge_call(limit, edition)?;
     if turns_down(tables, lengths, answers) {
-        return LISTS;
+        return Err(Refusal::Lists);
     }
-    0
+    Ok(())
 }
 
 // One item: its numbers go to the front of the slice for its answer. Answers W that it used up: all of it where it ran, to its end or
@@ -75,7 +78,7 @@ fn item(
     let numbers = simplify::answer_numbers(a);
     number::write_numbers(answer, &numbers);
     if a.number == simplify::RANGE {
-        return table::weight(limit, table).result as usize;
+        return table::weight(limit, table).unwrap_or(0);
     }
     a.weight_in
 }
@@ -120,8 +123,8 @@ fn in_turn(
     }
 }
 
-// The call for a whole site: refused, by 19, 9 or 8, it changes nothing; else it answers 0, the answers of the items stand in their places, and the
-// areas are as the items leave them.
+// The call for a whole site: refused, by 19, 9 or 8, it changes nothing; else the answers of the items stand in their places, and the areas are as
+// the items leave them.
 pub fn batch(
     limit: usize,
     edition: usize,
@@ -131,15 +134,12 @@ pub fn batch(
     steps: &mut [u8],
     work: &mut [u8],
     answers: &mut [u8],
-) -> u32
-    ensures { called result out.new steps.new work.new answers.new
+) -> Result<(), Refusal>
+    ensures { called (stands_for result).number out.new steps.new work.new answers.new
         ≡ site_called limit edition tables.now lengths.now
         (lent out.old steps.old work.old) answers.old }
 {
-    let refusal = judge(limit, edition, tables, lengths, answers);
-    if 0 < refusal {
-        return refusal;
-    }
+    judge(limit, edition, tables, lengths, answers)?;
     in_turn(limit, edition, tables, lengths, out, steps, work, answers);
-    0
+    Ok(())
 }

@@ -5,6 +5,7 @@ ghost use Rattle.std.specs.Prelude.{◌≡◌, List, ℕ, ◌+◌, ◌*◌, ◌^
 ghost use Rattle.paper.specs.Record.{kind, is_node, arity};
 ghost use Rattle.paper.specs.Tree.{Tree};
 ghost use Rattle.paper.specs.Rules.{rules_of};
+ghost use Rattle.record.specs.Kinds.{number_of};
 ghost use Rattle.stretch.specs.Put.{part, put};
 ghost use Rattle.rules.specs.Asked.{Ready};
 ghost use Rattle.driver.specs.Driven.{closed_over, Set, Back, SettledIs, EasedIs, TakenIs, KeptIs, Gathers, Closed};
@@ -12,6 +13,7 @@ ghost use Rattle.driver.specs.Paused.{first_stand, begun_at, joined_to, kept_by,
 ghost use Rattle.driver.specs.Paused.{Call, Fell, Drivable, Drives, Midway, Resumed, GoesOn, WentOn, TurnIs};
 
 use record::SIZE;
+use record::kinds::Kind;
 
 // A rule left the range, after so many steps were completed.
 #[derive(Clone, Copy)]
@@ -477,7 +479,7 @@ fn end_pass(out: &mut [u8], work: &mut [u8], steps: &mut [u8], s: Stand) -> Resu
             tries,
         });
     }
-    close_up(out, record::kind(out, s.node), s.gathered, s.node);
+    close_up(out, Kind::at(out, s.node), s.gathered, s.node);
     let taken = take_up(out, work, steps, s.node, s.end, s.place, s.noted, s.edition)?;
     let turn = match taken {
         TakenUp::Finished(r) => {
@@ -505,6 +507,7 @@ fn end_pass(out: &mut [u8], work: &mut [u8], steps: &mut [u8], s: Stand) -> Resu
 }
 
 // A tree of kind j is opened among the members of a node of kind k: a sum in a sum, a product in a product.
+// The kinds are the records' first bytes: `keep_member` asks nothing of the record at d, so a Kind would tell less of it than is promised.
 fn opens(k: u8, j: u8) -> bool
     ensures { result ≡ (eqb j k && is_node k) }
 {
@@ -513,19 +516,18 @@ fn opens(k: u8, j: u8) -> bool
 
 // The first record of a gathered node at d, of kind k: a sum's or a product's gets the number m of its gathered members, and keeps its mark; and
 // its note is made.
-fn close_up(out: &mut [u8], k: u8, m: usize, d: usize)
-    requires { (t : Tree) × (l : List Tree) × (e : ℕ) × Gathers t l out.old d e k m }
-    ensures { (t : Tree) (l : List Tree) (e : ℕ) → Gathers t l out.old d e k m
+fn close_up(out: &mut [u8], k: Kind, m: usize, d: usize)
+    requires { (t : Tree) × (l : List Tree) × (e : ℕ) × Gathers t l out.old d e (number_of k) m }
+    ensures { (t : Tree) (l : List Tree) (e : ℕ) → Gathers t l out.old d e (number_of k) m
         → Closed (closed_over t l) out.old out.new d e }
 {
-    if k < record::SUM {
-        return;
+    match k {
+        Kind::Integer | Kind::Symbol => {}
+        Kind::Power => note::close(out, d),
+        Kind::Sum | Kind::Product => {
+            let mark = record::mark(out, d);
+            record::write_record(out, d, k.number(), m, mark, 0);
+            note::close(out, d);
+        }
     }
-    if record::PRODUCT < k {
-        note::close(out, d);
-        return;
-    }
-    let mark = record::mark(out, d);
-    record::write_record(out, d, k, m, mark, 0);
-    note::close(out, d);
 }

@@ -1,10 +1,10 @@
--- Members one after the other, as the loops of `sum` and `product` read them, and the cells that the levels of the reader share.
-use Rattle.std.specs.Prelude.{ℕ, zero, suc, ◌+◌, ◌-◌, ◌*◌, ◌^◌, ◌≤◌, ◌<◌, ◌≡◌, Bool, true, false, cond, ◌&&◌}
-use Rattle.std.specs.Prelude.{List, ◌∷◌, ◌++◌, ltb, length, drop, get_or, Some, None}
+-- Members one after the other, as the loops of `sum` and `product` read them, and what the levels of the reader ask and tell.
+use Rattle.std.specs.Prelude.{ℕ, zero, suc, ◌+◌, ◌-◌, ◌*◌, ◌^◌, ◌≤◌, ◌<◌, ◌≡◌, true, false, cond, ◌&&◌}
+use Rattle.std.specs.Prelude.{List, ◌∷◌, ◌++◌, ltb, length, drop, Some, None}
 use Rattle.std.proofs.Math.Option.{Option, none, some}
 use Rattle.paper.specs.Tree.{Tree, Forest, of_list, weight, weights, recordses}
 use Rattle.paper.specs.Table.{record_of, encodes}
-use Rattle.paper_text.specs.Text.{Place, in_sum, in_product, as_base, opens, Reading, then, begins, bare, fits, all_fit, leaving, closed, read_others}
+use Rattle.paper_text.specs.Text.{Place, in_sum, in_product, as_base, Reading, then, begins, bare, fits, all_fit, leaving, closed, read_others}
 use Rattle.paper_text.specs.Text.{read_power}
 use Rattle.paper_text.specs.Text as paper
 use Rattle.paper_text.specs.Levels.{rank, read_cut}
@@ -13,6 +13,9 @@ use Rattle.std.specs.declared.option.Option as code
 use Rattle.parse.specs.Parsed.{Laid, ItemIs, Found, bared, raising}
 use Rattle.parse.specs.declared.Item.{Item}
 use Rattle.parse.specs.declared.Form.{Form}
+use Rattle.parse.specs.declared.Node.{Node}
+use Rattle.parse.specs.declared.Node.TheVariants.{Sum, Product}
+use Rattle.parse.specs.declared.Reader.{Reader}
 use Rattle.parse.specs.declared.Read as level
 use Rattle.parse.specs.declared.Read.TheVariants.{Nothing, Bare, Grouped, Another}
 
@@ -35,25 +38,7 @@ pub record Nodes (r : List ℕ → Reading paper.Item) (p : Place) (sign : ℕ) 
   pub ranked : (f : Forest) → k ≡ rank (node f)
   pub weighs : (f : Forest) → weight (node f) ≡ 1 + weights f
 
--- ---- cells: the place, the record that is next, the weight read so far, the levels left, the record where the item or the node at work stands, its kind
-abbrev pub place_in : List ℕ → ℕ
-place_in st = get_or st 0 0
-
-abbrev pub record_in : List ℕ → ℕ
-record_in st = get_or st 1 0
-
-abbrev pub weight_in : List ℕ → ℕ
-weight_in st = get_or st 2 0
-
-abbrev pub level_in : List ℕ → ℕ
-level_in st = get_or st 3 0
-
-abbrev pub first_of : List ℕ → ℕ
-first_of st = get_or st 4 0
-
-abbrev pub kind_of : List ℕ → ℕ
-kind_of st = get_or st 5 0
-
+-- ---- what the levels tell
 -- what a level tells of an item that stands so, and how the item stands that it tells of
 abbrev pub Is : Form → level.Read
 Is f = cond f.grouped (Grouped f.rank) (Bare f.rank)
@@ -67,15 +52,15 @@ abbrev pub told : code.Option Item → level.Read
 told None = Nothing
 told (Some i) = Is i.form
 
--- an item in the cells, w having been read before it
-abbrev pub InCells : code.Option Item → ℕ → List ℕ → Type 0
-InCells None w st = Unit {0}
-InCells (Some i) w st = (i.form.rank ≤ 3) × (place_in st ≡ i.next) × (weight_in st ≡ w + i.weight) × (record_in st ≡ i.end)
+-- an item in the reader, w having been read before it
+abbrev pub InReader : code.Option Item → ℕ → Reader → Type 0
+InReader None w st = Unit {0}
+InReader (Some i) w st = (i.form.rank ≤ 3) × (st.place ≡ i.next) × (st.weight ≡ w + i.weight) × (st.next ≡ i.end)
 
-abbrev pub Gives : code.Option Item → level.Read → ℕ → List ℕ → Type 0
-Gives i m w st = (m ≡ told i) × InCells i w st
+abbrev pub Gives : code.Option Item → level.Read → ℕ → Reader → Type 0
+Gives i m w st = (m ≡ told i) × InReader i w st
 
--- an item that the cells can take
+-- an item that the reader can take up
 abbrev pub InRank : code.Option Item → ℕ → Type 0
 InRank None w = Unit {0}
 InRank (Some i) w = (i.form.rank ≤ 3) × (w + i.weight < 2 ^ 64)
@@ -87,8 +72,8 @@ lone_in x i = cond (ltb x 3 && i.form.grouped) None (Some i)
 abbrev pub lone_as : ℕ → Form → level.Read
 lone_as x f = cond (ltb x 3 && f.grouped) Nothing (Is f)
 
--- the reading o of s from `at` on, w having been read before it, its records from record d on, in the cells; m tells of it
-pub record Read (s : List ℕ) (at : ℕ) (o : Reading paper.Item) (old : List ℕ) (d : ℕ) (new : List ℕ) (w : ℕ) (st : List ℕ) (m : level.Read) : Type 0 where
+-- the reading o of s from `at` on, w having been read before it, its records from record d on, in the reader; m tells of it
+pub record Read (s : List ℕ) (at : ℕ) (o : Reading paper.Item) (old : List ℕ) (d : ℕ) (new : List ℕ) (w : ℕ) (st : Reader) (m : level.Read) : Type 0 where
   pub item : code.Option Item
   pub given : Gives item m w st
   pub is : ItemIs s at o (Laid old d new) item
@@ -130,32 +115,36 @@ module _ {r : List ℕ → Reading paper.Item} {p : Place} {sign k : ℕ} {node 
     pub same : length new ≡ length old
 
   -- before the first member
-  pub record Start (old : List ℕ) (at d w : ℕ) (new st : List ℕ) : Type 0 where
-    pub here : place_in st ≡ at
-    pub next : record_in st ≡ d
-    pub weighs : weight_in st ≡ w
+  pub record Start (old : List ℕ) (at d w : ℕ) (new : List ℕ) (st : Reader) : Type 0 where
+    pub here : st.place ≡ at
+    pub next : st.next ≡ d
+    pub weighs : st.weight ≡ w
     pub same : new ≡ old
 
   -- behind the sign after the c-th member
-  pub record On (s old : List ℕ) (at d w c : ℕ) (new st : List ℕ) : Type 0 where
+  pub record On (s old : List ℕ) (at d w c : ℕ) (new : List ℕ) (st : Reader) : Type 0 where
     pub first_read : List ℕ
     pub area : List ℕ
     pub first_end : ℕ
     pub end : ℕ
     pub weighed : ℕ
     pub shifted : Shifted first_read d first_end area
-    pub going : Going s area (first_end + 1) new at end weighed (record_in st) c
+    pub going : Going s area (first_end + 1) new at end weighed st.next c
     pub laid : Laid old d first_read first_end going.joined.first
     pub sign_there : begins sign (drop end s) ≡ true
-    pub here : place_in st ≡ end + 1
-    pub weighs : weight_in st ≡ w + weighed
+    pub here : st.place ≡ end + 1
+    pub weighs : st.weight ≡ w + weighed
 
   -- before a member, c having been read, of what is read from `at` on; its records go from record d on, and before it w was read
-  abbrev pub Turn : List ℕ → List ℕ → ℕ → ℕ → ℕ → ℕ → List ℕ → List ℕ → Type 0
+  abbrev pub Turn : List ℕ → List ℕ → ℕ → ℕ → ℕ → ℕ → List ℕ → Reader → Type 0
   Turn s old at d w zero new st = Start old at d w new st
   Turn s old at d w (suc c) new st = On s old at d w (suc c) new st
 
 -- ---- nodes of the kind x: 2 for a sum, 3 for a product
+abbrev pub kind_of : Node → ℕ
+kind_of Sum = 2
+kind_of Product = 3
+
 pub record Kind (x : ℕ) {r : List ℕ → Reading paper.Item} {p : Place} {node : Forest → Tree} {from : paper.Item → List ℕ → List paper.Item → Reading paper.Item}
     (n : Nodes r p (45 - x) (5 - x) node from) : Type 0 where
   pub bounded : bound p ≡ 5 - x
@@ -166,58 +155,48 @@ pub record Kind (x : ℕ) {r : List ℕ → Reading paper.Item} {p : Place} {nod
       → begins (45 - x) (drop i.next s) ≡ false → ItemIs s at (whole n (drop at s)) (Laid old d new) (lone_in x i)
 
 -- ---- what the parts of a level ask and tell
--- numbers that a text of this length can have in the cells
-abbrev pub Held : List ℕ → List ℕ → Type 0
-Held s st = (first_of st ≤ record_in st) × (record_in st + 1 ≤ 2 * place_in st) × (weight_in st + 1 ≤ 2 * place_in st) × (place_in st ≤ length s)
+-- numbers that the reader of a text of this length can have
+abbrev pub Held : List ℕ → Reader → Type 0
+Held s st = (st.first ≤ st.next) × (st.next + 1 ≤ 2 * st.place) × (st.weight + 1 ≤ 2 * st.place) × (st.place ≤ length s)
 
-abbrev pub AfterAsks : List ℕ → List ℕ → ℕ → level.Read → Type 0
-AfterAsks s st c m = (length st ≡ 6) × (c < 2 ^ 63) × ((f : Form) → m ≡ Is f → Held s st)
+abbrev pub AfterAsks : List ℕ → Reader → ℕ → level.Read → Type 0
+AfterAsks s st c m = (c < 2 ^ 63) × ((f : Form) → m ≡ Is f → Held s st)
 
 -- a member m of a node of kind x, read after c others: another follows, or this is what is read
-abbrev pub AfterIs : ℕ → List ℕ → ℕ → level.Read → List ℕ → List ℕ → List ℕ → List ℕ → level.Read → Type 0
+abbrev pub AfterIs : ℕ → List ℕ → ℕ → level.Read → List ℕ → Reader → List ℕ → Reader → level.Read → Type 0
 AfterIs x s c m out st out' st' a =
     (r : List ℕ → Reading paper.Item) (p : Place) (node : Forest → Tree) (from : paper.Item → List ℕ → List paper.Item → Reading paper.Item)
     (n : Nodes r p (45 - x) (5 - x) node from)
-    → Kind x n → (old : List ℕ) (at d w : ℕ) (area cells : List ℕ) → Turn n s old at d w c area cells
-    → Read s (place_in cells) (r (drop (place_in cells) s)) area (record_in cells) out (weight_in cells) st m → first_of st ≡ d → length out ≡ length area
-    → (a ≡ Another → ((f : Form) × (m ≡ Is f)) × (place_in st' ≡ place_in st + 1) × Turn n s old at d w (suc c) out' st')
+    → Kind x n → (old : List ℕ) (at d w : ℕ) (area : List ℕ) (was : Reader) → Turn n s old at d w c area was
+    → Read s was.place (r (drop was.place s)) area was.next out was.weight st m → st.first ≡ d → length out ≡ length area
+    → (a ≡ Another → ((f : Form) × (m ≡ Is f)) × (st'.place ≡ st.place + 1) × Turn n s old at d w (suc c) out' st')
     × ((a ≡ Another → ⊥) → Read s at (whole n (drop at s)) old d out' w st' a)
 
-abbrev pub Followed : ℕ → List ℕ → ℕ → level.Read → List ℕ → List ℕ → List ℕ → List ℕ → level.Read → Type 0
-Followed x s c m out st out' st' a = (level_in st' ≡ level_in st) × (first_of st' ≡ first_of st) × AfterIs x s c m out st out' st' a
+abbrev pub Followed : ℕ → List ℕ → ℕ → level.Read → List ℕ → Reader → List ℕ → Reader → level.Read → Type 0
+Followed x s c m out st out' st' a = (st'.level ≡ st.level) × (st'.first ≡ st.first) × AfterIs x s c m out st out' st' a
 
 -- the content of a group that begins at `at`, w having been read before it
-pub record Inside (s : List ℕ) (at : ℕ) (o : Reading Tree) (old out st : List ℕ) (w : ℕ) (m : level.Read) : Type 0 where
-  pub read : Read s (at + 1) (bared o) old (first_of st) out w st m
-  pub low : first_of st ≤ 2 * at
+pub record Inside (s : List ℕ) (at : ℕ) (o : Reading Tree) (old out : List ℕ) (st : Reader) (w : ℕ) (m : level.Read) : Type 0 where
+  pub read : Read s (at + 1) (bared o) old st.first out w st m
+  pub low : st.first ≤ 2 * at
   pub light : w ≤ 2 * at
 
-abbrev pub RaiseAsks : List ℕ → List ℕ → List ℕ → ℕ → level.Read → Type 0
+abbrev pub RaiseAsks : List ℕ → List ℕ → Reader → ℕ → level.Read → Type 0
 RaiseAsks s out st w m =
-    (length st ≡ 6) × (m ≡ Another → (record_in st ≤ 2 * place_in st) × (weight_in st ≤ 2 * place_in st))
-    × ((m ≡ Another → ⊥) → (level_in st + 1 < 2 ^ 64) × ((at : ℕ) × (o : Reading Tree) × (old : List ℕ) × Inside s at o old out st w m))
+    (m ≡ Another → (st.next ≤ 2 * st.place) × (st.weight ≤ 2 * st.place))
+    × ((m ≡ Another → ⊥) → (st.level + 1 < 2 ^ 64) × ((at : ℕ) × (o : Reading Tree) × (old : List ℕ) × Inside s at o old out st w m))
 
-abbrev pub RaiseIs : List ℕ → List ℕ → List ℕ → ℕ → level.Read → List ℕ → List ℕ → level.Read → Type 0
+abbrev pub RaiseIs : List ℕ → List ℕ → Reader → ℕ → level.Read → List ℕ → Reader → level.Read → Type 0
 RaiseIs s out st w m out' st' a =
-    (m ≡ Another → (level_in st' ≡ level_in st)
-    × Read s (place_in st) (read_power (read_cut 0) (drop (place_in st) s)) out (record_in st) out' (weight_in st) st' a)
-    × ((m ≡ Another → ⊥) → (level_in st' ≡ level_in st + 1)
-    × ((at : ℕ) (o : Reading Tree) (old : List ℕ) → Inside s at o old out st w m → Read s at (then (then o closed) raising) old (first_of st) out' w st' a))
-
-abbrev pub EntersIs : List ℕ → List ℕ → List ℕ → Bool → Type 0
-EntersIs s st st' true =
-    (1 ≤ level_in st) × (begins opens (drop (place_in st) s) ≡ true) × (length st' ≡ 6) × (place_in st' ≡ place_in st + 1) × (record_in st' ≡ record_in st)
-    × (weight_in st' ≡ weight_in st) × (level_in st' ≡ level_in st - 1)
-EntersIs s st st' false =
-    (st' ≡ st) × (read_power (read_cut (level_in st)) (drop (place_in st) s) ≡ read_power (read_cut 0) (drop (place_in st) s))
+    (m ≡ Another → (st'.level ≡ st.level)
+    × Read s st.place (read_power (read_cut 0) (drop st.place s)) out st.next out' st.weight st' a)
+    × ((m ≡ Another → ⊥) → (st'.level ≡ st.level + 1)
+    × ((at : ℕ) (o : Reading Tree) (old : List ℕ) → Inside s at o old out st w m → Read s at (then (then o closed) raising) old st.first out' w st' a))
 
 -- ---- a level
-abbrev pub Ready : List ℕ → List ℕ → Type 0
-Ready s st = (length st ≡ 6) × (length s < 2 ^ 63) × (record_in st ≤ 2 * place_in st) × (weight_in st ≤ 2 * place_in st) × (level_in st < 2 ^ 64)
+abbrev pub Ready : List ℕ → Reader → Type 0
+Ready s st = (length s < 2 ^ 63) × (st.next ≤ 2 * st.place) × (st.weight ≤ 2 * st.place) × (st.level < 2 ^ 64)
 
-abbrev pub Left : List ℕ → List ℕ → Type 0
-Left st st' = (length st' ≡ 6) × (level_in st' ≡ level_in st)
-
--- what f reads, that many levels deep, from the cells' place on
-abbrev pub ReadFrom : List ℕ → (ℕ → List ℕ → Reading paper.Item) → List ℕ → List ℕ → List ℕ → List ℕ → level.Read → Type 0
-ReadFrom s f old st new st' m = Read s (place_in st) (f (level_in st) (drop (place_in st) s)) old (record_in st) new (weight_in st) st' m
+-- what f reads, that many levels deep, from the reader's place on
+abbrev pub ReadFrom : List ℕ → (ℕ → List ℕ → Reading paper.Item) → List ℕ → Reader → List ℕ → Reader → level.Read → Type 0
+ReadFrom s f old st new st' m = Read s st.place (f st.level (drop st.place s)) old st.next new st.weight st' m

@@ -2,7 +2,7 @@
 // A group that lies deeper is passed over and judged by its signs. What is read is written to an area as records, where they lie in it.
 #![tactic(auto)]
 
-ghost use Rattle.std.specs.Prelude.{◌≡◌, true, List, ℕ, suc, ◌+◌, ◌*◌, ◌^◌, ◌<◌, ◌≤◌, length, drop, get_or};
+ghost use Rattle.std.specs.Prelude.{◌≡◌, true, List, ℕ, suc, ◌+◌, ◌-◌, ◌*◌, ◌^◌, ◌<◌, ◌≤◌, length, drop};
 ghost use Rattle.std.proofs.Math.Option.{some};
 ghost use Rattle.paper.specs.Tree.{Tree, weight};
 ghost use Rattle.paper.specs.Table.{encode};
@@ -11,8 +11,8 @@ ghost use Rattle.paper_text.specs.Levels.{stand_in, skim, read_cut, sign_rank, c
 ghost use Rattle.paper_text.specs.Text as paper;
 ghost use Rattle.parse.specs.Written.{Written};
 ghost use Rattle.parse.specs.Parsed.{Laid, ItemIs, Found, bare_item, bared, raising, fitted, Sized, StepIs, TurnIs, DiveIs, weighed};
-ghost use Rattle.parse.specs.Joined.{place_in, record_in, weight_in, level_in, first_of, kind_of, Is, FormIs, Gives, InRank};
-ghost use Rattle.parse.specs.Joined.{lone_as, AfterAsks, Followed, RaiseAsks, RaiseIs, EntersIs, Ready, Left, ReadFrom};
+ghost use Rattle.parse.specs.Joined.{kind_of, Is, FormIs, Gives, InRank};
+ghost use Rattle.parse.specs.Joined.{lone_as, AfterAsks, Followed, RaiseAsks, RaiseIs, Ready, ReadFrom};
 
 use number::MINUS_ONE;
 use record::SYMBOLS;
@@ -70,6 +70,25 @@ enum Read {
     Bare(u8),
     Grouped(u8),
     Another,
+}
+
+// What all levels of the reader share: the area, the place in the text, the record that is next, the weight read so far, the levels left, and
+// the record where the item or the node at work stands.
+#[derive(Drop)]
+struct Reader<'a> {
+    out: &'a mut [u8],
+    place: usize,
+    next: usize,
+    weight: usize,
+    level: usize,
+    first: usize,
+}
+
+// A node whose members a loop reads.
+#[derive(Clone, Copy)]
+enum Node {
+    Sum,
+    Product,
 }
 
 // Why a text has no records to count: it is none that the writer can write, or its tree is over the limit.
@@ -254,34 +273,6 @@ fn flat(text: &[u8], at: usize, out: &mut [u8], d: usize) -> Option<Item>
     raised(text, small, out, d)
 }
 
-// What the levels share: the place in the text, the record that is next, the weight read so far, the levels left, the record where the
-// item or the node at work stands, and its kind.
-const PLACE: usize = 0;
-
-const RECORD: usize = 1;
-
-const WEIGHT: usize = 2;
-
-const LEVEL: usize = 3;
-
-const FIRST: usize = 4;
-
-const KIND: usize = 5;
-
-const CELLS: usize = 6;
-
-// Kinds as a cell holds them.
-const SUM: usize = record::SUM as usize;
-
-const PRODUCT: usize = record::PRODUCT as usize;
-
-const POWER: usize = record::POWER as usize;
-
-// A sum's kind and its rank are together as much as a product's, and so are the kind and the sign.
-const KIND_AND_RANK: u8 = record::SUM + RANK_SUM;
-
-const KIND_AND_SIGN: u8 = record::SUM + b'+';
-
 // What a level tells of an item that stands so.
 fn told(form: Form) -> Read
     ensures { result ≡ Is form }
@@ -309,79 +300,119 @@ fn form_of(m: Read) -> Option<Form>
     }
 }
 
-// The item goes to the cells, w having been read before it.
-fn taken(i: Option<Item>, st: &mut [usize; CELLS], w: usize) -> Read
-    requires { (length st.old ≡ 6) × InRank i w }
-    ensures { (length st.new ≡ 6) × (level_in st.new ≡ level_in st.old) × Gives i result w st.new }
+impl Node {
+    // The kind of its record.
+    fn kind(self) -> u8
+        ensures { result ≡ kind_of self }
+    {
+        match self {
+            Node::Sum => record::SUM,
+            Node::Product => record::PRODUCT,
+        }
+    }
+
+    // The sign between two of its members.
+    fn sign(self) -> u8
+        ensures { result ≡ 45 - kind_of self }
+    {
+        match self {
+            Node::Sum => b'+',
+            Node::Product => b'*',
+        }
+    }
+
+    // Its rank, from which on its members stand in parentheses.
+    fn rank(self) -> u8
+        ensures { result ≡ 5 - kind_of self }
+    {
+        match self {
+            Node::Sum => RANK_SUM,
+            Node::Product => RANK_PRODUCT,
+        }
+    }
+}
+
+// The reader takes the item up, w having been read before it.
+fn taken(i: Option<Item>, r: &mut Reader, w: usize) -> Read
+    requires { InRank i w }
+    ensures given { (r.new.level ≡ r.old.level) × Gives i result w r.new }
+    ensures area_kept { (r.new.out.ghost_name ≡ r.old.out.ghost_name) × (r.new.out.now ≡ r.old.out.now) }
 {
     let Some(item) = i else {
         return Read::Nothing;
     };
-    st[PLACE] = item.next;
-    st[RECORD] = item.end;
-    st[WEIGHT] = w + item.weight;
+    r.place = item.next;
+    r.next = item.end;
+    r.weight = w + item.weight;
     told(item.form)
 }
 
-// What is read, with nothing beside it in a node of kind k: in a sum parentheses round it are too many.
-fn lone_in(form: Form, k: u8) -> Read
-    ensures { result ≡ lone_as k form }
+// What is read, with nothing beside it in the node: in a sum parentheses round it are too many.
+fn lone_in(form: Form, node: Node) -> Read
+    ensures { result ≡ lone_as (kind_of node) form }
 {
-    if k < record::PRODUCT && form.grouped {
-        return Read::Nothing;
+    match node {
+        Node::Sum => {
+            if form.grouped {
+                return Read::Nothing;
+            }
+            told(form)
+        }
+        Node::Product => told(form),
     }
-    told(form)
 }
 
-// What follows the member m, c having been read before it, of a node of kind k: `Another` where another member does, else what is read.
-fn after(text: &[u8], out: &mut [u8], st: &mut [usize; CELLS], k: u8, c: usize, m: Read) -> Read
-    requires { (2 ≤ k) × (k ≤ 3) × AfterAsks text.now st.old c m }
-    ensures { (length st.new ≡ 6)
-        × Followed k text.now c m out.old st.old out.new st.new result }
+// What follows the member m, c having been read before it, of the node: `Another` where another member does, else what is read. Its frame is gone
+// before a level goes on.
+#[inline(never)]
+fn after(text: &&[u8], r: &mut Reader, node: Node, c: usize, m: Read) -> Read
+    requires { AfterAsks text.now.now r.old c m }
+    ensures followed { Followed (kind_of node) text.now.now c m r.old.out.now r.old r.new.out.now r.new result }
+    ensures area_kept { (r.new.out.ghost_name ≡ r.old.out.ghost_name) × (length r.new.out.now ≡ length r.old.out.now) }
 {
     let Some(form) = form_of(m) else {
         return Read::Nothing;
     };
-    let more = sign_at(text, st[PLACE], KIND_AND_SIGN - k);
+    let more = sign_at(*text, r.place, node.sign());
     if c < 1 && !more {
-        return lone_in(form, k);
+        return lone_in(form, node);
     }
-    if !fits(form, KIND_AND_RANK - k) {
+    if !fits(form, node.rank()) {
         return Read::Nothing;
     }
-    let d = st[FIRST];
     if c < 1 {
-        area::make_room(out, d, st[RECORD]);
-        st[RECORD] += 1;
-        st[WEIGHT] += 1;
-        st[PLACE] += 1;
+        area::make_room(r.out, r.first, r.next);
+        r.next += 1;
+        r.weight += 1;
+        r.place += 1;
         return Read::Another;
     }
     if more {
-        st[PLACE] += 1;
+        r.place += 1;
         return Read::Another;
     }
-    area::put_record(out, d, k, c + 1, 0);
-    Read::Bare(KIND_AND_RANK - k)
+    area::put_record(r.out, r.first, node.kind(), c + 1, 0);
+    Read::Bare(node.rank())
 }
 
 // What is read in a group, closed, or, where m is `Another`, a power that holds no group that is read; and the exponent that may follow.
-// Before it w was read.
-fn raise(text: &[u8], out: &mut [u8], st: &mut [usize; CELLS], w: usize, m: Read) -> Read
-    requires { RaiseAsks text.now out.old st.old w m }
-    ensures { (length st.new ≡ 6)
-        × RaiseIs text.now out.old st.old w m out.new st.new result }
+// Before it w was read. Its frame, too, is gone before a level goes on.
+#[inline(never)]
+fn raise(text: &[u8], r: &mut Reader, w: usize, m: Read) -> Read
+    requires { RaiseAsks text.now r.old.out.now r.old w m }
+    ensures raised { RaiseIs text.now r.old.out.now r.old w m r.new.out.now r.new result }
+    ensures area_kept { (r.new.out.ghost_name ≡ r.old.out.ghost_name) × (length r.new.out.now ≡ length r.old.out.now) }
 {
     if let Read::Another = m {
-        let v = st[WEIGHT];
-        let i = flat(text, st[PLACE], out, st[RECORD]);
-        return taken(i, st, v);
+        let v = r.weight;
+        let i = flat(text, r.place, r.out, r.next);
+        return taken(i, r, v);
     }
-    st[LEVEL] += 1;
+    r.level += 1;
     let Some(form) = form_of(m) else {
         return Read::Nothing;
     };
-    if !sign_at(text, st[PLACE], b')') {
+    if !sign_at(text, r.place, b')') {
         return Read::Nothing;
     }
     let group = Item {
@@ -389,54 +420,28 @@ fn raise(text: &[u8], out: &mut [u8], st: &mut [usize; CELLS], w: usize, m: Read
             grouped: true,
             rank: form.rank,
         },
-        next: st[PLACE] + 1,
-        weight: st[WEIGHT] - w,
-        end: st[RECORD],
+        next: r.place + 1,
+        weight: r.weight - w,
+        end: r.next,
     };
-    let i = raised(text, group, out, st[FIRST]);
-    taken(i, st, w)
-}
-
-// What follows what was read last, a member of the node at work, c having been read before it, or, in a power, a group, c having been read
-// before it.
-fn follow(text: &&[u8], out: &mut &mut [u8], st: &mut [usize; CELLS], c: usize, m: Read) -> Read
-    requires { (2 ≤ kind_of st.old) × (kind_of st.old < 4 → AfterAsks text.now.now st.old c m)
-        × (4 ≤ kind_of st.old → RaiseAsks text.now.now out.old.now st.old c m) }
-    ensures st_len { (length st.new ≡ 6)
-        × (kind_of st.old ≡ 2
-        → Followed 2 text.now.now c m out.old.now st.old out.new.now st.new result)
-        × (kind_of st.old ≡ 3
-        → Followed 3 text.now.now c m out.old.now st.old out.new.now st.new result)
-        × (kind_of st.old ≡ 4
-        → RaiseIs text.now.now out.old.now st.old c m out.new.now st.new result) }
-    ensures name_unchanged { (out.new.ghost_name ≡ out.old.ghost_name) × (length out.new.now ≡ length out.old.now) }
-{
-    let k = st[KIND];
-    if k < PRODUCT {
-        return after(*text, *out, st, record::SUM, c, m);
-    }
-    if k < POWER {
-        return after(*text, *out, st, record::PRODUCT, c, m);
-    }
-    raise(*text, *out, st, c, m)
+    let i = raised(text, group, r.out, r.first);
+    taken(i, r, w)
 }
 
 // A sum, read from products; what is read without a `+` stands alone.
 #[cycle(power_product_sum)]
-fn sum(text: &&[u8], out: &mut &mut [u8], st: &mut [usize; CELLS]) -> Read
-    requires { Ready text.now.now st.old }
-    ensures left { Left st.old st.new × (first_of st.new ≡ record_in st.old)
-        × ReadFrom text.now.now (λ n s. bared (read_sum (read_cut n) s)) out.old.now st.old out.new.now
-        st.new result }
-    ensures name_unchanged { (out.new.ghost_name ≡ out.old.ghost_name) × (length out.new.now ≡ length out.old.now) }
+fn sum(text: &&[u8], r: &mut Reader) -> Read
+    requires { Ready text.now.now r.old }
+    ensures left { (r.new.level ≡ r.old.level) × (r.new.first ≡ r.old.next)
+        × ReadFrom text.now.now (λ n s. bared (read_sum (read_cut n) s)) r.old.out.now r.old r.new.out.now r.new result }
+    ensures area_kept { (r.new.out.ghost_name ≡ r.old.out.ghost_name) × (length r.new.out.now ≡ length r.old.out.now) }
 {
-    let d = st[RECORD];
+    let d = r.next;
     let mut c: usize = 0;
     loop {
-        let m = product(text, out, st);
-        st[FIRST] = d;
-        st[KIND] = SUM;
-        match follow(text, out, st, c, m) {
+        let m = product(text, r);
+        r.first = d;
+        match after(text, r, Node::Sum, c, m) {
             Read::Another => c += 1,
             read => return read,
         }
@@ -445,20 +450,18 @@ fn sum(text: &&[u8], out: &mut &mut [u8], st: &mut [usize; CELLS]) -> Read
 
 // A product, read from powers; what is read without a `*` is left as it is.
 #[cycle(power_product_sum)]
-fn product(text: &&[u8], out: &mut &mut [u8], st: &mut [usize; CELLS]) -> Read
-    requires { Ready text.now.now st.old }
-    ensures left { Left st.old st.new
-        × ReadFrom text.now.now (λ n s. read_product (read_cut n) s) out.old.now st.old out.new.now
-        st.new result }
-    ensures name_unchanged { (out.new.ghost_name ≡ out.old.ghost_name) × (length out.new.now ≡ length out.old.now) }
+fn product(text: &&[u8], r: &mut Reader) -> Read
+    requires { Ready text.now.now r.old }
+    ensures left { (r.new.level ≡ r.old.level)
+        × ReadFrom text.now.now (λ n s. read_product (read_cut n) s) r.old.out.now r.old r.new.out.now r.new result }
+    ensures area_kept { (r.new.out.ghost_name ≡ r.old.out.ghost_name) × (length r.new.out.now ≡ length r.old.out.now) }
 {
-    let d = st[RECORD];
+    let d = r.next;
     let mut c: usize = 0;
     loop {
-        let m = power(text, out, st);
-        st[FIRST] = d;
-        st[KIND] = PRODUCT;
-        match follow(text, out, st, c, m) {
+        let m = power(text, r);
+        r.first = d;
+        match after(text, r, Node::Product, c, m) {
             Read::Another => c += 1,
             read => return read,
         }
@@ -466,57 +469,23 @@ fn product(text: &&[u8], out: &mut &mut [u8], st: &mut [usize; CELLS]) -> Read
 }
 
 // A power: a leaf, or a sum in parentheses, and the exponent that may follow. At the n-th level a group is passed over. What does not call on
-// stands in `follow`, so that a level of parentheses takes little of the stack; the record where a group begins is the one where its sum does.
+// stands in `after` and `raise`, so that a level of parentheses takes little of the stack; the record where a group begins is the one where
+// its sum does.
 #[cycle(power_product_sum)]
-fn power(text: &&[u8], out: &mut &mut [u8], st: &mut [usize; CELLS]) -> Read
-    requires { Ready text.now.now st.old }
-    ensures left { Left st.old st.new
-        × ReadFrom text.now.now (λ n s. read_power (read_cut n) s) out.old.now st.old out.new.now
-        st.new result }
-    ensures name_unchanged { (out.new.ghost_name ≡ out.old.ghost_name) × (length out.new.now ≡ length out.old.now) }
+fn power(text: &&[u8], r: &mut Reader) -> Read
+    requires { Ready text.now.now r.old }
+    ensures left { (r.new.level ≡ r.old.level)
+        × ReadFrom text.now.now (λ n s. read_power (read_cut n) s) r.old.out.now r.old r.new.out.now r.new result }
+    ensures area_kept { (r.new.out.ghost_name ≡ r.old.out.ghost_name) × (length r.new.out.now ≡ length r.old.out.now) }
 {
-    let w = st[WEIGHT];
-    if enters(text, st) {
-        let m = sum(text, out, st);
-        st[KIND] = POWER;
-        return follow(text, out, st, w, m);
+    if r.level < 1 || !sign_at(*text, r.place, b'(') {
+        return raise(*text, r, r.weight, Read::Another);
     }
-    st[KIND] = POWER;
-    follow(text, out, st, w, Read::Another)
-}
-
-// A group begins here that is read: the place moves into it.
-fn enters(text: &&[u8], st: &mut [usize; CELLS]) -> bool
-    requires { Ready text.now.now st.old }
-    ensures { EntersIs text.now.now st.old st.new result }
-{
-    if st[LEVEL] < 1 {
-        return false;
-    }
-    if sign_at(*text, st[PLACE], b'(') {
-        st[LEVEL] = st[LEVEL] - 1;
-        st[PLACE] = st[PLACE] + 1;
-        return true;
-    }
-    false
-}
-
-// The cycle over an area that is put behind a reference, and handed back.
-fn enter<'b>(
-    text: &[u8],
-    out: &'b mut [u8],
-    st: &mut [usize; CELLS],
-    read: &mut Read,
-) -> &'b mut [u8]
-    requires { Ready text.now st.old }
-    ensures { (result.ghost_name ≡ out.entry.ghost_name) × (length result.now ≡ length out.old) × (length st.new ≡ 6)
-        × ReadFrom text.now (λ n s. bared (read_sum (read_cut n) s)) out.old st.old result.now st.new
-        read.new }
-{
-    let mut o = out;
-    *read = sum(&text, &mut o, st);
-    let p = o;
-    p
+    let w = r.weight;
+    r.level -= 1;
+    r.place += 1;
+    let m = sum(text, r);
+    raise(*text, r, w, m)
 }
 
 // The whole of it: what stands from `at` on, n levels deep.
@@ -525,17 +494,23 @@ fn read_sum(text: &[u8], at: usize, n: usize, out: &mut [u8], d: usize) -> Optio
     ensures { ItemIs text.now at (bared (read_sum (read_cut n) (drop at text.now)))
         (Laid out.old d out.new) result }
 {
-    let mut st = [at, d, 0, n, d, 0];
-    let mut read = Read::Nothing;
-    enter(text, out, &mut st, &mut read);
+    let mut r = Reader {
+        out,
+        place: at,
+        next: d,
+        weight: 0,
+        level: n,
+        first: d,
+    };
+    let read = sum(&text, &mut r);
     let Some(form) = form_of(read) else {
         return None;
     };
     Some(Item {
         form,
-        next: st[PLACE],
-        weight: st[WEIGHT],
-        end: st[RECORD],
+        next: r.place,
+        weight: r.weight,
+        end: r.next,
     })
 }
 

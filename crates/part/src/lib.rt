@@ -14,6 +14,7 @@ ghost use Rattle.part.specs.Part.{Sized, Shows, ShowsTerm, ShowsWide, ShowsPower
 ghost use Rattle.part.specs.Part.{From, MergedIs, IntoFrom, Mergeable};
 
 use number::OutOfRange;
+use record::kinds::Kind;
 
 // The records of a power beside its base's: its own and its exponent's.
 pub const AROUND: usize = 2;
@@ -48,7 +49,7 @@ fn term_of(s: &[u8], at: usize) -> Part
     if equal::is_whole(s, at) {
         return Part::Term(1, at);
     }
-    if record::kind(s, at) < record::SYMBOL {
+    if Kind::at(s, at) == Kind::Integer {
         return Part::Term(record::bits(s, at), at);
     }
     let n = split::coefficient(s, at);
@@ -70,7 +71,7 @@ pub fn part_of(s: &[u8], at: usize, size: usize, terms: bool) -> Part
     let e = split::exponent(s, at);
     let b = split::base(s, at);
     let m = record::mark(s, at);
-    if record::kind(s, b) < record::SYMBOL {
+    if Kind::at(s, b) == Kind::Integer {
         return Part::Number {
             exponent: e,
             base: record::bits(s, b),
@@ -78,7 +79,7 @@ pub fn part_of(s: &[u8], at: usize, size: usize, terms: bool) -> Part
             mark: m,
         };
     }
-    if record::kind(s, at) == record::POWER {
+    if Kind::at(s, at) == Kind::Power {
         return Part::Power {
             exponent: e,
             base: at + 1,
@@ -191,7 +192,7 @@ fn merge_number(
     ensures place { (p : ℕ) → IntoFrom p result }
 {
     let j = split::base(s, at);
-    if record::INTEGER < record::kind(s, j) {
+    if Kind::at(s, j) != Kind::Integer {
         return Ok(None);
     }
     let w = record::bits(s, j);

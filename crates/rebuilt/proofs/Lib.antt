@@ -1,4 +1,5 @@
 pub mod Encoded
+pub mod IntegerTests
 pub mod Closing
 pub mod Becomes
 pub mod WriteLaws

@@ -113,7 +113,7 @@ fn copy_others(out: &mut [u8], m: usize, s: &[u8], i: usize) -> usize
     let mut at = i + 1;
     for _ in 0..record::count(s, i) {
         let e = split::skip_tree(s, at);
-        if record::INTEGER < record::kind(s, at) {
+        if Kind::at(s, at) != Kind::Integer {
             copy_tree(out, to, s, at, e - at);
             to += e - at;
         }

@@ -1,11 +1,17 @@
 -- The rules at the tree that is pending, sums and products by one flag, true for a sum. The kind of its record tells what it is: of
 -- another kind, a rule does not apply; of the rule's kind, the tree is a node whose members stand behind its record, and the rule is what
 -- it does to those. And where a rule does not apply, all is ready for the next.
-use Prim.Native.Nat.{ℕ, ◌+◌, ◌-◌, ◌*◌, ◌<◌, ◌≤◌}
+use Prim.Native.Nat.{ℕ, ◌+◌, ◌-◌, ◌*◌, ◌<◌, ◌≤◌, min}
 use mathlib.Core.Path.{◌≡◌, refl, sym, ap, ◌∙◌, subst}
-use mathlib.Core.Bool.{Bool, true, false}
+use mathlib.Core.Bool.{Bool, true, false, not}
 use mathlib.Core.List.{List, ◌++◌, append_assoc}
 use native.Mathlib.Omega.{arith}
+use borrow.Author.Tests.{not-true, not-false}
+use denote.Enum.Bare.{sameb}
+use Rattle.record.specs.Kinds.{number_of}
+use Rattle.record.specs.contracts.kinds.Kind.{the_type}
+use Rattle.record.specs.declared.kinds.Kind.{Kind}
+use Rattle.record.proofs.KindLaws.{kind_is, kind_is_not, number_below}
 use lib.ListN.{length, drop, length-append, length-drop}
 use lib.Seq.{drop-drop, drop_at}
 use lib.IntN.{pos}
@@ -28,6 +34,7 @@ use Rattle.note.specs.Note.{note}
 use Rattle.note.specs.Noted.{encode_by, encodes_by}
 use Rattle.note.specs.Told.{ToldMembers}
 use Rattle.split.specs.Standing.{Told}
+use Rattle.split.proofs.SplitLaws.{kind_five}
 use Rattle.stretch.specs.Put.{put}
 use Rattle.stretch.proofs.Laws.{drop_put_at}
 use Rattle.part.specs.Like.{node_kind, neutral, node_of}
@@ -75,6 +82,13 @@ combine_is : (b : Bool) (t : Tree) → combine_like b t ≡ on_members b (combin
 unfolding combine_like_terms combine_like_factors
 combine_is true t = refl
 combine_is false t = refl
+
+-- a kind that is read of a record, told from another
+pub told_is : {n : ℕ} → n < 5 → (j k : Kind) {b : Bool} → number_of j ≡ min n 4 → b ≡ not (sameb the_type j k) → b ≡ false → n ≡ number_of k
+told_is {n} l j k r e f = omega (arith, kind_is j k _ n r refl (not-false _ (sym e ∙ f)), number_below k)
+
+pub told_is_not : {n : ℕ} (j k : Kind) {b : Bool} → number_of j ≡ min n 4 → b ≡ not (sameb the_type j k) → b ≡ true → n ≡ number_of k → ⊥
+told_is_not {n} j k r e f same = kind_is_not j k _ n r refl (not-true _ (sym e ∙ f)) (omega (arith, number_below k))
 
 -- ---- the tree that is pending
 module _ {o w : List ℕ} {d p : ℕ} {t : Tree} {rest : List ℕ} (h : Ready o w d p t rest) where
@@ -229,6 +243,11 @@ module _ {o w : List ℕ} {d p : ℕ} {t : Tree} {rest : List ℕ} (h : Ready o 
         };
         on = λ k. ap (on_members b k) q.2 ∙ on_node b μ f k ∙ ap (λ m. k m (to_list f)) (sym marked);
       }
+
+  -- by what two kinds tell, of which one is read there
+  pub of_kind : (j k : Kind) {differ b : Bool} → number_of j ≡ min (kind w p) 4 → differ ≡ not (sameb the_type j k) → differ ≡ false
+      → number_of k ≡ node_kind b → IsNode b o w d p t rest
+  of_kind j k r e f g = is_node_lem _ (told_is (kind_five t (ready_tree h)) j k r e f ∙ g)
 
 -- the rules at such a node
 module _ {b : Bool} {o w : List ℕ} {d p : ℕ} {t : Tree} {rest : List ℕ} (s : IsNode b o w d p t rest) where

@@ -7,6 +7,7 @@ ghost use Rattle.rules.specs.Tried.{Answers};
 
 use crate::members;
 use number::OutOfRange;
+use record::kinds::Kind;
 
 // Combines the like members of the sum, or of the product, at record p: its terms, or its factors.
 pub fn combine(
@@ -20,7 +21,7 @@ pub fn combine(
     ensures { (t : Tree) (rest : List ℕ) → Ready out.old work.old d p t rest
         → Answers (combine_like terms t) rest out.old out.new work.old work.new d p result }
 {
-    if record::kind(work, p) != members::node_kind(terms) {
+    if Kind::at(work, p) != members::node_kind(terms) {
         return Ok(None);
     }
     let mark = record::mark(work, p);

@@ -15,6 +15,7 @@ ghost use Rattle.rules.specs.Quiet.{calm, quiet, Looked, Emerged, EmergedIs};
 ghost use Rattle.rules.specs.Tried.{MembersIn};
 
 use crate::{Combined, members};
+use record::kinds::Kind;
 
 // The step that combines the terms of a sum, or the factors of a product.
 fn step_of(terms: bool) -> u8
@@ -54,7 +55,7 @@ fn is_quiet(out: &[u8], work: &mut [u8], d: usize, f: usize, edition: usize) -> 
     ensures around { (end : ℕ) (u x : Tree) → Looked out.now work.old d f end u x
         → drop (end * 16) work.new ≡ drop (end * 16) work.old }
 {
-    if record::kind(out, f) == record::kind(out, d) {
+    if Kind::at(out, f) == Kind::at(out, d) {
         return false;
     }
     is_calm(out, f, work, edition) && still::still(out, d, work, 0, edition)

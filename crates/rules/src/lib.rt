@@ -39,7 +39,8 @@ pub enum Combined {
     Quiet(u8, usize),
 }
 
-// The steps, by their numbers in the paper.
+// The steps, by their numbers in the paper. They are numbers and no enum: the driver notes them as bytes, which the listing reads, so an enum would only
+// name each of them twice.
 pub const ADD_ZERO: u8 = 1;
 
 pub const COMBINE_LIKE_TERMS: u8 = 2;

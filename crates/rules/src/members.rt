@@ -7,6 +7,7 @@ ghost use Rattle.note.specs.Note.{note};
 ghost use Rattle.note.specs.Noted.{encode_by};
 ghost use Rattle.stretch.specs.Put.{part, put};
 ghost use Rattle.split.specs.Standing.{Told, SomeTold};
+ghost use Rattle.record.specs.Kinds.{number_of};
 ghost use Rattle.part.specs.Like.{node_kind, neutral, node_of};
 ghost use Rattle.rebuilt.specs.Written.{Light};
 ghost use Rattle.rules.specs.Alike.{drop_neutral};
@@ -14,6 +15,7 @@ ghost use Rattle.rules.specs.Asked.{Ready};
 ghost use Rattle.rules.specs.Tried.{Answers, Held, MembersIn, last_kept, last_dropped, Around, Built, Collapsed, PutBack};
 
 use number::OutOfRange;
+use record::kinds::Kind;
 
 // So many members at least has a node.
 pub const SEVERAL: usize = 2;
@@ -32,10 +34,10 @@ struct Kept {
 }
 
 // The kind of a sum or of a product.
-pub fn node_kind(sum: bool) -> u8
-    ensures { result ≡ node_kind sum }
+pub fn node_kind(sum: bool) -> Kind
+    ensures { number_of result ≡ node_kind sum }
 {
-    if sum { record::SUM } else { record::PRODUCT }
+    if sum { Kind::Sum } else { Kind::Product }
 }
 
 // The integer that a sum, or a product, can do without.
@@ -50,7 +52,7 @@ fn is_the(s: &[u8], i: usize, z: u64) -> bool
     requires { SomeTold s.now i × (z < 2) }
     ensures { (t : Tree) → Told note s.now i t → result ≡ is_the (pos z) t }
 {
-    record::kind(s, i) == record::INTEGER && record::bits(s, i) == z
+    Kind::at(s, i) == Kind::Integer && record::bits(s, i) == z
 }
 
 // A member of the node at record p is the integer z, 0 or 1.
@@ -82,7 +84,7 @@ pub fn collapse(out: &mut [u8], d: usize, count: usize, sum: bool, mark: usize) 
     if count < SEVERAL {
         return d + 1;
     }
-    record::write_record(out, d, node_kind(sum), count, mark, 0);
+    record::write_record(out, d, node_kind(sum).number(), count, mark, 0);
     note::close(out, d);
     d
 }
@@ -216,7 +218,7 @@ fn drop_one(work: &mut [u8], p: usize, x: usize, sum: bool) -> usize
         (p + 1) * record::SIZE,
         (x - (p + 1)) * record::SIZE,
     );
-    record::write_record(work, p + 1, node_kind(sum), n - 1, mark, 0);
+    record::write_record(work, p + 1, node_kind(sum).number(), n - 1, mark, 0);
     note::close(work, p + 1);
     p + 1
 }
@@ -250,7 +252,7 @@ pub fn drop_neutral(
     ensures { (t : Tree) (rest : List ℕ) → Ready out.old work.old d p t rest
         → Answers (drop_neutral sum t) rest out.old out.new work.old work.new d p result }
 {
-    if record::kind(work, p) != node_kind(sum) {
+    if Kind::at(work, p) != node_kind(sum) {
         return Ok(None);
     }
     let z = neutral(sum);

@@ -7,6 +7,7 @@ ghost use Rattle.rules.specs.Tried.{Answers};
 
 use crate::{combine, members};
 use number::OutOfRange;
+use record::kinds::Kind;
 
 // Step 3: 0 * a = 0, with the product's mark.
 pub fn multiply_zero(
@@ -19,7 +20,7 @@ pub fn multiply_zero(
     ensures { (t : Tree) (rest : List ℕ) → Ready out.old work.old d p t rest
         → Answers (multiply_zero t) rest out.old out.new work.old work.new d p result }
 {
-    if record::kind(work, p) != record::PRODUCT {
+    if Kind::at(work, p) != Kind::Product {
         return Ok(None);
     }
     if members::any_member(work, p, 0) {

@@ -7,6 +7,7 @@ ghost use Rattle.rules.specs.Asked.{Ready};
 ghost use Rattle.rules.specs.Tried.{Answers};
 
 use number::OutOfRange;
+use record::kinds::Kind;
 
 // Where, counted from a power's record, the result begins; where the base of a power that is its base stands; and where this is moved to.
 const RESULT: usize = 2;
@@ -26,7 +27,7 @@ pub fn power_one(
     ensures { (t : Tree) (rest : List ℕ) → Ready out.old work.old d p t rest
         → Answers (power_one t) rest out.old out.new work.old work.new d p result }
 {
-    if record::kind(work, p) != record::POWER {
+    if Kind::at(work, p) != Kind::Power {
         return Ok(None);
     }
     let x = split::skip_tree(work, p + 1);
@@ -53,10 +54,10 @@ pub fn power_constant(
     ensures { (t : Tree) (rest : List ℕ) → Ready out.old work.old d p t rest
         → Answers (power_constant t) rest out.old out.new work.old work.new d p result }
 {
-    if record::kind(work, p) != record::POWER {
+    if Kind::at(work, p) != Kind::Power {
         return Ok(None);
     }
-    if record::INTEGER < record::kind(work, p + 1) {
+    if Kind::at(work, p + 1) != Kind::Integer {
         return Ok(None);
     }
     let v = record::bits(work, p + 1);
@@ -80,29 +81,24 @@ pub fn power_power(
     ensures { (t : Tree) (rest : List ℕ) → Ready out.old work.old d p t rest
         → Answers (power_power t) rest out.old out.new work.old work.new d p result }
 {
-    if record::kind(work, p) != record::POWER {
+    if Kind::at(work, p) != Kind::Power {
         return Ok(None);
     }
-    if record::kind(work, p + 1) != record::POWER {
+    if Kind::at(work, p + 1) != Kind::Power {
         return Ok(None);
     }
     let y = split::skip_tree(work, p + INNER);
-    let product = number::mul(record::bits(work, y), record::bits(work, y + 1));
-    match product {
-        Ok(n) => {
-            let mark = record::mark(work, p);
-            let exponent_mark = record::mark(work, y + 1);
-            stretch::shift_right(
-                work,
-                (p + MOVED) * record::SIZE,
-                (p + INNER) * record::SIZE,
-                (y - (p + INNER)) * record::SIZE,
-            );
-            record::write_record(work, y + 1, record::INTEGER, 0, exponent_mark, n);
-            record::write_record(work, p + RESULT, record::POWER, 0, mark, 0);
-            note::close(work, p + RESULT);
-            Ok(Some(p + RESULT))
-        }
-        Err(OutOfRange) => Err(OutOfRange),
-    }
+    let n = number::mul(record::bits(work, y), record::bits(work, y + 1))?;
+    let mark = record::mark(work, p);
+    let exponent_mark = record::mark(work, y + 1);
+    stretch::shift_right(
+        work,
+        (p + MOVED) * record::SIZE,
+        (p + INNER) * record::SIZE,
+        (y - (p + INNER)) * record::SIZE,
+    );
+    record::write_record(work, y + 1, record::INTEGER, 0, exponent_mark, n);
+    record::write_record(work, p + RESULT, record::POWER, 0, mark, 0);
+    note::close(work, p + RESULT);
+    Ok(Some(p + RESULT))
 }

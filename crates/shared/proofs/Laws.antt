@@ -27,6 +27,7 @@ use Rattle.std.specs.Prelude.{Ok, Err}
 use Rattle.table.specs.declared.refusals.Refusal.{Refusal}
 use Rattle.table.specs.declared.refusals.Refusal.TheVariants.{Room}
 use Rattle.table.specs.Refusals.{verdict_of}
+use Rattle.table.proofs.RefusalLaws.{some_number}
 use Rattle.simplify.specs.Answer.{says, lent, call_number, short}
 use Rattle.simplify.specs.declared.Answer as simplifier
 use Rattle.shared.specs.Answer.{gives_opened, gives_shared, tight}
@@ -135,16 +136,16 @@ module _ (lim ed : ℕ) (h : Handed) (area out steps work : List ℕ) where
   refused_as v r e q = rw q (ap (λ (x : Answer). record { given = record { answer = x; lent = lent out steps work }; area = area }) e)
 
   -- 19 and 9
-  pub shared_off : (k : ℕ) → k ≡ call_number lim ed → 0 < k → (r : simplifier.Answer) → says r ≡ refusal k 0
+  pub shared_off : (v : Refusal) → verdict_of v ≡ refused (call_number lim ed) 0 → (r : simplifier.Answer) → says r ≡ refused_by (verdict_of v)
       → gives_shared r area out steps work ≡ shared_given lim ed h area (lent out steps work)
   unfolding opening_by call_number
-  shared_off k e l r q = refused_as (refused k 0) r q (go (is_limit lim) (is_edition ed) e)
+  shared_off v e r q = refused_as (verdict_of v) r q (go (is_limit lim) (is_edition ed) e)
     where
-      go : (a b : Bool) → k ≡ cond a (cond b 0 9) 19
-          → cond a (cond b (judged_site lim h) (turned_away (refused 9 0))) (turned_away (refused 19 0)) ≡ turned_away (refused k 0)
-      go false b f = rw f refl
-      go true false f = rw f refl
-      go true true f = absurd (omega arith)
+      go : (a b : Bool) → verdict_of v ≡ refused (cond a (cond b 0 9) 19) 0
+          → cond a (cond b (judged_site lim h) (turned_away (refused 9 0))) (turned_away (refused 19 0)) ≡ turned_away (verdict_of v)
+      go false b f = ap turned_away (sym f)
+      go true false f = ap turned_away (sym f)
+      go true true f = absurd (omega (arith, some_number v, ap (λ (x : Verdict). x.number) f))
 
   module _ (limit : is_limit lim ≡ true) (known : is_edition ed ≡ true) where
     -- with both known the opening is as the site is judged

@@ -76,13 +76,12 @@ pub fn simplify(
         ≡ shared_given limit edition (handed table.now symbols.now lengths.now definitions.now) opened.old
         (lent out.old steps.old work.old) }
 {
-    let number = simplify::judge_call(limit, edition);
-    if 0 < number {
-        return simplify::refusal(number, 0, None);
+    if let Err(refusal) = simplify::judge_call(limit, edition) {
+        return simplify::refused(refusal);
     }
     let p = match replace::prepare(limit, table, symbols, lengths, definitions) {
         Ok(p) => p,
-        Err(r) => return simplify::refusal(r.number(), r.place(), r.flaw()),
+        Err(r) => return simplify::refused(r),
     };
     if is_tight(
         limit,
@@ -92,7 +91,7 @@ pub fn simplify(
         steps.len(),
         work.len(),
     ) {
-        return simplify::refusal(table::ROOM, 0, None);
+        return simplify::refused(Refusal::Room);
     }
     let e = replace::open_records(
         definitions,

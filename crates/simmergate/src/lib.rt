@@ -108,7 +108,7 @@ pub fn simmergate_weight(limit: usize, table: &[u8], answer: &mut [u8]) -> u32
     if answer.len() < MEASURE_BYTES {
         return Refusal::Room.number();
     }
-    answer_measured(answer, table::weigh(limit, table))
+    answer_measured(answer, table::weight(limit, table))
 }
 
 // Evaluates a table under registers. The answer: number, place, value, what is wrong with the record, which byte.

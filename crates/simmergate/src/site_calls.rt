@@ -14,5 +14,8 @@ pub fn simmergate_batch(
 ) -> u32
     ensures { BatchCall limit edition tables lengths out steps work answers result }
 {
-    batch::batch(limit, edition, tables, lengths, out, steps, work, answers)
+    match batch::batch(limit, edition, tables, lengths, out, steps, work, answers) {
+        Ok(()) => 0,
+        Err(refusal) => refusal.number(),
+    }
 }

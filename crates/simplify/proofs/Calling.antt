@@ -1,6 +1,6 @@
 -- The public call: what the checker's answer and the tests of the areas say of the paper's judgement, and how a run in stretches of
 -- the areas gives the areas afterwards.
-use Prim.Native.Nat.{ℕ, ◌+◌, ◌-◌, ◌*◌, ◌<◌, ◌≤◌}
+use Prim.Native.Nat.{ℕ, ◌+◌, ◌-◌, ◌*◌, ◌≤◌}
 use mathlib.Core.Path.{◌≡◌, refl, sym, ap, ◌∙◌}
 use mathlib.Core.Bool.{Bool, true, false, cond, ◌||◌}
 use mathlib.Core.List.{List, [], ◌++◌, append_assoc}
@@ -8,12 +8,12 @@ use native.Mathlib.Omega.{arith}
 use lib.ListN.{length, take, drop, replicate, length-replicate}
 use lib.Seq.{length-take-le, drop_at}
 use lib.Dec.{eqb, ltb}
-use borrow.Author.Tests.{eq-eqb, ne_eqb, ltb-false}
+use borrow.Author.Tests.{ne_eqb, ltb-false}
 use borrow.Rule.Slice.PartMut.{put_mid, mid_len}
 use Rattle.paper.specs.Limits.{is_limit, work_bytes}
 use Rattle.paper.specs.Bytes.{Bytes, stretch}
 use Rattle.paper.specs.Tree.{Tree, weight}
-use Rattle.paper.specs.Verdict.{accepted, told, is_accepted, table_weight, verdict}
+use Rattle.paper.specs.Verdict.{Verdict, accepted, refused, is_accepted, table_weight, verdict}
 use Rattle.paper.specs.Driver.{Ran, done, over}
 use Rattle.paper.specs.Answers as paper
 use Rattle.paper.specs.Rules.{is_edition}
@@ -22,11 +22,13 @@ use Rattle.paper.proofs.Tests.{or_neither, true_not_false}
 use Rattle.paper.proofs.LimitLaws.{limit_small, limit_work}
 use Rattle.paper.proofs.AcceptedLaws.{Holds, accepted_holds}
 use Rattle.paper.proofs.Editions.{unknown_edition, another_limit}
-use Rattle.paper.proofs.CallLaws.{verdict_accepted, judgement_accepted, accepted_judgement, Call, is_turned_down, is_run, RunOn, call}
+use Rattle.paper.proofs.CallLaws.{judgement_accepted, accepted_judgement, Call, is_turned_down, is_run, RunOn, call}
 use Rattle.stretch.specs.Put.{put}
-use Rattle.record.specs.Flaw.{flaw_of}
-use Rattle.table.specs.declared.Measured.{Measured}
-use Rattle.table.specs.Measured as table
+use Rattle.std.specs.Prelude.{Ok, Err}
+use Rattle.table.specs.declared.refusals.Refusal.{Refusal}
+use Rattle.table.specs.Refusals as table
+use Rattle.table.specs.Refusals.{verdict_of}
+use Rattle.table.proofs.RefusalLaws.{some_number, says_verdict}
 use Rattle.simplify.specs.declared.Answer.{Answer}
 use Rattle.simplify.specs.Answer.{says, lent, gives, call_number, short, has_run, cleaned, filled, Lending, Leaves}
 use Rattle.driver.proofs.Runs.{drives}
@@ -49,63 +51,57 @@ same_lent : {a b c d e f : List ℕ} → a ≡ b → c ≡ d → e ≡ f → len
 same_lent p q r = cc
 
 -- ---- the limit and the edition: one of them is refused, or both are known
-module _ (lim ed k : ℕ) (e : k ≡ call_number lim ed) where
-  pub called_off : 0 < k → (s : List ℕ) (a : Answer) (out steps work : List ℕ) → says a ≡ paper.refusal k 0
-      → gives a out steps work ≡ paper.simplified lim ed s (lent out steps work)
-  unfolding call_number
-  called_off h s a out steps work q = go (is_limit lim) refl (is_edition ed) refl e
-    where
-      go : (b : Bool) → is_limit lim ≡ b → (c : Bool) → is_edition ed ≡ c → k ≡ cond b (cond c 0 9) 19
-          → gives a out steps work ≡ paper.simplified lim ed s (lent out steps work)
-      go false l c m f = same_given (q ∙ ap (λ i. paper.refusal i 0) f) refl ∙ sym (another_limit lim l ed s (lent out steps work))
-      go true l false m f = same_given (q ∙ ap (λ i. paper.refusal i 0) f) refl ∙ sym (unknown_edition lim l s (lent out steps work) ed m)
-      go true l true m f = absurd (omega arith)
+pub called_off : (lim ed : ℕ) (r : Refusal) → verdict_of r ≡ refused (call_number lim ed) 0 → (s : List ℕ) (a : Answer) (out steps work : List ℕ)
+    → says a ≡ paper.refused_by (verdict_of r) → gives a out steps work ≡ paper.simplified lim ed s (lent out steps work)
+unfolding call_number
+called_off lim ed r e s a out steps work q = go (is_limit lim) refl (is_edition ed) refl e
+  where
+    go : (b : Bool) → is_limit lim ≡ b → (c : Bool) → is_edition ed ≡ c → verdict_of r ≡ refused (cond b (cond c 0 9) 19) 0
+        → gives a out steps work ≡ paper.simplified lim ed s (lent out steps work)
+    go false l c m f = same_given (q ∙ ap paper.refused_by f) refl ∙ sym (another_limit lim l ed s (lent out steps work))
+    go true l false m f = same_given (q ∙ ap paper.refused_by f) refl ∙ sym (unknown_edition lim l s (lent out steps work) ed m)
+    go true l true m f = absurd (omega (arith, some_number r, ap (λ (v : Verdict). v.number) f))
 
-  pub both_known : k ≤ 0 → (is_limit lim ≡ true) × (is_edition ed ≡ true)
-  unfolding call_number
-  both_known h = go (is_limit lim) refl (is_edition ed) refl e
-    where
-      go : (b : Bool) → is_limit lim ≡ b → (c : Bool) → is_edition ed ≡ c → k ≡ cond b (cond c 0 9) 19 → (is_limit lim ≡ true) × (is_edition ed ≡ true)
-      go false l c m f = absurd (omega arith)
-      go true l false m f = absurd (omega arith)
-      go true l true m f = (l, m)
+pub both_known : (lim ed : ℕ) → accepted ≡ refused (call_number lim ed) 0 → (is_limit lim ≡ true) × (is_edition ed ≡ true)
+unfolding call_number
+both_known lim ed e = go (is_limit lim) refl (is_edition ed) refl (ap (λ (v : Verdict). v.number) e)
+  where
+    go : (b : Bool) → is_limit lim ≡ b → (c : Bool) → is_edition ed ≡ c → ◌≡◌ {A = ℕ} 0 (cond b (cond c 0 9) 19)
+        → (is_limit lim ≡ true) × (is_edition ed ≡ true)
+    go false l c m f = absurd (omega arith)
+    go true l false m f = absurd (omega arith)
+    go true l true m f = (l, m)
 
-module _ (lim : ℕ) (limited : is_limit lim ≡ true) (s : List ℕ) (m : Measured) (e : table.says m ≡ paper.weighed lim s) where
-  number_is : m.number ≡ (verdict lim s).number
-  unfolding paper.weighed paper.measured
-  number_is = ap (λ x. x.number) e
-
-  verdict_is : told m.number m.place (flaw_of m.flaw) ≡ verdict lim s
-  unfolding paper.weighed paper.measured
-  verdict_is = ap (λ x. told x.number x.place x.flaw) e
-
+module _ (lim : ℕ) (limited : is_limit lim ≡ true) (s : List ℕ) where
   -- refusals 1 to 5
-  pub turned_down : (ed : ℕ) → is_edition ed ≡ true → (a : Answer) (out steps work : List ℕ) → 0 < m.number
-      → says a ≡ paper.refused_by (told m.number m.place (flaw_of m.flaw))
-      → gives a out steps work ≡ paper.simplified lim ed s (lent out steps work)
+  pub turned_down : (ed : ℕ) → is_edition ed ≡ true → (r : Refusal) → table.says (Err r) ≡ paper.weighed lim s → (a : Answer) (out steps work : List ℕ)
+      → says a ≡ paper.refused_by (verdict_of r) → gives a out steps work ≡ paper.simplified lim ed s (lent out steps work)
   unfolding paper.simplified simplified_by outcome_of judgement judged_call answer_of lent_after out_after steps_after work_after is_accepted
-  turned_down ed known a out steps work h q =
-      let n : eqb (verdict lim s).number 0 ≡ false = ne_eqb (verdict lim s).number 0 (λ z. omega (arith, number_is)) in
-      rw (limited, known, n, n) (same_given (q ∙ ap paper.refused_by verdict_is) refl)
+      paper.weighed paper.measured
+  turned_down ed known r e a out steps work q =
+      let told_so : verdict_of r ≡ verdict lim s = says_verdict (verdict lim s) (table_weight s) (Err r) e in
+      let n : eqb (verdict lim s).number 0 ≡ false
+      = ne_eqb (verdict lim s).number 0 (λ z. omega (arith, some_number r, ap (λ (v : Verdict). v.number) told_so)) in
+      rw (limited, known, n, n) (same_given (q ∙ ap paper.refused_by told_so) refl)
 
-  module _ (h : m.number ≤ 0) where
+  module _ (w : ℕ) (e : table.says (Ok w) ≡ paper.weighed lim s) where
     pub fine : verdict lim s ≡ accepted
-    unfolding is_accepted
-    fine = verdict_accepted lim s (eq-eqb (verdict lim s).number 0 (omega (arith, number_is)))
+    unfolding paper.weighed
+    fine = sym (says_verdict (verdict lim s) (table_weight s) (Ok w) e)
 
-    pub weight_is : m.result ≡ table_weight s
+    pub weight_is : w ≡ table_weight s
     unfolding paper.weighed paper.measured is_accepted
     weight_is = ap (λ x. x.result) e ∙ rw fine refl
 
     pub holds : Bytes s → Holds lim s
     holds b = accepted_holds lim s b fine
 
-    pub light : Bytes s → m.result ≤ lim
+    pub light : Bytes s → w ≤ lim
     light b = omega (arith, weight_is, (holds b).weighs, (holds b).light)
 
     -- refusal 6
     pub cramped : (ed : ℕ) → is_edition ed ≡ true → (a : Answer) (out steps work : List ℕ)
-        → short lim m.result (length out) (length steps) (length work) ≡ true → says a ≡ paper.refusal 6 0
+        → short lim w (length out) (length steps) (length work) ≡ true → says a ≡ paper.refusal 6 0
         → gives a out steps work ≡ paper.simplified lim ed s (lent out steps work)
     unfolding paper.simplified paper.cramped short simplified_by outcome_of judgement judged_call answer_of lent_after out_after steps_after
         work_after is_accepted
@@ -196,27 +192,25 @@ pub uncleared : (lim k : ℕ) (work : List ℕ) → has_run k ≡ false → work
 uncleared lim k work h = sym (cleaned_down lim k work h)
 
 -- a call that is accepted: limit and edition are known, the table is fine, and the areas have room
-pub record Accepted (lim ed : ℕ) (s : List ℕ) (m : Measured) (need : ℕ) (out steps work : List ℕ) : Type 0 where
+pub record Accepted (lim ed : ℕ) (s : List ℕ) (w : ℕ) (need : ℕ) (out steps work : List ℕ) : Type 0 where
   pub limited : is_limit lim ≡ true
   pub known : is_edition ed ≡ true
   pub asks : need ≡ work_bytes lim
-  pub says_so : table.says m ≡ paper.weighed lim s
-  pub none_refused : m.number ≤ 0
+  pub says_so : table.says (Ok w) ≡ paper.weighed lim s
   pub bytes : Bytes s
-  pub roomy : short lim m.result (length out) (length steps) (length work) ≡ false
+  pub roomy : short lim w (length out) (length steps) (length work) ≡ false
 
-module _ {lim ed : ℕ} {s : List ℕ} {m : Measured} {need : ℕ} {out steps work : List ℕ} (c : Accepted lim ed s m need out steps work) where
-  weighs : m.result ≡ table_weight s
-  weighs = weight_is lim c.limited s m c.says_so c.none_refused
+module _ {lim ed : ℕ} {s : List ℕ} {w : ℕ} {need : ℕ} {out steps work : List ℕ} (c : Accepted lim ed s w need out steps work) where
+  weighs : w ≡ table_weight s
+  weighs = weight_is lim c.limited s w c.says_so
 
   uncramped : paper.cramped lim (table_weight s) (lent out steps work) ≡ false
   unfolding paper.cramped short
   uncramped = ap (λ i. paper.cramped lim i (lent out steps work)) (sym weighs) ∙ c.roomy
 
-  pub rooms : (16 * m.result ≤ length out) × (m.result ≤ length steps) × (need ≤ length work)
+  pub rooms : (16 * w ≤ length out) × (w ≤ length steps) × (need ≤ length work)
   unfolding short
   rooms =
-      let w = m.result in
       let apart = or_neither (ltb (length out) (16 * w) || ltb (length steps) w) (ltb (length work) (work_bytes lim)) c.roomy in
       let front = or_neither (ltb (length out) (16 * w)) (ltb (length steps) w) apart.0 in (
         ltb-false (length out) (16 * w) front.0,
@@ -231,29 +225,29 @@ module _ {lim ed : ℕ} {s : List ℕ} {m : Measured} {need : ℕ} {out steps wo
       go (is_run r) = r
       go (is_turned_down d) =
           let j = accepted_judgement lim ed s (lent out steps work) c.limited c.known
-          (fine lim c.limited s m c.says_so c.none_refused) uncramped in
+          (fine lim c.limited s w c.says_so) uncramped in
           absurd (let z = ap (λ v. v.number) j in omega (arith, d.number))
 
   abbrev pub tree : Tree
   tree = on.holds.tree
 
   -- what is lent to the run
-  pub lending : Lending s (take (16 * m.result - 0) (drop 0 out)) (take (m.result - 0) (drop 0 steps)) (take (need - 0) (drop 0 work)) m.result tree
+  pub lending : Lending s (take (16 * w - 0) (drop 0 out)) (take (w - 0) (drop 0 steps)) (take (need - 0) (drop 0 work)) w tree
   lending =
       let k = on.holds in
-      let w : m.result ≡ weight tree = weighs ∙ k.weighs in
+      let its : w ≡ weight tree = weighs ∙ k.weighs in
       let l = k.light in
       let few = limit_small lim c.limited in
       let whole = limit_work lim c.limited in
       let asks = c.asks in
-      let lo = mid_len 0 (16 * m.result) out rooms.0 in
-      let lz = mid_len 0 m.result steps rooms.1 in
+      let lo = mid_len 0 (16 * w) out rooms.0 in
+      let lz = mid_len 0 w steps rooms.1 in
       let lw = mid_len 0 need work rooms.2 in
       record {
         wf = k.wf;
         light = omega arith;
         written = k.written;
-        weighs = w;
+        weighs = its;
         out_room = omega arith;
         steps_room = omega arith;
         work_room = omega arith;
@@ -262,17 +256,17 @@ module _ {lim ed : ℕ} {s : List ℕ} {m : Measured} {need : ℕ} {out steps wo
 
   -- the run's answer, and the areas with their stretches back; that of `work` is cleared yet
   pub ran : (a : Answer) (out' steps' work' : List ℕ)
-      → Leaves (drives ed tree) m.result a (take (16 * m.result - 0) (drop 0 out)) out' (take (m.result - 0) (drop 0 steps)) steps'
+      → Leaves (drives ed tree) w a (take (16 * w - 0) (drop 0 out)) out' (take (w - 0) (drop 0 steps)) steps'
       → length work' ≡ length (take (need - 0) (drop 0 work))
-      → gives a (put_mid 0 (16 * m.result - 0) out out') (put_mid 0 (m.result - 0) steps steps') (cleaned lim a.number (put_mid 0 (need - 0) work work'))
+      → gives a (put_mid 0 (16 * w - 0) out out') (put_mid 0 (w - 0) steps steps') (cleaned lim a.number (put_mid 0 (need - 0) work work'))
       ≡ paper.simplified lim ed s (lent out steps work)
   unfolding paper.simplified simplified_by lent_after out_after steps_after work_after
   ran a out' steps' work' r long =
-      let w : m.result ≡ weight tree = weighs ∙ on.holds.weighs in
+      let its : w ≡ weight tree = weighs ∙ on.holds.weighs in
       same_given
-      (r.answer ∙ ap (λ i. paper.ran_answer i (drives ed tree)) w ∙ sym on.answer)
+      (r.answer ∙ ap (λ i. paper.ran_answer i (drives ed tree)) its ∙ sym on.answer)
       (same_lent
-      (lent_stretch (16 * m.result) out out' (paper.written (drives ed tree)) rooms.0 r.out_is)
-      (lent_stretch m.result steps steps' (paper.noted (drives ed tree)) rooms.1 r.steps_is)
-      (cleans lim a.number (drives ed tree) m.result (ap (λ (x : paper.Answer). x.number) r.answer) need work work' c.asks rooms.2 long)
-      ∙ ap (λ i. paper.lent_after lim (paper.ran i (drives ed tree)) (lent out steps work)) w ∙ sym on.lent)
+      (lent_stretch (16 * w) out out' (paper.written (drives ed tree)) rooms.0 r.out_is)
+      (lent_stretch w steps steps' (paper.noted (drives ed tree)) rooms.1 r.steps_is)
+      (cleans lim a.number (drives ed tree) w (ap (λ (x : paper.Answer). x.number) r.answer) need work work' c.asks rooms.2 long)
+      ∙ ap (λ i. paper.lent_after lim (paper.ran i (drives ed tree)) (lent out steps work)) its ∙ sym on.lent)

@@ -1,10 +1,12 @@
--- Two answers that meet the contract of `simplify`, of `refusal`, of `answer_numbers`, of
+-- Two answers that meet the contract of `simplify`, of `refused`, of `answer_numbers`, of
 -- `judge_call`, of `work_bytes`, of `is_cramped` or of `has_run`, as the
 -- check reads it from the source, are the same, and so are the areas afterwards: each contract is an equation with a function of what is handed
 -- in. Of `simplify_in` so are the answer, `out` and `steps`.
 use Prim.Native.Nat.{ℕ}
 use mathlib.Core.Path.{◌≡◌, sym, ap, ◌∙◌}
+use mathlib.Core.Bool.{Bool, true, false, cond}
 use mathlib.Core.List.{List}
+use native.Mathlib.Omega.{arith}
 use borrow.Fn.Kinds.{ended_of}
 use contract.Lifetimes.{Lfts}
 use denote.Triple.Clauses.{AtExit}
@@ -15,11 +17,14 @@ use Rattle.std.specs.Prelude.{Option}
 use Rattle.record.specs.declared.Flaw.{Flaw}
 use Rattle.record.proofs.Unique.{code_of, code_of_lem, flaw_of_lem}
 use Rattle.simplify.specs.declared.Answer.{Answer}
-use Rattle.simplify.specs.Answer.{says, lent}
+use Rattle.simplify.specs.Answer.{says, lent, call_number}
+use Rattle.table.proofs.Unique.{stands_once}
+use Rattle.paper.specs.Limits.{is_limit}
+use Rattle.paper.specs.Rules.{is_edition}
 use Rattle.simplify.proofs.simplify.Reads as reads
 use Rattle.simplify.proofs.simplify.Kinds as kinds
-use Rattle.simplify.proofs.refusal.Reads as refusal-reads
-use Rattle.simplify.proofs.refusal.Kinds as refusal-kinds
+use Rattle.simplify.proofs.refused.Reads as refused-reads
+use Rattle.simplify.proofs.refused.Kinds as refused-kinds
 use Rattle.simplify.proofs.answer_numbers.Reads as answer-numbers-reads
 use Rattle.simplify.proofs.answer_numbers.Kinds as answer-numbers-kinds
 use Rattle.simplify.proofs.judge_call.Reads as judge-call-reads
@@ -83,14 +88,24 @@ says_answer a =
 pub says_once : (r r' : Answer) → says r ≡ says r' → r ≡ r'
 says_once r r' e = sym (answer_of_lem r) ∙ ap answer_of e ∙ answer_of_lem r'
 
-pub refusal_once : Once 0 refusal-kinds.ps refusal-kinds.r refusal-reads.Pre refusal-reads.Post
-refusal_once κs a v v' x x' q p p' = says_once v v' (p ∙ sym p')
+pub refused_once : Once 0 refused-kinds.ps refused-kinds.r refused-reads.Pre refused-reads.Post
+refused_once κs a v v' x x' q p p' = says_once v v' (p ∙ sym p')
 
 pub answer_numbers_once : Once 0 answer-numbers-kinds.ps answer-numbers-kinds.r answer-numbers-reads.Pre answer-numbers-reads.Post
 answer_numbers_once κs a v v' x x' q p p' = p ∙ sym p'
 
+-- neither limit nor edition has number 8
+call_other : (lim ed : ℕ) → call_number lim ed ≡ 8 → ⊥
+unfolding call_number
+call_other lim ed e = go (is_limit lim) (is_edition ed) e
+  where
+    go : (b c : Bool) → ◌≡◌ {A = ℕ} (cond b (cond c 0 9) 19) 8 → ⊥
+    go false c e = omega arith
+    go true false e = omega arith
+    go true true e = omega arith
+
 pub judge_call_once : Once 0 judge-call-kinds.ps judge-call-kinds.r judge-call-reads.Pre judge-call-reads.Post
-judge_call_once κs a v v' x x' q p p' = p ∙ sym p'
+judge_call_once κs a v v' x x' q p p' = stands_once v v' _ (call_other _ _) p p'
 
 pub is_cramped_once : Once 0 is-cramped-kinds.ps is-cramped-kinds.r is-cramped-reads.Pre is-cramped-reads.Post
 is_cramped_once κs a v v' x x' q p p' = p ∙ sym p'

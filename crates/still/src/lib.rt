@@ -12,6 +12,7 @@ ghost use Rattle.still.specs.Met.{met_of};
 ghost use Rattle.still.specs.Keys.{flag_of, turned, KeysIn, KeptIn, keeping, Scratched, Testable};
 
 use note::KEYS;
+use record::kinds::Kind;
 
 // The bytes of a key and of its flags in scratch, of both, and of scratch for each unit of a tree's weight.
 const KEY_BYTES: usize = 8;
@@ -204,12 +205,9 @@ pub fn still(s: &[u8], i: usize, d: &mut [u8], o: usize, edition: usize) -> bool
     ensures value { (t : Tree) → TreeBy note s.now i t → result ≡ still_by edition t }
     ensures around { (t : Tree) → TreeBy note s.now i t → Scratched d.old d.new o (16 * weight t) }
 {
-    let k = record::kind(s, i);
-    if k < record::SUM {
-        return true;
+    match Kind::at(s, i) {
+        Kind::Integer | Kind::Symbol => true,
+        Kind::Power => edition != EDITION_TWO || still_power(s, i),
+        k => still_members(s, i, k.number(), d, o),
     }
-    if k < record::POWER {
-        return still_members(s, i, k, d, o);
-    }
-    edition != EDITION_TWO || still_power(s, i)
 }

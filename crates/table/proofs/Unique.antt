@@ -1,4 +1,4 @@
--- Two answers that meet the contract of `check`, `weigh`, `weight`, `refusal`, `fault_of`, `with_result`, `weight_of`, `is_limit`, `is_due`, `turn`
+-- Two answers that meet the contract of `check`, `weight`, `weight_of`, `is_limit`, `is_due`, `turn`
 -- or of a refusal's number, place or flaw, as the check reads it from the source, are the same. The paper's number, place and flaw tell a refusal
 -- from every other, but for the two that have number 8; the weight is one number, and yes or no is one.
 use Prim.Native.Nat.{ℕ}
@@ -7,7 +7,7 @@ use mathlib.Core.Bool.{Bool, true, false, cond}
 use mathlib.Core.List.{List}
 use native.Mathlib.Omega.{arith}
 use lib.Dec.{eqb}
-use Rattle.std.specs.Prelude.{Option, Some, Result, Ok, Err}
+use Rattle.std.specs.Prelude.{Some, Result, Ok, Err}
 use Rattle.paper.specs.Limits.{is_limit}
 use Rattle.paper.specs.Record as paper-record
 use Rattle.paper.specs.Verdict.{Verdict, verdict, judged_table, judge_records}
@@ -17,32 +17,19 @@ use Rattle.paper.specs.Once.{Once, OnceLeft}
 use Rattle.record.specs.declared.Flaw.{Flaw}
 use Rattle.record.specs.declared.Flaw.TheVariants.{Kind, Byte, Count}
 use Rattle.record.specs.Flaw.{flaw_of}
-use Rattle.record.proofs.Unique.{code_of, code_of_lem}
 use Rattle.table.specs.Refusals.{number_of, stands_for, which_of}
 use Rattle.table.specs.Refusals as refusals
-use Rattle.table.specs.Judged.{verdict_of}
-use Rattle.table.specs.Measured.{says}
 use Rattle.table.specs.declared.refusals.Refusal.{Refusal}
 use Rattle.table.specs.declared.refusals.Refusal.TheVariants.{Length, Record, Heavy, Shape, Exponent, Room, Range, Lists, Edition, Newer, Disorder}
 use Rattle.table.specs.declared.refusals.Refusal.TheVariants.{Absent, Full, NoText, Lengths, Definition, Defined, Endless, TooHeavy, Limit}
 use Rattle.table.specs.declared.refusals.Refused.{Refused}
 use Rattle.table.specs.declared.refusals.Which.{Which}
 use Rattle.table.specs.declared.refusals.Which.TheVariants.{Neither, First, Second}
-use Rattle.table.specs.declared.Fault.{Fault}
-use Rattle.table.specs.declared.Measured.{Measured}
 use Rattle.table.proofs.RefusalLaws.{some_number}
 use Rattle.table.proofs.check.Reads as check-reads
 use Rattle.table.proofs.check.Kinds as check-kinds
-use Rattle.table.proofs.weigh.Reads as weigh-reads
-use Rattle.table.proofs.weigh.Kinds as weigh-kinds
 use Rattle.table.proofs.weight.Reads as weight-reads
 use Rattle.table.proofs.weight.Kinds as weight-kinds
-use Rattle.table.proofs.refusal.Reads as refusal-reads
-use Rattle.table.proofs.refusal.Kinds as refusal-kinds
-use Rattle.table.proofs.with_result.Reads as with-result-reads
-use Rattle.table.proofs.with_result.Kinds as with-result-kinds
-use Rattle.table.proofs.fault_of.Reads as fault-of-reads
-use Rattle.table.proofs.fault_of.Kinds as fault-of-kinds
 use Rattle.table.proofs.is_limit.Reads as is-limit-reads
 use Rattle.table.proofs.is_limit.Kinds as is-limit-kinds
 use Rattle.table.proofs.weight_of.Reads as weight-of-reads
@@ -170,33 +157,12 @@ verdict_other lim s =
     (cond_other _ _ _ (λ (e : 5 ≡ 8). omega arith) (λ (e : 0 ≡ 8). omega arith))))))
     (λ (e : 19 ≡ 8). omega arith)
 
--- a fault, and a weight, that have these numbers and this flaw
-fault_of : Verdict → Fault
-fault_of v = record { number = v.number; place = v.place; flaw = code_of v.flaw }
-
-fault_of_lem : (r : Fault) → fault_of (verdict_of r) ≡ r
-unfolding fault_of
-fault_of_lem r = ap (λ (f : Option Flaw). record { number = r.number; place = r.place; flaw = f }) (code_of_lem r.flaw)
-
-pub fault_once : (r r' : Fault) → verdict_of r ≡ verdict_of r' → r ≡ r'
-fault_once r r' e = sym (fault_of_lem r) ∙ ap fault_of e ∙ fault_of_lem r'
-
-measured_of : paper.Measured → Measured
-measured_of m = record { number = m.number; place = m.place; flaw = code_of m.flaw; result = m.result }
-
-measured_of_lem : (r : Measured) → measured_of (says r) ≡ r
-unfolding measured_of
-measured_of_lem r = ap (λ (f : Option Flaw). record { number = r.number; place = r.place; flaw = f; result = r.result }) (code_of_lem r.flaw)
-
-pub says_once : (r r' : Measured) → says r ≡ says r' → r ≡ r'
-says_once r r' e = sym (measured_of_lem r) ∙ ap measured_of e ∙ measured_of_lem r'
-
 pub check_once : Once 1 check-kinds.ps check-kinds.r check-reads.Pre check-reads.Post
 check_once κs a v v' x x' q p p' = stands_once v v' _ (verdict_other _ _) p p'
 
-pub weigh_once : Once 1 weigh-kinds.ps weigh-kinds.r weigh-reads.Pre weigh-reads.Post
+pub weight_once : Once 1 weight-kinds.ps weight-kinds.r weight-reads.Pre weight-reads.Post
 unfolding weighed measured
-weigh_once κs a v v' x x' q p p' = number_once v v' _ (verdict_other _ _) p p'
+weight_once κs a v v' x x' q p p' = number_once v v' _ (verdict_other _ _) p p'
 
 pub number_of_once : Once 0 number-kinds.ps number-kinds.r number-reads.Pre number-reads.Post
 number_of_once κs a v v' x x' q p p' = p ∙ sym p'
@@ -215,18 +181,6 @@ is_due_once κs a v v' x x' q p p' = p ∙ sym p'
 
 pub turn_once : OnceLeft 1 turn-kinds.ps turn-kinds.r turn-reads.Pre turn-reads.Post (List ℕ) (λ κs x. x.0.now)
 turn_once κs a v v' x x' q p p' = (refl, p ∙ sym p')
-
-pub weight_once : Once 1 weight-kinds.ps weight-kinds.r weight-reads.Pre weight-reads.Post
-weight_once κs a v v' x x' q p p' = says_once v v' (p ∙ sym p')
-
-pub refusal_once : Once 0 refusal-kinds.ps refusal-kinds.r refusal-reads.Pre refusal-reads.Post
-refusal_once κs a v v' x x' q p p' = fault_once v v' (p ∙ sym p')
-
-pub with_result_once : Once 0 with-result-kinds.ps with-result-kinds.r with-result-reads.Pre with-result-reads.Post
-with_result_once κs a v v' x x' q p p' = says_once v v' (p ∙ sym p')
-
-pub fault_of_once : Once 0 fault-of-kinds.ps fault-of-kinds.r fault-of-reads.Pre fault-of-reads.Post
-fault_of_once κs a v v' x x' q p p' = fault_once v v' (p ∙ sym p')
 
 pub weight_of_once : Once 1 weight-of-kinds.ps weight-of-kinds.r weight-of-reads.Pre weight-of-reads.Post
 weight_of_once κs a v v' x x' q p p' = p ∙ sym p'

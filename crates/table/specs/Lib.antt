@@ -1,5 +1,4 @@
 pub mod Refusals
 pub mod Judged
-pub mod Measured
 pub mod Due
 pub mod Look

@@ -4,7 +4,6 @@ use Rattle.paper.specs.Verdict.{Verdict, accepted, told}
 use Rattle.paper.specs.Answers as paper
 use Rattle.record.specs.declared.Flaw.{Flaw}
 use Rattle.record.specs.Flaw.{flaw_of}
-use Rattle.table.specs.Measured.{with_result}
 use Rattle.table.specs.declared.refusals.Refusal.{Refusal}
 use Rattle.table.specs.declared.refusals.Refusal.TheVariants.{Length, Record, Heavy, Shape, Exponent, Room, Range, Lists, Edition, Newer, Disorder}
 use Rattle.table.specs.declared.refusals.Refusal.TheVariants.{Absent, Full, NoText, Lengths, Definition, Defined, Endless, TooHeavy, Limit}
@@ -84,6 +83,10 @@ verdict_of r = told (number_of r) (place_of r) (flaw_of (flaw_in r))
 abbrev pub stands_for : {T : Type 0} → Result T Refusal → Verdict
 stands_for (Ok x) = accepted
 stands_for (Err r) = verdict_of r
+
+-- a verdict with a number beside it
+abbrev pub with_result : Verdict → ℕ → paper.Measured
+with_result v n = record { number = v.number; place = v.place; flaw = v.flaw; result = n }
 
 -- a number, or a refusal, which has 0 beside it
 abbrev pub says : Result ℕ Refusal → paper.Measured

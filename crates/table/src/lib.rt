@@ -4,14 +4,11 @@
 ghost use Rattle.std.specs.Prelude.{◌≡◌, ◌+◌, ◌*◌, ◌<◌, ◌≤◌, length, eqb};
 ghost use Rattle.paper.specs.Limits.{is_limit};
 ghost use Rattle.paper.specs.Record.{arity, weight_from};
-ghost use Rattle.paper.specs.Verdict as paper;
 ghost use Rattle.paper.specs.Verdict.{records_in, first_flawed, tree_end, first_bad_exponent, table_weight, judge_records, verdict};
 ghost use Rattle.paper.specs.Answers.{measured, weighed};
 ghost use Rattle.record.specs.Flaw.{found_below};
-ghost use Rattle.table.specs.Refusals as refusals;
-ghost use Rattle.table.specs.Refusals.{stands_for};
-ghost use Rattle.table.specs.Judged.{verdict_of, first_flaw};
-ghost use Rattle.table.specs.Measured.{says, with_result};
+ghost use Rattle.table.specs.Refusals.{stands_for, says};
+ghost use Rattle.table.specs.Judged.{first_flaw};
 ghost use Rattle.table.specs.Due.{due_at, turned, owing};
 ghost use Rattle.table.specs.Look.{Sees, Looks};
 
@@ -62,45 +59,8 @@ pub const OLD_LIMIT: usize = 3072;
 
 pub const NEW_LIMIT: usize = 16384;
 
-// The numbers of refusals, by what is wrong: the length of a table, a record, the weight, the shape, an exponent; the room that a call is
-// lent; the limit.
-pub const LENGTH: u32 = 1;
-
-pub const RECORD: u32 = 2;
-
-pub const HEAVY: u32 = 3;
-
-pub const SHAPE: u32 = 4;
-
-pub const EXPONENT: u32 = 5;
-
+// The number of the refusal for want of room, which a call from C returns where its answer slice is too short.
 pub const ROOM: u32 = 6;
-
-pub const LIMIT: u32 = 19;
-
-// Which of two tables is refused: none, the first, the second.
-pub const NEITHER: u8 = 0;
-
-pub const FIRST: u8 = 1;
-
-pub const SECOND: u8 = 2;
-
-// The paper's number and place of a refusal, and after 2 what is wrong with the record; 0 and 0 where nothing is refused.
-#[derive(Clone, Copy)]
-pub struct Fault {
-    pub number: u32,
-    pub place: usize,
-    pub flaw: Option<Flaw>,
-}
-
-// The weight of a table, and what was refused.
-#[derive(Clone, Copy)]
-pub struct Measured {
-    pub number: u32,
-    pub place: usize,
-    pub flaw: Option<Flaw>,
-    pub result: u64,
-}
 
 // A record at a glance: its kind, and how many members a sum or a product has.
 #[derive(Clone, Copy)]
@@ -277,7 +237,7 @@ fn look(s: &[u8], n: usize) -> Option<Whole>
 // Refusals 2 to 4 of the n records of a table, where 2 or 4 applies, the lowest number first; 3 is over the limit.
 fn judge_odd(limit: usize, s: &[u8], n: usize) -> Result<usize, Refusal>
     requires { (n ≡ records_in s.now) × (n ≤ 16384) × (n ≤ first_flawed s.now 0 n → tree_end s.now n 0 ≡ n → ⊥) }
-    ensures { refusals.says result ≡ measured (judge_records limit s.now n) (table_weight s.now) }
+    ensures { says result ≡ measured (judge_records limit s.now n) (table_weight s.now) }
 {
     first_flawed(s, n)?;
     if limit < weight_of(s, n) {
@@ -290,7 +250,7 @@ fn judge_odd(limit: usize, s: &[u8], n: usize) -> Result<usize, Refusal>
 // The weight of the n records of a table, or refusals 2 to 5, the lowest number first; 3 is over the limit.
 fn judge_records(limit: usize, s: &[u8], n: usize) -> Result<usize, Refusal>
     requires { (n ≡ records_in s.now) × (n ≤ 16384) }
-    ensures { refusals.says result ≡ measured (judge_records limit s.now n) (table_weight s.now) }
+    ensures { says result ≡ measured (judge_records limit s.now n) (table_weight s.now) }
 {
     let Some(whole) = look(s, n) else {
         return judge_odd(limit, s, n);
@@ -315,8 +275,8 @@ pub fn is_limit(limit: usize) -> bool
 }
 
 // The weight of a table, or refusal 19 of the limit, and then 1 to 5, the lowest number first.
-pub fn weigh(limit: usize, s: &[u8]) -> Result<usize, Refusal>
-    ensures { refusals.says result ≡ weighed limit s.now }
+pub fn weight(limit: usize, s: &[u8]) -> Result<usize, Refusal>
+    ensures { says result ≡ weighed limit s.now }
 {
     if !is_limit(limit) {
         return Err(Refusal::Limit);
@@ -331,54 +291,6 @@ pub fn weigh(limit: usize, s: &[u8]) -> Result<usize, Refusal>
 pub fn check(limit: usize, s: &[u8]) -> Result<(), Refusal>
     ensures { stands_for result ≡ verdict limit s.now }
 {
-    weigh(limit, s)?;
+    weight(limit, s)?;
     Ok(())
-}
-
-// A refusal by number and place, of no record; by 0 and 0 nothing is refused.
-pub fn refusal(number: u32, place: usize) -> Fault
-    ensures { verdict_of result ≡ paper.refused number place }
-{
-    Fault {
-        number,
-        place,
-        flaw: None,
-    }
-}
-
-// The paper's number and place of the checker's answer, and what is wrong with the record.
-pub fn fault_of(judged: Result<(), Refusal>) -> Fault
-    ensures { verdict_of result ≡ stands_for judged }
-{
-    match judged {
-        Ok(()) => refusal(0, 0),
-        Err(r) => Fault {
-            number: r.number(),
-            place: r.place(),
-            flaw: r.flaw(),
-        },
-    }
-}
-
-// What was refused, and a number beside it.
-pub fn with_result(f: Fault, res: u64) -> Measured
-    ensures { says result ≡ with_result (verdict_of f) res }
-{
-    let flaw = f.flaw;
-    Measured {
-        number: f.number,
-        place: f.place,
-        flaw: flaw,
-        result: res,
-    }
-}
-
-// The weight of a table; 0 where the table is refused.
-pub fn weight(limit: usize, s: &[u8]) -> Measured
-    ensures { says result ≡ weighed limit s.now }
-{
-    match weigh(limit, s) {
-        Ok(w) => with_result(refusal(0, 0), w as u64),
-        Err(r) => with_result(fault_of(Err(r)), 0),
-    }
 }

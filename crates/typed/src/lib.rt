@@ -7,10 +7,7 @@ use report::{LIMIT, OVER_TABLE, TABLE, WORK};
 use simplify::{EDITION_ONE, RANGE};
 use std::io;
 use std::io::{Read, Write};
-use table::{EXPONENT, HEAVY, LENGTH, RECORD, Refusal, SHAPE};
-
-// The refusal of a text that the writer does not write.
-const NO_TEXT: u32 = 14;
+use table::Refusal;
 
 // The longest text that a program reads, and one byte more.
 const TEXT: usize = 65536;
@@ -23,24 +20,24 @@ fn tell(err: &mut impl Write, word: &[u8]) {
 }
 
 // Tells on standard error, in words, why a formula or a table is refused.
-fn explain(err: &mut impl Write, number: u32) {
-    match number {
-        LENGTH => tell(
+fn explain(err: &mut impl Write, refusal: Refusal) {
+    match refusal {
+        Refusal::Length => tell(
             err,
             b"the table's length is zero, no multiple of 16, or over 49,152 bytes\n",
         ),
-        RECORD => tell(
+        Refusal::Record { .. } => tell(
             err,
             b"the record has an unknown kind, a byte that must be zero and is not, or fewer than two members\n",
         ),
-        HEAVY => tell(err, b"the formula weighs over 3,072\n"),
-        SHAPE => tell(err, b"the records are not those of one formula\n"),
-        EXPONENT => tell(
+        Refusal::Heavy => tell(err, b"the formula weighs over 3,072\n"),
+        Refusal::Shape { .. } => tell(err, b"the records are not those of one formula\n"),
+        Refusal::Exponent { .. } => tell(
             err,
             b"the record is an exponent and no integer of at least 1\n",
         ),
-        RANGE => tell(err, b"an integer leaves the signed 64-bit range\n"),
-        NO_TEXT => tell(
+        Refusal::Range { .. } => tell(err, b"an integer leaves the signed 64-bit range\n"),
+        Refusal::NoText => tell(
             err,
             b"no formula in this form: s0 to s255, integers of 64 bits, + * ^ and no spaces, exponents of at least 1, parentheses only where they must stand\n",
         ),
@@ -52,14 +49,13 @@ fn explain(err: &mut impl Write, number: u32) {
 fn turn_away(err: &mut impl Write, refusal: Refusal) {
     let (number, place) = (refusal.number(), refusal.place());
     let _ = writeln!(err, "refused {number} at {place}");
-    explain(err, number);
+    explain(err, refusal);
 }
 
 // Writes a refusal, a line, and why, in words, on standard error.
 fn refuse(out: &mut impl Write, err: &mut impl Write, refusal: Refusal) -> io::Result<()> {
-    let number = refusal.number();
-    let written = report::refuse(out, number, refusal.place(), refusal.flaw());
-    explain(err, number);
+    let written = report::refuse(out, refusal.number(), refusal.place(), refusal.flaw());
+    explain(err, refusal);
     written
 }
 
@@ -131,7 +127,10 @@ fn shorten_table(out: &mut impl Write, err: &mut impl Write, table: &[u8]) -> io
         let written = bytes_of(a.records);
         print(out, err, &simplified[..written])?;
     }
-    explain(err, a.number);
+    // A table that was read from a text is accepted, so only a number can leave its range.
+    if a.number == RANGE {
+        explain(err, Refusal::Range { steps: a.place });
+    }
     report::list(out, a, &steps)
 }
 

@@ -24,6 +24,9 @@ module _ {s : List ℕ} {i : ℕ} where
   pub inside : SomeTree s i → i * 16 + 16 ≤ length s
   inside h = record_within h.there
 
+  pub kind_below : SomeTree s i → kind s i < 5
+  kind_below h = omega (arith, seen_kind (seen h.there))
+
   pub last_kind : SomeTree s i → 4 ≤ kind s i → kind s i ≡ 4
   last_kind h l = omega (arith, seen_kind (seen h.there))
 

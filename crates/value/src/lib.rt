@@ -3,12 +3,15 @@
 
 ghost use Rattle.std.specs.Prelude.{◌≡◌, ℕ, ◌+◌, ◌*◌, ◌%◌, ◌^◌, ◌<◌, ◌≤◌, length, slice_index};
 ghost use Rattle.paper.specs.Limits.{modulus};
+ghost use Rattle.paper.specs.Record.{kind};
 ghost use Rattle.paper.specs.Tree.{Tree, records, value};
 ghost use Rattle.paper.specs.Answers.{register, valued};
+ghost use Rattle.record.specs.Kinds.{number_of};
 ghost use Rattle.table.specs.Refusals.{says};
 ghost use Rattle.paper.specs.Standing.{TreeIn, SomeTree};
 ghost use Rattle.value.specs.Evaluated.{Evaluated, held, place, parts, neutral, joined};
 
+use record::kinds::Kind;
 use table::Refusal;
 
 // How many registers there are, and their bytes.
@@ -36,36 +39,37 @@ fn register_of(regs: &[u64; 256], symbol: u8) -> u64
     regs[symbol as usize]
 }
 
-// The number of trees that the value of the node at record i is made from: a power's base, else its members.
+// The number of trees that the value of the node at record i, of kind k, is made from: a power's base, else its members.
 #[tactic(auto, unfolding(crate::specs::Evaluated::parts))]
-fn parts(s: &[u8], i: usize) -> usize
-    requires { i * 16 + 16 ≤ length s.now }
+fn parts(s: &[u8], i: usize, k: Kind) -> usize
+    requires { (i * 16 + 16 ≤ length s.now) × (number_of k ≡ kind s.now i) }
     ensures { result ≡ parts s.now i }
 {
-    if record::kind(s, i) == record::POWER {
-        1
-    } else {
-        record::count(s, i)
+    match k {
+        Kind::Power => 1,
+        _ => record::count(s, i),
     }
 }
 
-// What the value of a node of kind k begins with: a sum's with 0, another one's with 1.
+// What the value of a node of kind k begins with: a product's and a power's with 1, a sum's with 0.
 #[tactic(auto, unfolding(crate::specs::Evaluated::neutral))]
-fn neutral(k: u8) -> u64
-    ensures { result ≡ neutral k }
+fn neutral(k: Kind) -> u64
+    ensures { result ≡ neutral (number_of k) }
 {
-    if k < record::PRODUCT { 0 } else { 1 }
+    match k {
+        Kind::Product | Kind::Power => 1,
+        _ => 0,
+    }
 }
 
-// A value and one more of a node of kind k: added in a sum, else multiplied.
+// A value and one more of a node of kind k: multiplied in a product or a power, added in a sum.
 #[tactic(auto, unfolding(crate::specs::Evaluated::joined))]
-fn joined(k: u8, total: u64, v: u64) -> u64
-    ensures { result ≡ joined k total v % modulus }
+fn joined(k: Kind, total: u64, v: u64) -> u64
+    ensures { result ≡ joined (number_of k) total v % modulus }
 {
-    if k < record::PRODUCT {
-        total.wrapping_add(v)
-    } else {
-        total.wrapping_mul(v)
+    match k {
+        Kind::Product | Kind::Power => total.wrapping_mul(v),
+        _ => total.wrapping_add(v),
     }
 }
 
@@ -80,19 +84,19 @@ fn value_at(s: &&[u8], regs: &[u64; 256], at: &mut [usize; 1]) -> u64
         → Evaluated (place at.old) (records t) (value t (held regs.now)) result at.new }
 {
     let i = at[PLACE];
-    let k = record::kind(*s, i);
+    let k = Kind::at(*s, i);
     at[PLACE] = i + 1;
-    if k < record::SYMBOL {
+    if k == Kind::Integer {
         return record::bits(*s, i);
     }
-    if k < record::SUM {
+    if k == Kind::Symbol {
         return register_of(regs, record::symbol(*s, i));
     }
     let mut total = neutral(k);
-    for _ in 0..parts(*s, i) {
+    for _ in 0..parts(*s, i, k) {
         total = joined(k, total, value_at(s, regs, at));
     }
-    if k < record::POWER {
+    if k != Kind::Power {
         return total;
     }
     let e = at[PLACE];

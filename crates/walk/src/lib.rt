@@ -37,10 +37,10 @@ const KEYS: usize = 0x8000;
 
 const SHORT: u64 = 0x8000;
 
-// So many numbers a byte has.
-const BYTE: usize = 256;
+// So many numbers two bytes have, of a start and of a key.
+const STARTS: usize = 0x1_0000;
 
-const KEY_BYTE: u64 = 256;
+const LONG: u64 = 0x1_0000;
 
 // So many members at least has a product whose coefficient was appended last.
 const LONGER: usize = 3;
@@ -65,12 +65,9 @@ fn write_entry(work: &mut [u8], k: usize, start: usize, key: u64)
     requires { k * 4 + 4 ≤ length work.old }
     ensures { work.new ≡ put work.old (k * 4) (entry_of start key) }
 {
-    let a = (start % BYTE) as u8;
-    let b = (start / BYTE % BYTE) as u8;
-    let c = (key % KEY_BYTE) as u8;
-    let d = (key / KEY_BYTE % KEY_BYTE) as u8;
-    let entry = [a, b, c, d];
-    stretch::copy_bytes(work, k * ENTRY, &entry, 0, ENTRY);
+    let at = k * ENTRY;
+    work[at..at + KEY_AT].copy_from_slice(&((start % STARTS) as u16).to_le_bytes());
+    work[at + KEY_AT..at + ENTRY].copy_from_slice(&((key % LONG) as u16).to_le_bytes());
 }
 
 // Writes the entries of the members of the node at record p, a sum (terms) or a product.
@@ -132,7 +129,7 @@ fn is_coefficient(s: &[u8], i: usize, mark: usize) -> bool
     requires { SomeTold s.now i }
     ensures { (how : Tree → ℕ) (t : Tree) → Told how s.now i t → result ≡ is_coefficient mark t }
 {
-    if record::INTEGER < record::kind(s, i) {
+    if Kind::at(s, i) != Kind::Integer {
         return false;
     }
     record::bits(s, i) != 1 && record::mark(s, i) == mark
@@ -147,12 +144,12 @@ fn last_stays(s: &[u8], i: usize) -> bool
     let n = record::count(s, i);
     let mut at = i + 1;
     for _ in 1..n {
-        if record::kind(s, at) < record::SYMBOL {
+        if Kind::at(s, at) == Kind::Integer {
             return false;
         }
         at = split::skip_tree(s, at);
     }
-    if record::INTEGER < record::kind(s, at) {
+    if Kind::at(s, at) != Kind::Integer {
         return true;
     }
     LONGER <= n && is_coefficient(s, at, record::mark(s, i))
@@ -164,17 +161,16 @@ fn product_stays(s: &[u8], i: usize) -> bool
     requires { SomeProduct s.now i }
     ensures { (how : Tree → ℕ) (μ : ℕ) (f : Forest) → Told how s.now i (product μ f) → result ≡ product_stays μ (to_list f) }
 {
-    if record::INTEGER < record::kind(s, i + 1) {
+    if Kind::at(s, i + 1) != Kind::Integer {
         return last_stays(s, i);
     }
     if PAIR < record::count(s, i) {
         return false;
     }
-    let k = record::kind(s, i + SECOND);
-    if k < record::SYMBOL {
-        return false;
+    match Kind::at(s, i + SECOND) {
+        Kind::Integer | Kind::Product => false,
+        _ => is_coefficient(s, i + 1, record::mark(s, i)),
     }
-    k != record::PRODUCT && is_coefficient(s, i + 1, record::mark(s, i))
 }
 
 // The power at record i is what its base and its exponent become: that is not 1, and has the mark.
@@ -318,6 +314,7 @@ fn walk(
     let mut over = false;
     let mut new: usize = 0;
     let mut f = 0;
+    // Two loops by hand, the outer one left by its label: the range that was exceeded ends both, and n and j move as members go.
     'walk: while i < n {
         let high = work[i * ENTRY + HIGH_AT];
         let alone = lone::is_lone(high, told);

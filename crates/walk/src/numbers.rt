@@ -10,7 +10,8 @@ ghost use Rattle.split.specs.Standing.{Told, SomeTold};
 ghost use Rattle.walk.specs.Listed.{Entry, Listed};
 ghost use Rattle.walk.specs.Numbers.{place_of, first_flag, second_flag, filled, Numbered, Unmarked, Put, MarkedIf, Visited, ToldMore};
 
-use crate::{BYTE, ENTRY, HIGH_AT, lone, spread};
+use crate::{ENTRY, HIGH_AT, lone, spread};
+use record::kinds::Kind;
 
 // So many rounds at most.
 const ROUNDS: usize = 4;
@@ -91,7 +92,7 @@ fn flags_of(s: &[u8], i: usize, round: Round) -> Pair
         };
     }
     let b = split::base(s, i);
-    if record::kind(s, b) < record::SYMBOL {
+    if Kind::at(s, b) == Kind::Integer {
         let first = place(split::exponent(s, i), HALF * round.m, round.f);
         let y = place(record::bits(s, b), HALF * round.m, round.f);
         return Pair {
@@ -112,9 +113,7 @@ fn fill(out: &mut [u8], a: usize, x: usize, k: usize)
     ensures { out.new ≡ filled out.old a x k }
 {
     if x < 1 {
-        let v = k + 1;
-        let entry = [(v % BYTE) as u8, (v / BYTE % BYTE) as u8];
-        stretch::copy_bytes(out, a, &entry, 0, FLAG);
+        out[a..a + FLAG].copy_from_slice(&((k + 1) as u16).to_le_bytes());
     }
 }
 

@@ -32,6 +32,7 @@ fn share(s: &[u8], i: usize) -> u64
     requires { i * 16 + 16 ≤ length s.now }
     ensures { result ≡ share_in s.now i }
 {
+    // By the byte itself, and not by `Kind`: the contract is about any record, also one whose first byte names no kind.
     let k = record::kind(s, i);
     if k < record::SUM {
         return stirred(record::bits(s, i).wrapping_add(k as u64 * KIND));
@@ -64,7 +65,7 @@ fn others_spread(s: &[u8], i: usize) -> u64
     let mut sum: u64 = 0;
     let mut at = i + 1;
     for _ in 0..record::count(s, i) {
-        if record::INTEGER < record::kind(s, at) {
+        if Kind::at(s, at) != Kind::Integer {
             sum = sum.wrapping_add(spread(s, at));
         }
         at = split::skip_tree(s, at);

@@ -1,9 +1,7 @@
 -- `shared::simplify` meets its contract: 19 of the limit, 9 of the edition, a refusal of the plan, or 6 of one of the four areas; without one the
 -- opened table is written, and the simplifier gives the rest.
-use Rattle.std.proofs.Common.{◌≡◌, ℕ, ◌*◌, ◌≤◌, List, length, true, sym, ap, ◌∙◌, arith}
+use Rattle.std.proofs.Common.{ℕ, ◌*◌, ◌≤◌, List, length, sym, ap, ◌∙◌, arith}
 use Rattle.paper.specs.Table.{encode}
-use Rattle.paper.specs.Limits.{is_limit}
-use Rattle.paper.specs.Rules.{is_edition}
 use Rattle.paper.specs.Answers.{Given, simplified}
 use Rattle.paper.proofs.EncodeLaws.{records_weight, encode_length}
 use Rattle.stretch.proofs.Laws.{length_put}
@@ -15,24 +13,23 @@ use Rattle.simplify.specs.Answer.{lent}
 use Rattle.simplify.proofs.Calling.{both_known}
 use Rattle.shared.proofs.Laws.{opens_to, small, openable, turned_as, table_of, roomy, shared_off, shared_refused, shared_tight, shared_done}
 use Rattle.shared.proofs.simplify.Goals as goal
-use Rattle.shared.proofs.simplify.Goals.{Else-number-gt0, Else-is_tight, After-open_records-e}
-
--- the limit and the edition are known
-knows : (c : Else-number-gt0) → (is_limit c.args.limit ≡ true) × (is_edition c.args.edition ≡ true)
-knows c = both_known _ _ _ c.judge_call-number.ensures c.if-number-gt0.false
-
-pub returns-then-number-gt0 : goal.returns-then-number-gt0
-returns-then-number-gt0 c =
-    shared_off _ _ _ _ _ _ _ c.judge_call-number.result c.judge_call-number.ensures c.if-number-gt0.true c.refusal.result c.refusal.ensures
+use Rattle.shared.proofs.simplify.Goals.{Else-is_tight, After-open_records-e}
 
 pub returns-in-Err : goal.returns-in-Err
 returns-in-Err c =
     let a = c.args in
     let h = handed a.table.now a.symbols.now a.lengths.now a.definitions.now in
-    let known = knows (goal.at.returns-in-Err c).Else-number-gt0 in
-    let r = c.in-Err.r in
-    shared_refused a.limit a.edition h a.opened.now a.out.now a.steps.now a.work.now known.0 known.1 (verdict_of r) c.refusal-in-Err.result
-    (rw (c.number.ensures, c.place.ensures, c.flaw.ensures) at c.refusal-in-Err.ensures) (turned_as a.limit h r c.in-Err.ensures)
+    shared_off a.limit a.edition h a.opened.now a.out.now a.steps.now a.work.now c.in-Err.refusal c.in-Err.ensures c.refused.result c.refused.ensures
+
+pub returns-in-Err-prepare : goal.returns-in-Err-prepare
+returns-in-Err-prepare c =
+    let a = c.args in
+    let h = handed a.table.now a.symbols.now a.lengths.now a.definitions.now in
+    let known = both_known a.limit a.edition c.in_default.ensures in
+    let r = c.in-Err-prepare.r in
+    let said = c.refused-in-Err-prepare in
+    shared_refused a.limit a.edition h a.opened.now a.out.now a.steps.now a.work.now known.0 known.1 (verdict_of r) said.result said.ensures
+    (turned_as a.limit h r c.in-Err-prepare.ensures)
 
 pub is_tight-requires : goal.is_tight-requires
 is_tight-requires c =
@@ -45,10 +42,10 @@ pub returns-then-is_tight : goal.returns-then-is_tight
 returns-then-is_tight c =
     let a = c.args in
     let h = handed a.table.now a.symbols.now a.lengths.now a.definitions.now in
-    let known = knows (goal.at.returns-then-is_tight c).Else-number-gt0 in
+    let known = both_known a.limit a.edition c.in_default.ensures in
     shared_tight a.limit a.edition h a.opened.now a.out.now a.steps.now a.work.now known.0 known.1
     (opens_to a.limit h c.in-Ok.p c.in-Ok.ensures)
-    c.refusal-then-is_tight.result c.refusal-then-is_tight.ensures (sym c.if-is_tight.true ∙ c.is_tight.ensures)
+    c.refused-then-is_tight.result c.refused-then-is_tight.ensures (sym c.if-is_tight.true ∙ c.is_tight.ensures)
 
 -- where the areas have room
 has_room : (c : Else-is_tight) → 16 * c.in-Ok.p.weight ≤ length c.args.opened.now
@@ -113,7 +110,7 @@ pub returns : goal.returns
 returns c =
     let a = c.args in
     let h = handed a.table.now a.symbols.now a.lengths.now a.definitions.now in
-    let known = knows (goal.at.returns c).Else-number-gt0 in
+    let known = both_known a.limit a.edition c.in_default.ensures in
     let o = opens_to a.limit h c.in-Ok.p c.in-Ok.ensures in
     let r = c.open_records-e in
     let w = written (goal.at.returns c).After-open_records-e in

@@ -16,5 +16,5 @@ pub returns : goal.returns
 returns c =
     let a = c.args in
     let by = (slices.weight a.limit a.table.now a.answer.now).1 (omega arith) in
-    let q = tells c.weigh.ensures (λ (m : Measured). m.number) measured_numbers (drop 40 a.answer.now) c.answer_measured.ensures.1 by in
+    let q = tells c.weight.ensures (λ (m : Measured). m.number) measured_numbers (drop 40 a.answer.now) c.answer_measured.ensures.1 by in
     record { returns = c.answer_measured.ensures.0 ∙ q.0; answers = q.1 }

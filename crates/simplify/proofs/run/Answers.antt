@@ -170,6 +170,6 @@ returns-in-Err c =
     let out = c.clear-in-Err in
     let steps = c.clear-in-Err-2 in
     for_every h
-    (λ u. Leaves (drives g.edition u) g.w c.refusal.result g.out.now out.new.d g.steps.now steps.new.d)
-    (left_over h g.edition c.refusal.result c.in-Err.left.steps r.new.out r.new.steps (fell g.edition set c.first_stand-st.ensures c.in-Err.ensures)
-    c.refusal.ensures out.ensures steps.ensures r.auto.out r.auto.steps)
+    (λ u. Leaves (drives g.edition u) g.w c.refused.result g.out.now out.new.d g.steps.now steps.new.d)
+    (left_over h g.edition c.refused.result c.in-Err.left.steps r.new.out r.new.steps (fell g.edition set c.first_stand-st.ensures c.in-Err.ensures)
+    c.refused.ensures out.ensures steps.ensures r.auto.out r.auto.steps)

@@ -9,31 +9,32 @@ use Rattle.paper.specs.Rules.{is_the, any_of, drop_all}
 use Rattle.part.specs.Like.{node_of}
 use Rattle.note.proofs.ToldLaws.{record_within}
 use Rattle.rules.proofs.Dropping.{held_members}
-use Rattle.rules.proofs.RuleLaws.{ready_tree, is_node_lem, drops, looks_elsewhere, finds, finds_none}
+use Rattle.rules.proofs.RuleLaws.{ready_tree, of_kind, told_is_not, drops, looks_elsewhere, finds, finds_none}
 use Rattle.rules.proofs.members.drop_neutral.Goals as goal
 
-pub kind-requires : goal.kind-requires
-kind-requires c = record_within (ready_tree c.requires.2)
+pub at-requires : goal.at-requires
+at-requires c = record_within (ready_tree c.requires.2)
 
-pub returns-then-kind-node_kind : goal.returns-then-kind-node_kind
-returns-then-kind-node_kind c =
-    λ t rest h. (looks_elsewhere h (drops c.args.sum) (λ e. c.if-kind-node_kind.true (c.kind.ensures ∙ e ∙ sym c.node_kind.ensures)), refl, refl)
+pub returns-then-ne : goal.returns-then-ne
+returns-then-ne c =
+    λ t rest h.
+    (looks_elsewhere h (drops c.args.sum) (λ e. told_is_not _ _ c.at.ensures.all c.ne.ensures c.if-ne.true (e ∙ sym c.node_kind.ensures)), refl, refl)
 
 pub any_member-requires : goal.any_member-requires
 any_member-requires c =
-    let s = is_node_lem c.requires.2 _ (sym c.kind.ensures ∙ c.if-kind-node_kind.false ∙ c.node_kind.ensures) in
+    let s = of_kind c.requires.2 _ _ c.at.ensures.all c.ne.ensures c.if-ne.false c.node_kind.ensures in
     ((s.members, held_members s.held), c.neutral-z.ensures.1)
 
 pub drop_members-requires : goal.drop_members-requires
 drop_members-requires c =
-    let s = is_node_lem c.requires.2 _ (sym c.kind.ensures ∙ c.if-kind-node_kind.false ∙ c.node_kind.ensures) in
+    let s = of_kind c.requires.2 _ _ c.at.ensures.all c.ne.ensures c.if-ne.false c.node_kind.ensures in
     ((s.members, c.requires.1, s.held), c.neutral-z.ensures.1)
 
 pub returns-then-any_member : goal.returns-then-any_member
 returns-then-any_member c =
     let g = c.args in
     λ t rest h.
-    let s = is_node_lem h _ (sym c.kind.ensures ∙ c.if-kind-node_kind.false ∙ c.node_kind.ensures) in
+    let s = of_kind h _ _ c.at.ensures.all c.ne.ensures c.if-ne.false c.node_kind.ensures in
     let l = to_list s.members in
     let searched = c.any_member.ensures s.members (held_members s.held) ∙ ap (λ z. any_of (is_the (pos z)) l) c.neutral-z.ensures.0 in
     let b = c.drop_members.ensures s.members rest s.held in
@@ -43,7 +44,7 @@ returns-then-any_member c =
 pub returns : goal.returns
 returns c =
     λ t rest h.
-    let s = is_node_lem h _ (sym c.kind.ensures ∙ c.if-kind-node_kind.false ∙ c.node_kind.ensures) in
+    let s = of_kind h _ _ c.at.ensures.all c.ne.ensures c.if-ne.false c.node_kind.ensures in
     let searched = c.any_member.ensures s.members (held_members s.held)
     ∙ ap (λ z. any_of (is_the (pos z)) (to_list s.members)) c.neutral-z.ensures.0 in
     (finds_none s (drops c.args.sum) (sym searched ∙ c.if-any_member.false), refl, refl)

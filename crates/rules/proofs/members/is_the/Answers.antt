@@ -1,21 +1,28 @@
--- `rules::members::is_the`: the tree there is an integer where its record is of kind 0, and which one its bits tell.
+-- `rules::members::is_the`: the tree there is an integer where its record is of that kind, and which one its bits tell.
 use mathlib.Core.Path.{ap, ◌∙◌}
 use native.Mathlib.Omega.{arith}
-use borrow.Author.Tests.{ne_eqb}
 use lib.Dec.{eqb}
+use Rattle.paper.specs.Record.{kind}
+use Rattle.record.specs.declared.kinds.Kind.TheVariants.{Integer}
+use Rattle.record.proofs.KindLaws.{kind_is, kind_is_not}
 use Rattle.note.proofs.ToldLaws.{record_within}
 use Rattle.rules.proofs.Nodes.{other_kind, integer_kind}
 use Rattle.rules.proofs.members.is_the.Goals as goal
 
-pub kind-requires : goal.kind-requires
-kind-requires c = record_within c.requires.0.there
+pub at-requires : goal.at-requires
+at-requires c = record_within c.requires.0.there
 
 pub bits-requires : goal.bits-requires
 bits-requires c = record_within c.requires.0.there
 
-pub returns-then-kind-eq-INTEGER : goal.returns-then-kind-eq-INTEGER
-returns-then-kind-eq-INTEGER c =
-    λ t h. ap (λ n. eqb n c.args.z) c.bits.ensures ∙ integer_kind _ _ _ t h (omega arith) c.requires.1
+pub returns-then-eq : goal.returns-then-eq
+returns-then-eq c =
+    let g = c.args in
+    let is = kind_is _ Integer _ (kind g.s.now g.i) c.at.ensures.all c.eq.ensures c.if-eq.true in
+    λ t h. ap (λ n. eqb n g.z) c.bits.ensures ∙ integer_kind _ _ _ t h (omega (arith, is)) c.requires.1
 
-pub returns-else-kind-eq-INTEGER : goal.returns-else-kind-eq-INTEGER
-returns-else-kind-eq-INTEGER c = λ t h. ne_eqb _ _ c.if-kind-eq-INTEGER.false ∙ other_kind _ _ _ t h (omega arith)
+pub returns-else-eq : goal.returns-else-eq
+returns-else-eq c =
+    let g = c.args in
+    let other = kind_is_not _ Integer _ (kind g.s.now g.i) c.at.ensures.all c.eq.ensures c.if-eq.false in
+    λ t h. c.if-eq.false ∙ other_kind _ _ _ t h (omega (arith, other))

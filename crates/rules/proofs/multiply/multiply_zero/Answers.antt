@@ -11,8 +11,11 @@ use Rattle.paper.specs.Rules as paper
 use Rattle.paper.proofs.EncodeLaws.{records_pos}
 use Rattle.note.proofs.ToldLaws.{record_within, some_told}
 use Rattle.note.specs.Note.{note}
+use Rattle.record.specs.declared.kinds.Kind.TheVariants.{Product}
+use Rattle.split.proofs.SplitLaws.{kind_five}
 use Rattle.rules.specs.Asked.{Ready}
 use Rattle.rules.proofs.Dropping.{held_members}
+use Rattle.rules.proofs.RuleLaws.{told_is, told_is_not}
 use Rattle.rules.proofs.RuleLaws.{ready_tree, ready_length, ready_after, is_node_lem, zeroes, looks_elsewhere, finds, finds_none, zero_put}
 use Rattle.rules.proofs.multiply.multiply_zero.Goals as goal
 
@@ -25,15 +28,15 @@ record End (w : List ℕ) (p : ℕ) (t : Tree) (rest : List ℕ) (e : ℕ) : Typ
 end_of : {o w : List ℕ} {d p : ℕ} {t : Tree} {rest : List ℕ} {e : ℕ} → Ready o w d p t rest → e ≡ p + records t → End w p t rest e
 end_of {t = t} h e = record { is = e; some = omega (arith, e, records_pos t); within = omega (arith, e, ready_length h) }
 
-pub kind-requires : goal.kind-requires
-kind-requires c = record_within (ready_tree c.requires.2)
+pub at-requires : goal.at-requires
+at-requires c = record_within (ready_tree c.requires.2)
 
-pub returns-then-kind-ne-PRODUCT : goal.returns-then-kind-ne-PRODUCT
-returns-then-kind-ne-PRODUCT c = λ t rest h. (looks_elsewhere h zeroes (λ e. c.if-kind-ne-PRODUCT.true (c.kind.ensures ∙ e)), refl, refl)
+pub returns-then-ne : goal.returns-then-ne
+returns-then-ne c = λ t rest h. (looks_elsewhere h zeroes (told_is_not _ Product c.at.ensures.all c.ne.ensures c.if-ne.true), refl, refl)
 
 pub any_member-requires : goal.any_member-requires
 any_member-requires c =
-    let s = is_node_lem c.requires.2 false (sym c.kind.ensures ∙ c.if-kind-ne-PRODUCT.false) in
+    let s = is_node_lem c.requires.2 false (told_is (kind_five _ (ready_tree c.requires.2)) _ Product c.at.ensures.all c.ne.ensures c.if-ne.false) in
     ((s.members, held_members s.held), omega arith)
 
 pub mark-mark-requires : goal.mark-mark-requires
@@ -61,7 +64,7 @@ returns-then-any_member c =
     let q = c.skip_tree-q.result - 1 in
     let μ = c.mark-mark.result in
     λ t rest h.
-    let s = is_node_lem h false (sym c.kind.ensures ∙ c.if-kind-ne-PRODUCT.false) in
+    let s = is_node_lem h false (told_is (kind_five _ (ready_tree h)) _ Product c.at.ensures.all c.ne.ensures c.if-ne.false) in
     let e = end_of h (c.skip_tree-q.ensures note t (ready_tree h)) in
     let any = sym (c.any_member.ensures s.members (held_members s.held)) ∙ c.if-any_member.true in
     let place : (q + 1) * 16 ≡ (g.p + records t) * 16 = omega (arith, e.is, e.some) in (
@@ -74,5 +77,5 @@ returns-then-any_member c =
 pub returns : goal.returns
 returns c =
     λ t rest h.
-    let s = is_node_lem h false (sym c.kind.ensures ∙ c.if-kind-ne-PRODUCT.false) in
+    let s = is_node_lem h false (told_is (kind_five _ (ready_tree h)) _ Product c.at.ensures.all c.ne.ensures c.if-ne.false) in
     (finds_none s zeroes (sym (c.any_member.ensures s.members (held_members s.held)) ∙ c.if-any_member.false), refl, refl)

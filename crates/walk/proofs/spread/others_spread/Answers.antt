@@ -2,9 +2,10 @@
 use Rattle.std.proofs.Common.{◌≡◌, ◌+◌, ◌-◌, ◌<◌, subst, arith}
 use Rattle.paper.specs.Record.{count_in}
 use Rattle.note.proofs.ToldLaws.{record_within}
+use Rattle.rebuilt.proofs.IntegerTests.{ne_other, ne_integer}
 use Rattle.walk.proofs.SpreadLaws.{Adding, adding_start, adding_tree, added_other, added_integer, added_all}
 use Rattle.walk.proofs.spread.others_spread.Goals as goal
-use Rattle.walk.proofs.spread.others_spread.Goals.{then-kind-gt-INTEGER, else-kind-gt-INTEGER}
+use Rattle.walk.proofs.spread.others_spread.Goals.{then-ne, else-ne}
 
 pub overflow_add-at : goal.overflow_add-at
 overflow_add-at c = omega (arith, record_within c.requires.there)
@@ -17,8 +18,8 @@ loop-init c = λ how μ f h.
     let all : count_in c.args.s.now c.args.i ≡ c.count-end.result - 0 = omega (arith, c.count-end.ensures.0) in
     subst (λ n. Adding how c.args.s.now 0 (c.args.i + 1) n f) all (adding_start h)
 
-pub kind-requires : goal.kind-requires
-kind-requires c =
+pub at-requires : goal.at-requires
+at-requires c =
     let some = c.requires in
     record_within (adding_tree (c.loop.invariant some.how some.mark some.members some.there) (omega arith)).there
 
@@ -38,12 +39,14 @@ loop-preserved c = λ how μ f h.
     let l : 0 < c.count-end.result - c.loop.counter = omega arith in
     let next = c.skip_tree-at in
     let less : c.count-end.result - c.loop.counter - 1 ≡ c.count-end.result - (c.loop.counter + 1) = omega arith in
-    subst (λ n. Adding how c.args.s.now c.if-kind-gt-INTEGER.sum next.result n f) less
-    (elim c.if-kind-gt-INTEGER.branch [
-      | then-kind-gt-INTEGER w ↦
-          added_other inv l next.result (next.ensures how) (omega (arith, c.kind.ensures)) w.spread-sum.result (w.spread-sum.ensures how)
-          c.if-kind-gt-INTEGER.sum w.sum-is
-      | else-kind-gt-INTEGER w ↦ rw w.sum-is (added_integer inv l next.result (next.ensures how) (omega (arith, c.kind.ensures)))
+    subst (λ n. Adding how c.args.s.now c.if-ne.sum next.result n f) less
+    (elim c.if-ne.branch [
+      | then-ne w ↦
+          added_other inv l next.result (next.ensures how) (ne_other c.at.result _ c.at.ensures.all c.ne.ensures w.if-ne.true)
+          w.spread-sum.result (w.spread-sum.ensures how)
+          c.if-ne.sum w.sum-is
+      | else-ne w ↦ rw w.sum-is (added_integer inv l next.result (next.ensures how)
+          (omega (arith, ne_integer c.at.result _ c.at.ensures.all c.ne.ensures w.if-ne.false)))
     ])
 
 pub returns : goal.returns
