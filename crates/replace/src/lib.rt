@@ -87,7 +87,8 @@ fn twice(symbols: &[u8]) -> bool
     false
 }
 
-// The definition of each symbol + 1; 0 for one that is not defined. The last symbol comes first, so that the first of two stays.
+// The definition of each symbol + 1; 0 for one that is not defined: one byte for each symbol keeps the plan small. The last symbol comes first,
+// so that the first of two stays.
 fn which_of(symbols: &[u8]) -> [u8; SYMBOLS]
     requires { length symbols.now ≤ 16 }
     ensures { (x : ℕ) → x < 256 → get_or result x 0 ≡ place_from symbols.now x 0 (length symbols.now) }

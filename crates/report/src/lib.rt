@@ -46,7 +46,8 @@ pub fn lost(err: &mut impl Write, error: io::Error) {
     let _ = writeln!(err, "output was lost: {why}");
 }
 
-// Reads until the room is full, the input ends or a read fails, and answers how many bytes there are.
+// Reads until the room is full, the input ends or a read fails, and answers how many bytes there are. A read gives as many as it likes, so no
+// count of turns is known.
 pub fn read_full(input: &mut impl Read, room: &mut [u8]) -> usize
     ensures { result ≤ length room.new }
 {

@@ -146,7 +146,8 @@ fn all_free(area: &[u8], from: usize) -> bool
     true
 }
 
-// The first slot, by its number, that passes a test; none where none does.
+// The first slot, by its number, that passes a test; none where none does. It is a loop, since of `find` over the numbers it is not proved that
+// none before the answer passes.
 fn first_slot<F: Fn(usize) -> bool>(area: &[u8], passes: F) -> Option<usize>
     requires { (i : ℕ) → i < length area.now / 32 → F.pre passes i }
     ensures { (p : List ℕ → Bool) → TestsAs p area.now (F.post passes) → FirstSlot p area.now result }

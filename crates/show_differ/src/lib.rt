@@ -260,7 +260,8 @@ fn unread(err: &mut impl Write, name: &[u8], error: io::Error) {
     fail(err, name, error);
 }
 
-// Reads the file of this name, up to as many bytes as there is room for, and answers how many there are.
+// Reads the file of this name, up to as many bytes as there is room for, and answers how many there are. A read gives as many as it likes, so no
+// count of turns is known.
 fn read_file(files: &impl Files, name: &[u8], room: &mut [u8]) -> io::Result<usize>
     ensures { IfOk result (λ n. n ≤ length room.new) }
 {
