@@ -15,7 +15,7 @@ ghost use Rattle.driver.specs.Paused.{Call, Fell, Drivable, Drives, Midway, Resu
 use record::SIZE;
 use record::kinds::Kind;
 
-// A rule left the range, after so many steps were completed.
+// A rule left the range; `steps` were completed before it.
 #[derive(Clone, Copy)]
 pub struct LeftRange {
     pub steps: usize,

@@ -525,8 +525,8 @@ fn group_reads(text: &[u8], at: usize, k: usize) -> bool
     }
 }
 
-// One character of a text judged by blocks of k + 1 levels, `left` of the present block's levels lying deeper: so many do behind it, or none
-// where a group that begins a block is not read.
+// Judges character i of a text by blocks of k + 1 levels. `left` levels of the present block lie deeper; the answer is how many do after the
+// character, and none where it begins a block that cannot be read.
 fn turn(text: &[u8], i: usize, left: usize, k: usize) -> Option<usize>
     requires { (i < length text.now) × (left ≤ k) × (k < 2 ^ 63) }
     ensures { TurnIs text.now i left k result }

@@ -1,5 +1,5 @@
--- By the tests that the code makes, the coefficient n times the tree of k records is one of three members: with n = 1 the tree itself, but for
--- its mark; for a product the same with n after its members, one record more; for any other tree the product of n and the tree, two records
+-- The code's tests choose one of three members for the coefficient n times the tree of k records. With n = 1 it is the tree with another
+-- mark; for a product the same with n after its members, one record more; for any other tree the product of n and the tree, two records
 -- more (the laws of Becomes). The contract asks for room for that member, so there is room for the records that are written; and the
 -- function that is called puts that member there.
 use Rattle.std.proofs.Common.{◌≡◌, ◌-◌, refl, subst, arith}
