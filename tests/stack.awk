@@ -175,6 +175,12 @@ function step_arm(f, n, h, m, o,    a, pages, t) {
         pages = sub(/, lsl #12$/, "", a)
         probe = h + hex(a) * (pages ? 4096 : 1)
     }
+    else if (m == "sub" && o ~ /^x9, x9, #0x[0-9a-f]+(, lsl #12)?$/) {
+        a = o
+        sub(/^x9, x9, #/, "", a)
+        pages = sub(/, lsl #12$/, "", a)
+        probe += hex(a) * (pages ? 4096 : 1)
+    }
     # moved by a store or a load: before it, or behind it
     else if (match(o, /\[sp, #-?0x[0-9a-f]+\]!$/)) after = h - hex(substr(o, RSTART + 6, RLENGTH - 8))
     else if (match(o, /\[sp\], #-?0x[0-9a-f]+$/)) after = h - hex(substr(o, RSTART + 7))

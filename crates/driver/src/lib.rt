@@ -1,7 +1,7 @@
 // The driver: at a node the rules of an edition are asked, then the members are driven and gathered, and it begins again while anything changes.
 #![tactic(auto)]
 
-ghost use Rattle.std.specs.Prelude.{◌≡◌, List, ℕ, ◌+◌, ◌*◌, ◌^◌, ◌≤◌, ◌<◌, ◌&&◌, length, eqb, MatchResult, IfOk};
+ghost use Rattle.std.specs.Prelude.{◌≡◌, List, ℕ, ◌+◌, ◌*◌, ◌^◌, ◌≤◌, ◌<◌, ◌&&◌, length, eqb, MatchResult, IfOk, IfErr};
 ghost use Rattle.paper.specs.Record.{kind, is_node, arity};
 ghost use Rattle.paper.specs.Tree.{Tree};
 ghost use Rattle.paper.specs.Rules.{rules_of};
@@ -236,7 +236,7 @@ fn drive_tree(w: &mut Driver) -> Result<usize, LeftRange>
     Ok(end)
 }
 
-// The same, of areas and a place that are lent.
+// The same, of areas and a place that are lent. Where a rule left the range the place, too, has the steps noted.
 pub fn drive(
     out: &mut [u8],
     work: &mut [u8],
@@ -244,8 +244,9 @@ pub fn drive(
     st: &mut Stand,
 ) -> Result<usize, LeftRange>
     requires { Drivable out.old work.old steps.old st.old }
-    ensures { Drives out.old work.old steps.old st.old
+    ensures drives { Drives out.old work.old steps.old st.old
         out.new work.new steps.new st.new result }
+    ensures noted { IfErr result (λ l. st.new.noted ≡ l.steps) }
 {
     let mut driver = Driver {
         out,
@@ -255,6 +256,9 @@ pub fn drive(
     };
     let driven = drive_tree(&mut driver);
     *st = driver.stand;
+    if let Err(left) = driven {
+        st.noted = left.steps;
+    }
     driven
 }
 

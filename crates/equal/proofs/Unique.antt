@@ -1,22 +1,16 @@
 -- Two answers that meet the contract of the equality test, as the check reads it from the source, are the same: the contract gives the
--- paper's answer, whose number is never the one that two refusals have. So are two of the comparisons inside: trees stand at the records, and the
+-- paper's answer. So are two of the comparisons inside: trees stand at the records, and the
 -- answer is the paper's of those trees. Of the ticks nothing is said.
-use Prim.Native.Nat.{ℕ}
 use mathlib.Core.Path.{◌≡◌, sym, ap, ◌∙◌}
-use mathlib.Core.Bool.{Bool, true, false, cond}
-use mathlib.Core.List.{List}
+use mathlib.Core.Bool.{Bool}
 use native.Mathlib.Omega.{arith}
 use Rattle.std.specs.Prelude.{Result, Ok, Err}
-use Rattle.paper.specs.Limits.{is_limit}
-use Rattle.paper.specs.Record.{sound}
-use Rattle.paper.specs.Table.{tree_of}
-use Rattle.paper.specs.Verdict.{Verdict, told, refused, is_accepted, verdict}
+use Rattle.paper.specs.Verdict.{Verdict, told}
 use Rattle.paper.specs.Answers as paper
-use Rattle.paper.specs.Answers.{compared, compared_tables, turned_down_compared, equal_trees}
 use Rattle.paper.specs.Once.{Once}
 use Rattle.table.specs.declared.refusals.Refused.{Refused}
 use Rattle.table.proofs.RefusalLaws.{some_number}
-use Rattle.table.proofs.Unique.{refused_told, verdict_other}
+use Rattle.table.proofs.Unique.{refused_told}
 use Rattle.equal.specs.Compared.{says}
 use Rattle.equal.proofs.equal.Reads as reads
 use Rattle.equal.proofs.equal.Kinds as kinds
@@ -31,36 +25,20 @@ use Rattle.equal.proofs.rests_differ.Kinds as rests-differ-kinds
 use Rattle.equal.proofs.same_rest.Reads as same_rest
 use Rattle.equal.proofs.same_rest.Kinds as same-rest-kinds
 
--- no answer has number 8
-either_other : (l p q : Bool) (w x y z : paper.Compared) → (w.number ≡ 8 → ⊥) → (x.number ≡ 8 → ⊥) → (y.number ≡ 8 → ⊥) → (z.number ≡ 8 → ⊥)
-    → (cond l (cond p (cond q w x) y) z).number ≡ 8 → ⊥
-either_other true true true w x y z g h i k = g
-either_other true true false w x y z g h i k = h
-either_other true false q w x y z g h i k = i
-either_other false p q w x y z g h i k = k
-
-compared_other : (lim : ℕ) (a b : List ℕ) → (compared lim a b).number ≡ 8 → ⊥
-unfolding compared compared_tables turned_down_compared
-compared_other lim a b =
-    either_other (is_limit lim) (is_accepted (verdict lim a)) (is_accepted (verdict lim b))
-    (record { number = 0; place = 0; flaw = sound; which = 0; yes = equal_trees (tree_of a) (tree_of b) })
-    (turned_down_compared (verdict lim b) 2) (turned_down_compared (verdict lim a) 1) (turned_down_compared (refused 19 0) 0)
-    (λ (e : 0 ≡ 8). omega arith) (verdict_other lim b) (verdict_other lim a) (λ (e : 19 ≡ 8). omega arith)
-
 said : paper.Compared → Verdict
 said d = told d.number d.place d.flaw
 
-says_once : (r r' : Result Bool Refused) (d : paper.Compared) → (d.number ≡ 8 → ⊥) → says r ≡ d → says r' ≡ d → r ≡ r'
+says_once : (r r' : Result Bool Refused) (d : paper.Compared) → says r ≡ d → says r' ≡ d → r ≡ r'
 unfolding said
-says_once (Ok n) (Ok m) d h e q = ap (λ (x : paper.Compared). Ok x.yes) (e ∙ sym q)
-says_once (Ok n) (Err r) d h e q = absurd (omega (arith, some_number r.refusal, ap (λ (x : paper.Compared). x.number) (e ∙ sym q)))
-says_once (Err r) (Ok n) d h e q = absurd (omega (arith, some_number r.refusal, ap (λ (x : paper.Compared). x.number) (e ∙ sym q)))
-says_once (Err r) (Err r') d h e q =
-    ap Err (refused_told r r' (λ n. h (ap (λ (x : paper.Compared). x.number) (sym e) ∙ n)) (ap said (e ∙ sym q))
+says_once (Ok n) (Ok m) d e q = ap (λ (x : paper.Compared). Ok x.yes) (e ∙ sym q)
+says_once (Ok n) (Err r) d e q = absurd (omega (arith, some_number r.refusal, ap (λ (x : paper.Compared). x.number) (e ∙ sym q)))
+says_once (Err r) (Ok n) d e q = absurd (omega (arith, some_number r.refusal, ap (λ (x : paper.Compared). x.number) (e ∙ sym q)))
+says_once (Err r) (Err r') d e q =
+    ap Err (refused_told r r' (ap said (e ∙ sym q))
     (ap (λ (x : paper.Compared). x.which) (e ∙ sym q)))
 
 pub equal_once : Once 2 kinds.ps kinds.r reads.Pre reads.Post
-equal_once κs a v v' x x' q p p' = says_once v v' _ (compared_other _ _ _) p p'
+equal_once κs a v v' x x' q p p' = says_once v v' _ p p'
 
 pub same_tree_once : Once 3 same-tree-kinds.ps same-tree-kinds.r same_tree.Pre same_tree.Post
 same_tree_once κs a v v' x x' q p p' =

@@ -7,14 +7,14 @@ use mathlib.Core.Bool.{Bool, true, false, cond}
 use mathlib.Core.List.{List}
 use native.Mathlib.Omega.{arith}
 use Rattle.std.specs.Prelude.{Result}
-use Rattle.paper.specs.Limits.{is_limit, max_bytes}
+use Rattle.paper.specs.Limits.{is_limit}
 use Rattle.paper.specs.Once.{Once, OnceLeft}
-use Rattle.paper_receiver.specs.Receiver.{is_short, is_past, Held, Receipt, received, finish_verdict}
+use Rattle.paper_receiver.specs.Receiver.{is_short, Held, Receipt, received, finish_verdict}
 use Rattle.paper_receiver.specs.Receiver as paper
 use Rattle.table.specs.declared.refusals.Refusal.{Refusal}
 use Rattle.table.specs.Refusals.{stands_for}
 use Rattle.table.proofs.RefusalLaws.{Plain, stands_plain}
-use Rattle.table.proofs.Unique.{stands_once, cond_other, verdict_other}
+use Rattle.table.proofs.Unique.{stands_once}
 use Rattle.receiver.specs.declared.Receiver.{Receiver}
 use Rattle.receiver.specs.Receiving.{says, gives}
 use Rattle.receiver.proofs.after_piece.Reads as after-piece-reads
@@ -26,15 +26,15 @@ use Rattle.receiver.proofs.at_finish.Kinds as at-finish-kinds
 abbrev record_of : paper.Receiver → Receiver
 record_of r = record { count = r.count; past = r.past }
 
--- no answer to a piece has a number but 0, 6 and 19, and none at the finish has number 8
+-- no answer to a piece has a number but 0, 6 and 19
 none_plain : Plain 0
-none_plain = record { flawed = λ e. omega arith; shape = λ e. omega arith; exponent = λ e. omega arith; range = λ e. omega arith; lists = λ e. omega arith }
+none_plain = record { flawed = λ e. omega arith; shape = λ e. omega arith; exponent = λ e. omega arith; range = λ e. omega arith }
 
 room_plain : Plain 6
-room_plain = record { flawed = λ e. omega arith; shape = λ e. omega arith; exponent = λ e. omega arith; range = λ e. omega arith; lists = λ e. omega arith }
+room_plain = record { flawed = λ e. omega arith; shape = λ e. omega arith; exponent = λ e. omega arith; range = λ e. omega arith }
 
 limit_plain : Plain 19
-limit_plain = record { flawed = λ e. omega arith; shape = λ e. omega arith; exponent = λ e. omega arith; range = λ e. omega arith; lists = λ e. omega arith }
+limit_plain = record { flawed = λ e. omega arith; shape = λ e. omega arith; exponent = λ e. omega arith; range = λ e. omega arith }
 
 cond_plain : (b : Bool) (x y : Receipt) → Plain x.number → Plain y.number → Plain (cond b x y).number
 cond_plain true x y h k = h
@@ -44,27 +44,19 @@ received_plain : (lim : ℕ) (x : Held) (p : List ℕ) → Plain (received lim x
 unfolding received
 received_plain lim x p = cond_plain (is_limit lim) _ _ (cond_plain (is_short lim x.area) _ _ room_plain none_plain) limit_plain
 
-finish_other : (lim : ℕ) (x : Held) → (finish_verdict lim x).number ≡ 8 → ⊥
-unfolding finish_verdict
-finish_other lim x =
-    cond_other (is_limit lim) _ _
-    (cond_other (is_short lim x.area) _ _ (λ (e : 6 ≡ 8). omega arith)
-    (cond_other (is_past (max_bytes lim) x.state) _ _ (λ (e : 1 ≡ 8). omega arith) (verdict_other lim _)))
-    (λ (e : 19 ≡ 8). omega arith)
-
 -- what `take` says: answer, record and area
 pub took_once : (lim : ℕ) (x : Held) (p : List ℕ) (t t' : Result (Unit {0}) Refusal) (r r' : Receiver) (area area' : List ℕ)
     → gives t r area ≡ received lim x p → gives t' r' area' ≡ received lim x p → (t ≡ t') × ((r ≡ r') × (area ≡ area'))
 took_once lim x p t t' r r' area area' e e' =
     let plain = received_plain lim x p in (
-      stands_once t t' _ plain.lists (stands_plain t _ plain (ap (λ (y : Receipt). y.number) e)) (stands_plain t' _ plain (ap (λ (y : Receipt). y.number) e')),
+      stands_once t t' _ (stands_plain t _ plain (ap (λ (y : Receipt). y.number) e)) (stands_plain t' _ plain (ap (λ (y : Receipt). y.number) e')),
       (ap (λ (y : Receipt). record_of y.held.state) (e ∙ sym e'), ap (λ (y : Receipt). y.held.area) (e ∙ sym e')),
     )
 
 -- what `finish` says: answer and record
 pub finished_once : (lim : ℕ) (x : Held) (t t' : Result (Unit {0}) Refusal) (r r' : Receiver) (s : paper.Receiver)
     → (stands_for t ≡ finish_verdict lim x) × (says r ≡ s) → (stands_for t' ≡ finish_verdict lim x) × (says r' ≡ s) → (t ≡ t') × (r ≡ r')
-finished_once lim x t t' r r' s q q' = (stands_once t t' _ (finish_other lim x) q.0 q'.0, ap record_of (q.1 ∙ sym q'.1))
+finished_once lim x t t' r r' s q q' = (stands_once t t' _ q.0 q'.0, ap record_of (q.1 ∙ sym q'.1))
 
 pub after_piece_once : OnceLeft 2 after-piece-kinds.ps after-piece-kinds.r after-piece-reads.Pre after-piece-reads.Post (List ℕ) (λ κs x. x.1.1.0.now)
 after_piece_once κs a v v' x x' q p p' =

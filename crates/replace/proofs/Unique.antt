@@ -10,7 +10,7 @@ use denote.Triple.Clauses.{AtExit}
 use Rattle.paper.specs.Once.{OnceLeft}
 use Rattle.std.specs.Prelude.{Result, Ok, Err}
 use Rattle.table.specs.declared.refusals.Refusal.{Refusal}
-use Rattle.table.specs.Refusals.{verdict_of}
+use Rattle.table.proofs.Unique.{refusal_told}
 use Rattle.paper_shared.specs.Answers.{Handed, Opening, turned_away, opens, opening}
 use Rattle.replace.specs.Planned.{handed, Planned}
 use Rattle.replace.specs.declared.Plan.{Plan}
@@ -29,15 +29,15 @@ open_records_once κs a v v' x x' q p p' =
     let g = p' q.0 q.1 q.2 q.3 q.4 in
     (f.end ∙ sym g.end, f.there ∙ sym g.there)
 
--- what two answers have in common: both are the same refusal's, or both plan the same weight
+-- what two answers have in common: both are the same refusal, or both plan the same weight
 abbrev pub Agree : Result Plan Refusal → Result Plan Refusal → Type 0
 Agree (Ok p) (Ok q) = p.weight ≡ q.weight
 Agree (Ok p) (Err r) = ⊥
 Agree (Err r) (Ok p) = ⊥
-Agree (Err r) (Err q) = verdict_of r ≡ verdict_of q
+Agree (Err r) (Err q) = r ≡ q
 
 agree : (lim : ℕ) (h : Handed) (o : Opening) (p q : Result Plan Refusal) → Planned lim h o p → Planned lim h o q → Agree p q
-agree lim h (turned_away v) (Err r) (Err q) f g = f ∙ sym g
+agree lim h (turned_away v) (Err r) (Err q) f g = refusal_told r q (f ∙ sym g)
 agree lim h (turned_away v) (Err r) (Ok q) f g = g
 agree lim h (turned_away v) (Ok p) q f g = absurd f
 agree lim h (opens v) (Ok p) (Ok q) f g = f.weighs ∙ sym g.weighs

@@ -272,7 +272,7 @@ pub fn prepare(
         return Err(Refusal::Limit);
     }
     if misses(symbols, lengths, definitions) {
-        return Err(Refusal::Lengths);
+        return Err(Refusal::Lists);
     }
     table::check(limit, table)?;
     let n = symbols.len();

@@ -17,7 +17,7 @@ use Rattle.paper_settings.specs.Settings as paper
 use Rattle.table.specs.Refusals.{number_of}
 use Rattle.table.specs.declared.refusals.Refusal.{Refusal}
 use Rattle.table.specs.declared.refusals.Refusal.TheVariants.{Length, Record, Heavy, Shape, Exponent, Room, Range, Lists, Edition, Newer, Disorder}
-use Rattle.table.specs.declared.refusals.Refusal.TheVariants.{Absent, Full, NoText, Lengths, Definition, Defined, Endless, TooHeavy, Limit}
+use Rattle.table.specs.declared.refusals.Refusal.TheVariants.{Absent, Full, NoText, Definition, Defined, Endless, TooHeavy, Limit}
 use Rattle.table.proofs.RefusalLaws.{some_number}
 use Rattle.settings.specs.declared.Shown.{Shown}
 use Rattle.settings.specs.Shown.{number_in, says, says_1}
@@ -50,7 +50,6 @@ numbered_lem (Range n) l m = absurd (omega arith)
 numbered_lem Lists l m = absurd (omega arith)
 numbered_lem Edition l m = absurd (omega arith)
 numbered_lem NoText l m = absurd (omega arith)
-numbered_lem Lengths l m = absurd (omega arith)
 numbered_lem Definition l m = absurd (omega arith)
 numbered_lem Defined l m = absurd (omega arith)
 numbered_lem Endless l m = absurd (omega arith)

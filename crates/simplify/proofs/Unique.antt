@@ -4,9 +4,7 @@
 -- in. Of `simplify_in` so are the answer, `out` and `steps`.
 use Prim.Native.Nat.{ℕ}
 use mathlib.Core.Path.{◌≡◌, sym, ap, ◌∙◌}
-use mathlib.Core.Bool.{Bool, true, false, cond}
 use mathlib.Core.List.{List}
-use native.Mathlib.Omega.{arith}
 use borrow.Fn.Kinds.{ended_of}
 use contract.Lifetimes.{Lfts}
 use denote.Triple.Clauses.{AtExit}
@@ -17,10 +15,8 @@ use Rattle.std.specs.Prelude.{Option}
 use Rattle.record.specs.declared.Flaw.{Flaw}
 use Rattle.record.proofs.Unique.{code_of, code_of_lem, flaw_of_lem}
 use Rattle.simplify.specs.declared.Answer.{Answer}
-use Rattle.simplify.specs.Answer.{says, lent, call_number}
+use Rattle.simplify.specs.Answer.{says, lent}
 use Rattle.table.proofs.Unique.{stands_once}
-use Rattle.paper.specs.Limits.{is_limit}
-use Rattle.paper.specs.Rules.{is_edition}
 use Rattle.simplify.proofs.simplify.Reads as reads
 use Rattle.simplify.proofs.simplify.Kinds as kinds
 use Rattle.simplify.proofs.refused.Reads as refused-reads
@@ -94,18 +90,8 @@ refused_once κs a v v' x x' q p p' = says_once v v' (p ∙ sym p')
 pub answer_numbers_once : Once 0 answer-numbers-kinds.ps answer-numbers-kinds.r answer-numbers-reads.Pre answer-numbers-reads.Post
 answer_numbers_once κs a v v' x x' q p p' = p ∙ sym p'
 
--- neither limit nor edition has number 8
-call_other : (lim ed : ℕ) → call_number lim ed ≡ 8 → ⊥
-unfolding call_number
-call_other lim ed e = go (is_limit lim) (is_edition ed) e
-  where
-    go : (b c : Bool) → ◌≡◌ {A = ℕ} (cond b (cond c 0 9) 19) 8 → ⊥
-    go false c e = omega arith
-    go true false e = omega arith
-    go true true e = omega arith
-
 pub judge_call_once : Once 0 judge-call-kinds.ps judge-call-kinds.r judge-call-reads.Pre judge-call-reads.Post
-judge_call_once κs a v v' x x' q p p' = stands_once v v' _ (call_other _ _) p p'
+judge_call_once κs a v v' x x' q p p' = stands_once v v' _ p p'
 
 pub is_cramped_once : Once 0 is-cramped-kinds.ps is-cramped-kinds.r is-cramped-reads.Pre is-cramped-reads.Post
 is_cramped_once κs a v v' x x' q p p' = p ∙ sym p'

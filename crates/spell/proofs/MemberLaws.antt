@@ -10,7 +10,7 @@ use Rattle.paper_text.specs.Text.{Place, needs, enclosed, text, joined, others}
 use Rattle.paper.specs.Standing.{TreeIn, TreesIn, SomeTree, SomeTrees}
 use Rattle.paper.proofs.StandingLaws.{first_of, none_of}
 use Rattle.stretch.proofs.Laws.{put_none}
-use Rattle.spell.specs.Spelt.{Spelt}
+use Rattle.spell.specs.declared.Spelt.{Spelt}
 use Rattle.spell.specs.Spelt.{Put, TextPut, least_rank, Roomy}
 use Rattle.spell.proofs.PutLaws.{then_put}
 use Rattle.spell.proofs.LongLaws.{room_after}

@@ -21,7 +21,7 @@ use Rattle.paper.proofs.EncodeLaws.{signed_word}
 use Rattle.paper.proofs.Seen.{seen_kind, seen_integer, seen_symbol, seen_sum, seen_product, seen_power}
 use Rattle.paper.proofs.StandingLaws.{tree_within, record_within, seen, sum_trees, product_trees, power_tree}
 use Rattle.decimal.specs.Digits.{NumberSpelt}
-use Rattle.spell.specs.Spelt.{Spelt}
+use Rattle.spell.specs.declared.Spelt.{Spelt}
 use Rattle.spell.specs.Spelt.{Put, TextPut, least_rank, Roomy}
 use Rattle.spell.proofs.PutLaws.{then_put, digits_put}
 use Rattle.spell.proofs.LongLaws.{room_after}

@@ -3,17 +3,13 @@ use Rattle.std.specs.Prelude.{ℕ, ◌+◌, ◌-◌, ◌*◌, ◌^◌, ◌≤◌
 use Rattle.paper.specs.Verdict.{records_in}
 use Rattle.paper_text.specs.Text.{Place, in_sum, in_product, as_base}
 use Rattle.stretch.specs.Put.{put}
+use Rattle.spell.specs.declared.Spelt.{Spelt}
 use Rattle.spell.specs.declared.Writer.{Writer}
 
 -- the characters p stand from `at` on, where they lie in the area; e is the place after them
 pub record Put (p o : List ℕ) (at : ℕ) (o' : List ℕ) (e : ℕ) : Type 0 where
   pub end : e ≡ at + length p
   pub put_there : at + length p ≤ length o → o' ≡ put o at p
-
--- the record after what is spelt, and the place after its text
-pub record Spelt : Type 0 where
-  pub next : ℕ
-  pub end : ℕ
 
 -- the same of the text p of what takes n records from record i on
 pub record TextPut (i n : ℕ) (p o : List ℕ) (at : ℕ) (o' : List ℕ) (r : Spelt) : Type 0 where

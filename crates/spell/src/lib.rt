@@ -22,6 +22,13 @@ struct Writer<'a> {
     end: usize,
 }
 
+// The record after what is spelt, and the place after its text.
+#[derive(Clone, Copy, PartialEq, Eq)]
+pub struct Spelt {
+    pub next: usize,
+    pub end: usize,
+}
+
 // The ranks of trees: a symbol or an integer from 0; a negative integer or a power; a product; a sum.
 #[derive(Clone, Copy, PartialEq, Eq, PartialOrd, Ord)]
 enum Rank {
@@ -157,10 +164,10 @@ fn tree_at(s: &&[u8], w: &mut Writer)
     }
 }
 
-// The tree at record i, from place `at` on: the place after its text.
-pub fn spell(s: &[u8], i: usize, out: &mut [u8], at: usize) -> usize
+// The tree at record i, from place `at` on: the record after it, and the place after its text.
+pub fn spell(s: &[u8], i: usize, out: &mut [u8], at: usize) -> Spelt
     requires { SomeTree s.now i × Roomy s.now i (at - 1) }
-    ensures { (t : Tree) → TreeIn s.now i t → Put (text t) out.old at out.new result }
+    ensures { (t : Tree) → TreeIn s.now i t → TextPut i (records t) (text t) out.old at out.new result }
 {
     let mut w = Writer {
         out,
@@ -168,7 +175,10 @@ pub fn spell(s: &[u8], i: usize, out: &mut [u8], at: usize) -> usize
         end: at,
     };
     tree_at(&s, &mut w);
-    w.end
+    Spelt {
+        next: w.next,
+        end: w.end,
+    }
 }
 
 // How long the text of the tree at record 0 is.
@@ -177,5 +187,6 @@ pub fn measure(s: &[u8]) -> usize
     ensures { (t : Tree) → TreeIn s.now 0 t → result ≡ length (text t) }
 {
     let mut none = [0u8; 1];
-    spell(s, 0, &mut none, 0)
+    let spelt = spell(s, 0, &mut none, 0);
+    spelt.end
 }

@@ -1,12 +1,13 @@
 -- The algebra of `part` and `put`. A put is a front, `take a d ++ s`, before what is left of the list; from that, what stands before
 -- a put, in it and past it is read off, and two puts side by side are one. What the library's methods leave is a put too.
-use Prim.Native.Nat.{ℕ, ◌+◌, ◌-◌, ◌≤◌, ◌<◌}
+use Prim.Native.Nat.{ℕ, suc, ◌+◌, ◌-◌, ◌≤◌, ◌<◌}
 use mathlib.Core.Path.{◌≡◌, refl, sym, ap, ◌∙◌}
-use mathlib.Core.List.{List, [], ◌++◌, append_assoc}
+use mathlib.Core.List.{List, [], ◌∷◌, ◌++◌, append_assoc}
+use native.Mathlib.Numerals.{add-one}
 use native.Mathlib.Nat.{add-zero}
 use native.Mathlib.Omega.{arith}
-use lib.ListN.{length, take, drop, get_or, length-append, length-drop, take-append-drop}
-use lib.Seq.{length-take-le, get_or-take, get_or-drop, take-take, take-append-le, take_at, take_all}
+use lib.ListN.{length, take, drop, get_or, set, length-append, length-drop, take-append-drop}
+use lib.Seq.{length-take-le, get_or-take, get_or-drop, drop-cons, set_split, take-take, take-append-le, take_at, take_all}
 use lib.Seq.{drop-drop, drop_at, paste}
 use borrow.Rule.Slice.PartMut.{put_mid}
 use Rattle.stretch.specs.Put.{part, put}
@@ -78,7 +79,28 @@ put_put d a s b t e h =
     ∙ rw (take_put_end d a s b e (omega arith), drop_put d a s (b + length t) (omega arith) (omega arith), put_is d a (s ++ t), k)
     (simp append_assoc)
 
--- ---- a part of all, and a put of nothing
+put_put_left : (d : List ℕ) (a : ℕ) (s : List ℕ) (b : ℕ) (t : List ℕ) → b ≡ a + length s → b + length t ≤ length d
+    → put (put d b t) a s ≡ put d a (s ++ t)
+put_put_left d a s b t e h =
+    let k : a + length (s ++ t) ≡ b + length t = rw length-append (omega arith) in
+    put_is (put d b t) a s
+    ∙ rw (take_put d b t a (omega arith) (omega arith), sym e, drop_put_at d b t (omega arith), put_is d a (s ++ t), k)
+    (simp append_assoc)
+
+-- ---- a store is a put of one byte
+put_one : (d : List ℕ) (a v : ℕ) → a < length d → set d a v ≡ put d a (v ∷ [])
+put_one d a v h = set_split d a v h ∙ rw (put_is, add-one)
+
+put_front : (d : List ℕ) (a : ℕ) (s : List ℕ) (v : ℕ) → a + suc (length s) ≤ length d → set (put d (suc a) s) a v ≡ put d a (v ∷ s)
+put_front d a s v h =
+    put_one (put d (suc a) s) a v (omega (arith, length_put d (suc a) s (omega arith)))
+    ∙ put_put_left d a (v ∷ []) (suc a) s (sym (add-one a)) (omega arith)
+
+-- ---- a part of no byte, of all, and of one byte more at its front; and a put of nothing
+pub part_none : (d : List ℕ) (a : ℕ) → part d a 0 ≡ []
+unfolding part
+part_none d a = refl
+
 pub part_whole : (s : List ℕ) (n : ℕ) → length s ≡ n → part s 0 n ≡ s
 unfolding part
 part_whole s n e = take_all n s (omega arith)
@@ -97,3 +119,26 @@ part_to d a n k e = rw (e, part_is) refl
 
 pub placed : (d : List ℕ) (a n k : ℕ) (s t : List ℕ) → s ≡ t → k ≡ n → length t ≡ n → put_mid a k d s ≡ put d a t
 placed d a n k s t e q l = rw (put_is, e, q, l) (ap (λ (x : List ℕ). take a d ++ (t ++ x)) (drop-drop n a d))
+
+-- ---- a turn of the loop that shifts to the right
+part_front : (d : List ℕ) (a n : ℕ) → a < length d → part d a (suc n) ≡ get_or d a 0 ∷ part d (suc a) n
+unfolding part
+part_front d a n h = rw (drop-cons d a 0 h)
+
+-- to the right, what is read lies before it
+pub right_turn : (d : List ℕ) (a f n j : ℕ) → f ≤ a → 0 < j → j ≤ n → a + n ≤ length d
+    → set (put d (a + j) (part d (f + j) (n - j))) (a + (j - 1)) (get_or (put d (a + j) (part d (f + j) (n - j))) (f + (j - 1)) 0)
+    ≡ put d (a + (j - 1)) (part d (f + (j - 1)) (n - (j - 1)))
+right_turn d a f n j le p q h =
+    let ea : a + j ≡ suc (a + (j - 1)) = omega arith in
+    let ef : f + j ≡ suc (f + (j - 1)) = omega arith in
+    let en : n - (j - 1) ≡ suc (n - j) = omega arith in
+    let l : length (part d (suc (f + (j - 1))) (n - j)) ≡ n - j = length_part d (suc (f + (j - 1))) (n - j) (omega arith) in
+    rw (
+      get_d_put_before d (a + j) (part d (f + j) (n - j)) (f + (j - 1)) (omega arith) (omega arith),
+      ea,
+      ef,
+      en,
+      part_front d (f + (j - 1)) (n - j) (omega arith),
+    )
+    (put_front d (a + (j - 1)) (part d (suc (f + (j - 1))) (n - j)) (get_or d (f + (j - 1)) 0) (omega arith))

@@ -28,12 +28,16 @@ pub fn shift_left(d: &mut [u8], to: usize, from: usize, n: usize)
     shift(d, to, from, n);
 }
 
-// Shifts the n bytes from `from` on to the right, or not at all.
+// Shifts the n bytes from `from` on to the right, or not at all: the highest first, so that none is written over before it is read. It is a
+// loop, and no `shift`: where a caller shifts by a constant the compiler makes a memmove of it, and a text of nested powers is read in half
+// the instructions.
 pub fn shift_right(d: &mut [u8], to: usize, from: usize, n: usize)
     requires { (from ≤ to) × (to + n ≤ length d.old) }
     ensures { d.new ≡ put d.old to (part d.old from n) }
 {
-    shift(d, to, from, n);
+    for j in (0..n).rev() {
+        d[to + j] = d[from + j];
+    }
 }
 
 // Sets n bytes from `at` on to 0.

@@ -10,7 +10,7 @@ use Rattle.paper.specs.Answers as paper
 use Rattle.paper.specs.Answers.{measured}
 use Rattle.table.specs.declared.refusals.Refusal.{Refusal}
 use Rattle.table.specs.declared.refusals.Refusal.TheVariants.{Length, Record, Heavy, Shape, Exponent, Room, Range, Lists, Edition, Newer, Disorder}
-use Rattle.table.specs.declared.refusals.Refusal.TheVariants.{Absent, Full, NoText, Lengths, Definition, Defined, Endless, TooHeavy, Limit}
+use Rattle.table.specs.declared.refusals.Refusal.TheVariants.{Absent, Full, NoText, Definition, Defined, Endless, TooHeavy, Limit}
 use Rattle.table.specs.Refusals.{number_of, verdict_of, stands_for, says}
 
 pub not_accepted : (r : Refusal) → is_accepted (verdict_of r) ≡ false
@@ -29,7 +29,6 @@ not_accepted Disorder = refl
 not_accepted Absent = refl
 not_accepted Full = refl
 not_accepted NoText = refl
-not_accepted Lengths = refl
 not_accepted Definition = refl
 not_accepted Defined = refl
 not_accepted Endless = refl
@@ -55,13 +54,12 @@ unfolding measured
 says_verdict v w (Ok n) e = ap (λ (m : paper.Measured). told m.number m.place m.flaw) e
 says_verdict v w (Err r) e = ap (λ (m : paper.Measured). told m.number m.place m.flaw) e
 
--- the number of a refusal that has neither a place nor a flaw, and is the only one of this number; or none
+-- the number of a refusal that has neither a place nor a flaw; or none
 pub record Plain (n : ℕ) : Type 0 where
   pub flawed : n ≡ 2 → ⊥
   pub shape : n ≡ 4 → ⊥
   pub exponent : n ≡ 5 → ⊥
   pub range : n ≡ 7 → ⊥
-  pub lists : n ≡ 8 → ⊥
 
 placeless : (r : Refusal) → Plain (number_of r) → verdict_of r ≡ refused (number_of r) 0
 placeless Length h = refl
@@ -78,7 +76,6 @@ placeless Disorder h = refl
 placeless Absent h = refl
 placeless Full h = refl
 placeless NoText h = refl
-placeless Lengths h = refl
 placeless Definition h = refl
 placeless Defined h = refl
 placeless Endless h = refl

@@ -1,27 +1,25 @@
 -- Two answers that meet the contract of `check`, `weight`, `weight_of`, `is_limit`, `is_due`, `turn`
 -- or of a refusal's number, place or flaw, as the check reads it from the source, are the same. The paper's number, place and flaw tell a refusal
--- from every other, but for the two that have number 8; the weight is one number, and yes or no is one.
+-- from every other; the weight is one number, and yes or no is one.
 use Prim.Native.Nat.{ℕ}
 use mathlib.Core.Path.{◌≡◌, refl, sym, ap, ap₂, ◌∙◌}
-use mathlib.Core.Bool.{Bool, true, false, cond}
+use mathlib.Core.Bool.{cond}
 use mathlib.Core.List.{List}
 use native.Mathlib.Omega.{arith}
 use lib.Dec.{eqb}
 use Rattle.std.specs.Prelude.{Some, Result, Ok, Err}
-use Rattle.paper.specs.Limits.{is_limit}
 use Rattle.paper.specs.Record as paper-record
-use Rattle.paper.specs.Verdict.{Verdict, verdict, judged_table, judge_records}
+use Rattle.paper.specs.Verdict.{Verdict}
 use Rattle.paper.specs.Answers as paper
-use Rattle.paper.specs.Answers.{measured, weighed}
 use Rattle.paper.specs.Once.{Once, OnceLeft}
 use Rattle.record.specs.declared.Flaw.{Flaw}
 use Rattle.record.specs.declared.Flaw.TheVariants.{Kind, Byte, Count}
 use Rattle.record.specs.Flaw.{flaw_of}
-use Rattle.table.specs.Refusals.{number_of, stands_for, which_of}
+use Rattle.table.specs.Refusals.{stands_for, which_of}
 use Rattle.table.specs.Refusals as refusals
 use Rattle.table.specs.declared.refusals.Refusal.{Refusal}
 use Rattle.table.specs.declared.refusals.Refusal.TheVariants.{Length, Record, Heavy, Shape, Exponent, Room, Range, Lists, Edition, Newer, Disorder}
-use Rattle.table.specs.declared.refusals.Refusal.TheVariants.{Absent, Full, NoText, Lengths, Definition, Defined, Endless, TooHeavy, Limit}
+use Rattle.table.specs.declared.refusals.Refusal.TheVariants.{Absent, Full, NoText, Definition, Defined, Endless, TooHeavy, Limit}
 use Rattle.table.specs.declared.refusals.Refused.{Refused}
 use Rattle.table.specs.declared.refusals.Which.{Which}
 use Rattle.table.specs.declared.refusals.Which.TheVariants.{Neither, First, Second}
@@ -82,48 +80,43 @@ decode v =
     (cond (eqb v.number 18) TooHeavy
     Limit)))))))))))))))))
 
-decode_lem : (r : Refusal) → (number_of r ≡ 8 → ⊥) → decode (refusals.verdict_of r) ≡ r
-decode_lem Length h = refl
-decode_lem (Record p f) h = ap (Record p) (flaw_named_lem f)
-decode_lem Heavy h = refl
-decode_lem (Shape p) h = refl
-decode_lem (Exponent p) h = refl
-decode_lem Room h = refl
-decode_lem (Range p) h = refl
-decode_lem Lists h = absurd (h refl)
-decode_lem Edition h = refl
-decode_lem Newer h = refl
-decode_lem Disorder h = refl
-decode_lem Absent h = refl
-decode_lem Full h = refl
-decode_lem NoText h = refl
-decode_lem Lengths h = absurd (h refl)
-decode_lem Definition h = refl
-decode_lem Defined h = refl
-decode_lem Endless h = refl
-decode_lem TooHeavy h = refl
-decode_lem Limit h = refl
+decode_lem : (r : Refusal) → decode (refusals.verdict_of r) ≡ r
+decode_lem Length = refl
+decode_lem (Record p f) = ap (Record p) (flaw_named_lem f)
+decode_lem Heavy = refl
+decode_lem (Shape p) = refl
+decode_lem (Exponent p) = refl
+decode_lem Room = refl
+decode_lem (Range p) = refl
+decode_lem Lists = refl
+decode_lem Edition = refl
+decode_lem Newer = refl
+decode_lem Disorder = refl
+decode_lem Absent = refl
+decode_lem Full = refl
+decode_lem NoText = refl
+decode_lem Definition = refl
+decode_lem Defined = refl
+decode_lem Endless = refl
+decode_lem TooHeavy = refl
+decode_lem Limit = refl
 
--- a refusal but for the two of number 8 is told by the paper's number, place and flaw; so is an answer, beside nothing and beside a number
-pub refusal_told : (r r' : Refusal) → (number_of r ≡ 8 → ⊥) → refusals.verdict_of r ≡ refusals.verdict_of r' → r ≡ r'
-refusal_told r r' h e =
-    let n : number_of r' ≡ number_of r = sym (ap (λ (v : Verdict). v.number) e) in
-    sym (decode_lem r h) ∙ ap decode e ∙ decode_lem r' (λ q. h (sym n ∙ q))
+-- a refusal is told by the paper's number, place and flaw; so is an answer, beside nothing and beside a number
+pub refusal_told : (r r' : Refusal) → refusals.verdict_of r ≡ refusals.verdict_of r' → r ≡ r'
+refusal_told r r' e = sym (decode_lem r) ∙ ap decode e ∙ decode_lem r'
 
-pub stands_once : (r r' : Result (Unit {0}) Refusal) (v : Verdict) → (v.number ≡ 8 → ⊥) → stands_for r ≡ v → stands_for r' ≡ v → r ≡ r'
-stands_once (Ok x) (Ok y) v h e q = refl
-stands_once (Ok x) (Err r) v h e q = absurd (omega (arith, some_number r, ap (λ (x : Verdict). x.number) (e ∙ sym q)))
-stands_once (Err r) (Ok x) v h e q = absurd (omega (arith, some_number r, ap (λ (x : Verdict). x.number) (e ∙ sym q)))
-stands_once (Err r) (Err r') v h e q =
-    ap Err (refusal_told r r' (λ n. h (ap (λ (x : Verdict). x.number) (sym e) ∙ n)) (e ∙ sym q))
+pub stands_once : (r r' : Result (Unit {0}) Refusal) (v : Verdict) → stands_for r ≡ v → stands_for r' ≡ v → r ≡ r'
+stands_once (Ok x) (Ok y) v e q = refl
+stands_once (Ok x) (Err r) v e q = absurd (omega (arith, some_number r, ap (λ (x : Verdict). x.number) (e ∙ sym q)))
+stands_once (Err r) (Ok x) v e q = absurd (omega (arith, some_number r, ap (λ (x : Verdict). x.number) (e ∙ sym q)))
+stands_once (Err r) (Err r') v e q = ap Err (refusal_told r r' (e ∙ sym q))
 
-pub number_once : (r r' : Result ℕ Refusal) (m : paper.Measured) → (m.number ≡ 8 → ⊥) → refusals.says r ≡ m → refusals.says r' ≡ m → r ≡ r'
-number_once (Ok x) (Ok y) m h e q = ap (λ (m : paper.Measured). Ok m.result) (e ∙ sym q)
-number_once (Ok x) (Err r) m h e q = absurd (omega (arith, some_number r, ap (λ (x : paper.Measured). x.number) (e ∙ sym q)))
-number_once (Err r) (Ok x) m h e q = absurd (omega (arith, some_number r, ap (λ (x : paper.Measured). x.number) (e ∙ sym q)))
-number_once (Err r) (Err r') m h e q =
-    ap Err (refusal_told r r' (λ n. h (ap (λ (x : paper.Measured). x.number) (sym e) ∙ n))
-    (ap (λ (m : paper.Measured). record { number = m.number; place = m.place; flaw = m.flaw }) (e ∙ sym q)))
+pub number_once : (r r' : Result ℕ Refusal) (m : paper.Measured) → refusals.says r ≡ m → refusals.says r' ≡ m → r ≡ r'
+number_once (Ok x) (Ok y) m e q = ap (λ (m : paper.Measured). Ok m.result) (e ∙ sym q)
+number_once (Ok x) (Err r) m e q = absurd (omega (arith, some_number r, ap (λ (x : paper.Measured). x.number) (e ∙ sym q)))
+number_once (Err r) (Ok x) m e q = absurd (omega (arith, some_number r, ap (λ (x : paper.Measured). x.number) (e ∙ sym q)))
+number_once (Err r) (Err r') m e q =
+    ap Err (refusal_told r r' (ap (λ (m : paper.Measured). record { number = m.number; place = m.place; flaw = m.flaw }) (e ∙ sym q)))
 
 -- which of two tables it is of is told by its number
 which_named : ℕ → Which
@@ -135,34 +128,16 @@ which_named_lem Neither = refl
 which_named_lem First = refl
 which_named_lem Second = refl
 
-pub refused_told : (r r' : Refused) → (number_of r.refusal ≡ 8 → ⊥) → refusals.verdict_of r.refusal ≡ refusals.verdict_of r'.refusal
-    → which_of r.which ≡ which_of r'.which → r ≡ r'
-refused_told r r' h e q =
-    ap₂ (λ (x : Refusal) (w : Which). record { refusal = x; which = w }) (refusal_told r.refusal r'.refusal h e)
+pub refused_told : (r r' : Refused) → refusals.verdict_of r.refusal ≡ refusals.verdict_of r'.refusal → which_of r.which ≡ which_of r'.which → r ≡ r'
+refused_told r r' e q =
+    ap₂ (λ (x : Refusal) (w : Which). record { refusal = x; which = w }) (refusal_told r.refusal r'.refusal e)
     (sym (which_named_lem r.which) ∙ ap which_named q ∙ which_named_lem r'.which)
 
--- no verdict on a table has number 8
-pub cond_other : (b : Bool) (v w : Verdict) → (v.number ≡ 8 → ⊥) → (w.number ≡ 8 → ⊥) → (cond b v w).number ≡ 8 → ⊥
-cond_other true v w h k = h
-cond_other false v w h k = k
-
-pub verdict_other : (lim : ℕ) (s : List ℕ) → (verdict lim s).number ≡ 8 → ⊥
-unfolding verdict judged_table judge_records
-verdict_other lim s =
-    cond_other (is_limit lim) _ _
-    (cond_other _ _ _ (λ (e : 1 ≡ 8). omega arith)
-    (cond_other _ _ _ (λ (e : 2 ≡ 8). omega arith)
-    (cond_other _ _ _ (λ (e : 3 ≡ 8). omega arith)
-    (cond_other _ _ _ (λ (e : 4 ≡ 8). omega arith)
-    (cond_other _ _ _ (λ (e : 5 ≡ 8). omega arith) (λ (e : 0 ≡ 8). omega arith))))))
-    (λ (e : 19 ≡ 8). omega arith)
-
 pub check_once : Once 1 check-kinds.ps check-kinds.r check-reads.Pre check-reads.Post
-check_once κs a v v' x x' q p p' = stands_once v v' _ (verdict_other _ _) p p'
+check_once κs a v v' x x' q p p' = stands_once v v' _ p p'
 
 pub weight_once : Once 1 weight-kinds.ps weight-kinds.r weight-reads.Pre weight-reads.Post
-unfolding weighed measured
-weight_once κs a v v' x x' q p p' = number_once v v' _ (verdict_other _ _) p p'
+weight_once κs a v v' x x' q p p' = number_once v v' _ p p'
 
 pub number_of_once : Once 0 number-kinds.ps number-kinds.r number-reads.Pre number-reads.Post
 number_of_once κs a v v' x x' q p p' = p ∙ sym p'

@@ -6,7 +6,7 @@ use Rattle.record.specs.declared.Flaw.{Flaw}
 use Rattle.record.specs.Flaw.{flaw_of}
 use Rattle.table.specs.declared.refusals.Refusal.{Refusal}
 use Rattle.table.specs.declared.refusals.Refusal.TheVariants.{Length, Record, Heavy, Shape, Exponent, Room, Range, Lists, Edition, Newer, Disorder}
-use Rattle.table.specs.declared.refusals.Refusal.TheVariants.{Absent, Full, NoText, Lengths, Definition, Defined, Endless, TooHeavy, Limit}
+use Rattle.table.specs.declared.refusals.Refusal.TheVariants.{Absent, Full, NoText, Definition, Defined, Endless, TooHeavy, Limit}
 use Rattle.table.specs.declared.refusals.Which.{Which}
 use Rattle.table.specs.declared.refusals.Which.TheVariants.{Neither, First, Second}
 
@@ -25,7 +25,6 @@ number_of Disorder = 11
 number_of Absent = 12
 number_of Full = 13
 number_of NoText = 14
-number_of Lengths = 8
 number_of Definition = 15
 number_of Defined = 16
 number_of Endless = 17
@@ -47,7 +46,6 @@ place_of Disorder = 0
 place_of Absent = 0
 place_of Full = 0
 place_of NoText = 0
-place_of Lengths = 0
 place_of Definition = 0
 place_of Defined = 0
 place_of Endless = 0
@@ -69,7 +67,6 @@ flaw_in Disorder = None
 flaw_in Absent = None
 flaw_in Full = None
 flaw_in NoText = None
-flaw_in Lengths = None
 flaw_in Definition = None
 flaw_in Defined = None
 flaw_in Endless = None

@@ -26,8 +26,6 @@ const BYTE_4: u64 = 0x1_0000_0000;
 const BYTE_6: u64 = 0x1_0000_0000_0000;
 
 // The kinds as such numbers.
-const INTEGER: usize = record::INTEGER as usize;
-
 const SYMBOL: usize = record::SYMBOL as usize;
 
 const SUM: usize = record::SUM as usize;
@@ -174,7 +172,8 @@ fn first_bad(s: &[u8], n: usize) -> Option<usize>
     None
 }
 
-// Record i at a glance, by its two halves as numbers, if nothing is wrong with it.
+// Record i at a glance, by its two halves as numbers, if nothing is wrong with it. The tests go by what is less: with a test for each kind by
+// itself the check of symbols took 1.22 times the instructions.
 fn glance(s: &[u8], i: usize) -> Option<Seen>
     requires { i * 16 + 16 ≤ length s.now }
     ensures { Sees s.now i result }
@@ -185,21 +184,32 @@ fn glance(s: &[u8], i: usize) -> Option<Seen>
         return None;
     }
     let front = (h % BYTE_4) as usize;
-    if front == INTEGER {
+    if front < SYMBOL {
         return Some(Seen::Integer);
     }
-    if front == SYMBOL && v <= LAST_SYMBOL {
+    if front < SUM {
+        if LAST_SYMBOL < v {
+            return None;
+        }
         return Some(Seen::Symbol);
     }
-    if front == POWER && v == 0 {
-        return Some(Seen::Power);
+    if 0 < v {
+        return None;
+    }
+    if front < FEWEST * BYTE_2 {
+        if front == POWER {
+            return Some(Seen::Power);
+        }
+        return None;
     }
     let kind = front % BYTE_2;
-    let count = front / BYTE_2;
-    if v == 0 && FEWEST <= count && SUM <= kind && kind <= PRODUCT {
-        return Some(Seen::Members(count));
+    if kind < SUM {
+        return None;
     }
-    None
+    if PRODUCT < kind {
+        return None;
+    }
+    Some(Seen::Members(front / BYTE_2))
 }
 
 // The n records at a look, each of them read once, if they are one tree without a flaw. Each weighs 1 at least, so the weight is counted

@@ -35,8 +35,6 @@ pub enum Refusal {
     Full,
     // 14: the writer never writes this text.
     NoText,
-    // 8 too: the lists of definitions do not go together.
-    Lengths,
     // 15: a definition is refused.
     Definition,
     // 16: over sixteen symbols are defined, or one of them twice.
@@ -62,7 +60,7 @@ impl Refusal {
             Refusal::Exponent { .. } => 5,
             Refusal::Room => 6,
             Refusal::Range { .. } => 7,
-            Refusal::Lists | Refusal::Lengths => 8,
+            Refusal::Lists => 8,
             Refusal::Edition => 9,
             Refusal::Newer => 10,
             Refusal::Disorder => 11,

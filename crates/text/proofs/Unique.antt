@@ -7,7 +7,6 @@ use mathlib.Core.Option.{none, some}
 use mathlib.Core.Option as paper-option
 use native.Mathlib.Omega.{arith}
 use Rattle.std.specs.Prelude.{None, Result, Ok, Err}
-use Rattle.record.specs.Flaw.{flaw_of}
 use Rattle.paper.specs.Tree.{Tree}
 use Rattle.paper.specs.Limits.{is_limit}
 use Rattle.paper.specs.Verdict.{Verdict}
@@ -15,13 +14,13 @@ use Rattle.paper.specs.Answers.{measured}
 use mathlib.Core.List.{List}
 use Rattle.paper.specs.Once.{OnceLeft}
 use Rattle.paper_text.specs.Text.{read_text}
-use Rattle.paper_text.specs.Answers.{Taken, taken, room_for, read_judged, read_verdict, read_answer, read_given, write_verdict, write_answer, write_given}
+use Rattle.paper_text.specs.Answers.{Taken, taken, room_for, read_judged, read_verdict, read_answer, read_given, write_answer, write_given}
 use Rattle.table.specs.Refusals.{number_of, place_of, flaw_in}
 use Rattle.table.specs.declared.refusals.Refusal.{Refusal}
 use Rattle.table.specs.declared.refusals.Refusal.TheVariants.{Length, Record, Heavy, Shape, Exponent, Room, Range, Lists, Edition, Newer, Disorder}
-use Rattle.table.specs.declared.refusals.Refusal.TheVariants.{Absent, Full, NoText, Lengths, Definition, Defined, Endless, TooHeavy, Limit}
+use Rattle.table.specs.declared.refusals.Refusal.TheVariants.{Absent, Full, NoText, Definition, Defined, Endless, TooHeavy, Limit}
 use Rattle.table.proofs.RefusalLaws.{some_number}
-use Rattle.table.proofs.Unique.{refusal_told, number_once, cond_other, verdict_other}
+use Rattle.table.proofs.Unique.{refusal_told, number_once}
 use Rattle.text.specs.Gives.{taken_as}
 use Rattle.text.proofs.read.Reads as read-reads
 use Rattle.text.proofs.read.Kinds as read-kinds
@@ -44,58 +43,45 @@ no_flaw Disorder h = refl
 no_flaw Absent h = refl
 no_flaw Full h = refl
 no_flaw NoText h = refl
-no_flaw Lengths h = refl
 no_flaw Definition h = refl
 no_flaw Defined h = refl
 no_flaw Endless h = refl
 no_flaw TooHeavy h = refl
 no_flaw Limit h = refl
 
--- number and place tell a refusal that is none of a record and has not number 8
-taken_once : (r r' : Result ℕ Refusal) (t : Taken) → (t.number ≡ 2 → ⊥) → (t.number ≡ 8 → ⊥) → taken_as r ≡ t → taken_as r' ≡ t → r ≡ r'
-taken_once (Ok x) (Ok y) t a b e q = ap (λ (u : Taken). Ok u.records_written) (e ∙ sym q)
-taken_once (Ok x) (Err r) t a b e q = absurd (omega (arith, some_number r, ap (λ (u : Taken). u.number) (e ∙ sym q)))
-taken_once (Err r) (Ok x) t a b e q = absurd (omega (arith, some_number r, ap (λ (u : Taken). u.number) (e ∙ sym q)))
-taken_once (Err r) (Err r') t a b e q =
+-- number and place tell a refusal that is none of a record
+taken_once : (r r' : Result ℕ Refusal) (t : Taken) → (t.number ≡ 2 → ⊥) → taken_as r ≡ t → taken_as r' ≡ t → r ≡ r'
+taken_once (Ok x) (Ok y) t a e q = ap (λ (u : Taken). Ok u.records_written) (e ∙ sym q)
+taken_once (Ok x) (Err r) t a e q = absurd (omega (arith, some_number r, ap (λ (u : Taken). u.number) (e ∙ sym q)))
+taken_once (Err r) (Ok x) t a e q = absurd (omega (arith, some_number r, ap (λ (u : Taken). u.number) (e ∙ sym q)))
+taken_once (Err r) (Err r') t a e q =
     let n : number_of r ≡ t.number = ap (λ (u : Taken). u.number) e in
     let n' : number_of r' ≡ t.number = ap (λ (u : Taken). u.number) q in
     let p : place_of r ≡ place_of r' = ap (λ (u : Taken). u.place) (e ∙ sym q) in
     let f : flaw_in r ≡ None = no_flaw r (λ z. a (sym n ∙ z)) in
     let f' : flaw_in r' ≡ None = no_flaw r' (λ z. a (sym n' ∙ z)) in
-    ap Err (refusal_told r r' (λ z. b (sym n ∙ z)) (rw (n, n', p, f, f')))
+    ap Err (refusal_told r r' (rw (n, n', p, f, f')))
 
-abbrev Other : Verdict → Type 0
-Other v = (v.number ≡ 2 → ⊥) × (v.number ≡ 8 → ⊥)
-
-either : (b : Bool) (v w : Verdict) → Other v → Other w → Other (cond b v w)
+-- no answer of the reader has number 2
+either : (b : Bool) (v w : Verdict) → (v.number ≡ 2 → ⊥) → (w.number ≡ 2 → ⊥) → (cond b v w).number ≡ 2 → ⊥
 either true v w h k = h
 either false v w h k = k
 
-limit_other : Other (record { number = 19; place = 0; flaw = flaw_of None })
-limit_other = ((λ (e : 19 ≡ 2). omega arith), (λ (e : 19 ≡ 8). omega arith))
-
-read_other : (lim : ℕ) (o : paper-option.Option Tree) (area : List ℕ) → Other (read_verdict lim o area)
+read_other : (lim : ℕ) (o : paper-option.Option Tree) (area : List ℕ) → (read_verdict lim o area).number ≡ 2 → ⊥
 unfolding read_verdict read_judged room_for
-read_other lim none area =
-    either (is_limit lim) _ _ ((λ (e : 14 ≡ 2). omega arith), (λ (e : 14 ≡ 8). omega arith)) limit_other
+read_other lim none area = either (is_limit lim) _ _ (λ (e : 14 ≡ 2). omega arith) (λ (e : 19 ≡ 2). omega arith)
 read_other lim (some t) area =
     either (is_limit lim) _ _
-    (either _ _ _ ((λ (e : 3 ≡ 2). omega arith), (λ (e : 3 ≡ 8). omega arith))
-    (either _ _ _ ((λ (e : 6 ≡ 2). omega arith), (λ (e : 6 ≡ 8). omega arith)) ((λ (e : 0 ≡ 2). omega arith), (λ (e : 0 ≡ 8). omega arith))))
-    limit_other
-
-write_other : (lim : ℕ) (s area : List ℕ) → (write_verdict lim s area).number ≡ 8 → ⊥
-unfolding write_verdict room_for
-write_other lim s area =
-    cond_other _ _ _ (cond_other _ _ _ (λ (e : 6 ≡ 8). omega arith) (λ (e : 0 ≡ 8). omega arith)) (verdict_other lim s)
+    (either _ _ _ (λ (e : 3 ≡ 2). omega arith) (either _ _ _ (λ (e : 6 ≡ 2). omega arith) (λ (e : 0 ≡ 2). omega arith)))
+    (λ (e : 19 ≡ 2). omega arith)
 
 pub read_once : OnceLeft 2 read-kinds.ps read-kinds.r read-reads.Pre read-reads.Post (List ℕ) (λ κs x. x.1.1.0.now)
 unfolding read_given read_answer taken
 read_once κs a v v' x x' q p p' =
     let o = read_other a.0 (read_text a.1.0.now) a.1.1.0.now in
-    (taken_once v v' _ o.0 o.1 (ap (λ g. g.answer) p) (ap (λ g. g.answer) p'), ap (λ g. g.area) (p ∙ sym p'))
+    (taken_once v v' _ o (ap (λ g. g.answer) p) (ap (λ g. g.answer) p'), ap (λ g. g.area) (p ∙ sym p'))
 
 pub write_once : OnceLeft 2 write-kinds.ps write-kinds.r write-reads.Pre write-reads.Post (List ℕ) (λ κs x. x.1.1.0.now)
 unfolding write_given write_answer measured
 write_once κs a v v' x x' q p p' =
-    (number_once v v' _ (write_other a.0 a.1.0.now a.1.1.0.now) (ap (λ g. g.answer) p) (ap (λ g. g.answer) p'), ap (λ g. g.area) (p ∙ sym p'))
+    (number_once v v' _ (ap (λ g. g.answer) p) (ap (λ g. g.answer) p'), ap (λ g. g.area) (p ∙ sym p'))

@@ -68,7 +68,7 @@ fn joined(k: Kind, total: u64, v: u64) -> u64
     ensures { result ≡ joined (number_of k) total v % modulus }
 {
     match k {
-        Kind::Product | Kind::Power => total.wrapping_mul(v),
+        Kind::Product | Kind::Power => number::wrapping_mul(total, v),
         _ => total.wrapping_add(v),
     }
 }

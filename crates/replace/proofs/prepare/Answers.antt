@@ -5,7 +5,7 @@ use Rattle.paper.proofs.BytesLaws.{are_bytes}
 use Rattle.paper.proofs.VerdictLaws.{accepted_passes}
 use Rattle.paper.proofs.LimitLaws.{limit_small}
 use Rattle.table.specs.Refusals.{verdict_of}
-use Rattle.table.specs.declared.refusals.Refusal.TheVariants.{Limit, Lengths, Definition, Defined, Endless, TooHeavy}
+use Rattle.table.specs.declared.refusals.Refusal.TheVariants.{Limit, Lists, Definition, Defined, Endless, TooHeavy}
 use Rattle.table.proofs.RefusalLaws.{some_number}
 use Rattle.paper_shared.specs.Answers.{beginning}
 use Rattle.replace.specs.Planned.{handed}
@@ -45,7 +45,7 @@ pub returns-then-not-is_limit : goal.returns-then-not-is_limit
 returns-then-not-is_limit c = refuses _ _ Limit (open_19 _ _ (sym c.if-not-is_limit.ensures))
 
 pub returns-then-misses : goal.returns-then-misses
-returns-then-misses c = refuses _ _ Lengths (open_8 _ _ (sym c.if-not-is_limit.ensures) (sym c.if-misses.ensures))
+returns-then-misses c = refuses _ _ Lists (open_8 _ _ (sym c.if-not-is_limit.ensures) (sym c.if-misses.ensures))
 
 pub returns-in_err-check : goal.returns-in_err-check
 returns-in_err-check c =

@@ -54,7 +54,7 @@ note_at-requires c =
     let n = c.note_all in
     let k = c.drive.auto in
     let set = set_up h m.ensures m.auto.dst n.new.s (n.ensures _ (whole_table h m.ensures m.auto.dst)) n.auto.s in
-    let done = reached c.args.edition set c.first_stand-st.ensures c.in-Ok.ensures in
+    let done = reached c.args.edition set c.first_stand-st.ensures c.in-Ok.ensures.drives in
     (_, (whole_result h c.args.edition done.drove k.out k.steps (k.work ∙ n.auto.s ∙ m.auto.dst)).there)
 
 pub strip-requires : goal.strip-requires
@@ -64,7 +64,7 @@ strip-requires c =
     let n = c.note_all in
     let k = c.drive.auto in
     let set = set_up h m.ensures m.auto.dst n.new.s (n.ensures _ (whole_table h m.ensures m.auto.dst)) n.auto.s in
-    let done = reached c.args.edition set c.first_stand-st.ensures c.in-Ok.ensures in
+    let done = reached c.args.edition set c.first_stand-st.ensures c.in-Ok.ensures.drives in
     (_, whole_result h c.args.edition done.drove k.out k.steps (k.work ∙ n.auto.s ∙ m.auto.dst))
 
 pub overflow_mul-e : goal.overflow_mul-e
@@ -74,7 +74,7 @@ overflow_mul-e c =
     let n = c.note_all in
     let k = c.drive.auto in
     let set = set_up h m.ensures m.auto.dst n.new.s (n.ensures _ (whole_table h m.ensures m.auto.dst)) n.auto.s in
-    let done = reached c.args.edition set c.first_stand-st.ensures c.in-Ok.ensures in
+    let done = reached c.args.edition set c.first_stand-st.ensures c.in-Ok.ensures.drives in
     omega (arith, done_fits h c.args.edition done.drove k.out k.steps (k.work ∙ n.auto.s ∙ m.auto.dst))
 
 pub overflow_mul-e-in-Ok : goal.overflow_mul-e-in-Ok
@@ -84,7 +84,7 @@ overflow_mul-e-in-Ok c =
     let n = c.note_all in
     let k = c.drive.auto in
     let set = set_up h m.ensures m.auto.dst n.new.s (n.ensures _ (whole_table h m.ensures m.auto.dst)) n.auto.s in
-    let done = reached c.args.edition set c.first_stand-st.ensures c.in-Ok.ensures in
+    let done = reached c.args.edition set c.first_stand-st.ensures c.in-Ok.ensures.drives in
     omega (arith, done_fits h c.args.edition done.drove k.out k.steps (k.work ∙ n.auto.s ∙ m.auto.dst))
 
 pub overflow_sub-out : goal.overflow_sub-out
@@ -94,7 +94,7 @@ overflow_sub-out c =
     let n = c.note_all in
     let k = c.drive.auto in
     let set = set_up h m.ensures m.auto.dst n.new.s (n.ensures _ (whole_table h m.ensures m.auto.dst)) n.auto.s in
-    let done = reached c.args.edition set c.first_stand-st.ensures c.in-Ok.ensures in
+    let done = reached c.args.edition set c.first_stand-st.ensures c.in-Ok.ensures.drives in
     omega (arith, done_fits h c.args.edition done.drove k.out k.steps (k.work ∙ n.auto.s ∙ m.auto.dst), c.strip.auto.s)
 
 pub clear-requires : goal.clear-requires
@@ -104,7 +104,7 @@ clear-requires c =
     let n = c.note_all in
     let k = c.drive.auto in
     let set = set_up h m.ensures m.auto.dst n.new.s (n.ensures _ (whole_table h m.ensures m.auto.dst)) n.auto.s in
-    let done = reached c.args.edition set c.first_stand-st.ensures c.in-Ok.ensures in
+    let done = reached c.args.edition set c.first_stand-st.ensures c.in-Ok.ensures.drives in
     omega (arith, done_fits h c.args.edition done.drove k.out k.steps (k.work ∙ n.auto.s ∙ m.auto.dst), c.strip.auto.s)
 
 pub overflow_sub-steps : goal.overflow_sub-steps
@@ -114,7 +114,7 @@ overflow_sub-steps c =
     let n = c.note_all in
     let k = c.drive.auto in
     let set = set_up h m.ensures m.auto.dst n.new.s (n.ensures _ (whole_table h m.ensures m.auto.dst)) n.auto.s in
-    let done = reached c.args.edition set c.first_stand-st.ensures c.in-Ok.ensures in
+    let done = reached c.args.edition set c.first_stand-st.ensures c.in-Ok.ensures.drives in
     omega (arith, done_fits h c.args.edition done.drove k.out k.steps (k.work ∙ n.auto.s ∙ m.auto.dst))
 
 pub clear-requires-in-Ok : goal.clear-requires-in-Ok
@@ -124,7 +124,7 @@ clear-requires-in-Ok c =
     let n = c.note_all in
     let k = c.drive.auto in
     let set = set_up h m.ensures m.auto.dst n.new.s (n.ensures _ (whole_table h m.ensures m.auto.dst)) n.auto.s in
-    let done = reached c.args.edition set c.first_stand-st.ensures c.in-Ok.ensures in
+    let done = reached c.args.edition set c.first_stand-st.ensures c.in-Ok.ensures.drives in
     omega (arith, done_fits h c.args.edition done.drove k.out k.steps (k.work ∙ n.auto.s ∙ m.auto.dst))
 
 pub returns-in-Ok : goal.returns-in-Ok
@@ -135,7 +135,7 @@ returns-in-Ok c =
     let n = c.note_all in
     let r = c.drive in
     let set = set_up h m.ensures m.auto.dst n.new.s (n.ensures _ (whole_table h m.ensures m.auto.dst)) n.auto.s in
-    let done = reached g.edition set c.first_stand-st.ensures c.in-Ok.ensures in
+    let done = reached g.edition set c.first_stand-st.ensures c.in-Ok.ensures.drives in
     let long = r.auto.work ∙ n.auto.s ∙ m.auto.dst in
     let whole = whole_result h g.edition done.drove r.auto.out r.auto.steps long in
     let st = r.new.st in
@@ -171,5 +171,5 @@ returns-in-Err c =
     let steps = c.clear-in-Err-2 in
     for_every h
     (λ u. Leaves (drives g.edition u) g.w c.refused.result g.out.now out.new.d g.steps.now steps.new.d)
-    (left_over h g.edition c.refused.result c.in-Err.left.steps r.new.out r.new.steps (fell g.edition set c.first_stand-st.ensures c.in-Err.ensures)
+    (left_over h g.edition c.refused.result c.in-Err.left.steps r.new.out r.new.steps (fell g.edition set c.first_stand-st.ensures c.in-Err.ensures.drives)
     c.refused.ensures out.ensures steps.ensures r.auto.out r.auto.steps)

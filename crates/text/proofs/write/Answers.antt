@@ -41,5 +41,5 @@ returns c =
     let fine = sym c.in_ok-check.ensures in
     let h = accepted_holds a.limit s (are_bytes s c.type_inv.table) fine in
     let n = c.measure-length.ensures h.tree (holds_tree a.limit s h) in
-    let put_there = (c.spell.ensures h.tree (holds_tree a.limit s h)).put_there in
+    let put_there = (c.spell.ensures h.tree (holds_tree a.limit s h)).text_put.put_there in
     text_written a.limit s a.text.now h fine _ _ n (omega (arith, n)) (put_there (omega (arith, n)))
